@@ -1,0 +1,9 @@
+-- What the example of the crate's page writes.
+use Rattle.std.specs.Prelude.{ℕ, Bool, List}
+use Rattle.asn1_core.specs.Tag.{universal}
+use Rattle.asn1_core.specs.Element.{element, element_text}
+use Rattle.asn1_core.specs.Reading.{bool_content_text}
+
+-- the text of a truth value
+abbrev pub bool_text : Bool → List ℕ
+bool_text value = element_text (element (universal 1) (bool_content_text value))

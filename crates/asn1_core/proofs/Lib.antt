@@ -1,0 +1,4 @@
+mod Finish
+mod Kept
+mod Ordered
+mod Patch

@@ -1,0 +1,13 @@
+use Rattle.asn1_core.specs.Lemmas.Numbers.{number_is, number_only}
+use Rattle.asn1_core.specs.Lemmas.Tags.{tag_is, tag_only}
+use Rattle.asn1_core.specs.Lemmas.Lengths.{length_is, length_only}
+use Rattle.asn1_core.specs.Lemmas.Elements.{front_is, front_only}
+use Rattle.asn1_core.proofs.laws.one_answer.Goals as goal
+
+pub returns : goal.returns
+returns c = record {
+  numbers = (number_is, λ text answer is a. number_only text answer a);
+  tags = (tag_is, λ text answer is a. tag_only text answer a);
+  lengths = (length_is, length_only);
+  elements = (front_is, front_only);
+}

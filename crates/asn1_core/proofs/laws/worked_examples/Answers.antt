@@ -1,0 +1,58 @@
+use Rattle.std.proofs.Common.{◌≡◌, ℕ, ◌+◌, ◌≤◌, ◌^◌, List, [], ◌∷◌, length, refl, sym, ap, ◌∙◌, arith, lit<, lit≤}
+use Rattle.std.specs.Int.Digits.{digits_of}
+use Rattle.asn1_core.specs.Text.{IsText, number}
+use Rattle.asn1_core.specs.Base128.{IsNumberText, number_front}
+use Rattle.asn1_core.specs.Tag.{tag_front}
+use Rattle.asn1_core.specs.Length.{length_text, length_front}
+use Rattle.asn1_core.specs.Element.{element_text, front}
+use Rattle.asn1_core.specs.Examples.{Fronts, Tags, Lengths, Booleans}
+use Rattle.asn1_core.specs.Lemmas.Digits.{Leads, digits_back, number_by_digits}
+use Rattle.asn1_core.specs.Lemmas.NumberTexts.{text_only}
+use Rattle.asn1_core.specs.Lemmas.Lengths.{length_text_low, length_text_high}
+use Rattle.asn1_core.proofs.laws.worked_examples.Goals as goal
+
+fronts : Fronts
+unfolding front tag_front length_front number_front
+fronts = record { nothing = refl; octets = refl; cut_content = refl; cut_length = refl; long_length = refl; indefinite_length = refl; open_tag = refl; large_tag = refl }
+
+-- the text in base 128 of a number, by its digits
+number_is : IsNumberText (0x81 ∷ 0x80 ∷ 0x01 ∷ []) 16385
+number_is = record {
+  finished = (lit≤ tt, lit< tt, (lit≤ tt, lit< tt, lit< tt));
+  shortest = λ e. omega arith;
+  value = refl;
+  small = lit< tt;
+}
+
+tags : Tags
+unfolding tag_front number_front
+tags = record {
+  largest = refl;
+  small_in_long_form = refl;
+  leading_zero = refl;
+  eighteen_octets = refl;
+  nineteen_octets = refl;
+  text = ap (λ (s : List ℕ). 0x1f ∷ s) (sym (text_only (0x81 ∷ 0x80 ∷ 0x01 ∷ []) 16385 number_is));
+}
+
+-- the text of a long length, by its octets
+long_is : (octets : List ℕ) (n : ℕ) → 128 ≤ n → IsText octets → Leads octets → number octets ≡ n → length_text n ≡ (128 + length octets) ∷ octets
+long_is octets n long is leads value =
+    let same : digits_of 256 n ≡ octets = ap (digits_of 256) (sym (number_by_digits octets ∙ value)) ∙ digits_back 256 octets (lit≤ tt) is leads in
+    length_text_high n long ∙ ap (λ (s : List ℕ). (128 + length s) ∷ s) same
+
+lengths : Lengths
+lengths = record {
+  short = length_text_low 127 (lit< tt);
+  long = long_is (0x80 ∷ []) 128 (lit≤ tt) (lit< tt, tt) (λ l. lit< tt) refl;
+  two_octets = long_is (0x01 ∷ 0x00 ∷ []) 256 (lit≤ tt) (lit< tt, (lit< tt, tt)) (λ l. lit< tt) refl;
+  three_octets = long_is (0x01 ∷ 0x00 ∷ 0x00 ∷ []) 65536 (lit≤ tt) (lit< tt, (lit< tt, (lit< tt, tt))) (λ l. lit< tt) refl;
+  not_readable = long_is (0x01 ∷ 0x00 ∷ 0x00 ∷ 0x00 ∷ 0x00 ∷ []) (2 ^ 32) (lit≤ tt) (lit< tt, (lit< tt, (lit< tt, (lit< tt, (lit< tt, tt))))) (λ l. lit< tt) refl;
+}
+
+booleans : Booleans
+unfolding front tag_front length_front element_text length_text
+booleans = record { text = refl; read = refl; other_octet = refl; other_tag = refl; rest = refl }
+
+pub returns : goal.returns
+returns c = record { fronts = fronts; tags = tags; lengths = lengths; booleans = booleans }

@@ -1,0 +1,39 @@
+use Rattle.std.proofs.Common.{◌≡◌, ℕ, List, Result, Ok, Err, sym, ap, subst, ◌∙◌, arith}
+use Rattle.std.specs.Borrow.{Bor}
+use Rattle.asn1_core.specs.declared.parser.ParseErrorKind.{ParseErrorKind}
+use Rattle.asn1_core.specs.declared.types.Tlv.{Tlv}
+use Rattle.asn1_core.specs.Text.{IsText}
+use Rattle.asn1_core.specs.Element.{Element, IsFront, front}
+use Rattle.asn1_core.specs.Fault.{framed, Tells}
+use Rattle.asn1_core.specs.Tlv.{element_of, stripped}
+use Rattle.asn1_core.specs.Laws.{IsShort, with_more}
+use Rattle.asn1_core.specs.Lemmas.Texts.{IsText-from_reads, IsText-both}
+use Rattle.asn1_core.specs.Lemmas.Elements.{ElementFront, front_is, front_only}
+use Rattle.asn1_core.specs.Lemmas.Stands.{answers_stand, fewer_are_short}
+use Rattle.asn1_core.proofs.parser.strip_tlv.Goals as goal
+
+-- what `strip_tlv` gives is what stands in front
+stripped_is : (r : Result (Tlv × Bor (List ℕ)) ParseErrorKind) (answer : Result (Element × List ℕ) ParseErrorKind) → Tells (λ x. (element_of x.0, x.1.now)) r answer → answer ≡ stripped (framed r)
+stripped_is (Ok x) answer e = e
+stripped_is (Err kind) answer e = e
+
+answer : (c : goal.After-with_no_place) → front c.args.data.now ≡ stripped c.with_no_place.result
+answer c = stripped_is c.tlv_in.result (front c.args.data.now) c.tlv_in.ensures.answer ∙ ap stripped (sym c.with_no_place.ensures)
+
+is_text : (c : goal.After-with_no_place) → IsText c.args.data.now
+is_text c = IsText-from_reads c.args.data.now (λ i. omega (arith, c.type_inv.data i))
+
+pub returns-clause-grammar : goal.returns-clause-grammar
+returns-clause-grammar c = subst (λ (a : ElementFront). IsFront c.args.data.now a) (answer c) (front_is c.args.data.now (is_text c))
+
+pub returns-clause-only : goal.returns-clause-only
+returns-clause-only c = λ a is. sym (answer c) ∙ front_only c.args.data.now a (is_text c) is
+
+pub returns-clause-stands : goal.returns-clause-stands
+returns-clause-stands c = λ more is long.
+    answers_stand c.args.data.now more (IsText-both c.args.data.now more (is_text c) is) (subst (λ (a : ElementFront). ¬ IsShort a) (sym (answer c)) long)
+    ∙ ap (λ (a : ElementFront). with_more a more) (answer c)
+
+pub returns-clause-fewer : goal.returns-clause-fewer
+returns-clause-fewer c = λ more needed is short few.
+    fewer_are_short c.args.data.now more needed (IsText-both c.args.data.now more (is_text c) is) (answer c ∙ short) few

@@ -1,0 +1,12 @@
+use Rattle.std.proofs.Common.{◌≡◌, cond}
+use Rattle.asn1_core.specs.Tag.{class_number}
+use Rattle.asn1_core.specs.Lemmas.Tags.{class_below, bit_cases}
+use Rattle.asn1_core.specs.Lemmas.Lengths.{octet_of}
+use Rattle.asn1_core.proofs.tag.Tag.leading.Goals as goal
+use Rattle.asn1_core.proofs.tag.Tag.leading.Goals.{then-self, else-self}
+
+pub returns : goal.returns
+returns c =
+    let tag = c.args.self in
+    let bit : c.if-self.constructed ≡ cond tag.constructed 32 0 = elim c.if-self.branch [ then-self w ↦ rw w.if-self.true w.constructed-is | else-self w ↦ rw w.if-self.false w.constructed-is ] in
+    rw (c.bits.ensures, bit) (octet_of (class_number tag.class) (cond tag.constructed 32 0) c.args.low (class_below tag.class) (bit_cases tag.constructed) c.requires)

@@ -1,0 +1,255 @@
+-- What a type means in DER, for both directions: its values without where they lie in memory, their texts, what
+-- reading and writing answer, and the laws that it keeps.
+use Rattle.std.specs.Prelude.{ℕ, ◌<◌, ◌^◌, ◌≡◌, ◌⊎◌, List, [], ◌++◌, length, Result, Ok, Bool, true, false}
+use Rattle.std.proofs.Common.{inr, refl}
+use Rattle.asn1_core.specs.declared.tag.Tag.{Tag}
+use Rattle.asn1_core.specs.declared.parser.Place.{Place}
+use Rattle.asn1_core.specs.Text.{IsText}
+use Rattle.asn1_core.specs.Tag.{tag_eq, universal}
+use Rattle.asn1_core.specs.Element.{Element, element, element_text}
+use Rattle.asn1_core.specs.Fault.{Fault}
+use Rattle.asn1_core.specs.Writing.{IsElementOf}
+use Rattle.asn1_core.specs.Reading.{Takes, Fits, IsAccepted, simple, simple_out, simple_stops, element_front, tlv_stops, stands, bool_content_text, read_bool, refuses}
+use Rattle.asn1_core.specs.Lemmas.Elements.{element_some}
+use Rattle.asn1_core.specs.Lemmas.Contents.{simple_takes, simple_shape, simple_again, one_element, tlv_takes, tlv_again, bool_takes, bool_again, refuses_takes}
+
+-- the content of a simple type, whose values mean an M
+pub record Content (M : Type 0) : Type 1 where
+  pub tag : Tag
+  -- the content of a value
+  pub text : M → List ℕ
+  -- what a write may append: the content, or what a closure may append
+  pub texts : M → List ℕ → Type 0
+  -- the closures in a value keep what they owe
+  pub closures : M → Type 0
+  -- the values of which the laws speak
+  pub valid : M → Type 0
+  -- those that may be read back
+  pub allowed : M → Type 0
+  -- a write appends the content and nothing else
+  pub plain : Type 0
+  pub lawful : Type 0
+  pub takes_memory : Type 0
+  -- places at which memory may run out
+  pub runs_out : List ℕ → List Place → Type 0
+  pub read : List ℕ → Result M Fault
+  pub one_text : plain → (m : M) (t : List ℕ) → texts m t → t ≡ text m
+  pub no_closures : plain → (m : M) → closures m
+  pub takes : (c : List ℕ) (m : M) → IsText c → read c ≡ Ok m → (c ≡ text m) × (valid m × allowed m)
+  pub again : (m : M) → lawful → valid m → allowed m → length (text m) < 2 ^ 32 → read (text m) ≡ Ok m
+  pub memory : (c : List ℕ) (places : List Place) → runs_out c places → takes_memory
+
+pub record Der (V : Type 0) : Type 1 where
+  -- a value, without where it lies in memory
+  pub Meaning : Type 0
+  pub meaning : V → Meaning
+  -- the text of a value
+  pub text : Meaning → List ℕ
+  -- what a write may append: the text, or what a closure may append
+  pub texts : Meaning → List ℕ → Type 0
+  -- the closures in a value keep what they owe
+  pub closures : Meaning → Type 0
+  -- the values of which the laws speak: ranges and form
+  pub valid : Meaning → Type 0
+  -- those that may be read back: a list has as many items as its bounds allow
+  pub allowed : Meaning → Type 0
+  -- a write appends the text and nothing else
+  pub plain : Type 0
+  -- alternatives accept disjoint tags, and an option stands only where it may
+  pub lawful : Type 0
+  -- each text is an element
+  pub is_element : Type 0
+  pub takes_memory : Type 0
+  -- places at which memory may run out
+  pub runs_out : List ℕ → List Place → Type 0
+  pub accepts : Tag → Bool
+  -- the value in front and the rest, or the first fault
+  pub read : List ℕ → Result (Meaning × List ℕ) Fault
+  -- what a refused read leaves
+  pub stops : List ℕ → List ℕ → Type 0
+  -- the laws
+  pub one_text : plain → (m : Meaning) (t : List ℕ) → texts m t → t ≡ text m
+  pub no_closures : plain → (m : Meaning) → closures m
+  pub takes : (t rest : List ℕ) (m : Meaning) → IsText t → read t ≡ Ok (m, rest) → Takes t (text m) rest × (valid m × allowed m)
+  pub shape : (m : Meaning) → lawful → valid m → (text m ≡ []) ⊎ IsAccepted accepts (text m)
+  pub solid : (m : Meaning) → lawful → is_element → valid m → text m ≡ [] → ⊥
+  pub again : (m : Meaning) (rest : List ℕ) → lawful → valid m → allowed m → Fits (text m) → (text m ≡ [] → stands accepts rest ≡ false) → read (text m ++ rest) ≡ Ok (m, rest)
+  pub memory : (t : List ℕ) (places : List Place) → runs_out t places → takes_memory
+  -- a simple type is one element with its tag and its content
+  pub is_simple : Type 0
+  pub content : Content Meaning
+  pub as_closures : (m : Meaning) → closures m → content.closures m
+  pub as_valid : (m : Meaning) → valid m → content.valid m
+  pub as_texts : is_simple → (m : Meaning) → texts m ≡ IsElementOf content.tag (content.texts m)
+  pub as_accepts : is_simple → (t : Tag) → accepts t ≡ tag_eq t content.tag
+  pub as_read : is_simple → (t : List ℕ) → read t ≡ simple content.tag content.read t
+  pub as_out : is_simple → (t : List ℕ) (places : List Place) → simple_out content.tag content.runs_out t places → runs_out t places
+  pub as_stops : is_simple → (t rest : List ℕ) → simple_stops t rest → stops t rest
+
+-- a simple type, by its content
+abbrev pub simple_der : {V M : Type 0} → (V → M) → Content M → Der V
+simple_der {M = M} meaning c = record {
+  Meaning = M;
+  meaning = meaning;
+  text = λ m. element_text (element c.tag (c.text m));
+  texts = λ m. IsElementOf c.tag (c.texts m);
+  closures = c.closures;
+  valid = c.valid;
+  allowed = c.allowed;
+  plain = c.plain;
+  lawful = c.lawful × (c.tag.value < 2 ^ 32);
+  is_element = Unit {0};
+  takes_memory = c.takes_memory;
+  runs_out = simple_out c.tag c.runs_out;
+  accepts = λ t. tag_eq t c.tag;
+  read = simple c.tag c.read;
+  stops = simple_stops;
+  one_text = λ p m. one_element c.tag (c.texts m) (c.text m) (c.one_text p m);
+  no_closures = c.no_closures;
+  takes = simple_takes c.tag c.text (λ m. c.valid m × c.allowed m) c.read c.takes;
+  shape = λ m l v. simple_shape c.tag (c.text m) l.1;
+  solid = λ m l i v e. element_some (element c.tag (c.text m)) e;
+  again = λ m rest l v a fits none. simple_again c.tag c.text c.read m rest l.1 (c.again m l.0 v a) fits;
+  memory = λ t places out. c.memory out.0.0.content places out.3;
+  is_simple = Unit {0};
+  content = c;
+  as_closures = λ m h. h;
+  as_valid = λ m v. v;
+  as_texts = λ i m. refl;
+  as_accepts = λ i t. refl;
+  as_read = λ i t. refl;
+  as_out = λ i t places out. out;
+  as_stops = λ i t rest h. h;
+}
+
+-- a content without parts
+pub record Basic (M : Type 0) : Type 1 where
+  pub tag : Tag
+  pub text : M → List ℕ
+  pub valid : M → Type 0
+  pub read : List ℕ → Result M Fault
+  pub takes : (c : List ℕ) (m : M) → IsText c → read c ≡ Ok m → (c ≡ text m) × valid m
+  pub again : (m : M) → valid m → read (text m) ≡ Ok m
+
+abbrev pub basic : {M : Type 0} → Basic M → Content M
+basic b = record {
+  tag = b.tag;
+  text = b.text;
+  texts = λ m t. t ≡ b.text m;
+  closures = λ m. Unit {0};
+  valid = b.valid;
+  allowed = λ m. Unit {0};
+  plain = Unit {0};
+  lawful = Unit {0};
+  takes_memory = ⊥;
+  runs_out = λ c places. ⊥;
+  read = b.read;
+  one_text = λ p m t e. e;
+  no_closures = λ p m. tt;
+  takes = λ c m bytes e. let h = b.takes c m bytes e in (h.0, (h.1, tt));
+  again = λ m l v a s. b.again m v;
+  memory = λ c places out. out;
+}
+
+-- no content: the type is not simple
+abbrev pub no_content : {M : Type 0} → Content M
+no_content = record {
+  tag = universal 0;
+  text = λ m. [];
+  texts = λ m t. ⊥;
+  closures = λ m. Unit {0};
+  valid = λ m. Unit {0};
+  allowed = λ m. Unit {0};
+  plain = ⊥;
+  lawful = ⊥;
+  takes_memory = ⊥;
+  runs_out = λ c places. ⊥;
+  read = refuses;
+  one_text = λ p. absurd p;
+  no_closures = λ p. absurd p;
+  takes = λ c m b e. absurd (refuses_takes c m e);
+  again = λ m l. absurd l;
+  memory = λ c places out. out;
+}
+
+abbrev pub bool_content : Content Bool
+bool_content = basic (record {
+  tag = universal 1;
+  text = bool_content_text;
+  valid = λ m. Unit {0};
+  read = read_bool;
+  takes = λ c m b e. (bool_takes c m e, tt);
+  again = λ m v. bool_again m;
+})
+
+-- the same, of values that are seen through something, as a reference
+abbrev pub seen : {V W : Type 0} → (W → V) → Der V → Der W
+seen view d = record {
+  Meaning = d.Meaning;
+  meaning = λ w. d.meaning (view w);
+  text = d.text;
+  texts = d.texts;
+  closures = d.closures;
+  valid = d.valid;
+  allowed = d.allowed;
+  plain = d.plain;
+  lawful = d.lawful;
+  is_element = d.is_element;
+  takes_memory = d.takes_memory;
+  runs_out = d.runs_out;
+  accepts = d.accepts;
+  read = d.read;
+  stops = d.stops;
+  one_text = d.one_text;
+  no_closures = d.no_closures;
+  takes = d.takes;
+  shape = d.shape;
+  solid = d.solid;
+  again = d.again;
+  memory = d.memory;
+  is_simple = d.is_simple;
+  content = d.content;
+  as_closures = d.as_closures;
+  as_valid = d.as_valid;
+  as_texts = d.as_texts;
+  as_accepts = d.as_accepts;
+  as_read = d.as_read;
+  as_out = d.as_out;
+  as_stops = d.as_stops;
+}
+
+-- any element, as it stands
+abbrev pub tlv_der : {V : Type 0} → (V → Element) → Der V
+tlv_der view = record {
+  Meaning = Element;
+  meaning = view;
+  text = element_text;
+  texts = λ m t. t ≡ element_text m;
+  closures = λ m. Unit {0};
+  valid = λ m. m.tag.value < 2 ^ 32;
+  allowed = λ m. Unit {0};
+  plain = Unit {0};
+  lawful = Unit {0};
+  is_element = Unit {0};
+  takes_memory = ⊥;
+  runs_out = λ t places. ⊥;
+  accepts = λ t. true;
+  read = element_front;
+  stops = tlv_stops;
+  one_text = λ p m t e. e;
+  no_closures = λ p m. tt;
+  takes = tlv_takes;
+  shape = λ m l v. inr (record { element = m; is = refl; readable = v; accepted = refl });
+  solid = λ m l i v e. element_some m e;
+  again = λ m rest l v a fits none. tlv_again m rest v fits;
+  memory = λ t places out. out;
+  is_simple = ⊥;
+  content = no_content;
+  as_closures = λ m h. tt;
+  as_valid = λ m v. tt;
+  as_texts = λ i. absurd i;
+  as_accepts = λ i. absurd i;
+  as_read = λ i. absurd i;
+  as_out = λ i. absurd i;
+  as_stops = λ i. absurd i;
+}

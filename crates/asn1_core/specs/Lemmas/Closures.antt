@@ -1,0 +1,36 @@
+-- What a closure that writes through a writer leaves.
+use Rattle.std.specs.Prelude.{◌≡◌, ℕ, List, [], ◌++◌, Result, Ok, Err, OnOk, IfErr, refl, drop, length}
+use Rattle.std.proofs.Common.{inr, sym, ◌∙◌, ap}
+use Rattle.std.proofs.lemmas.List.{append_cancel_left}
+use Rattle.asn1_core.specs.declared.tag.Tag.{Tag}
+use Rattle.asn1_core.specs.Element.{element, element_text}
+use Rattle.std.specs.Fn.{Once}
+use Rattle.std.specs.Borrow.{MutBor}
+use Rattle.asn1_core.specs.Buffer.{KeepsFront, Appends}
+use Rattle.asn1_core.specs.Closures.{IsWriter, WriterCall, MayWrite, MayAnswer}
+use Rattle.asn1_core.specs.Writing.{Refuses, IsElementOf}
+use Rattle.asn1_core.specs.declared.writer.Writer.{Writer}
+use Rattle.asn1_core.specs.declared.writer.WriteError.{WriteError}
+
+module _ {F E : Type 0} (calls : Once F (MutBor Writer × Unit {0}) (Result (Unit {0}) E × (MutBor Writer × Unit {0}))) (f : F) where
+  pub closure_ok : IsWriter calls f → (p q : MutBor Writer) (r : Result (Unit {0}) E) → calls.post f (p, tt) (r, (q, tt)) → OnOk r (Appends (MayWrite calls f) p.now.buf.now.bytes q.now.buf.now.bytes)
+  closure_ok w p q (Err e) h = tt
+  closure_ok w p q (Ok u) h =
+      let k : KeepsFront p.now.buf.now.bytes q.now.buf.now.bytes = w.front p q (Ok u) h in
+      record { text = drop (length p.now.buf.now.bytes) q.now.buf.now.bytes; is_one = record { front = p.now.buf.now.bytes; called = record { shown = p; shows = refl; left = q; met = h; leaves = k.joined } }; joined = k.joined }
+
+  pub closure_error : (gives : WriteError → E → Type 0) (p q : MutBor Writer) (r : Result (Unit {0}) E) → calls.post f (p, tt) (r, (q, tt)) → IfErr r (Refuses gives (MayAnswer calls f))
+  closure_error gives p q (Ok u) h = tt
+  closure_error gives p q (Err e) h = inr (record { old = p.now.buf.now.bytes; new = q.now.buf.now.bytes; called = record { shown = p; shows = refl; left = q; met = h; leaves = refl } })
+
+  -- where each call at Ok appends that text, the closure may write no other
+  pub may_write_is : (t : List ℕ) → ((p q : MutBor Writer) → calls.post f (p, tt) (Ok tt, (q, tt)) → q.now.buf.now.bytes ≡ p.now.buf.now.bytes ++ t) → (c : List ℕ) → MayWrite calls f c → c ≡ t
+  may_write_is t h c m =
+      let w = m.called in
+      append_cancel_left m.front c t (sym w.leaves ∙ (h w.shown w.left w.met ∙ ap (λ xs. xs ++ t) w.shows))
+
+  pub element_is : (tag : Tag) (t : List ℕ) → ((p q : MutBor Writer) → calls.post f (p, tt) (Ok tt, (q, tt)) → q.now.buf.now.bytes ≡ p.now.buf.now.bytes ++ t) → (all : List ℕ) → IsElementOf tag (MayWrite calls f) all → all ≡ element_text (element tag t)
+  element_is tag t h all e = e.is ∙ ap (λ c. element_text (element tag c)) (may_write_is t h e.content e.is_content)
+
+  pub written_is : (t : List ℕ) → ((p q : MutBor Writer) → calls.post f (p, tt) (Ok tt, (q, tt)) → q.now.buf.now.bytes ≡ p.now.buf.now.bytes ++ t) → (all : List ℕ) → WriterCall calls f [] (Ok tt) all → all ≡ t
+  written_is t h all w = sym w.leaves ∙ (h w.shown w.left w.met ∙ ap (λ xs. xs ++ t) w.shows)

@@ -1,0 +1,340 @@
+-- Numbers in base 128: what stands in front of a text.
+use Rattle.std.proofs.Common.{◌≡◌, ℕ, zero, suc, ◌+◌, ◌-◌, ◌*◌, ◌/◌, ◌%◌, ◌^◌, ◌<◌, ◌≤◌, ◌⊎◌, Bool, true, false, cond, eqb, leb, ◌||◌, List, [], ◌∷◌, ◌++◌, length, get_or, take, drop, set, map, bit_or, bit_and, Result, Ok, Err, refl, sym, ap, subst, ◌∙◌, inl, inr, ⊎_elim, append_assoc, arith, lit<, lit≤}
+use Rattle.std.specs.List.{prefix_len}
+use Rattle.std.specs.Int.Digits.{digits_of}
+use Rattle.std.proofs.lemmas.Int.Digits.{length-digits_of-le, digits_of_step}
+use Rattle.std.proofs.lemmas.Bool.{le-leb, lt-leb, eq-eqb, ne_eqb, cases_lt, cases_eq, or_right}
+use Rattle.std.proofs.lemmas.List.{append-nil, length-append, length_push, length-map, length-take-le, take-append-drop, take_all, take_more, drop_more, get_or-take, drop-set, map_push, take_at, drop_at}
+use Rattle.std.proofs.lemmas.Nat.{mul-add-lt, and_mask}
+use Rattle.std.proofs.lemmas.Grind.{pow_more, or_after_shift, numeral_or}
+use Rattle.std.proofs.Math.Nat.{pow-le-pow_right, pow-suc, mul-le-mul_right}
+use Rattle.asn1_core.specs.declared.parser.ParseErrorKind.{ParseErrorKind}
+use Rattle.asn1_core.specs.declared.parser.ParseErrorKind.TheVariants.{InvalidValue, ShortData}
+use Rattle.asn1_core.specs.Text.{IsText}
+use Rattle.asn1_core.specs.Base128.{digits_number, IsOpen, IsFinished, BeginsWithZero, IsNumberText, IsFaulty, IsNumberFront, number_text, number_front}
+
+abbrev passes : ℕ → Bool
+passes octet = leb 128 octet
+
+-- open octets all pass, and what follows them is counted on
+open_run : (t rest : List ℕ) → IsOpen t → prefix_len passes (t ++ rest) ≡ length t + prefix_len passes rest
+open_run [] rest o = omega arith
+open_run (x ∷ xs) rest o = rw (le-leb 128 x o.0.0) (omega (arith, open_run xs rest o.1))
+
+open_all : (t : List ℕ) → IsOpen t → prefix_len passes t ≡ length t
+open_all [] o = refl
+open_all (x ∷ xs) o = rw (le-leb 128 x o.0.0) (omega (arith, open_all xs o.1))
+
+-- the last of finished octets doesn't pass
+finished_run : (t rest : List ℕ) → IsFinished t → prefix_len passes (t ++ rest) + 1 ≡ length t
+finished_run [] rest f = absurd f
+finished_run (x ∷ []) rest f = rw (lt-leb 128 x f) refl
+finished_run (x ∷ y ∷ ys) rest f = rw (le-leb 128 x f.0) (omega (arith, finished_run (y ∷ ys) rest f.2))
+
+pub digits_lt : (t : List ℕ) → digits_number t < 128 ^ length t
+digits_lt [] = lit< tt
+digits_lt (x ∷ xs) = rw (pow-suc 128 (length xs)) (mul-add-lt (x % 128) (128 ^ length xs) (digits_number xs) 128 (omega arith) (digits_lt xs))
+
+pub digits_push : (t : List ℕ) (x : ℕ) → digits_number (t ++ x ∷ []) ≡ digits_number t * 128 + x % 128
+digits_push [] x = grind arith
+digits_push (y ∷ ys) x = rw (length_push ys x, pow_more 128 (length ys), digits_push ys x) (omega arith)
+
+pub open_push : (t : List ℕ) (x : ℕ) → IsOpen t → 128 ≤ x → x < 256 → IsOpen (t ++ x ∷ [])
+open_push [] x o a b = ((a, b), tt)
+open_push (y ∷ ys) x o a b = (o.0, open_push ys x o.1 a b)
+
+pub finished_push : (t : List ℕ) (x : ℕ) → IsOpen t → x < 128 → IsFinished (t ++ x ∷ [])
+finished_push [] x o a = a
+finished_push (y ∷ []) x o a = (o.0.0, o.0.1, a)
+finished_push (y ∷ z ∷ zs) x o a = (o.0.0, o.0.1, finished_push (z ∷ zs) x o.1 a)
+
+ne_above : (x : ℕ) → ¬ (x ≡ 128) → 128 ≤ x → 129 ≤ x
+ne_above x z a = omega arith
+
+-- a number's text that doesn't begin with 0x80 has its first digit above 0
+digits_ge : (t : List ℕ) → IsFinished t → ¬ BeginsWithZero t → (k : ℕ) → length t ≡ suc (suc k) → 128 ^ suc k ≤ digits_number t
+digits_ge [] f z k e = absurd f
+digits_ge (x ∷ []) f z k e = absurd (omega arith)
+digits_ge (x ∷ y ∷ ys) f z k e =
+    let above : 1 ≤ x % 128 = omega (arith, f.0, f.1, ne_above x z) in
+    let same : suc k ≡ length (y ∷ ys) = omega arith in
+    rw same (omega (arith, mul-le-mul_right {m = 1} {n = x % 128} (128 ^ length (y ∷ ys)) above))
+
+too_long : (t : List ℕ) → IsFinished t → ¬ BeginsWithZero t → digits_number t < 2 ^ 128 → 20 ≤ length t → ⊥
+too_long t f z small h =
+    let k : ℕ = length t - 2 in
+    let least : 128 ^ suc k ≤ digits_number t = digits_ge t f z k (omega arith) in
+    let more : 128 ^ 19 ≤ 128 ^ suc k = pow-le-pow_right {n = 128} (lit< tt) {i = 19} {j = suc k} (omega arith) in
+    omega arith
+
+-- a text that isn't faulty has at most 19 octets
+finished_short : (t : List ℕ) → IsFinished t → ¬ BeginsWithZero t → digits_number t < 2 ^ 128 → length t ≤ 19
+finished_short t f z small = ⊎_elim (λ (h : length t < 20). omega arith) (λ (h : 20 ≤ length t). absurd (too_long t f z small h)) (cases_lt (length t) 20)
+
+get_front : (t rest : List ℕ) → BeginsWithZero t → get_or (t ++ rest) 0 0 ≡ 128
+get_front [] rest z = absurd (omega arith)
+get_front (x ∷ xs) rest z = z
+
+get_front_not : (t rest : List ℕ) → 0 < length t → ¬ BeginsWithZero t → get_or (t ++ rest) 0 0 ≡ 128 → ⊥
+get_front_not [] rest l z = absurd (omega arith)
+get_front_not (x ∷ xs) rest l z = z
+
+-- ---- what stands in front of a text
+
+abbrev pub Front : Type 0
+Front = Result (ℕ × List ℕ) ParseErrorKind
+
+cond_same : (b : Bool) (x : Front) → cond b x x ≡ x
+cond_same true x = refl
+cond_same false x = refl
+
+front_zero : (text : List ℕ) → get_or text 0 0 ≡ 128 → number_front text ≡ Err InvalidValue
+unfolding number_front
+front_zero text z = rw (eq-eqb (get_or text 0 0) 128 z) refl
+
+front_long : (text : List ℕ) → 19 ≤ prefix_len passes text → number_front text ≡ Err InvalidValue
+unfolding number_front
+front_long text h = rw (le-leb 19 (prefix_len passes text) h, or_right (eqb (get_or text 0 0) 128) true refl) refl
+
+front_open : (text : List ℕ) → (get_or text 0 0 ≡ 128 → ⊥) → prefix_len passes text ≡ length text → length text < 19 → number_front text ≡ Err (ShortData 1)
+unfolding number_front
+front_open text z e h = rw (ne_eqb (get_or text 0 0) 128 z, e, lt-leb 19 (length text) h, eq-eqb (length text) (length text) refl) refl
+
+front_done : (text : List ℕ) (k : ℕ) → (get_or text 0 0 ≡ 128 → ⊥) → prefix_len passes text ≡ k → k < length text → k < 19 → digits_number (take (k + 1) text) < 2 ^ 128 → number_front text ≡ Ok (digits_number (take (k + 1) text), drop (k + 1) text)
+unfolding number_front
+front_done text k z e l h small = rw (ne_eqb (get_or text 0 0) 128 z, e, lt-leb 19 k h, ne_eqb k (length text) (λ (w : k ≡ length text). absurd (omega arith)), lt-leb (2 ^ 128) (digits_number (take (k + 1) text)) small) refl
+
+front_big : (text : List ℕ) (k : ℕ) → prefix_len passes text ≡ k → k < length text → 2 ^ 128 ≤ digits_number (take (k + 1) text) → number_front text ≡ Err InvalidValue
+unfolding number_front
+front_big text k e l big = rw (e, ne_eqb k (length text) (λ (w : k ≡ length text). absurd (omega arith)), le-leb (2 ^ 128) (digits_number (take (k + 1) text)) big) (cond_same (eqb (get_or text 0 0) 128 || leb 19 k) (Err InvalidValue))
+
+finished_some : (t : List ℕ) → IsFinished t → 0 < length t
+finished_some [] f = absurd f
+finished_some (x ∷ xs) f = omega arith
+
+open_not_finished : (t : List ℕ) → IsOpen t → ¬ IsFinished t
+open_not_finished [] o f = f
+open_not_finished (x ∷ []) o f = absurd (omega arith)
+open_not_finished (x ∷ y ∷ ys) o f = open_not_finished (y ∷ ys) o.1 f.2
+
+pub number_ok : (t rest : List ℕ) (n : ℕ) → IsNumberText t n → number_front (t ++ rest) ≡ Ok (n, rest)
+number_ok t rest n is =
+    let some : 0 < length t = finished_some t is.finished in
+    let few : length t ≤ 19 = finished_short t is.finished is.shortest (rw is.value is.small) in
+    let run : prefix_len passes (t ++ rest) + 1 ≡ length t = finished_run t rest is.finished in
+    let k : ℕ = prefix_len passes (t ++ rest) in
+    let same : take (k + 1) (t ++ rest) ≡ t = take_at t rest (k + 1) (omega arith) in
+    let left : drop (k + 1) (t ++ rest) ≡ rest = drop_at t rest (k + 1) (omega arith) in
+    let small : digits_number (take (k + 1) (t ++ rest)) < 2 ^ 128 = rw (same, is.value) is.small in
+    let done = front_done (t ++ rest) k (get_front_not t rest some is.shortest) refl (omega (arith, length-append t rest)) (omega arith) small in
+    done ∙ rw (same, left, is.value) refl
+
+pub number_bad : (t rest : List ℕ) → IsFaulty t → number_front (t ++ rest) ≡ Err InvalidValue
+number_bad t rest (inl (o, inl z)) = front_zero (t ++ rest) (get_front t rest z)
+number_bad t rest (inl (o, inr l)) = front_long (t ++ rest) (omega (arith, open_run t rest o))
+number_bad t rest (inr (f, inl z)) = front_zero (t ++ rest) (get_front t rest z)
+number_bad t rest (inr (f, inr big)) =
+    let some : 0 < length t = finished_some t f in
+    let run : prefix_len passes (t ++ rest) + 1 ≡ length t = finished_run t rest f in
+    let k : ℕ = prefix_len passes (t ++ rest) in
+    let same : take (k + 1) (t ++ rest) ≡ t = take_at t rest (k + 1) (omega arith) in
+    front_big (t ++ rest) k refl (omega (arith, length-append t rest)) (rw same big)
+
+pub number_short : (t : List ℕ) → IsOpen t → ¬ IsFaulty t → number_front t ≡ Err (ShortData 1)
+number_short t o ok =
+    front_open t (λ z. ok (inl (o, inl z))) (open_all t o) (⊎_elim (λ (h : length t < 19). h) (λ (h : 19 ≤ length t). absurd (ok (inl (o, inr h)))) (cases_lt (length t) 19))
+
+-- no text has two answers
+pub number_only : (text : List ℕ) (answer : Front) → IsNumberFront text answer → number_front text ≡ answer
+number_only text (Ok found) is = rw is.2 (number_ok is.0 found.1 found.0 is.1)
+number_only text (Err InvalidValue) is = rw is.3 (number_bad is.0 is.1 is.2)
+number_only text (Err (ShortData needed)) is = rw is.2 (number_short text is.0 is.1)
+number_only text (Err _) is = absurd is
+
+-- a text is open as a whole, or begins with finished octets
+abbrev pub Split : List ℕ → Type 0
+Split text = IsOpen text ⊎ ((t rest : List ℕ) × IsFinished t × (text ≡ t ++ rest))
+
+split_more : (x : ℕ) (xs : List ℕ) → 128 ≤ x → x < 256 → Split xs → Split (x ∷ xs)
+split_more x xs a b (inl o) = inl ((a, b), o)
+split_more x xs a b (inr ([], rest, f, e)) = absurd f
+split_more x xs a b (inr (y ∷ ys, rest, f, e)) = inr (x ∷ y ∷ ys, rest, (a, b, f), ap (λ (l : List ℕ). x ∷ l) e)
+
+pub split_text : (text : List ℕ) → IsText text → Split text
+split_text [] is = inl tt
+split_text (x ∷ xs) is =
+    ⊎_elim (λ (h : x < 128). inr (x ∷ [], xs, h, refl)) (λ (h : 128 ≤ x). split_more x xs h is.0 (split_text xs is.1)) (cases_lt x 128)
+
+open_fine : (t : List ℕ) → IsOpen t → ¬ BeginsWithZero t → length t < 19 → ¬ IsFaulty t
+open_fine t o z h (inl (p, inl q)) = z q
+open_fine t o z h (inl (p, inr q)) = omega arith
+open_fine t o z h (inr (f, q)) = open_not_finished t o f
+
+-- octets are faulty or not
+fault_of_open : (t : List ℕ) → IsOpen t → IsFaulty t ⊎ ¬ IsFaulty t
+fault_of_open t o =
+    ⊎_elim (λ (z : BeginsWithZero t). inl (inl (o, inl z)))
+    (λ (z : ¬ BeginsWithZero t). ⊎_elim
+    (λ (h : length t < 19). inr (open_fine t o z h))
+    (λ (h : 19 ≤ length t). inl (inl (o, inr h))) (cases_lt (length t) 19))
+    (cases_eq (get_or t 0 0) 128)
+
+fault_of_finished : (t : List ℕ) → IsFinished t → IsFaulty t ⊎ IsNumberText t (digits_number t)
+fault_of_finished t f =
+    ⊎_elim (λ (z : BeginsWithZero t). inl (inr (f, inl z)))
+    (λ (z : ¬ BeginsWithZero t). ⊎_elim
+    (λ (h : digits_number t < 2 ^ 128). inr (record { finished = f; shortest = z; value = refl; small = h }))
+    (λ (h : 2 ^ 128 ≤ digits_number t). inl (inr (f, inr h))) (cases_lt (digits_number t) (2 ^ 128)))
+    (cases_eq (get_or t 0 0) 128)
+
+at_open : (text : List ℕ) → IsOpen text → IsFaulty text ⊎ ¬ IsFaulty text → (answer : Front) × IsNumberFront text answer
+at_open text o (inl bad) = (Err InvalidValue, (text, [], bad, sym (append-nil text)))
+at_open text o (inr fine) = (Err (ShortData 1), (o, fine, refl))
+
+at_finished : (text t rest : List ℕ) → text ≡ t ++ rest → IsFaulty t ⊎ IsNumberText t (digits_number t) → (answer : Front) × IsNumberFront text answer
+at_finished text t rest e (inl bad) = (Err InvalidValue, (t, rest, bad, e))
+at_finished text t rest e (inr fine) = (Ok (digits_number t, rest), (t, fine, e))
+
+number_some_of : (text : List ℕ) → Split text → (answer : Front) × IsNumberFront text answer
+number_some_of text (inl o) = at_open text o (fault_of_open text o)
+number_some_of text (inr (t, rest, f, e)) = at_finished text t rest e (fault_of_finished t f)
+
+-- each text has an answer
+pub number_some : (text : List ℕ) → IsText text → (answer : Front) × IsNumberFront text answer
+number_some text is = number_some_of text (split_text text is)
+
+-- and it is the function's
+pub number_is : (text : List ℕ) → IsText text → IsNumberFront text (number_front text)
+number_is text is =
+    let found = number_some text is in
+    subst (λ (answer : Front). IsNumberFront text answer) (sym (number_only text found.0 found.1)) found.1
+
+-- ---- the exits of the loop that reads a number
+
+mod_small : (x : ℕ) → x < 128 → x % 128 ≡ x
+mod_small x b = omega arith
+
+zero_push : (t : List ℕ) (x : ℕ) → ¬ BeginsWithZero t → x < 128 → ¬ BeginsWithZero (t ++ x ∷ [])
+zero_push [] x z b e = omega arith
+zero_push (y ∷ ys) x z b e = z e
+
+few_small : (t : List ℕ) → length t < 18 → 2 ^ 121 ≤ digits_number t → ⊥
+few_small t h big =
+    let below : digits_number t < 128 ^ length t = digits_lt t in
+    let most : 128 ^ length t ≤ 128 ^ 17 = pow-le-pow_right {n = 128} (lit< tt) {i = length t} {j = 17} (omega arith) in
+    omega arith
+
+-- 18 octets of digits may reach 2 ^ 121, and fewer do not
+big_many : (t : List ℕ) → 2 ^ 121 ≤ digits_number t → 18 ≤ length t
+big_many t big = ⊎_elim (λ (h : length t < 18). absurd (few_small t h big)) (λ h. h) (cases_lt (length t) 18)
+
+big_fault : (t : List ℕ) (x : ℕ) → IsOpen t → length t < 19 → x < 256 → 2 ^ 121 ≤ digits_number t → IsFaulty (t ++ x ∷ [])
+big_fault t x o l b big = ⊎_elim
+    (λ (h : x < 128). inr (finished_push t x o h, inr (rw (digits_push t x) (omega arith))))
+    (λ (h : 128 ≤ x). inl (open_push t x o h b, inr (omega (arith, length_push t x, big_many t big)))) (cases_lt x 128)
+
+front_big_step : (t : List ℕ) (x : ℕ) (rest : List ℕ) → IsOpen t → length t < 19 → x < 256 → 2 ^ 121 ≤ digits_number t → number_front (t ++ x ∷ rest) ≡ Err InvalidValue
+front_big_step t x rest o l b big =
+    let e : t ++ x ∷ rest ≡ (t ++ x ∷ []) ++ rest = sym (append_assoc t (x ∷ []) rest) in
+    rw e (number_bad (t ++ x ∷ []) rest (big_fault t x o l b big))
+
+pub exit_big : (t : List ℕ) (x : ℕ) (rest : List ℕ) → IsOpen t → length t < 19 → x < 256 → 2 ^ 121 ≤ digits_number t → number_front (t ++ x ∷ rest) ≡ Err InvalidValue
+exit_big t x rest o l b big = front_big_step t x rest o l b big
+
+pub exit_zero : (rest : List ℕ) → number_front (128 ∷ rest) ≡ Err InvalidValue
+exit_zero rest = front_zero (128 ∷ rest) refl
+
+pub exit_done : (t : List ℕ) (x : ℕ) (rest : List ℕ) → IsOpen t → ¬ BeginsWithZero t → x < 128 → digits_number t < 2 ^ 121 → number_front (t ++ x ∷ rest) ≡ Ok (digits_number t * 128 + x, rest)
+exit_done t x rest o z b small =
+    let e : t ++ x ∷ rest ≡ (t ++ x ∷ []) ++ rest = sym (append_assoc t (x ∷ []) rest) in
+    let value : digits_number (t ++ x ∷ []) ≡ digits_number t * 128 + x = digits_push t x ∙ rw (mod_small x b) refl in
+    rw e (number_ok (t ++ x ∷ []) rest (digits_number t * 128 + x) (record { finished = finished_push t x o b; shortest = zero_push t x z b; value = value; small = omega arith }))
+
+pub exit_full : (t rest : List ℕ) → IsOpen t → 19 ≤ length t → number_front (t ++ rest) ≡ Err InvalidValue
+exit_full t rest o l = number_bad t rest (inl (o, inr l))
+
+pub exit_short : (t : List ℕ) → IsOpen t → ¬ BeginsWithZero t → length t < 19 → number_front t ≡ Err (ShortData 1)
+exit_short t o z l = number_short t o (open_fine t o z l)
+
+-- ---- the text of a number
+
+pub length-number_text : (n : ℕ) → length (number_text n) ≡ length (digits_of 128 (n / 128)) + 1
+unfolding number_text
+length-number_text n = rw (length_push, length-map) refl
+
+pub few_digits : (n : ℕ) → n < 2 ^ 128 → length (digits_of 128 (n / 128)) ≤ 18
+few_digits n small = length-digits_of-le 128 18 (n / 128) (omega arith) (omega arith)
+
+-- ---- the same exits, at the place i of the text
+at_place : (text : List ℕ) (i : ℕ) → i < length text → text ≡ take i text ++ get_or text i 0 ∷ drop (i + 1) text
+at_place text i l = sym (take-append-drop i text) ∙ ap (λ (s : List ℕ). take i text ++ s) (drop_more text i 0 l)
+
+length_front : (text : List ℕ) (i : ℕ) → i ≤ length text → length (take i text) ≡ i
+length_front text i l = length-take-le i text l
+
+pub read_big : (text : List ℕ) (i : ℕ) → i < length text → IsOpen (take i text) → i < 19 → get_or text i 0 < 256 → 2 ^ 121 ≤ digits_number (take i text) → number_front text ≡ Err InvalidValue
+read_big text i l o few octet big =
+    ap number_front (at_place text i l) ∙ exit_big (take i text) (get_or text i 0) (drop (i + 1) text) o (omega (arith, length_front text i)) octet big
+
+pub read_zero : (text : List ℕ) (i : ℕ) → i ≡ 0 → get_or text i 0 ≡ 128 → number_front text ≡ Err InvalidValue
+read_zero text i e z = front_zero text (ap (λ (k : ℕ). get_or text k 0) (sym e) ∙ z)
+
+pub read_done : (text : List ℕ) (i : ℕ) → i < length text → IsOpen (take i text) → ¬ BeginsWithZero (take i text) → get_or text i 0 < 128 → digits_number (take i text) < 2 ^ 121 → number_front text ≡ Ok (digits_number (take i text) * 128 + get_or text i 0, drop (i + 1) text)
+read_done text i l o z octet small =
+    ap number_front (at_place text i l) ∙ exit_done (take i text) (get_or text i 0) (drop (i + 1) text) o z octet small
+
+pub read_full : (text : List ℕ) (i : ℕ) → i ≤ length text → IsOpen (take i text) → 19 ≤ i → number_front text ≡ Err InvalidValue
+read_full text i l o many =
+    ap number_front (sym (take-append-drop i text)) ∙ exit_full (take i text) (drop i text) o (omega (arith, length_front text i))
+
+pub read_short : (text : List ℕ) (i : ℕ) → i ≡ length text → IsOpen (take i text) → ¬ BeginsWithZero (take i text) → i < 19 → number_front text ≡ Err (ShortData 1)
+read_short text i e o z few =
+    let whole : take i text ≡ text = take_all i text (omega arith) in
+    exit_short text (rw whole at o) (rw whole at z) (omega arith)
+
+pub read_more : (text : List ℕ) (i : ℕ) → i < length text → IsOpen (take i text) → 128 ≤ get_or text i 0 → get_or text i 0 < 256 → IsOpen (take (i + 1) text)
+read_more text i l o a b = rw (take_more text i 0 l) (open_push (take i text) (get_or text i 0) o a b)
+
+pub read_value : (text : List ℕ) (i : ℕ) → i < length text → digits_number (take (i + 1) text) ≡ digits_number (take i text) * 128 + get_or text i 0 % 128
+read_value text i l = rw (take_more text i 0 l) (digits_push (take i text) (get_or text i 0))
+
+pub read_shortest : (text : List ℕ) (i : ℕ) → i < length text → ¬ BeginsWithZero (take i text) → (i ≡ 0 → get_or text i 0 ≡ 128 → ⊥) → ¬ BeginsWithZero (take (i + 1) text)
+read_shortest text i l z first = ⊎_elim
+    (λ (e : i ≡ 0). λ (w : BeginsWithZero (take (i + 1) text)). first e (ap (λ (k : ℕ). get_or text k 0) e ∙ sym (get_or-take (i + 1) text 0 0 (omega arith)) ∙ w))
+    (λ (n : i ≡ 0 → ⊥). λ (w : BeginsWithZero (take (i + 1) text)). z (get_or-take i text 0 0 (omega arith) ∙ sym (get_or-take (i + 1) text 0 0 (omega arith)) ∙ w)) (cases_eq i 0)
+
+pub next_value : (number x : ℕ) → number < 2 ^ 121 → bit_or (number * 128 % 2 ^ 128) (bit_and x 127) ≡ number * 128 + x % 128
+next_value number x small =
+    rw (and_mask x 7) (or_after_shift number 128 (2 ^ 128) (x % 128) refl (omega arith) (omega arith))
+
+pub low_seven : (x : ℕ) → bit_and x 127 ≡ x % 128
+low_seven x = and_mask x 7
+
+pub with_top : (x : ℕ) → bit_or 128 (bit_and x 127) ≡ 128 + x % 128
+with_top x = rw (and_mask x 7) (numeral_or 127 (x % 128) refl (omega arith))
+
+-- ---- writing
+
+abbrev pub topped : ℕ → ℕ
+topped digit = 128 + digit
+
+pub write_start : (n k : ℕ) (old : List ℕ) → k ≡ length (number_text n) → k ≤ length old → map topped (digits_of 128 (n / 128)) ++ drop (k - 1) (set old (k - 1) (n % 128)) ≡ number_text n ++ drop k old
+unfolding number_text
+write_start n k old e l =
+    let some : k - 1 + 1 ≡ k = omega (arith, length-number_text n) in
+    let in_it : k - 1 < length old = omega (arith, length-number_text n) in
+    rw (drop-set old (k - 1) (n % 128), some, append_assoc) refl
+
+pub digits_some : (n : ℕ) → 0 < length (digits_of 128 n) → 0 < n
+digits_some zero l = l
+digits_some (suc n) l = omega arith
+
+pub write_step : (rest i : ℕ) (octets : List ℕ) → length (digits_of 128 rest) ≡ i → 0 < i → i ≤ length octets → map topped (digits_of 128 (rest / 128)) ++ drop (i - 1) (set octets (i - 1) (128 + rest % 128)) ≡ map topped (digits_of 128 rest) ++ drop i octets
+write_step rest i octets e some l =
+    let more : 0 < rest = digits_some rest (omega arith) in
+    let same : i - 1 + 1 ≡ i = omega arith in
+    let in_it : i - 1 < length octets = omega arith in
+    rw (drop-set octets (i - 1) (128 + rest % 128), same, digits_of_step 128 rest (lit≤ tt) more, map_push, append_assoc) refl
+
+pub few_octets : (n : ℕ) → n < 2 ^ 32 → length (number_text n) ≤ 5
+few_octets n small = omega (arith, length-number_text n, length-digits_of-le 128 4 (n / 128) (lit≤ tt) (omega arith))

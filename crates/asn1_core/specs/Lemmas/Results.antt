@@ -1,0 +1,40 @@
+-- Results of readings, taken apart.
+use Rattle.std.proofs.Common.{◌≡◌, List, [], Bool, true, false, cond, Result, Ok, Err, refl, sym, ap, ◌⊎◌, inl, inr}
+use Rattle.asn1_core.specs.declared.parser.ParseErrorKind.{ParseErrorKind}
+use Rattle.asn1_core.specs.declared.parser.Place.{Place}
+use Rattle.asn1_core.specs.Element.{◌>>=◌}
+use Rattle.asn1_core.specs.Fault.{Fault, fault, framed, Gives}
+use Rattle.asn1_core.specs.Reading.{Answers}
+
+-- a result at Ok
+abbrev pub done : {A : Type 0} → A → Result A Fault
+done x = Ok x
+
+pub ok_is : {A : Type 0} (x y : A) → done x ≡ done y → x ≡ y
+ok_is x y e = cc
+
+pub bind_ok : {A B : Type 0} (r : Result A Fault) (f : A → Result B Fault) (y : B) → (r >>= f) ≡ Ok y → (x : A) × (r ≡ Ok x) × (f x ≡ Ok y)
+bind_ok (Ok x) f y e = (x, refl, e)
+bind_ok (Err d) f y e = absurd cc
+
+pub framed_ok : {A : Type 0} (r : Result A ParseErrorKind) (x : A) → framed r ≡ Ok x → r ≡ Ok x
+framed_ok (Ok y) x e = cc
+framed_ok (Err kind) x e = absurd cc
+
+-- a test with one answer
+pub chosen : {A : Type 0} (b : Bool) (x y z : A) → cond b x y ≡ z → ((b ≡ true) × (x ≡ z)) ⊎ ((b ≡ false) × (y ≡ z))
+chosen true x y z e = inl (refl, e)
+chosen false x y z e = inr (refl, e)
+
+-- a test with a fault in its second place
+pub passed : {A : Type 0} (b : Bool) (x : Result A Fault) (d : Fault) (y : A) → cond b x (Err d) ≡ Ok y → (b ≡ true) × (x ≡ Ok y)
+passed true x d y e = (refl, e)
+passed false x d y e = absurd cc
+
+no_place : (e : Fault) → e.places ≡ [] → fault e.kind ≡ e
+no_place e none = ap (λ (places : List Place). record { kind = e.kind; places = places }) (sym none)
+
+-- what framing gave is what a reading answers
+pub given : {V A : Type 0} (view : V → A) (r : Result V Fault) (answer : Result A ParseErrorKind) → Gives view r answer → Answers view (λ places. ⊥) r (framed answer)
+given view (Ok v) answer e = rw e refl
+given view (Err f) answer e = inl (rw (e.0, no_place f e.1) refl)

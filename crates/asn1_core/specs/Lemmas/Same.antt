@@ -1,0 +1,97 @@
+-- Tests of equal kinds, places and errors decide that they are equal.
+use Rattle.std.proofs.Common.{◌≡◌, ℕ, zero, suc, ◌+◌, ◌-◌, ◌≤◌, Bool, true, ◌&&◌, eqb, List, [], ◌∷◌, ◌++◌, length, map, replicate, Some, None, refl, sym, ap, ◌∙◌, arith}
+use Rattle.std.specs.Bool.{Decides}
+use Rattle.std.specs.Option.{option_eq}
+use Rattle.std.specs.Cmp.Lexicographic.{pointwise}
+use Rattle.std.proofs.lemmas.Bool.{eqb-true, eq-eqb}
+use Rattle.std.proofs.lemmas.Slice.Eq.{bytes_eq-Decides, slice_eq-Decides}
+use Rattle.asn1_core.specs.declared.parser.ParseErrorKind.{ParseErrorKind}
+use Rattle.asn1_core.specs.declared.parser.ParseErrorKind.TheVariants.{InvalidValue, InvalidTag, InvalidLength, InvalidSize, UnexpectedTag, ShortData, IntegerOverflow, ExtraData, InvalidSetOrdering, EncodedDefault, OidTooLong, UnknownDefinedBy, AllocationError}
+use Rattle.asn1_core.specs.declared.parser.Place.{Place}
+use Rattle.asn1_core.specs.declared.parser.Place.TheVariants.{Field, Index}
+use Rattle.asn1_core.specs.declared.tag.Tag.{Tag}
+use Rattle.asn1_core.specs.Tag.{tag_eq}
+use Rattle.asn1_core.specs.declared.parser.TheConstants.{MAX_PLACES}
+use Rattle.asn1_core.specs.Fault.{Fault}
+use Rattle.asn1_core.specs.Places.{slots_of}
+use Rattle.asn1_core.specs.Same.{kind_eq, place_eq, fault_eq}
+use Rattle.asn1_core.specs.Lemmas.Tags.{and_parts, tag_eq-is, tag_eq-refl, bool_same}
+
+both_true : (a b : Bool) → a ≡ true → b ≡ true → (a && b) ≡ true
+both_true a b e f = rw (e, f) refl
+
+-- through a constructor that gives its argument back
+by_arg : {A B : Type 0} (make : A → B) (take : B → A) → ((a : A) → take (make a) ≡ a) → (a b : A) (r : Bool) → Decides r (a ≡ b) → Decides r (make a ≡ make b)
+by_arg make take back a b r d = (λ t. ap make (d.0 t), λ e. d.1 (sym (back a) ∙ (ap take e ∙ back b)))
+
+tag_of_kind : Tag → ParseErrorKind → Tag
+tag_of_kind t (UnexpectedTag u) = u
+tag_of_kind t _ = t
+
+unexpected : (a b : Tag) → UnexpectedTag a ≡ UnexpectedTag b → a ≡ b
+unfolding tag_of_kind
+unexpected a b e = ap (tag_of_kind a) e
+
+size_same : (a b c x y z : ℕ) → ((eqb a x && eqb b y) && eqb c z) ≡ true → InvalidSize a b c ≡ InvalidSize x y z
+size_same a b c x y z e =
+    let p = and_parts (eqb a x && eqb b y) (eqb c z) e in
+    let q = and_parts (eqb a x) (eqb b y) p.0 in
+    let i : a ≡ x = eqb-true a x q.0 in
+    let j : b ≡ y = eqb-true b y q.1 in
+    let k : c ≡ z = eqb-true c z p.1 in
+    rw (i, j, k) refl
+
+pub kind_eq-decides : (a b : ParseErrorKind) → Decides (kind_eq a b) (a ≡ b)
+kind_eq-decides InvalidValue InvalidValue = (λ e. refl, λ e. refl)
+kind_eq-decides InvalidTag InvalidTag = (λ e. refl, λ e. refl)
+kind_eq-decides InvalidLength InvalidLength = (λ e. refl, λ e. refl)
+kind_eq-decides (InvalidSize a b c) (InvalidSize x y z) = (λ e. size_same a b c x y z e, λ e. let i : a ≡ x = cc in let j : b ≡ y = cc in let k : c ≡ z = cc in both_true _ _ (both_true _ _ (eq-eqb a x i) (eq-eqb b y j)) (eq-eqb c z k))
+kind_eq-decides (UnexpectedTag a) (UnexpectedTag b) = (λ e. ap (λ (t : Tag). UnexpectedTag t) (tag_eq-is a b e), λ e. ap (λ (t : Tag). tag_eq a t) (sym (unexpected a b e)) ∙ tag_eq-refl a)
+kind_eq-decides (ShortData n) (ShortData m) = (λ e. let i : n ≡ m = eqb-true n m e in rw i refl, λ e. let i : n ≡ m = cc in eq-eqb n m i)
+kind_eq-decides IntegerOverflow IntegerOverflow = (λ e. refl, λ e. refl)
+kind_eq-decides ExtraData ExtraData = (λ e. refl, λ e. refl)
+kind_eq-decides InvalidSetOrdering InvalidSetOrdering = (λ e. refl, λ e. refl)
+kind_eq-decides EncodedDefault EncodedDefault = (λ e. refl, λ e. refl)
+kind_eq-decides OidTooLong OidTooLong = (λ e. refl, λ e. refl)
+kind_eq-decides UnknownDefinedBy UnknownDefinedBy = (λ e. refl, λ e. refl)
+kind_eq-decides AllocationError AllocationError = (λ e. refl, λ e. refl)
+kind_eq-decides _ _ = (λ e. absurd cc, λ e. absurd cc)
+
+pub place_eq-decides : (a b : Place) → Decides (place_eq a b) (a ≡ b)
+place_eq-decides (Field a) (Field b) = (λ e. let i : a ≡ b = (bytes_eq-Decides a b).0 e in rw i refl, λ e. let i : a ≡ b = cc in (bytes_eq-Decides a b).1 i)
+place_eq-decides (Index a) (Index b) = (λ e. let i : a ≡ b = eqb-true a b e in rw i refl, λ e. let i : a ≡ b = cc in eq-eqb a b i)
+place_eq-decides _ _ = (λ e. absurd cc, λ e. absurd cc)
+
+fault_same : (e f : Fault) → e.kind ≡ f.kind → e.places ≡ f.places → e ≡ f
+fault_same e f k p = ap (λ (x : ParseErrorKind). let r : Fault = record { kind = x; places = e.places } in r) k ∙ ap (λ (x : List Place). let r : Fault = record { kind = f.kind; places = x } in r) p
+
+pub fault_eq-decides : (e f : Fault) → Decides (fault_eq e f) (e ≡ f)
+fault_eq-decides e f =
+    let places = slice_eq-Decides place_eq-decides e.places f.places (pointwise place_eq e.places f.places) refl in
+    let kinds = kind_eq-decides e.kind f.kind in (
+      λ t. let p = and_parts (kind_eq e.kind f.kind) (pointwise place_eq e.places f.places) t in fault_same e f (kinds.0 p.0) (places.0 p.1),
+      λ same. both_true _ _ (kinds.1 (ap (λ (x : Fault). x.kind) same)) (places.1 (ap (λ (x : Fault). x.places) same)),
+    )
+
+-- a test of equal kinds is that of the definitions
+pub kind_eq-decided : (a b : ParseErrorKind) (r : Bool) → (r ≡ true → a ≡ b) → (a ≡ b → r ≡ true) → r ≡ kind_eq a b
+kind_eq-decided a b r same so =
+    let d = kind_eq-decides a b in
+    bool_same r (kind_eq a b) (λ e. d.1 (same e)) (λ e. so (d.0 e))
+
+none_same : (m : ℕ) → pointwise (option_eq place_eq) (replicate m None) (replicate m None) ≡ true
+none_same zero = refl
+none_same (suc m) = none_same m
+
+-- slots that hold places in front and nothing behind them are compared as their places
+packed_same : (xs ys : List Place) (m k : ℕ) → length xs + m ≡ length ys + k →
+    pointwise (option_eq place_eq) (map (λ place. Some place) xs ++ replicate m None) (map (λ place. Some place) ys ++ replicate k None) ≡ pointwise place_eq xs ys
+packed_same [] [] m k e = let same : m ≡ k = omega arith in rw same (none_same k)
+packed_same [] (y ∷ ys) zero k e = absurd (omega arith)
+packed_same [] (y ∷ ys) (suc m) k e = refl
+packed_same (x ∷ xs) [] m zero e = absurd (omega arith)
+packed_same (x ∷ xs) [] m (suc k) e = refl
+packed_same (x ∷ xs) (y ∷ ys) m k e = ap (λ (b : Bool). place_eq x y && b) (packed_same xs ys m k (omega arith))
+
+pub slots_same : (xs ys : List Place) → length xs ≤ MAX_PLACES → length ys ≤ MAX_PLACES → pointwise (option_eq place_eq) (slots_of xs) (slots_of ys) ≡ pointwise place_eq xs ys
+slots_same xs ys l m = packed_same xs ys (MAX_PLACES - length xs) (MAX_PLACES - length ys) (omega arith)

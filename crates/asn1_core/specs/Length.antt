@@ -1,0 +1,49 @@
+-- Lengths in the definite form, in the fewest octets (X.690 8.1.3, 10.1).
+use Rattle.std.specs.Prelude.{◌≡◌, ℕ, ◌+◌, ◌-◌, ◌^◌, ◌<◌, ◌≤◌, ◌⊎◌, cond, ◌==◌, ◌||◌, nat_le, nat_lt, List, [], ◌∷◌, ◌++◌, length, slice_index, take, drop, Result, Ok, Err}
+use Rattle.std.specs.Int.Digits.{digits_of}
+use Rattle.asn1_core.specs.declared.parser.ParseErrorKind.{ParseErrorKind}
+use Rattle.asn1_core.specs.declared.parser.ParseErrorKind.TheVariants.{InvalidLength, ShortData}
+use Rattle.asn1_core.specs.Text.{IsText, number}
+
+-- The shortest text with this number.
+pub record IsShortest (octets : List ℕ) (n : ℕ) : Type 0 where
+  pub text : IsText octets
+  pub value : number octets ≡ n
+  pub shortest : (other : List ℕ) → IsText other → number other ≡ n → length octets ≤ length other
+
+-- The octets are the text of the length n: one octet below 128 (8.1.3.4); else 0x80 and their count, and the
+-- shortest text of n (8.1.3.5, 10.1).
+abbrev pub IsLengthText : List ℕ → ℕ → Type 0
+IsLengthText text n = (n < 128) × (text ≡ n ∷ [])
+    ⊎ ((octets : List ℕ) × (128 ≤ n) × IsShortest octets n × (text ≡ (0x80 + length octets) ∷ octets))
+
+-- The text of the length n, as a function: the digits of n in base 256 are the shortest text of n.
+unfoldable pub length_text : ℕ → List ℕ
+length_text n = cond (nat_lt n 128) (n ∷ []) ((0x80 + length (digits_of 256 n)) ∷ digits_of 256 n)
+
+-- What stands in front of a text, where a length is wanted: a readable length and the rest; a first octet that
+-- no readable length has, or further octets that are all there and aren't a length's text; or too little. That a
+-- readable length has at most four further octets is the bound of this library.
+abbrev pub IsLengthFront : List ℕ → Result (ℕ × List ℕ) ParseErrorKind → Type 0
+IsLengthFront text (Ok found) = (found.0 < 2 ^ 32) × (text ≡ length_text found.0 ++ found.1)
+IsLengthFront text (Err InvalidLength) = ((first : ℕ) × (rest : List ℕ) × (first ≡ 0x80 ⊎ 0x85 ≤ first) × (text ≡ first ∷ rest))
+    ⊎ ((octets rest : List ℕ) × (1 ≤ length octets) × (length octets ≤ 4)
+    × ((n : ℕ) → (0x80 + length octets) ∷ octets ≡ length_text n → ⊥)
+    × (text ≡ (0x80 + length octets) ∷ octets ++ rest))
+IsLengthFront text (Err (ShortData needed)) = (text ≡ []) × (needed ≡ 1)
+    ⊎ ((octets : List ℕ) × (1 ≤ needed) × (length octets + needed ≤ 4) × (text ≡ (0x80 + (length octets + needed)) ∷ octets))
+IsLengthFront text (Err _) = ⊥
+
+-- The same, as functions.
+abbrev pub long_length : ℕ → List ℕ → Result (ℕ × List ℕ) ParseErrorKind
+long_length count rest =
+    cond (nat_lt (length rest) count) (Err (ShortData (count - length rest)))
+    (cond (slice_index rest 0 == 0 || nat_lt (number (take count rest)) 128) (Err InvalidLength)
+    (Ok (number (take count rest), drop count rest)))
+
+unfoldable pub length_front : List ℕ → Result (ℕ × List ℕ) ParseErrorKind
+length_front [] = Err (ShortData 1)
+length_front (first ∷ rest) =
+    cond (nat_lt first 0x80) (Ok (first, rest))
+    (cond (first == 0x80 || nat_le 0x85 first) (Err InvalidLength)
+    (long_length (first - 0x80) rest))

@@ -1,0 +1,19 @@
+-- The order of texts, by which the elements of a SET OF stand in DER (X.690 11.6). The standard pads the shorter text
+-- with zero octets; no element is a front of another, so on elements this is the same order.
+use Rattle.std.specs.Prelude.{◌≡◌, ℕ, ◌<◌, ◌⊎◌, Bool, true, List, ◌∷◌, ◌++◌, length}
+use Rattle.std.specs.Cmp.Lexicographic.{slice_cmp}
+use Rattle.std.specs.Ordering.{is_lt, nat_cmp}
+
+-- The text a is less than b: where they differ first it has the lower octet, or it is a proper front of b.
+abbrev pub IsLess : List ℕ → List ℕ → Type 0
+IsLess a b =
+    ((front : List ℕ) × (x : ℕ) × (rest : List ℕ) × (y : ℕ) × (other : List ℕ) × (x < y) × (a ≡ front ++ x ∷ rest) × (b ≡ front ++ y ∷ other))
+    ⊎ ((more : List ℕ) × (0 < length more) × (b ≡ a ++ more))
+
+-- The same, as a test.
+abbrev pub text_less : List ℕ → List ℕ → Bool
+text_less a b = is_lt (slice_cmp nat_cmp a b)
+
+-- The test answers the relation.
+abbrev pub OrderIsAnswered : Type 0
+OrderIsAnswered = (a b : List ℕ) → (text_less a b ≡ true → IsLess a b) × (IsLess a b → text_less a b ≡ true)

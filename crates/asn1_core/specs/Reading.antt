@@ -1,0 +1,107 @@
+-- What readings answer.
+use Rattle.std.specs.Prelude.{ℕ, ◌<◌, ◌^◌, ◌≡◌, ◌⊎◌, List, [], ◌∷◌, ◌++◌, nat_eq, cond, Result, Ok, Err, Bool, true, false, IsErrAnd}
+use Rattle.asn1_core.specs.declared.parser.ParseErrorKind.{ParseErrorKind}
+use Rattle.asn1_core.specs.declared.parser.ParseErrorKind.TheVariants.{AllocationError, ExtraData, InvalidValue, UnexpectedTag}
+use Rattle.asn1_core.specs.declared.parser.Place.{Place}
+use Rattle.asn1_core.specs.declared.tag.Tag.{Tag}
+use Rattle.asn1_core.specs.Tag.{tag_eq, tag_front}
+use Rattle.asn1_core.specs.Element.{Element, element_text, IsReadable, front, ◌>>=◌}
+use Rattle.asn1_core.specs.Fault.{Fault, fault, framed}
+
+-- A refusal says the first fault, or that memory ran out at one of the places.
+abbrev pub IsRefusal : {M : Type 0} → (List Place → Type 0) → Result M Fault → Fault → Type 0
+IsRefusal out read e = (read ≡ Err e) ⊎ ((e.kind ≡ AllocationError) × out e.places)
+
+-- What a call answered, its value seen by view, is what reading gives, or memory ran out at one of the places.
+abbrev pub Answers : {V M : Type 0} → (V → M) → (List Place → Type 0) → Result V Fault → Result M Fault → Type 0
+Answers view out (Ok v) read = read ≡ Ok (view v)
+Answers view out (Err e) read = IsRefusal out read e
+
+-- The second text is a back of the first.
+abbrev pub EndsWith : List ℕ → List ℕ → Type 0
+EndsWith text back = (taken : List ℕ) × (text ≡ taken ++ back)
+
+abbrev pub all_taken : {M : Type 0} → M → List ℕ → Result M Fault
+all_taken m [] = Ok m
+all_taken m (octet ∷ octets) = Err (fault ExtraData)
+
+-- Nothing may be left behind what was read.
+abbrev pub whole : {M : Type 0} → Result (M × List ℕ) Fault → Result M Fault
+whole read = read >>= λ x. all_taken x.0 x.1
+
+-- Nothing, or an element whose tag number and content's length are readable.
+abbrev pub Fits : List ℕ → Type 0
+Fits text = (text ≡ []) ⊎ ((e : Element) × IsReadable e × (text ≡ element_text e))
+
+-- What is taken in front of a text is that text, which is nothing or one element.
+pub record Takes (t text rest : List ℕ) : Type 0 where
+  pub is : t ≡ text ++ rest
+  pub one : Fits text
+
+-- The element in front and the rest, or the fault of framing.
+abbrev pub element_front : List ℕ → Result (Element × List ℕ) Fault
+element_front t = framed (front t)
+
+abbrev pub expected : {M : Type 0} → Tag → (List ℕ → Result M Fault) → Element × List ℕ → Result (M × List ℕ) Fault
+expected tag read f = cond (tag_eq f.0.tag tag) (read f.0.content >>= λ m. Ok (m, f.1)) (Err (fault (UnexpectedTag f.0.tag)))
+
+-- A simple type: the element, then its tag, then its content.
+abbrev pub simple : {M : Type 0} → Tag → (List ℕ → Result M Fault) → List ℕ → Result (M × List ℕ) Fault
+simple tag read t = element_front t >>= expected tag read
+
+-- Memory may run out for a simple type where it may for its content.
+abbrev pub simple_out : Tag → (List ℕ → List Place → Type 0) → List ℕ → List Place → Type 0
+simple_out tag out t places = (f : Element × List ℕ) × (front t ≡ Ok f) × (f.0.tag ≡ tag) × out f.0.content places
+
+-- A refusal of framing takes nothing; one that comes after framing stands behind the element.
+abbrev pub stops_behind : Result (Element × List ℕ) ParseErrorKind → List ℕ → List ℕ → Type 0
+stops_behind (Ok f) t rest = rest ≡ f.1
+stops_behind (Err kind) t rest = rest ≡ t
+
+-- What a refused read of a simple type leaves.
+abbrev pub simple_stops : List ℕ → List ℕ → Type 0
+simple_stops t rest = stops_behind (front t) t rest
+
+-- A refused read of any element takes nothing.
+abbrev pub tlv_stops : List ℕ → List ℕ → Type 0
+tlv_stops t rest = rest ≡ t
+
+-- Whether an accepted tag stands in front.
+abbrev pub accepts_front : (Tag → Bool) → Result (Tag × List ℕ) ParseErrorKind → Bool
+accepts_front accepts (Ok found) = accepts found.0
+accepts_front accepts (Err kind) = false
+
+abbrev pub stands : (Tag → Bool) → List ℕ → Bool
+stands accepts t = accepts_front accepts (tag_front t)
+
+-- An element with an accepted, readable tag.
+pub record IsAccepted (accepts : Tag → Bool) (text : List ℕ) : Type 0 where
+  pub element : Element
+  pub is : text ≡ element_text element
+  pub readable : element.tag.value < 2 ^ 32
+  pub accepted : accepts element.tag ≡ true
+
+-- What is left, where nothing may be left.
+abbrev pub finished : List ℕ → Result (Unit {0}) Fault
+finished [] = Ok tt
+finished (octet ∷ octets) = Err (fault ExtraData)
+
+-- What a closure's answer becomes, once nothing may be left of the text.
+abbrev pub Finished : {T E : Type 0} → (Fault → E → Type 0) → Result T E → List ℕ → Result T E → Type 0
+Finished gives (Err e) rest result = result ≡ Err e
+Finished gives (Ok v) [] result = result ≡ Ok v
+Finished gives (Ok v) (octet ∷ octets) result = IsErrAnd result (gives (fault ExtraData))
+
+-- The content of a truth value: one octet, all its bits 0 for false, all 1 for true. (X.690 8.2, 11.1)
+abbrev pub bool_content_text : Bool → List ℕ
+bool_content_text false = 0x00 ∷ []
+bool_content_text true = 0xff ∷ []
+
+abbrev pub read_bool : List ℕ → Result Bool Fault
+read_bool [] = Err (fault InvalidValue)
+read_bool (octet ∷ []) = cond (nat_eq octet 0x00) (Ok false) (cond (nat_eq octet 0xff) (Ok true) (Err (fault InvalidValue)))
+read_bool (octet ∷ next ∷ octets) = Err (fault InvalidValue)
+
+-- The content of what is no simple type.
+abbrev pub refuses : {M : Type 0} → List ℕ → Result M Fault
+refuses c = Err (fault InvalidValue)

@@ -1,0 +1,20 @@
+-- An element in hand.
+use Rattle.std.specs.Prelude.{ℕ, List, Result, Ok, Err}
+use Rattle.std.specs.Borrow.{Bor}
+use Rattle.asn1_core.specs.declared.parser.ParseErrorKind.{ParseErrorKind}
+use Rattle.asn1_core.specs.declared.types.Tlv.{Tlv}
+use Rattle.asn1_core.specs.Element.{Element, element}
+use Rattle.asn1_core.specs.Fault.{Fault}
+
+-- Its tag and content, without where they lie in memory.
+abbrev pub element_of : Tlv → Element
+element_of tlv = element tlv.tag tlv.«data».now
+
+-- The octets that it lends as its full data.
+abbrev pub full_octets : Tlv → List ℕ
+full_octets tlv = tlv.full_data.now
+
+-- What a call of `strip_tlv` gave, without where its octets lie.
+abbrev pub stripped : Result (Tlv × Bor (List ℕ)) Fault → Result (Element × List ℕ) ParseErrorKind
+stripped (Ok x) = Ok (element_of x.0, x.1.now)
+stripped (Err e) = Err e.kind

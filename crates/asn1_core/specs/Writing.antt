@@ -1,0 +1,26 @@
+-- The laws that writing keeps.
+use Rattle.std.specs.Prelude.{◌≡◌, ℕ, ◌+◌, List, length, ◌⊎◌, Option, IfSome}
+use Rattle.asn1_core.specs.declared.tag.Tag.{Tag}
+use Rattle.asn1_core.specs.declared.writer.WriteError.{WriteError}
+use Rattle.asn1_core.specs.declared.writer.WriteError.TheVariants.{AllocationError}
+use Rattle.asn1_core.specs.Tag.{tag_text}
+use Rattle.asn1_core.specs.Length.{length_text}
+use Rattle.asn1_core.specs.Element.{element, element_text}
+
+-- a length that is known is that of each text
+abbrev pub KnowsLength : (List ℕ → Type 0) → Option ℕ → Type 0
+KnowsLength texts known = IfSome known (λ n. (t : List ℕ) → texts t → length t ≡ n)
+
+-- want of memory, or an error that is named
+abbrev pub Refuses : {E : Type 0} → (WriteError → E → Type 0) → (E → Type 0) → E → Type 0
+Refuses gives named e = gives AllocationError e ⊎ named e
+
+-- the elements with that tag and one of the contents
+pub record IsElementOf (tag : Tag) (contents : List ℕ → Type 0) (text : List ℕ) : Type 0 where
+  pub content : List ℕ
+  pub is_content : contents content
+  pub is : text ≡ element_text (element tag content)
+
+-- The count of octets of an element with this tag and n octets of content.
+unfoldable pub full_count : Tag → ℕ → ℕ
+full_count tag n = n + (length (tag_text tag) + length (length_text n))

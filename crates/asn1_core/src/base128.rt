@@ -1,0 +1,78 @@
+//! Numbers in base 128: groups of seven bits, the most significant first, where every octet but the last has its top
+//! bit set (X.690 8.1.2.4.2, 8.19.2). A number is below 2^128, so its text has at most 19 octets.
+
+ghost use Rattle.std.specs.Prelude.{◌≡◌, ℕ, ◌+◌, ◌<◌, ◌≤◌, ◌++◌, List, length, drop, IfNone, IfSome};
+ghost use Rattle.asn1_core.specs.Fault.{Gives, Tells};
+ghost use Rattle.asn1_core.specs.Base128.{number_text, number_front};
+
+use crate::parser::{ParseErrorKind, ParseResult, with_no_place};
+
+/// How many octets the text of the largest number has.
+const MAX_OCTETS: usize = 19;
+
+/// The number in front of the octets, and what follows it.
+///
+/// `InvalidValue` where the octets begin with no number, however they go on: the first is 0x80, 19 of them have their
+/// top bit set, or the number is 2^128 or more. `ShortData { needed: 1 }` where the number isn't finished.
+pub fn read(octets: &[u8]) -> ParseResult<(u128, &[u8])>
+    ensures { Gives (λ x. (x.0, x.1.now)) result (number_front octets.now) }
+{
+    with_no_place(read_number(octets))
+}
+
+/// What [`read`] answers, with no more than the kind of a refusal.
+pub(crate) fn read_number(octets: &[u8]) -> Result<(u128, &[u8]), ParseErrorKind>
+    ensures { Tells (λ x. (x.0, x.1.now)) result (number_front octets.now) }
+{
+    let mut number = 0u128;
+    for i in 0..MAX_OCTETS {
+        if i >= octets.len() {
+            return Err(ParseErrorKind::ShortData { needed: 1 });
+        }
+        let octet = octets[i];
+        if number > u128::MAX >> 7 || (i == 0 && octet == 0x80) {
+            return Err(ParseErrorKind::InvalidValue);
+        }
+        number = (number << 7) | u128::from(octet & 0x7f);
+        if octet < 0x80 {
+            return Ok((number, &octets[i + 1..]));
+        }
+    }
+    Err(ParseErrorKind::InvalidValue)
+}
+
+/// How many octets the text of the number has: 1 to 19.
+pub fn length(n: u128) -> usize
+    ensures text { result ≡ length (number_text n) }
+    ensures some { 0 < result }
+    ensures most { result ≤ 19 }
+{
+    let mut rest = n >> 7;
+    let mut count = 1;
+    while rest > 0 {
+        rest >>= 7;
+        count += 1;
+    }
+    count
+}
+
+/// Puts the text of the number in front of the octets, and answers how many octets it has. `None`, with the octets as
+/// they were, where they are fewer.
+pub fn write(n: u128, octets: &mut [u8]) -> Option<usize>
+    ensures short { IfNone result ((length octets.old < length (number_text n)) × (octets.new ≡ octets.old)) }
+    ensures written { IfSome result (λ count. (count ≡ length (number_text n))
+        × (count ≤ length octets.old)
+        × (octets.new ≡ number_text n ++ drop count octets.old)) }
+{
+    let count = length(n);
+    if octets.len() < count {
+        return None;
+    }
+    octets[count - 1] = (n & 0x7f) as u8;
+    let mut rest = n >> 7;
+    for i in (0..count - 1).rev() {
+        octets[i] = 0x80 | (rest & 0x7f) as u8;
+        rest >>= 7;
+    }
+    Some(count)
+}

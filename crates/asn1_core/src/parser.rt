@@ -1,0 +1,554 @@
+//! Reading: errors with their places, framing, and the parser.
+
+ghost use Rattle.std.specs.Prelude.{◌≡◌, ◌↔◌, ℕ, ◌*◌, ◌^◌, ◌<◌, ◌≤◌, ◌==◌, ◌++◌, [], List, Result, length, IsTrue, IfOk, IfErr, OnErr, Ok};
+ghost use Rattle.std.specs.Fn.{FnOnceReturnsAtMut};
+ghost use Rattle.asn1_core.specs.declared.parser.ParseErrorKind.{ParseErrorKind};
+ghost use Rattle.asn1_core.specs.declared.parser.ParseErrorKind.TheVariants.{ShortData};
+ghost use Rattle.asn1_core.specs.Text.{IsText, number};
+ghost use Rattle.asn1_core.specs.Tag.{tag_front, found_tag, explicit_tag_of, implicit_tag_of};
+ghost use Rattle.asn1_core.specs.Length.{length_front};
+ghost use Rattle.asn1_core.specs.Element.{Element, IsFront, front, element_text};
+ghost use Rattle.asn1_core.specs.Tlv.{element_of, full_octets, stripped};
+ghost use Rattle.asn1_core.specs.Fault.{fault, within, framed, Gives, Tells};
+ghost use Rattle.asn1_core.specs.Places.{place_of};
+ghost use Rattle.asn1_core.specs.Reading.{Answers, EndsWith, Finished, Fits, whole, finished, simple, simple_out, simple_stops};
+ghost use Rattle.asn1_core.specs.Laws.{IsShort, with_more};
+ghost use Rattle.std.specs.Cmp.{decided, partial_equiv_from_equiv};
+ghost use Rattle.asn1_core.specs.Display.{error_text};
+ghost use Rattle.asn1_core.specs.Same.{kind_eq, place_eq, fault_eq};
+ghost use Rattle.asn1_core.specs.Lemmas.Same.{place_eq-decides, fault_eq-decides};
+
+use crate::tag::{Tag, explicit_tag, implicit_tag};
+use crate::types::{Asn1Readable, SimpleAsn1Readable, Tlv};
+use bytes::ByteStr;
+use std::alloc::Global;
+use std::error::Error;
+use std::fmt;
+use std::marker::Model;
+
+/// What is wrong with a text.
+#[derive(Clone, Copy, Debug, PartialEq, Eq)]
+pub enum ParseErrorKind {
+    /// The content stands for no value of the type.
+    InvalidValue,
+    /// The tag's number is faulty.
+    InvalidTag,
+    /// The length is faulty: it is indefinite (0x80), isn't in the fewest octets, or has more than four behind the first.
+    InvalidLength,
+    /// A list has more or fewer items than its bounds allow.
+    InvalidSize {
+        /// The least count of items.
+        min: usize,
+        /// The greatest count of items.
+        max: usize,
+        /// How many items there are.
+        actual: usize,
+    },
+    /// Another tag stands there than the type has.
+    UnexpectedTag {
+        /// The tag that stands there.
+        actual: Tag,
+    },
+    /// The text ends too early.
+    ShortData {
+        /// How many octets are missing at least. With them a read may still fail.
+        needed: usize,
+    },
+    /// A number is outside the range of its type.
+    IntegerOverflow,
+    /// Something is left behind the value.
+    ExtraData,
+    /// The elements of a set aren't in order.
+    InvalidSetOrdering,
+    /// A value that equals its default was encoded.
+    EncodedDefault,
+    /// An object identifier has more octets than can be stored.
+    OidTooLong,
+    /// A value defined by another has no variant for it.
+    UnknownDefinedBy,
+    /// Memory ran out.
+    AllocationError,
+}
+
+/// Where a fault lies in the structure around it.
+#[derive(Debug, PartialEq, Eq, Drop)]
+pub enum ParseLocation {
+    /// In the field of this name.
+    Field(&'static str),
+    /// In the item at this index.
+    Index(usize),
+}
+
+/// How many places an error keeps.
+pub const MAX_PLACES: usize = 4;
+
+/// A location as an error keeps it, with no reference.
+#[derive(Drop)]
+enum Place {
+    Field(ByteStr),
+    Index(usize),
+}
+
+impl PartialEq for Place {
+    ghost eq = { place_eq };
+
+    ghost laws = { partial_equiv_from_equiv (decided place_eq place_eq-decides) };
+
+    fn eq(&self, other: &Place) -> bool {
+        match (self, other) {
+            (Place::Field(a), Place::Field(b)) => a == b,
+            (Place::Index(a), Place::Index(b)) => a == b,
+            _ => false,
+        }
+    }
+}
+
+impl Eq for Place {
+    ghost laws = { decided place_eq place_eq-decides };
+}
+
+impl From<ParseLocation> for Place {
+    ghost from_gives = { λ location place. place ≡ place_of location };
+
+    fn from(location: ParseLocation) -> Place {
+        match location {
+            ParseLocation::Field(name) => Place::Field(ByteStr::from_static(name)),
+            ParseLocation::Index(index) => Place::Index(index),
+        }
+    }
+}
+
+/// Why a text could not be read, and the innermost places around the fault.
+#[derive(Drop)]
+pub struct ParseError {
+    kind: ParseErrorKind,
+    // The places, innermost first, and behind them empty slots.
+    places: [Option<Place>; MAX_PLACES],
+    depth: usize,
+}
+
+impl Model for ParseError {
+    ghost use Rattle.std.specs.Prelude.{◌≡◌, ◌≤◌, length};
+    ghost use Rattle.asn1_core.specs.declared.parser.TheConstants.{MAX_PLACES};
+    ghost use Rattle.asn1_core.specs.Fault.{Fault};
+
+    ghost Value = { Fault };
+
+    ghost use Rattle.asn1_core.specs.Places.{places_in, slots_of};
+
+    ghost view = { λ e. record { kind = e.kind; places = places_in e.places } };
+
+    ghost invariant = { λ e. (e.depth ≤ MAX_PLACES) × (length (places_in e.places) ≡ e.depth) × (e.places ≡ slots_of (places_in e.places)) };
+}
+
+/// A value, or why it could not be read.
+pub type ParseResult<T> = Result<T, ParseError>;
+
+impl ParseError {
+    /// An error of this kind, with no place.
+    #[inline]
+    pub fn new(kind: ParseErrorKind) -> ParseError
+        ensures { result ≡ fault kind }
+    {
+        ParseError {
+            kind,
+            places: [None, None, None, None],
+            depth: 0,
+        }
+    }
+
+    /// The error's kind.
+    pub fn kind(&self) -> ParseErrorKind
+        ensures { result ≡ self.now.kind }
+    {
+        self.kind
+    }
+
+    /// Adds a place around those that are kept. The innermost four are kept, and later ones are dropped.
+    pub fn add_location(mut self, location: ParseLocation) -> ParseError
+        ensures { result ≡ within (place_of location) self }
+    {
+        if self.depth == MAX_PLACES {
+            return self;
+        }
+        self.places[self.depth] = Some(Place::from(location));
+        self.depth += 1;
+        self
+    }
+}
+
+impl fmt::Debug for Place {
+    fn fmt<W: fmt::Write>(&self, f: &mut fmt::Formatter<W>) -> fmt::Result {
+        match self {
+            Place::Field(name) => write!(f, "{name:?}"),
+            Place::Index(index) => write!(f, "{index:?}"),
+        }
+    }
+}
+
+/// Shows the kind; places aren't shown.
+impl fmt::Display for ParseError {
+    ghost output = { λ e. error_text e.kind };
+
+    fn fmt<W: fmt::Write>(&self, f: &mut fmt::Formatter<W>) -> fmt::Result {
+        write!(f, "ASN.1 parsing error: ")?;
+        match self.kind {
+            ParseErrorKind::InvalidValue => write!(f, "invalid value"),
+            ParseErrorKind::InvalidTag => write!(f, "invalid tag"),
+            ParseErrorKind::InvalidLength => write!(f, "invalid length"),
+            ParseErrorKind::InvalidSize { min, max, actual } => write!(
+                f,
+                "invalid container size (expected between {min} and {max}, got {actual})"
+            ),
+            ParseErrorKind::UnexpectedTag { actual } => {
+                write!(f, "unexpected tag (got {actual:?})")
+            }
+            ParseErrorKind::ShortData { needed } => {
+                write!(f, "short data (needed at least {needed} additional bytes)")
+            }
+            ParseErrorKind::IntegerOverflow => write!(f, "integer overflow"),
+            ParseErrorKind::ExtraData => write!(f, "extra data"),
+            ParseErrorKind::InvalidSetOrdering => write!(f, "SET value was ordered incorrectly"),
+            ParseErrorKind::EncodedDefault => write!(f, "DEFAULT value was explicitly encoded"),
+            ParseErrorKind::OidTooLong => write!(
+                f,
+                "OBJECT IDENTIFIER was too large to be stored in rust-asn1's buffer"
+            ),
+            ParseErrorKind::UnknownDefinedBy => write!(f, "DEFINED BY with unknown value"),
+            ParseErrorKind::AllocationError => write!(f, "allocation error"),
+        }
+    }
+}
+
+impl Error for ParseError {}
+
+/// Shows the kind and the places, the outermost first.
+impl fmt::Debug for ParseError {
+    fn fmt<W: fmt::Write>(&self, f: &mut fmt::Formatter<W>) -> fmt::Result {
+        let kind = self.kind;
+        write!(f, "ParseError {{ kind: {kind:?}")?;
+        let mut is_first = true;
+        for slot in self.places.iter().rev() {
+            let Some(place) = slot else {
+                continue;
+            };
+            if is_first {
+                write!(f, ", location: [")?;
+                is_first = false;
+            } else {
+                write!(f, ", ")?;
+            }
+            write!(f, "{place:?}")?;
+        }
+        if is_first {
+            write!(f, " }}")
+        } else {
+            write!(f, "] }}")
+        }
+    }
+}
+
+/// Equal exactly where the kinds are and the places that are kept.
+impl PartialEq for ParseError {
+    ghost eq = { fault_eq };
+
+    ghost laws = { partial_equiv_from_equiv (decided fault_eq fault_eq-decides) };
+
+    fn eq(&self, other: &ParseError) -> bool
+        ensures value { result ≡ fault_eq self.now other.now }
+        ensures same { IsTrue result ↔ (self.now ≡ other.now) }
+    {
+        same_kind(self.kind, other.kind) && self.places == other.places
+    }
+}
+
+impl Eq for ParseError {
+    ghost laws = { decided fault_eq fault_eq-decides };
+}
+
+/// Whether two kinds are equal.
+fn same_kind(a: ParseErrorKind, b: ParseErrorKind) -> bool
+    ensures { result ≡ kind_eq a b }
+{
+    a == b
+}
+
+/// Reads elements from octets, one after another.
+#[derive(Drop)]
+pub struct Parser<'a> {
+    data: &'a [u8],
+    alloc: Global,
+}
+
+impl<'a> Model for Parser<'a> {
+    ghost use Rattle.std.specs.Prelude.{List, ℕ};
+
+    ghost Value = { List ℕ };
+
+    ghost view = { λ p. p.«data».now };
+}
+
+impl<'a> Parser<'a> {
+    /// A parser over the octets. Where a value takes memory, it takes it from `alloc`.
+    #[inline]
+    pub fn new(alloc: Global, data: &'a [u8]) -> Parser<'a>
+        ensures { result ≡ «data».entry.now }
+    {
+        Parser { data, alloc }
+    }
+
+    /// The memory with which the parser was made.
+    #[inline]
+    pub fn alloc(&self) -> Global {
+        self.alloc
+    }
+
+    /// The octets that are not yet read.
+    #[inline]
+    pub fn rest(&self) -> &'a [u8]
+        ensures { result.now ≡ self.now }
+    {
+        self.data
+    }
+
+    /// Whether all octets are read.
+    #[inline]
+    pub fn is_empty(&self) -> bool
+        ensures { result ≡ (length self.now == 0) }
+    {
+        self.data.is_empty()
+    }
+
+    /// The tag in front, which isn't read. `None` where no tag is finished there or its number is faulty.
+    pub fn peek_tag(&mut self) -> Option<Tag>
+        ensures tag { result ≡ found_tag (tag_front self.old) }
+        ensures unmoved { self.new ≡ self.old }
+    {
+        match Tag::in_front(self.data) {
+            Ok((tag, _rest)) => Some(tag),
+            Err(_) => None,
+        }
+    }
+
+    /// Refuses octets that are left, with `ExtraData`.
+    #[inline]
+    fn finish(self) -> ParseResult<()>
+        ensures { result ≡ finished self.entry }
+    {
+        if !self.is_empty() {
+            return Err(ParseError::new(ParseErrorKind::ExtraData));
+        }
+        Ok(())
+    }
+
+    /// Reads the element in front. A refusal leaves the parser as it was.
+    #[inline]
+    pub(crate) fn read_tlv(&mut self) -> Result<Tlv<'a>, ParseErrorKind>
+        ensures answers { Tells (λ t. (element_of t, self.new)) result (front self.old) }
+        ensures rest { EndsWith self.old self.new }
+        ensures unmoved { OnErr result (self.new ≡ self.old) }
+    {
+        let (tlv, rest) = tlv_in(self.data)?;
+        self.data = rest;
+        Ok(tlv)
+    }
+
+    /// Reads a value of the type.
+    ///
+    /// A refusal is the type's first fault; the parser then stands where the type says, always at a back of what was
+    /// there.
+    #[inline]
+    pub fn read_element<T: Asn1Readable<'a>>(&mut self) -> ParseResult<T>
+        ensures answers { Answers (λ v. (T.der.meaning v, self.new)) (T.der.runs_out self.old) result (T.der.read self.old) }
+        ensures rest { EndsWith self.old self.new }
+        ensures stops { OnErr result (T.der.stops self.old self.new) }
+    {
+        T::parse(self)
+    }
+
+    /// Reads a value in an element with this explicit tag, which holds nothing else.
+    ///
+    /// A refusal is framing's, then `UnexpectedTag`, then the value's first fault on the contents octets, then
+    /// `ExtraData`.
+    pub fn read_explicit_element<T: Asn1Readable<'a>>(&mut self, tag: u32) -> ParseResult<T>
+        ensures answers { Answers (λ v. (T.der.meaning v, self.new)) (simple_out (explicit_tag_of tag) T.der.runs_out self.old) result (simple (explicit_tag_of tag) (λ c. whole (T.der.read c)) self.old) }
+        ensures rest { EndsWith self.old self.new }
+        ensures stops { OnErr result (simple_stops self.old self.new) }
+    {
+        let expected = explicit_tag(tag);
+        let tlv = match self.read_tlv() {
+            Ok(tlv) => tlv,
+            Err(kind) => return Err(ParseError::new(kind)),
+        };
+        if !tlv.tag.is(expected) {
+            return Err(ParseError::new(ParseErrorKind::UnexpectedTag { actual: tlv.tag }));
+        }
+        parse_single::<T>(self.alloc, tlv.data)
+    }
+
+    /// Reads a value whose own tag is replaced by this implicit one.
+    ///
+    /// A refusal is framing's, then `UnexpectedTag`, then the first fault of the contents octets.
+    pub fn read_implicit_element<T: SimpleAsn1Readable<'a>>(&mut self, tag: u32) -> ParseResult<T>
+        ensures answers { Answers (λ v. (T.der.meaning v, self.new)) (simple_out (implicit_tag_of tag T.der.content.tag) T.der.content.runs_out self.old) result (simple (implicit_tag_of tag T.der.content.tag) T.der.content.read self.old) }
+        ensures rest { EndsWith self.old self.new }
+        ensures stops { OnErr result (simple_stops self.old self.new) }
+    {
+        let expected = implicit_tag(tag, T::tag());
+        let tlv = match self.read_tlv() {
+            Ok(tlv) => tlv,
+            Err(kind) => return Err(ParseError::new(kind)),
+        };
+        if !tlv.tag.is(expected) {
+            return Err(ParseError::new(ParseErrorKind::UnexpectedTag { actual: tlv.tag }));
+        }
+        T::parse_data(self.alloc, tlv.data)
+    }
+}
+
+/// The answer as a reader gives it: a refusal has no place yet.
+///
+/// Framing answers kinds alone, which are small, and takes no time to carry places that it never has.
+#[inline]
+pub(crate) fn with_no_place<T: Drop>(answer: Result<T, ParseErrorKind>) -> ParseResult<T>
+    ensures { result ≡ framed answer }
+{
+    match answer {
+        Ok(found) => Ok(found),
+        Err(kind) => Err(ParseError::new(kind)),
+    }
+}
+
+/// The number of the octets, the most significant first.
+#[inline]
+fn number_in(octets: &[u8]) -> usize
+    requires { length octets.now ≤ 8 }
+    ensures { result ≡ number octets.now }
+{
+    let mut n = 0usize;
+    for octet in octets {
+        n = (n << 8) | usize::from(*octet);
+    }
+    n
+}
+
+/// The length in front of the octets, and what follows it.
+#[inline]
+fn read_length(octets: &[u8]) -> Result<(usize, &[u8]), ParseErrorKind>
+    ensures { Tells (λ x. (x.0, x.1.now)) result (length_front octets.now) }
+{
+    let [first, rest @ ..] = octets else {
+        return Err(ParseErrorKind::ShortData { needed: 1 });
+    };
+    let first = *first;
+    if first < 0x80 {
+        return Ok((usize::from(first), rest));
+    }
+    if first == 0x80 || first > 0x84 {
+        return Err(ParseErrorKind::InvalidLength);
+    }
+    let count = usize::from(first - 0x80);
+    if rest.len() < count {
+        let needed = count - rest.len();
+        return Err(ParseErrorKind::ShortData { needed });
+    }
+    let (octets, rest) = rest.split_at(count);
+    let n = number_in(octets);
+    if octets[0] == 0 || n < 0x80 {
+        return Err(ParseErrorKind::InvalidLength);
+    }
+    Ok((n, rest))
+}
+
+/// The element in front of the octets, and what follows it.
+///
+/// The first field that is faulty or unfinished, in the order tag, length, contents octets, decides the refusal:
+/// `InvalidTag`, `InvalidLength`, or `ShortData` with the count of octets that the field lacks. An answer other than
+/// `ShortData` stands for every longer input.
+#[inline]
+pub fn strip_tlv(data: &[u8]) -> ParseResult<(Tlv<'_>, &[u8])>
+    // The answer is the one that the definitions allow.
+    ensures grammar { IsFront «data».now (stripped result) }
+    ensures only { (answer : Result (Element × List ℕ) ParseErrorKind) → IsFront «data».now answer → stripped result ≡ answer }
+
+    // The full data is the element's text, and a fault has no place.
+    ensures full_data { IfOk result (λ x. full_octets x.0 ≡ element_text (element_of x.0)) }
+    ensures no_place { IfErr result (λ e. e.places ≡ []) }
+
+    // On each longer text the answer stands, unless it is that octets are missing.
+    ensures stands { (more : List ℕ) → IsText more → ¬ IsShort (stripped result) → front («data».now ++ more) ≡ with_more (stripped result) more }
+    ensures fewer { (more : List ℕ) (needed : ℕ) → IsText more → stripped result ≡ Err (ShortData needed) → length more < needed → IsShort (front («data».now ++ more)) }
+    ensures exact { Gives (λ x. (element_of x.0, x.1.now)) result (front «data».now) }
+{
+    with_no_place(tlv_in(data))
+}
+
+/// The element in front of the octets, and what follows it.
+#[inline]
+fn tlv_in(octets: &[u8]) -> Result<(Tlv<'_>, &[u8]), ParseErrorKind>
+    ensures answer { Tells (λ x. (element_of x.0, x.1.now)) result (front octets.now) }
+    ensures parts { IfOk result (λ x. octets.now ≡ full_octets x.0 ++ x.1.now) }
+{
+    let (tag, rest) = Tag::in_front(octets)?;
+    let (n, rest) = read_length(rest)?;
+    if rest.len() < n {
+        let needed = n - rest.len();
+        return Err(ParseErrorKind::ShortData { needed });
+    }
+    let (data, rest) = rest.split_at(n);
+    let full_data = &octets[..octets.len() - rest.len()];
+    Ok((
+        Tlv {
+            tag,
+            data,
+            full_data,
+        },
+        rest,
+    ))
+}
+
+/// Runs `f` over the octets, and refuses with `ExtraData` what it leaves, as `E` takes that error. An error of `f` is
+/// handed on.
+#[inline]
+pub fn parse<'a, T: Drop, E: From<ParseError> + Drop, F: FnOnce(&mut Parser<'a>) -> Result<T, E>>(
+    alloc: Global,
+    data: &'a [u8],
+    f: F,
+) -> Result<T, E>
+    requires { F.IsAlwaysCallable f }
+    ensures { (rest : List ℕ) × (answer : Result T E) × FnOnceReturnsAtMut F.FnOnce f «data».entry.now answer rest × Finished E.from_gives answer rest result }
+{
+    let mut parser = Parser::new(alloc, data);
+    let answer = f(&mut parser)?;
+    parser.finish()?;
+    Ok(answer)
+}
+
+/// Reads one value, and refuses with `ExtraData` what follows it.
+///
+/// A value is answered exactly where the octets are the value's one text. Every other text is refused with the type's
+/// first fault.
+#[inline]
+pub fn parse_single<'a, T: Asn1Readable<'a>>(alloc: Global, data: &'a [u8]) -> ParseResult<T>
+    ensures exact { Answers T.der.meaning (T.der.runs_out «data».entry.now) result (whole (T.der.read «data».entry.now)) }
+
+    // A value that is answered has these octets as its text.
+    ensures found { IfOk result (λ v. («data».entry.now ≡ T.der.text (T.der.meaning v)) × (T.der.valid (T.der.meaning v) × T.der.allowed (T.der.meaning v))) }
+
+    // The text of a value is answered with that value.
+    ensures only { (m : T.der.Meaning) → T.der.lawful → T.der.valid m → T.der.allowed m → Fits (T.der.text m) → «data».entry.now ≡ T.der.text m
+        → Answers T.der.meaning (T.der.runs_out «data».entry.now) result (Ok m) }
+{
+    read_single(alloc, data)
+}
+
+/// Reads one value and nothing behind it.
+#[inline]
+fn read_single<'a, T: Asn1Readable<'a>>(alloc: Global, data: &'a [u8]) -> ParseResult<T>
+    ensures { Answers T.der.meaning (T.der.runs_out «data».entry.now) result (whole (T.der.read «data».entry.now)) }
+{
+    let mut parser = Parser::new(alloc, data);
+    let value = parser.read_element::<T>()?;
+    parser.finish()?;
+    Ok(value)
+}

@@ -1,0 +1,208 @@
+//! Tags: a class, a constructed bit and a number below 2^32 (X.690 8.1.2).
+
+ghost use Rattle.std.specs.Prelude.{◌≡◌, ℕ, ◌+◌, ◌*◌, ◌/◌, ◌%◌, ◌<◌, ◌≤◌, ◌++◌, ◌↔◌, IsTrue, List, length, SomeIff, OnOk, OnErr, IsOkUnless, Bool, true, false};
+ghost use Rattle.asn1_core.specs.declared.tag.TagClass.TheVariants.{Universal};
+ghost use Rattle.asn1_core.specs.Fault.{Gives, Tells};
+ghost use Rattle.asn1_core.specs.Tag.{tag_class, tag_constructed, tag_number, tag_with, universal, implicit_tag_of, explicit_tag_of, class_number, class_of, tag_of, tag_front, tag_text, first_octet, tag_eq};
+
+use crate::base128;
+use crate::parser::{ParseErrorKind, ParseResult, with_no_place};
+use crate::writer::{WriteBuf, WriteError, WriteResult};
+
+/// The class of a tag (X.690 8.1.2.2).
+#[derive(Clone, Copy, Debug, PartialEq, Eq, Hash)]
+pub enum TagClass {
+    Universal = 0b00,
+    Application = 0b01,
+    ContextSpecific = 0b10,
+    Private = 0b11,
+}
+
+impl TagClass {
+    fn bits(self) -> u8
+        ensures { result ≡ class_number self }
+    {
+        self as u8
+    }
+}
+
+/// A tag: its class, whether the element is constructed, and its number.
+#[derive(Clone, Copy, Debug, PartialEq, Eq, Hash)]
+pub struct Tag {
+    value: u32,
+    constructed: bool,
+    class: TagClass,
+}
+
+const CONSTRUCTED: u8 = 0x20;
+/// The five bits that stand for a number in base 128 behind the first octet.
+const LONG_FORM: u8 = 0x1f;
+/// How many octets the longest text of a tag has.
+const MAX_TAG: usize = 6;
+
+fn class_in(first: u8) -> TagClass
+    ensures { result ≡ class_of (first / 64) }
+{
+    match first >> 6 {
+        0 => TagClass::Universal,
+        1 => TagClass::Application,
+        2 => TagClass::ContextSpecific,
+        _ => TagClass::Private,
+    }
+}
+
+fn tag_in(first: u8, value: u32) -> Tag
+    ensures { result ≡ tag_of first value }
+{
+    Tag {
+        value,
+        constructed: first & CONSTRUCTED == CONSTRUCTED,
+        class: class_in(first),
+    }
+}
+
+impl Tag {
+    /// Whether this is the other tag.
+    pub(crate) fn is(self, other: Tag) -> bool
+        ensures { result ≡ tag_eq self other }
+    {
+        self == other
+    }
+
+    /// The tag in front of the octets, and what follows it.
+    ///
+    /// `InvalidTag` where the number is faulty, or is finished and below 31 or from 2^32 on; `ShortData { needed: 1 }`
+    /// where the tag isn't finished.
+    pub fn from_bytes(octets: &[u8]) -> ParseResult<(Tag, &[u8])>
+        ensures { Gives (λ x. (x.0, x.1.now)) result (tag_front octets.now) }
+    {
+        with_no_place(Tag::in_front(octets))
+    }
+
+    /// What [`Tag::from_bytes`] answers, with no more than the kind of a refusal.
+    #[inline]
+    pub(crate) fn in_front(octets: &[u8]) -> Result<(Tag, &[u8]), ParseErrorKind>
+        ensures { Tells (λ x. (x.0, x.1.now)) result (tag_front octets.now) }
+    {
+        let [first, rest @ ..] = octets else {
+            return Err(ParseErrorKind::ShortData { needed: 1 });
+        };
+        let low = *first & LONG_FORM;
+        if low < LONG_FORM {
+            return Ok((tag_in(*first, u32::from(low)), rest));
+        }
+        let (number, rest) = match base128::read_number(rest) {
+            Ok(found) => found,
+            Err(kind) => {
+                return match kind {
+                    ParseErrorKind::ShortData { .. } => Err(kind),
+                    _ => Err(ParseErrorKind::InvalidTag),
+                };
+            }
+        };
+        if number < u128::from(LONG_FORM) || number > u128::from(u32::MAX) {
+            return Err(ParseErrorKind::InvalidTag);
+        }
+        Ok((tag_in(*first, number as u32), rest))
+    }
+
+    fn new(value: u32, class: TagClass, constructed: bool) -> Tag
+        ensures { result ≡ tag_with class constructed value }
+    {
+        Tag {
+            value,
+            constructed,
+            class,
+        }
+    }
+
+    /// A tag of the universal class, not constructed, with this number.
+    pub fn primitive(value: u32) -> Tag
+        ensures { result ≡ universal value }
+    {
+        Tag::new(value, TagClass::Universal, false)
+    }
+
+    /// The tag's one octet; `None` from number 31 on, where the tag has more.
+    pub fn as_u8(self) -> Option<u8>
+        ensures { SomeIff result (tag_number self < 31) (first_octet self (tag_number self)) }
+    {
+        if self.value >= u32::from(LONG_FORM) {
+            return None;
+        }
+        Some(self.leading(self.value as u8))
+    }
+
+    /// The first octet, with these five bits.
+    fn leading(self, low: u8) -> u8
+        requires { low < 32 }
+        ensures { result ≡ first_octet self low }
+    {
+        let constructed = if self.constructed { CONSTRUCTED } else { 0 };
+        (self.class.bits() << 6) | constructed | low
+    }
+
+    /// Appends the text of the tag.
+    pub(crate) fn write_to(self, dest: &mut WriteBuf) -> WriteResult<()>
+        ensures ok { OnOk result (dest.new.bytes ≡ dest.old.bytes ++ tag_text self) }
+        ensures err { OnErr result (dest.new ≡ dest.old) }
+        ensures error { IsOkUnless result WriteError.AllocationError }
+    {
+        if self.value < u32::from(LONG_FORM) {
+            return dest.push_byte(self.leading(self.value as u8));
+        }
+        let mut octets = [0u8; MAX_TAG];
+        octets[0] = self.leading(LONG_FORM);
+        let Some(count) = base128::write(u128::from(self.value), &mut octets[1..]) else {
+            unreachable!()
+        };
+        dest.push_slice(&octets[..count + 1])
+    }
+
+    /// How many octets the text of the tag has.
+    pub(crate) fn encoded_length(self) -> usize
+        ensures value { result ≡ length (tag_text self) }
+        ensures most { result ≤ MAX_TAG }
+    {
+        if self.value < u32::from(LONG_FORM) {
+            1
+        } else {
+            1 + base128::length(u128::from(self.value))
+        }
+    }
+
+    /// Whether an element with this tag is constructed.
+    pub fn is_constructed(self) -> bool
+        ensures { result ≡ tag_constructed self }
+    {
+        self.constructed
+    }
+
+    /// The tag's class.
+    pub fn class(self) -> TagClass
+        ensures { result ≡ tag_class self }
+    {
+        self.class
+    }
+
+    /// The tag's number.
+    pub fn value(self) -> u32
+        ensures { result ≡ tag_number self }
+    {
+        self.value
+    }
+}
+
+/// The tag of an implicitly tagged type whose own tag is `inner` (X.680 31.2.7).
+pub fn implicit_tag(value: u32, inner: Tag) -> Tag
+    ensures { result ≡ implicit_tag_of value inner }
+{
+    Tag::new(value, TagClass::ContextSpecific, inner.constructed)
+}
+
+/// The tag of an explicitly tagged type (X.680 31.2.5).
+pub fn explicit_tag(value: u32) -> Tag
+    ensures { result ≡ explicit_tag_of value }
+{
+    Tag::new(value, TagClass::ContextSpecific, true)
+}

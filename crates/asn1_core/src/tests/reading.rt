@@ -1,0 +1,140 @@
+use crate::parser::{
+    ParseError, ParseErrorKind, ParseLocation, ParseResult, Parser, parse, parse_single,
+};
+use crate::tag::Tag;
+use std::alloc::Global;
+use std::test::Fail;
+
+fn fault(alloc: Global, octets: &[u8]) -> Option<ParseErrorKind> {
+    match parse_single::<bool>(alloc, octets) {
+        Ok(_) => None,
+        Err(error) => Some(error.kind()),
+    }
+}
+
+#[test]
+fn truth_values(rt: HostRuntime) -> Result<(), Fail> {
+    assert!(rt; parse_single::<bool>(rt.alloc(), &[0x01, 0x01, 0xff])?);
+    assert!(rt; !parse_single::<bool>(rt.alloc(), &[0x01, 0x01, 0x00])?);
+    let faults: [(&[u8], ParseErrorKind); 10] = [
+        (&[0x01, 0x00], ParseErrorKind::InvalidValue),
+        (&[0x01, 0x01, 0x01], ParseErrorKind::InvalidValue),
+        (&[0x01, 0x02, 0x00, 0x00], ParseErrorKind::InvalidValue),
+        (&[0x01, 0x02, 0xff, 0x01], ParseErrorKind::InvalidValue),
+        (&[0x01, 0x01, 0xff, 0x00], ParseErrorKind::ExtraData),
+        (&[0x01, 0x81, 0x01, 0xff], ParseErrorKind::InvalidLength),
+        (&[0x01, 0x80], ParseErrorKind::InvalidLength),
+        (&[0x1f, 0x1e, 0x00], ParseErrorKind::InvalidTag),
+        (&[0x02, 0x01], ParseErrorKind::ShortData { needed: 1 }),
+        (&[], ParseErrorKind::ShortData { needed: 1 }),
+    ];
+    for (octets, kind) in faults {
+        assert_eq!(rt; fault(rt.alloc(), octets), Some(kind), "{octets:?}");
+    }
+    let actual = Tag::primitive(2);
+    assert_eq!(rt;
+        fault(rt.alloc(), &[0x02, 0x01, 0x05]),
+        Some(ParseErrorKind::UnexpectedTag { actual })
+    );
+    Ok(())
+}
+
+#[test]
+fn what_is_left_is_extra(rt: HostRuntime) {
+    let read = parse(
+        rt.alloc(),
+        &[0x00],
+        |_parser: &mut Parser<'_>| -> ParseResult<()> { Ok(()) },
+    );
+    assert_eq!(rt; read, Err(ParseError::new(ParseErrorKind::ExtraData)));
+}
+
+/// An error of a caller's own.
+#[derive(Debug, PartialEq, Eq, Drop)]
+enum Own {
+    False,
+    Read(ParseError),
+}
+
+impl From<ParseError> for Own {
+    fn from(error: ParseError) -> Own {
+        Own::Read(error)
+    }
+}
+
+/// Reads a value that has to be true.
+fn truth(alloc: Global, octets: &[u8]) -> Result<(), Own> {
+    parse(alloc, octets, |parser: &mut Parser<'_>| {
+        if parser.read_element::<bool>()? {
+            Ok(())
+        } else {
+            Err(Own::False)
+        }
+    })
+}
+
+#[test]
+fn errors_of_a_caller(rt: HostRuntime) {
+    assert_eq!(rt; truth(rt.alloc(), &[0x01, 0x01, 0xff]), Ok(()));
+    assert_eq!(rt; truth(rt.alloc(), &[0x01, 0x01, 0x00]), Err(Own::False));
+    let short = ParseError::new(ParseErrorKind::ShortData { needed: 1 });
+    assert_eq!(rt; truth(rt.alloc(), &[0x01, 0x01]), Err(Own::Read(short)));
+}
+
+#[test]
+fn a_refusal_that_is_ignored(rt: HostRuntime) -> Result<(), Fail> {
+    let octets = [0x02, 0x01, 0x05, 0x01, 0x01, 0xff];
+    let mut parser = Parser::new(rt.alloc(), &octets);
+    let actual = Tag::primitive(2);
+    assert_eq!(rt;
+        parser.read_element::<bool>(),
+        Err(ParseError::new(ParseErrorKind::UnexpectedTag { actual }))
+    );
+    assert_eq!(rt; parser.rest(), &octets[3..]);
+    assert!(rt; parser.read_element::<bool>()?);
+    assert!(rt; parser.is_empty());
+    Ok(())
+}
+
+#[test]
+fn places_of_an_error(rt: HostRuntime) -> Result<(), Fail> {
+    let new = || ParseError::new(ParseErrorKind::InvalidValue);
+    let field = || ParseLocation::Field("Abc::123");
+    let texts = [
+        (new(), "ParseError { kind: InvalidValue }"),
+        (
+            new().add_location(field()),
+            "ParseError { kind: InvalidValue, location: [\"Abc::123\"] }",
+        ),
+        (
+            new()
+                .add_location(ParseLocation::Index(12))
+                .add_location(field()),
+            "ParseError { kind: InvalidValue, location: [\"Abc::123\", 12] }",
+        ),
+    ];
+    for (error, text) in texts {
+        let shown = format!(in rt.alloc(); "{error:?}")?;
+        assert_eq!(rt; shown.as_str(), text);
+    }
+    Ok(())
+}
+
+/// An error with the places `Index(0)`, `Index(1)` and so on, but for one.
+fn deep(count: usize, other: usize) -> ParseError {
+    let mut error = ParseError::new(ParseErrorKind::ExtraData);
+    for i in 0..count {
+        let index = if i == other { 99 } else { i };
+        error = error.add_location(ParseLocation::Index(index));
+    }
+    error
+}
+
+#[test]
+fn four_places_are_kept(rt: HostRuntime) {
+    assert_eq!(rt; deep(4, 9), deep(6, 9));
+    assert_eq!(rt; deep(6, 9), deep(6, 4));
+    assert_ne!(rt; deep(6, 9), deep(6, 3));
+    assert_ne!(rt; deep(3, 9), deep(4, 9));
+    assert_eq!(rt; deep(6, 9).kind(), ParseErrorKind::ExtraData);
+}

@@ -1,0 +1,83 @@
+ghost use Rattle.std.specs.Prelude.{◌≡◌, ◌++◌, OnOk, OnErr};
+ghost use Rattle.asn1_core.specs.Buffer.{KeepsFront};
+
+use crate::tag::Tag;
+use crate::writer::{WriteBuf, WriteResult, Writer, write, write_single};
+use std::alloc::Global;
+use std::test::Fail;
+
+#[test]
+fn truth_values_are_written(rt: HostRuntime) -> Result<(), Fail> {
+    let octets = write_single(rt.alloc(), &true)?;
+    assert_eq!(rt; octets.as_slice(), [0x01, 0x01, 0xff].as_slice());
+    let octets = write_single(rt.alloc(), &false)?;
+    assert_eq!(rt; octets.as_slice(), [0x01, 0x01, 0x00].as_slice());
+    let octets = write(rt.alloc(), |writer: &mut Writer<'_>| {
+        writer.write_element(&true)?;
+        writer.write_element(&false)
+    })?;
+    assert_eq!(rt;
+        octets.as_slice(),
+        [0x01, 0x01, 0xff, 0x01, 0x01, 0x00].as_slice()
+    );
+    Ok(())
+}
+
+/// Pushes octets: one, and then the others.
+fn push_all(dest: &mut WriteBuf, octets: &[u8]) -> WriteResult<()>
+    ensures ok { OnOk result (dest.new.bytes ≡ dest.old.bytes ++ octets.now) }
+    ensures err { OnErr result (KeepsFront dest.old.bytes dest.new.bytes) }
+{
+    dest.reserve_additional(octets.len())?;
+    match octets {
+        [] => Ok(()),
+        [first, others @ ..] => {
+            dest.push_byte(*first)?;
+            dest.push_slice(others)
+        }
+    }
+}
+
+/// An element whose length is announced.
+pub fn announced_element(alloc: Global, tag: Tag, octets: &[u8]) -> WriteResult<Vec<u8>> {
+    write(alloc, |writer: &mut Writer<'_>| -> WriteResult<()> {
+        writer.write_tlv(
+            tag,
+            Some(octets.len()),
+            |dest: &mut WriteBuf| -> WriteResult<()> { push_all(dest, octets) },
+        )
+    })
+}
+
+/// An element whose length is patched.
+fn patched_element(alloc: Global, tag: Tag, octets: &[u8]) -> WriteResult<Vec<u8>> {
+    write(alloc, |writer: &mut Writer<'_>| -> WriteResult<()> {
+        writer.write_tlv(tag, None, |dest: &mut WriteBuf| -> WriteResult<()> {
+            push_all(dest, octets)
+        })
+    })
+}
+
+const ZEROS: [u8; 65536] = [0; 65536];
+
+#[test]
+fn headers_announced_and_patched(rt: HostRuntime) -> Result<(), Fail> {
+    let cases: [(usize, &[u8]); 7] = [
+        (0, &[0x04, 0x00]),
+        (127, &[0x04, 0x7f]),
+        (128, &[0x04, 0x81, 0x80]),
+        (255, &[0x04, 0x81, 0xff]),
+        (256, &[0x04, 0x82, 0x01, 0x00]),
+        (65535, &[0x04, 0x82, 0xff, 0xff]),
+        (65536, &[0x04, 0x83, 0x01, 0x00, 0x00]),
+    ];
+    for (n, header) in cases {
+        let zeros = &ZEROS[..n];
+        let announced = announced_element(rt.alloc(), Tag::primitive(4), zeros)?;
+        let patched = patched_element(rt.alloc(), Tag::primitive(4), zeros)?;
+        assert!(rt; announced.as_slice().starts_with(header), "{n}");
+        assert_eq!(rt; announced.len(), header.len() + n);
+        assert_eq!(rt; announced.as_slice(), patched.as_slice(), "{n}");
+    }
+    Ok(())
+}

@@ -1,0 +1,100 @@
+-- A line is answered by its form.
+use Rattle.std.proofs.Common.{◌≡◌, ℕ, List, [], ◌++◌, Option, Some, None, Result, Ok, Err, get_or, refl, sym, ap, ◌∙◌, lit<, arith}
+use Rattle.std.specs.Prelude.{codes, is_ok, true}
+use Rattle.std.proofs.lemmas.Bool.{false≢true}
+use Rattle.std.proofs.lemmas.List.{append-nil}
+use Rattle.hex.specs.Hex.{decode_of, encode_lower}
+use Rattle.hex.proofs.HexLemmas.{decode_of-ok}
+use Rattle.asn1.specs.Text.{IsText}
+use Rattle.asn1.specs.Fault.{Fault}
+use Rattle.asn1.specs.Lemmas.Texts.{IsText-from_reads}
+use Rattle.asn1.specs.Lemmas.Wholes.{stands-nil, whole_is, whole_again}
+use Rattle.dercheck.specs.declared.words.Word.{Word}
+use Rattle.dercheck.specs.declared.words.Word.TheVariants as words
+use Rattle.dercheck.specs.Kinds.{kind_text}
+use Rattle.dercheck.specs.Words.{type_of}
+use Rattle.dercheck.specs.Requests.{IsRequest, request_of}
+use Rattle.dercheck.specs.Answers.{is_ok_line, is_ok_to, answer, answer_to, answer_read, reading}
+use Rattle.dercheck.specs.Laws.{IsOkLine, OkLinesAreOk, BadLinesAreBad, IsValueText, ValuesAreOk, FaultsAreErr}
+use Rattle.dercheck.proofs.RequestLaws.{request_of-is, requests_are_right}
+
+-- the laws speak of each type
+lawful : (word : Word) → (type_of word).der.lawful
+lawful words.Bool = (tt, lit< tt)
+lawful words.Tlv = tt
+
+-- ---- lines that are no request
+
+bad : (line : List ℕ) (asks : Option (Word × List ℕ)) → ((word : Word) (octets : List ℕ) → ¬ IsRequest line word octets) → request_of line ≡ asks → answer_to asks ≡ codes "bad line"
+bad line None none e = refl
+bad line (Some (word, octets)) none e = absurd (none word octets ((requests_are_right line word octets).1 e))
+
+pub bad_lines_are_bad : BadLinesAreBad
+bad_lines_are_bad line none = bad line (request_of line) none refl
+
+-- ---- requests
+
+answer-is : (line : List ℕ) (word : Word) (octets : List ℕ) → IsRequest line word octets → answer line ≡ answer_read octets (reading word octets)
+answer-is line word octets is = ap answer_to (request_of-is line word octets is)
+
+octets_are_text : (hex octets : List ℕ) → decode_of hex ≡ Ok octets → IsText octets
+octets_are_text hex octets e = IsText-from_reads octets (decode_of-ok hex octets e).3
+
+abbrev IsMeaning : Word → Type 0
+IsMeaning word = (type_of word).der.Meaning
+
+reading-value : (word : Word) (octets : List ℕ) (v : IsValueText word octets) → reading word octets ≡ Ok v.value
+reading-value word octets v =
+    let d = (type_of word).der in
+    whole_again d.text d.read v.value octets (d.again v.value [] (lawful word) v.valid v.allowed v.fits (λ e. stands-nil d.accepts)) v.is
+
+value-reading : (word : Word) (octets : List ℕ) (value : IsMeaning word) → IsText octets → reading word octets ≡ Ok value → IsValueText word octets
+value-reading word octets value text e =
+    let d = (type_of word).der in
+    let found = whole_is d.text (λ m. d.valid m × d.allowed m) d.read d.takes octets value text e in
+    record {
+      value = value;
+      valid = found.1.0;
+      allowed = found.1.1;
+      fits = found.0.one;
+      is = found.0.is ∙ append-nil (d.text value);
+    }
+
+-- the first letters of `err` and `ok` are apart
+not_ok : (kind octets : List ℕ) → codes "err " ++ kind ≡ codes "ok " ++ octets → ⊥
+not_ok kind octets e = let letters : ◌≡◌ {A = ℕ} 101 111 = ap (λ (xs : List ℕ). get_or xs 0 0) e in omega arith
+
+value-ok : (word : Word) (octets : List ℕ) (read : Result (IsMeaning word) Fault) → IsText octets → reading word octets ≡ read →
+    answer_read octets read ≡ codes "ok " ++ encode_lower octets → IsValueText word octets
+value-ok word octets (Ok value) text same e = value-reading word octets value text same
+value-ok word octets (Err fault) text same e = absurd (not_ok (kind_text fault.kind) (encode_lower octets) e)
+
+pub values_are_ok : ValuesAreOk
+values_are_ok line word octets is = (
+  λ (v : IsValueText word octets). answer-is line word octets is ∙ ap (answer_read octets) (reading-value word octets v),
+  λ (e : answer line ≡ codes "ok " ++ encode_lower octets).
+      value-ok word octets (reading word octets) (octets_are_text is.hex octets is.decoded) refl (sym (answer-is line word octets is) ∙ e),
+)
+
+pub faults_are_err : FaultsAreErr
+faults_are_err line word octets fault is e = answer-is line word octets is ∙ ap (answer_read octets) e
+
+-- ---- lines whose answers are `ok`
+
+read-ok : (line : List ℕ) (word : Word) (octets : List ℕ) (read : Result (IsMeaning word) Fault) → IsRequest line word octets →
+    reading word octets ≡ read → is_ok read ≡ true → IsOkLine line
+read-ok line word octets (Ok value) is same e =
+    record { word = word; octets = octets; request = is; value = value-reading word octets value (octets_are_text is.hex octets is.decoded) same }
+read-ok line word octets (Err fault) is same e = absurd (false≢true e)
+
+asks-ok : (line : List ℕ) (asks : Option (Word × List ℕ)) → request_of line ≡ asks → is_ok_to asks ≡ true → IsOkLine line
+asks-ok line None same e = absurd (false≢true e)
+asks-ok line (Some (word, octets)) same e =
+    read-ok line word octets (reading word octets) ((requests_are_right line word octets).1 same) refl e
+
+pub ok_lines_are_ok : OkLinesAreOk
+ok_lines_are_ok line = (
+  λ (e : is_ok_line line ≡ true). asks-ok line (request_of line) refl e,
+  λ (ok : IsOkLine line).
+      ap is_ok_to (request_of-is line ok.word ok.octets ok.request) ∙ ap is_ok (reading-value ok.word ok.octets ok.value),
+)

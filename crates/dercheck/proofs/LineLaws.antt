@@ -1,0 +1,105 @@
+-- A text has its lines, and no others.
+use Rattle.std.proofs.Common.{◌≡◌, ◌≢◌, ℕ, List, [], ◌∷◌, ◌++◌, length, refl, sym, ap, subst, ◌∙◌, inl, inr, ⊎_elim, append_assoc, arith}
+use Rattle.std.specs.List.{AllByRecursion}
+use Rattle.std.proofs.lemmas.Bool.{cases_eq}
+use Rattle.std.proofs.lemmas.List.{append-nil, length-append}
+use Rattle.dercheck.specs.Lines.{lines_of, in_first_line, HasNone, ended, LacksLast, AreLines}
+use Rattle.dercheck.specs.Laws.{LinesAreRight}
+use Rattle.dercheck.proofs.Cuts.{lines_of-feed, lines_of-more, lines_of-none, lines_of-line, lines_of-last}
+
+abbrev Lines : Type 0
+Lines = List (List ℕ)
+
+-- ---- the lines are lines
+
+behind_feed : (text : List ℕ) (lines : Lines) → AreLines text lines → AreLines (10 ∷ text) ([] ∷ lines)
+behind_feed text lines are = record {
+  apart = (tt, are.apart);
+  whole = ⊎_elim
+      (λ (e : text ≡ ended lines). inl (ap (λ (xs : List ℕ). 10 ∷ xs) e))
+      (λ (l : LacksLast text lines). inr (record {
+        front = [] ∷ l.front;
+        last = l.last;
+        are = ap (λ (ls : Lines). [] ∷ ls) l.are;
+        some = l.some;
+        is = ap (λ (xs : List ℕ). 10 ∷ xs) l.is;
+      }))
+      are.whole;
+}
+
+no_front : (front : Lines) (last : List ℕ) → [] ≡ front ++ last ∷ [] → ⊥
+no_front front last e = omega (arith, ap length e, length-append front (last ∷ []))
+
+lacks_more : (octet : ℕ) (text line : List ℕ) (lines front : Lines) (last : List ℕ) → line ∷ lines ≡ front ++ last ∷ [] → last ≢ [] →
+    text ≡ ended front ++ last → LacksLast (octet ∷ text) ((octet ∷ line) ∷ lines)
+lacks_more octet text line lines [] last are some is = record {
+  front = [];
+  last = octet ∷ last;
+  are = cc;
+  some = λ e. cc e;
+  is = ap (λ (xs : List ℕ). octet ∷ xs) is;
+}
+lacks_more octet text line lines (first ∷ front) last are some is = record {
+  front = (octet ∷ first) ∷ front;
+  last = last;
+  are = cc;
+  some = some;
+  is = ap (λ (xs : List ℕ). octet ∷ xs) is;
+}
+
+behind_octet : (octet : ℕ) (text : List ℕ) (lines : Lines) → octet ≢ 10 → AreLines text lines → AreLines (octet ∷ text) (in_first_line octet lines)
+behind_octet octet text [] other are = record {
+  apart = ((other, tt), tt);
+  whole = ⊎_elim
+      (λ (e : text ≡ ended []). inr (record { front = []; last = octet ∷ []; are = refl; some = λ no. cc no; is = ap (λ (xs : List ℕ). octet ∷ xs) e }))
+      (λ (l : LacksLast text []). absurd (no_front l.front l.last l.are))
+      are.whole;
+}
+behind_octet octet text (line ∷ lines) other are = record {
+  apart = ((other, are.apart.0), are.apart.1);
+  whole = ⊎_elim
+      (λ (e : text ≡ ended (line ∷ lines)). inl (ap (λ (xs : List ℕ). octet ∷ xs) e))
+      (λ (l : LacksLast text (line ∷ lines)). inr (lacks_more octet text line lines l.front l.last l.are l.some l.is))
+      are.whole;
+}
+
+are_lines : (text : List ℕ) → AreLines text (lines_of text)
+are_lines [] = rw lines_of-none (record { apart = tt; whole = inl refl })
+are_lines (octet ∷ text) = ⊎_elim
+    (λ (here : octet ≡ 10). rw (here, lines_of-feed text) (behind_feed text (lines_of text) (are_lines text)))
+    (λ (later : octet ≢ 10). rw (lines_of-more octet text later) (behind_octet octet text (lines_of text) later (are_lines text)))
+    (cases_eq octet 10)
+
+-- ---- and no others
+
+ended_first : (line : List ℕ) (lines : Lines) (rest : List ℕ) → ended (line ∷ lines) ++ rest ≡ line ++ 10 ∷ (ended lines ++ rest)
+ended_first line lines rest =
+    append_assoc (line ++ 10 ∷ []) (ended lines) rest ∙ append_assoc line (10 ∷ []) (ended lines ++ rest)
+
+lines_of-ended : (lines : Lines) (rest : List ℕ) → AllByRecursion (HasNone 10) lines → lines_of (ended lines ++ rest) ≡ lines ++ lines_of rest
+lines_of-ended [] rest apart = refl
+lines_of-ended (line ∷ lines) rest apart =
+    ap lines_of (ended_first line lines rest) ∙ lines_of-line line (ended lines ++ rest) apart.0
+    ∙ ap (λ (ls : Lines). line ∷ ls) (lines_of-ended lines rest apart.1)
+
+apart_parts : (front : Lines) (last : List ℕ) → AllByRecursion (HasNone 10) (front ++ last ∷ []) → AllByRecursion (HasNone 10) front × HasNone 10 last
+apart_parts [] last all = (tt, all.0)
+apart_parts (line ∷ front) last all = let rest = apart_parts front last all.1 in ((all.0, rest.0), rest.1)
+
+one_line : (line : List ℕ) → line ≢ [] → HasNone 10 line → lines_of line ≡ line ∷ []
+one_line [] some none = absurd (some refl)
+one_line (octet ∷ line) some none = lines_of-last octet line none
+
+lines_are : (text : List ℕ) (lines : Lines) → AreLines text lines → lines_of text ≡ lines
+lines_are text lines are = ⊎_elim
+    (λ (e : text ≡ ended lines).
+    ap lines_of (e ∙ sym (append-nil (ended lines))) ∙ lines_of-ended lines [] are.apart
+    ∙ ap (λ (ls : Lines). lines ++ ls) lines_of-none ∙ append-nil lines)
+    (λ (l : LacksLast text lines).
+    let parts = apart_parts l.front l.last (subst (AllByRecursion (HasNone 10)) l.are are.apart) in
+    ap lines_of l.is ∙ lines_of-ended l.front l.last parts.0
+    ∙ ap (λ (ls : Lines). l.front ++ ls) (one_line l.last l.some parts.1) ∙ sym l.are)
+    are.whole
+
+pub lines_are_right : LinesAreRight
+lines_are_right text lines = (lines_are text lines, λ e. subst (AreLines text) e (are_lines text))

@@ -1,0 +1,303 @@
+-- Octets taken one after another, and the lines written for them.
+use Rattle.std.proofs.Common.{◌≡◌, ℕ, ◌<◌, ◌≤◌, ◌↔◌, Bool, false, IsTrue, IfOk, OnOk, OnErr, ◌-◌, codes, decimal, Option, List, [], ◌∷◌, ◌++◌, length, take, drop, Result, Ok, Err, refl, sym, ap, subst, ◌∙◌, inl, inr, ⊎_elim, append_assoc, arith}
+use Rattle.std.specs.Prelude.{IsErr}
+use Rattle.std.specs.List.{flat_map}
+use Rattle.std.specs.Io.KnownBytes.{Appends, Consumes, IsAtEnd, Keeps}
+use Rattle.std.proofs.KnownBytes.{Appends-nil, Appends-trans, Consumes-nil, Consumes-trans, Consumes-kept}
+use Rattle.std.proofs.lemmas.List.{append-nil, length-append, length-take, take-append-drop, take_rest, nil_from_length}
+use Rattle.std.proofs.lemmas.List.Concat.{flat_map-append}
+use Rattle.asn1.specs.declared.ParseErrorKind.{ParseErrorKind}
+use Rattle.asn1.specs.declared.ParseErrorKind.TheVariants.{ShortData}
+use Rattle.std.proofs.lemmas.Bool.{cases_lt}
+use Rattle.asn1.specs.declared.Tag.{Tag}
+use Rattle.asn1.specs.Text.{IsText}
+use Rattle.asn1.specs.Tag.{tag_text, tag_number}
+use Rattle.asn1.specs.Length.{length_text}
+use Rattle.asn1.specs.Lemmas.Tags.{short_text, long_text}
+use Rattle.asn1.specs.Lemmas.Texts.{IsText-rest}
+use Rattle.asn1.specs.Element.{Element, element_text, front}
+use Rattle.asn1.specs.Laws.{IsShort}
+use Rattle.asn1.specs.Lemmas.Elements.{ElementFront}
+use Rattle.dercheck.specs.Streams.{AppendsInPart}
+use Rattle.dercheck.specs.Frames.{IsFraming, IsUnfinished, line_of, element_line, fault_line, answer_line, end_line, lines, Framed, FramedSoFar, FramedInPart}
+use Rattle.dercheck.specs.declared.answers.Fault.{Fault}
+use Rattle.dercheck.specs.declared.pending.Pending.{Pending}
+use Rattle.dercheck.specs.declared.pending.Progress.TheVariants.{GoesOn, Completes, Fails}
+use Rattle.dercheck.specs.Pending.{Stands, IsComplete, IsFault, Advances, Taken, TakenToFault, TakenInPart, FramedTo}
+use Rattle.dercheck.proofs.Parts.{in_part_of_more, in_part_behind}
+use Rattle.dercheck.proofs.Framings.{err_at, framing_short, framing_one, framing_join, framing_some, lines_join, front_nothing}
+use Rattle.dercheck.proofs.States.{begun_short}
+
+-- what is pending wants more octets, and how many
+pub stands_short : (p : Pending) (text : List ℕ) → Stands p text → front text ≡ Err (ShortData p.needed)
+stands_short p text (inl h) = h.short
+stands_short p text (inr h) = begun_short text h.tag p.content_length h.content p.needed h.begun h.missing h.some
+
+short_at : (a : ElementFront) (needed : ℕ) → a ≡ Err (ShortData needed) → IsShort a
+short_at a needed e = rw e tt
+
+pub stands_unfinished : (p : Pending) (text : List ℕ) → Stands p text → IsUnfinished text
+stands_unfinished p text stands = short_at (front text) p.needed (stands_short p text stands)
+
+-- ---- one step
+
+pub taken_none : (p : Pending) (text : List ℕ) (held : Option (List ℕ)) → Stands p text → Taken p (text ++ []) held held
+taken_none p text held stands = record {
+  elements = [];
+  rest = text;
+  framing = rw (append-nil text) (framing_short text (stands_unfinished p text stands));
+  stands = stands;
+  written = Appends-nil held;
+}
+
+-- a rest that goes on, and is no element yet
+framing_more : (a b : List ℕ) (es : List Element) (p : List ℕ) → IsFraming a es p → IsErr (front (p ++ b)) → IsFraming (a ++ b) es (p ++ b)
+framing_more a b es p framing stops = record {
+  readable = framing.readable;
+  whole = ap (λ (l : List ℕ). l ++ b) framing.whole ∙ append_assoc (flat_map element_text es) p b;
+  stops = stops;
+}
+
+pub goes_on : (p q : Pending) (a octets : List ℕ) (h0 h1 : Option (List ℕ)) → Taken p a h0 h1 → Advances p q GoesOn octets → Taken q (a ++ octets) h0 h1
+goes_on p q a octets h0 h1 taken step =
+    let rest = taken.rest ++ octets in
+    let stands : Stands q rest = step taken.rest taken.stands in
+    record {
+      elements = taken.elements;
+      rest = rest;
+      framing = framing_more a octets taken.elements taken.rest taken.framing (err_at (front rest) (ShortData q.needed) (stands_short q rest stands));
+      stands = stands;
+      written = taken.written;
+    }
+
+complete_line : (q : Pending) (text : List ℕ) (is : IsComplete q text) → line_of (take q.count q.octets) q.content_length ≡ element_line is.element
+complete_line q text is = ap (λ (l : List ℕ). line_of l q.content_length) is.kept ∙ ap (line_of (tag_text is.element.tag)) is.count
+
+-- the lines of one element more
+lines_push : (es : List Element) (e : Element) → flat_map element_line (es ++ e ∷ []) ≡ flat_map element_line es ++ element_line e
+lines_push es e = flat_map-append element_line es (e ∷ []) ∙ ap (λ (l : List ℕ). flat_map element_line es ++ l) (append-nil (element_line e))
+
+framing_push : (p q : Pending) (a octets : List ℕ) (h0 h1 : Option (List ℕ)) (taken : Taken p a h0 h1) (is : IsComplete q (taken.rest ++ octets))
+    → IsFraming (a ++ octets) (taken.elements ++ is.element ∷ []) []
+framing_push p q a octets h0 h1 taken is =
+    framing_join a octets taken.elements (is.element ∷ []) taken.rest [] taken.framing (framing_one (taken.rest ++ octets) is.element is.readable is.whole)
+
+pub completes : (p q s : Pending) (a octets : List ℕ) (h0 h1 h2 : Option (List ℕ)) → Taken p a h0 h1 → Advances p q Completes octets → Stands s []
+    → Appends h1 h2 (line_of (take q.count q.octets) q.content_length) → Taken s (a ++ octets) h0 h2
+completes p q s a octets h0 h1 h2 taken step fresh line =
+    let is : IsComplete q (taken.rest ++ octets) = step taken.rest taken.stands in
+    let own : Appends h1 h2 (element_line is.element) = subst (Appends h1 h2) (complete_line q (taken.rest ++ octets) is) line in
+    record {
+      elements = taken.elements ++ is.element ∷ [];
+      rest = [];
+      framing = framing_push p q a octets h0 h1 taken is;
+      stands = fresh;
+      written = subst (Appends h0 h2) (sym (lines_push taken.elements is.element)) (Appends-trans h0 h1 h2 (flat_map element_line taken.elements) (element_line is.element) taken.written own);
+    }
+
+-- where the line of an element was cut, so were the lines of whatever follows
+pub completes_in_part : (p q : Pending) (a octets more : List ℕ) (h0 h1 h2 : Option (List ℕ)) → Taken p a h0 h1 → Advances p q Completes octets → IsText more
+    → AppendsInPart h1 h2 (line_of (take q.count q.octets) q.content_length) → TakenInPart ((a ++ octets) ++ more) h0 h2
+completes_in_part p q a octets more h0 h1 h2 taken step text line =
+    let is : IsComplete q (taken.rest ++ octets) = step taken.rest taken.stands in
+    let own : AppendsInPart h1 h2 (element_line is.element) = subst (AppendsInPart h1 h2) (complete_line q (taken.rest ++ octets) is) line in
+    let (fs, last, framing) = framing_some more text in
+    let es = taken.elements ++ is.element ∷ [] in
+    let same : lines (es ++ fs) last ≡ (flat_map element_line taken.elements ++ element_line is.element) ++ lines fs last =
+    lines_join es fs last ∙ ap (λ (l : List ℕ). l ++ lines fs last) (lines_push taken.elements is.element) in
+    record {
+      elements = es ++ fs;
+      rest = last;
+      framing = framing_join (a ++ octets) more es fs [] last (framing_push p q a octets h0 h1 taken is) framing;
+      written = subst (AppendsInPart h0 h2) (sym same)
+          (in_part_of_more h0 h2 (flat_map element_line taken.elements ++ element_line is.element) (lines fs last)
+          (in_part_behind h0 h1 h2 (flat_map element_line taken.elements) (element_line is.element) taken.written own));
+    }
+
+answer_fault : (kind : ParseErrorKind) → ¬ IsShort {A = Element × List ℕ} (Err kind) → answer_line (Err kind) ≡ fault_line kind
+answer_fault (ShortData needed) long = absurd (long tt)
+answer_fault _ long = refl
+
+-- the line of a rest that holds a fault
+fault_end : (text : List ℕ) (kind : ParseErrorKind) → front text ≡ Err kind → ¬ IsShort (front text) → end_line text ≡ fault_line kind
+fault_end [] kind e long = absurd (long (short_at (front []) 1 front_nothing))
+fault_end (x ∷ xs) kind e long = ap answer_line e ∙ answer_fault kind (subst (λ (a : ElementFront). ¬ IsShort a) e long)
+
+-- a rest that holds a fault, however it goes on
+fault_more : (text more : List ℕ) (kind : ParseErrorKind) → IsFault text kind → IsText more → ¬ IsUnfinished (text ++ more)
+fault_more text more kind fault is short = fault.long (subst (λ (a : ElementFront). IsShort a) (fault.stands more is ∙ sym fault.here) short)
+
+fault_framing : (p : Pending) (a octets more : List ℕ) (kind : ParseErrorKind) (h0 h1 : Option (List ℕ)) (taken : Taken p a h0 h1) → IsFault (taken.rest ++ octets) kind → IsText more
+    → IsFraming ((a ++ octets) ++ more) taken.elements ((taken.rest ++ octets) ++ more)
+fault_framing p a octets more kind h0 h1 taken fault is =
+    let rest = taken.rest ++ octets in
+    framing_more (a ++ octets) more taken.elements rest
+    (framing_more a octets taken.elements taken.rest taken.framing (err_at (front rest) kind fault.here)) (err_at (front (rest ++ more)) kind (fault.stands more is))
+
+pub fails : (p q : Pending) (a octets more : List ℕ) (kind : ParseErrorKind) (h0 h1 h2 : Option (List ℕ)) → Taken p a h0 h1 → Advances p q (Fails kind) octets → IsText more
+    → Appends h1 h2 (fault_line kind) → TakenToFault ((a ++ octets) ++ more) h0 h2
+fails p q a octets more kind h0 h1 h2 taken step is line =
+    let rest = taken.rest ++ octets in
+    let fault : IsFault rest kind = step taken.rest taken.stands in
+    let long : ¬ IsUnfinished (rest ++ more) = fault_more rest more kind fault is in
+    record {
+      elements = taken.elements;
+      rest = rest ++ more;
+      framing = fault_framing p a octets more kind h0 h1 taken fault is;
+      long = long;
+      written = Appends-trans h0 h1 h2 (flat_map element_line taken.elements) (end_line (rest ++ more)) taken.written
+          (subst (Appends h1 h2) (sym (fault_end (rest ++ more) kind (fault.stands more is) long)) line);
+    }
+
+pub fails_in_part : (p q : Pending) (a octets more : List ℕ) (kind : ParseErrorKind) (h0 h1 h2 : Option (List ℕ)) → Taken p a h0 h1 → Advances p q (Fails kind) octets → IsText more
+    → AppendsInPart h1 h2 (fault_line kind) → TakenInPart ((a ++ octets) ++ more) h0 h2
+fails_in_part p q a octets more kind h0 h1 h2 taken step is line =
+    let rest = taken.rest ++ octets in
+    let fault : IsFault rest kind = step taken.rest taken.stands in
+    let long : ¬ IsUnfinished (rest ++ more) = fault_more rest more kind fault is in
+    record {
+      elements = taken.elements;
+      rest = rest ++ more;
+      framing = fault_framing p a octets more kind h0 h1 taken fault is;
+      written = in_part_behind h0 h1 h2 (flat_map element_line taken.elements) (end_line (rest ++ more)) taken.written
+          (subst (AppendsInPart h1 h2) (sym (fault_end (rest ++ more) kind (fault.stands more is) long)) line);
+    }
+
+-- ---- where the octets stand
+
+pub moves_front : (all done rest : List ℕ) (n : ℕ) → done ++ rest ≡ all → (done ++ take n rest) ++ take (length rest - n) (drop n rest) ≡ all
+moves_front all done rest n e =
+    ap (λ l. (done ++ take n rest) ++ l) (take_rest rest n) ∙ append_assoc done (take n rest) (drop n rest) ∙ ap (λ l. done ++ l) (take-append-drop n rest) ∙ e
+
+pub around : (text all done rest : List ℕ) (n : ℕ) → done ++ rest ≡ all → ((text ++ done) ++ take n rest) ++ drop n rest ≡ text ++ all
+around text all done rest n e =
+    append_assoc (text ++ done) (take n rest) (drop n rest) ∙ ap (λ l. (text ++ done) ++ l) (take-append-drop n rest) ∙ append_assoc text done rest ∙ ap (λ l. text ++ l) e
+
+pub text_left : (all done rest : List ℕ) (n : ℕ) → done ++ rest ≡ all → IsText all → IsText (drop n rest)
+text_left all done rest n e is =
+    IsText-rest (take n rest) (drop n rest) (subst IsText (sym (take-append-drop n rest)) (IsText-rest done rest (subst IsText (sym e) is)))
+
+-- ---- the line at the end
+
+pub end_of : (text : List ℕ) (needed : ℕ) → 0 < length text → front text ≡ Err (ShortData needed) → end_line text ≡ codes "short " ++ decimal needed ++ codes "\n"
+end_of [] needed some e = absurd (omega arith)
+end_of (x ∷ xs) needed some e = ap answer_line e
+
+some_tag : (tag : Tag) → 0 < length (tag_text tag)
+some_tag tag = ⊎_elim
+    (λ (l : tag_number tag < 31). rw (short_text tag (omega arith)) (omega arith))
+    (λ (l : 31 ≤ tag_number tag). rw (long_text tag l) (omega arith)) (cases_lt (tag_number tag) 31)
+
+-- something is pending where an octet is kept, and else nothing
+pub stands_some : (p : Pending) (text : List ℕ) → Stands p text → ¬ (p.count ≡ 0) → 0 < length text
+stands_some p text (inl h) some = omega (arith, ap length h.kept, length-take p.count p.octets, p.size, p.few)
+stands_some p text (inr h) some = omega (arith, ap length h.begun.text, length-append (tag_text h.tag) (length_text p.content_length ++ h.content), some_tag h.tag)
+
+pub stands_none : (p : Pending) (text : List ℕ) → Stands p text → p.count ≡ 0 → text ≡ []
+stands_none p text (inl h) none = nil_from_length text (omega (arith, ap length h.kept, length-take p.count p.octets))
+stands_none p text (inr h) none = absurd (omega (arith, ap length h.kept, length-take p.count p.octets, some_tag h.tag))
+
+-- ---- the whole stream
+
+pub framed_none : (p : Pending) (left held : Option (List ℕ)) → Stands p [] → FramedTo p left left held held
+framed_none p left held stands = record {
+  text = [];
+  elements = [];
+  rest = [];
+  read = Consumes-nil left;
+  framing = framing_short [] (stands_unfinished p [] stands);
+  stands = stands;
+  written = Appends-nil held;
+}
+
+pub framed_more : (p q : Pending) (l0 l1 l2 h0 h1 h2 : Option (List ℕ)) (octets : List ℕ) → FramedTo p l0 l1 h0 h1 → Consumes l1 l2 octets
+    → ((text : List ℕ) → Stands p text → Taken q (text ++ octets) h1 h2) → FramedTo q l0 l2 h0 h2
+framed_more p q l0 l1 l2 h0 h1 h2 octets framed read takes =
+    let taken = takes framed.rest framed.stands in
+    record {
+      text = framed.text ++ octets;
+      elements = framed.elements ++ taken.elements;
+      rest = taken.rest;
+      read = Consumes-trans l0 l1 l2 framed.text octets framed.read read;
+      framing = framing_join framed.text octets framed.elements taken.elements framed.rest taken.rest framed.framing taken.framing;
+      stands = taken.stands;
+      written = subst (Appends h0 h2) (sym (flat_map-append element_line framed.elements taken.elements))
+          (Appends-trans h0 h1 h2 (flat_map element_line framed.elements) (flat_map element_line taken.elements) framed.written taken.written);
+    }
+
+pub framed_so_far : (p : Pending) (l0 l1 l2 h0 h1 : Option (List ℕ)) → FramedTo p l0 l1 h0 h1 → Keeps l1 l2 → FramedSoFar l0 l2 h0 h1
+framed_so_far p l0 l1 l2 h0 h1 framed kept = record {
+  text = framed.text;
+  elements = framed.elements;
+  rest = framed.rest;
+  read = Consumes-kept l0 l1 l2 framed.text framed.read kept;
+  framing = framed.framing;
+  unfinished = stands_unfinished p framed.rest framed.stands;
+  written = framed.written;
+}
+
+pub framed_fault : (p : Pending) (l0 l1 l2 h0 h1 h2 : Option (List ℕ)) (octets : List ℕ) → FramedTo p l0 l1 h0 h1 → Consumes l1 l2 octets → length octets ≤ 256
+    → ((text : List ℕ) → Stands p text → TakenToFault (text ++ octets) h1 h2) → Framed l0 l2 h0 h2 false
+framed_fault p l0 l1 l2 h0 h1 h2 octets framed read few takes =
+    let taken = takes framed.rest framed.stands in
+    record {
+      text = framed.text ++ octets;
+      elements = framed.elements ++ taken.elements;
+      rest = taken.rest;
+      read = Consumes-trans l0 l1 l2 framed.text octets framed.read read;
+      framing = framing_join framed.text octets framed.elements taken.elements framed.rest taken.rest framed.framing taken.framing;
+      ends = inr (taken.long, (framed.text, octets, refl, few, (framed.elements, framed.rest, framed.framing, stands_unfinished p framed.rest framed.stands)));
+      written = subst (Appends h0 h2) (sym (lines_join framed.elements taken.elements taken.rest))
+          (Appends-trans h0 h1 h2 (flat_map element_line framed.elements) (lines taken.elements taken.rest) framed.written taken.written);
+      answer = (λ (w : IsTrue false). absurd cc, λ (none : taken.rest ≡ []). absurd (taken.long (short_at (front taken.rest) 1 (ap front none ∙ front_nothing))));
+    }
+
+pub framed_in_part : (p : Pending) (l0 l1 l2 h0 h1 h2 : Option (List ℕ)) (octets : List ℕ) → FramedTo p l0 l1 h0 h1 → Consumes l1 l2 octets
+    → ((text : List ℕ) → Stands p text → TakenInPart (text ++ octets) h1 h2) → FramedInPart l0 l2 h0 h2
+framed_in_part p l0 l1 l2 h0 h1 h2 octets framed read takes =
+    let taken = takes framed.rest framed.stands in
+    record {
+      text = framed.text ++ octets;
+      elements = framed.elements ++ taken.elements;
+      rest = taken.rest;
+      read = Consumes-trans l0 l1 l2 framed.text octets framed.read read;
+      framing = framing_join framed.text octets framed.elements taken.elements framed.rest taken.rest framed.framing taken.framing;
+      written = subst (AppendsInPart h0 h2) (sym (lines_join framed.elements taken.elements taken.rest))
+          (in_part_behind h0 h1 h2 (flat_map element_line framed.elements) (lines taken.elements taken.rest) framed.written taken.written);
+    }
+
+-- a pull of no octets
+read_none : (a b c : Option (List ℕ)) (text octets : List ℕ) → Consumes a b text → Consumes b c octets → length octets ≡ 0 → Consumes a c text
+read_none a b c text octets first next none =
+    subst (Consumes a c) (ap (λ (l : List ℕ). text ++ l) (nil_from_length octets none) ∙ append-nil text) (Consumes-trans a b c text octets first next)
+
+framed_end : (p : Pending) (l0 l1 l2 h0 h1 h2 : Option (List ℕ)) (octets : List ℕ) (whole : Bool) → FramedTo p l0 l1 h0 h1 → Consumes l1 l2 octets → length octets ≡ 0 → IsAtEnd l2
+    → ((text : List ℕ) → Stands p text → (IsTrue whole ↔ (text ≡ []))) → ((text : List ℕ) → Stands p text → Appends h1 h2 (end_line text)) → Framed l0 l2 h0 h2 whole
+framed_end p l0 l1 l2 h0 h1 h2 octets whole framed read none end answer line = record {
+  text = framed.text;
+  elements = framed.elements;
+  rest = framed.rest;
+  read = read_none l0 l1 l2 framed.text octets framed.read read none;
+  framing = framed.framing;
+  ends = inl (end, stands_unfinished p framed.rest framed.stands);
+  written = Appends-trans h0 h1 h2 (flat_map element_line framed.elements) (end_line framed.rest) framed.written (line framed.rest framed.stands);
+  answer = answer framed.rest framed.stands;
+}
+
+pub finish_ok : (p : Pending) (l0 l1 l2 h0 h1 h2 : Option (List ℕ)) (octets : List ℕ) (r : Result Bool Fault) → FramedTo p l0 l1 h0 h1 → Consumes l1 l2 octets → length octets ≡ 0 → IsAtEnd l2
+    → IfOk r (λ whole. (text : List ℕ) → Stands p text → (IsTrue whole ↔ (text ≡ []))) → OnOk r ((text : List ℕ) → Stands p text → Appends h1 h2 (end_line text))
+    → IfOk r (λ whole. Framed l0 l2 h0 h2 whole)
+finish_ok p l0 l1 l2 h0 h1 h2 octets (Ok whole) framed read none end answer line = framed_end p l0 l1 l2 h0 h1 h2 octets whole framed read none end answer line
+finish_ok p l0 l1 l2 h0 h1 h2 octets (Err e) framed read none end answer line = tt
+
+pub finish_cut : (p : Pending) (l0 l1 l2 h0 h1 h2 : Option (List ℕ)) (octets : List ℕ) (r : Result Bool Fault) (e : Fault) → FramedTo p l0 l1 h0 h1 → Consumes l1 l2 octets → length octets ≡ 0
+    → OnErr r ((text : List ℕ) → Stands p text → AppendsInPart h1 h2 (end_line text)) → r ≡ Err e → FramedInPart l0 l2 h0 h2
+finish_cut p l0 l1 l2 h0 h1 h2 octets (Ok whole) e framed read none cut is = absurd cc
+finish_cut p l0 l1 l2 h0 h1 h2 octets (Err x) e framed read none cut is = record {
+  text = framed.text;
+  elements = framed.elements;
+  rest = framed.rest;
+  read = read_none l0 l1 l2 framed.text octets framed.read read none;
+  framing = framed.framing;
+  written = in_part_behind h0 h1 h2 (flat_map element_line framed.elements) (end_line framed.rest) framed.written (cut framed.rest framed.stands);
+}

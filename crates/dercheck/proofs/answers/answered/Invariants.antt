@@ -1,0 +1,14 @@
+use Rattle.std.proofs.Common.{◌≡◌, ◌++◌, ◌&&◌, length}
+use Rattle.std.specs.List.{list_all}
+use Rattle.dercheck.specs.Lines.{lines_of}
+use Rattle.dercheck.specs.Answers.{answers, is_ok_line}
+use Rattle.dercheck.proofs.answers.answered.Given as goal
+
+abbrev pub invariant-loop-line : goal.invariant-loop-line
+invariant-loop-line l = record {
+  text : l.out.items ++ answers l.rest ≡ answers l.input;
+  all_ok : (l.all_ok && list_all is_ok_line (lines_of l.rest)) ≡ list_all is_ok_line (lines_of l.input);
+}
+
+abbrev pub decreases-loop-line : goal.decreases-loop-line
+decreases-loop-line l = length l.rest

@@ -1,0 +1,20 @@
+use Rattle.std.proofs.Common.{◌≡◌, ℕ, ◌-◌, List, ◌++◌, length, take, drop, refl, sym, ap, ◌∙◌, append_assoc, take-append-drop}
+use Rattle.std.proofs.lemmas.List.{take_rest, take_at}
+use Rattle.std.proofs.KnownBytes.{Appends-trans, Appends-kept}
+use Rattle.dercheck.proofs.frame_lines.put_all.Goals as goal
+
+moves_front : (all done rest : List ℕ) (n : ℕ) → done ++ rest ≡ all → (done ++ take n rest) ++ take (length rest - n) (drop n rest) ≡ all
+moves_front all done rest n e =
+    ap (λ l. (done ++ take n rest) ++ l) (take_rest rest n) ∙ append_assoc done (take n rest) (drop n rest) ∙ ap (λ l. done ++ l) (take-append-drop n rest) ∙ e
+
+pub loop-rest-preserved : goal.loop-rest-preserved
+loop-rest-preserved g c =
+    let (done, split, appended, flag) = c.loop-rest.invariant in
+    let rest = c.loop-rest.rest.now in
+    let n = c.in-Some.n in
+    (done ++ take n rest, moves_front _ done rest n split, Appends-trans _ _ _ _ _ appended c.in-Some.ensures.octets, c.in-Some.ensures.flag ∙ flag)
+
+pub returns-in-None : goal.returns-in-None
+returns-in-None g c =
+    let (done, split, appended, flag) = c.loop-rest.invariant in
+    ((length done, rw (sym split) (rw (take_at done c.loop-rest.rest.now (length done) refl) (Appends-kept _ _ _ _ appended c.in-None.ensures.octets))), c.in-None.ensures.flag)

@@ -1,0 +1,19 @@
+use Rattle.std.proofs.Common.{◌≡◌, Err, refl, sym, subst, ◌∙◌, arith}
+use Rattle.asn1.specs.Element.{front}
+use Rattle.asn1.specs.Laws.{IsShort}
+use Rattle.asn1.specs.Lemmas.Elements.{ElementFront}
+use Rattle.asn1.specs.Lemmas.Texts.{IsText-from_reads}
+use Rattle.dercheck.proofs.Headers.{long_kind}
+use Rattle.dercheck.proofs.header.needed_behind.Goals as goal
+
+pub returns : goal.returns
+returns c =
+    let kind = c.kind.ensures in
+    let long = long_kind c.in-Err.e.kind (λ x e. c.in_default.not-ShortData x (kind ∙ e)) in
+    let here : front c.args.octets.now ≡ Err c.kind.result = c.in-Err.ensures.exact.0 ∙ rw kind refl in
+    record {
+      text = IsText-from_reads c.args.octets.now (λ i. omega (arith, c.type_inv.octets i));
+      long = subst (λ (a : ElementFront). ¬ IsShort a) (sym c.in-Err.ensures.exact.0) long;
+      here = here;
+      stands = λ more is. c.in-Err.ensures.stands more is long ∙ rw kind refl;
+    }

@@ -1,0 +1,52 @@
+-- What holds of the definitions.
+use Rattle.std.specs.Prelude.{IsTrue, ℕ, ◌≡◌, ◌↔◌, List, ◌++◌, codes, Some, Err}
+use Rattle.hex.specs.Hex.{encode_lower}
+use Rattle.asn1.specs.Fault.{Fault}
+use Rattle.asn1.specs.Reading.{Fits}
+use Rattle.dercheck.specs.declared.words.Word.{Word}
+use Rattle.dercheck.specs.Lines.{lines_of, AreLines}
+use Rattle.dercheck.specs.Kinds.{kind_text}
+use Rattle.dercheck.specs.Words.{type_of}
+use Rattle.dercheck.specs.Requests.{IsRequest, request_of}
+use Rattle.dercheck.specs.Answers.{answer, is_ok_line, reading}
+
+-- A text has its lines, and no others.
+abbrev pub LinesAreRight : Type 0
+LinesAreRight = (text : List ℕ) (lines : List (List ℕ)) → AreLines text lines ↔ (lines_of text ≡ lines)
+
+-- A line is one request at most, the function's.
+abbrev pub RequestsAreRight : Type 0
+RequestsAreRight = (line : List ℕ) (word : Word) (octets : List ℕ) → IsRequest line word octets ↔ (request_of line ≡ Some (word, octets))
+
+-- A line that is no request is a bad line.
+abbrev pub BadLinesAreBad : Type 0
+BadLinesAreBad = (line : List ℕ) → ((word : Word) (octets : List ℕ) → ¬ IsRequest line word octets) → answer line ≡ codes "bad line"
+
+-- The octets are the text of a value of the word's type, with a content that can be read.
+pub record IsValueText (word : Word) (octets : List ℕ) : Type 0 where
+  pub value : (type_of word).der.Meaning
+  pub valid : (type_of word).der.valid value
+  pub allowed : (type_of word).der.allowed value
+  pub fits : Fits ((type_of word).der.text value)
+  pub is : octets ≡ (type_of word).der.text value
+
+-- A request is answered `ok` exactly where its octets are the text of a value, and then by these octets.
+abbrev pub ValuesAreOk : Type 0
+ValuesAreOk = (line : List ℕ) (word : Word) (octets : List ℕ) → IsRequest line word octets →
+    IsValueText word octets ↔ (answer line ≡ codes "ok " ++ encode_lower octets)
+
+-- The line is a request whose octets are the text of a value.
+pub record IsOkLine (line : List ℕ) : Type 0 where
+  pub word : Word
+  pub octets : List ℕ
+  pub request : IsRequest line word octets
+  pub value : IsValueText word octets
+
+-- The lines whose answers are `ok` are these.
+abbrev pub OkLinesAreOk : Type 0
+OkLinesAreOk = (line : List ℕ) → IsTrue (is_ok_line line) ↔ IsOkLine line
+
+-- A request whose octets are refused is answered by the fault.
+abbrev pub FaultsAreErr : Type 0
+FaultsAreErr = (line : List ℕ) (word : Word) (octets : List ℕ) (fault : Fault) → IsRequest line word octets →
+    reading word octets ≡ Err fault → answer line ≡ codes "err " ++ kind_text fault.kind

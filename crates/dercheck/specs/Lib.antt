@@ -1,0 +1,14 @@
+pub mod Lines
+pub mod Kinds
+pub mod Words
+pub mod Requests
+pub mod Replies
+pub mod Answers
+pub mod Program
+pub mod Streams
+pub mod InMemory
+pub mod System
+pub mod Frames
+pub mod Pending
+pub mod Laws
+pub mod Code

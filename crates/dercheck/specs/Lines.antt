@@ -1,0 +1,51 @@
+-- Texts in parts: lines, and what stands round the first of an octet.
+use Rattle.std.specs.Prelude.{ℕ, ◌≡◌, ◌≢◌, ◌⊎◌, ◌==◌, if◌then◌else◌, List, [], ◌∷◌, ◌++◌, Option, Some, None}
+use Rattle.std.specs.Borrow.{Bor}
+use Rattle.std.specs.List.{AllByRecursion, flat_map}
+
+-- the two parts with an octet in front of the first
+abbrev pub with_octet : ℕ → Option (List ℕ × List ℕ) → Option (List ℕ × List ℕ)
+with_octet octet None = None
+with_octet octet (Some parts) = Some (octet ∷ parts.0, parts.1)
+
+-- what stands before and behind the first of an octet
+unfoldable pub split_once : ℕ → List ℕ → Option (List ℕ × List ℕ)
+split_once octet [] = None
+split_once octet (next ∷ text) = if next == octet then Some ([], text) else with_octet next (split_once octet text)
+
+-- two slices as texts
+abbrev pub option_split : Option (Bor (List ℕ) × Bor (List ℕ)) → Option (List ℕ × List ℕ)
+option_split None = None
+option_split (Some parts) = Some (parts.0.now, parts.1.now)
+
+-- the lines with an octet in front of the first
+abbrev pub in_first_line : ℕ → List (List ℕ) → List (List ℕ)
+in_first_line octet [] = (octet ∷ []) ∷ []
+in_first_line octet (line ∷ lines) = (octet ∷ line) ∷ lines
+
+-- The lines of a text: a line feed ends one, and what stands behind the last line feed is one unless it is empty.
+unfoldable pub lines_of : List ℕ → List (List ℕ)
+lines_of [] = []
+lines_of (octet ∷ text) = if octet == 10 then [] ∷ lines_of text else in_first_line octet (lines_of text)
+
+-- ---- what lines are
+
+abbrev pub HasNone : ℕ → List ℕ → Type 0
+HasNone octet text = AllByRecursion (λ next. next ≢ octet) text
+
+-- each line with a line feed behind it
+abbrev pub ended : List (List ℕ) → List ℕ
+ended lines = flat_map (λ line. line ++ 10 ∷ []) lines
+
+-- the last line has no line feed behind it, and isn't empty
+pub record LacksLast (text : List ℕ) (lines : List (List ℕ)) : Type 0 where
+  pub front : List (List ℕ)
+  pub last : List ℕ
+  pub are : lines ≡ front ++ last ∷ []
+  pub some : last ≢ []
+  pub is : text ≡ ended front ++ last
+
+-- The lines hold no line feed, and with a line feed behind each they are the text, but for the last line feed.
+pub record AreLines (text : List ℕ) (lines : List (List ℕ)) : Type 0 where
+  pub apart : AllByRecursion (HasNone 10) lines
+  pub whole : (text ≡ ended lines) ⊎ LacksLast text lines

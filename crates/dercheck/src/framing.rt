@@ -1,0 +1,49 @@
+//! A line for each element of a stream, written as soon as the element is complete.
+
+ghost use Rattle.std.specs.Prelude.{◌≡◌, ◌≢◌, true, IfOk, OnOk};
+ghost use Rattle.std.specs.Io.KnownBytes.{IsAtEnd};
+ghost use Rattle.dercheck.specs.Frames.{Framed, FramedSoFar, FramedInPart};
+
+use crate::answers::Fault;
+use crate::pending::Pending;
+use crate::stream::{Sink, Source};
+
+/// How many octets are asked for at a time.
+const MAX_PULL: usize = 256;
+
+/// Writes a line for each element of the stream: its tag's octets in hex, and its content's length in decimal.
+///
+/// Each line is written before the next octets are asked for. At the end a last line says how many octets the
+/// rest still needs, where there is one; at a fault a last line names it, and no more is read. Of what was read then,
+/// all but the last 256 octets hold no fault. The answer is whether the stream is a join of whole elements.
+///
+/// `Read` where the source fails: the lines of the elements that it gave are written, and nothing else. `Write` where
+/// the sink fails: it holds a beginning of the lines. Never `Memory`: none is taken.
+pub fn frames<R: Source, W: Sink>(r: &mut R, w: &mut W) -> Result<bool, Fault>
+    // The lines of the framing of what was read were written: of all, or of a front with a fault near its end.
+    ensures ok { IfOk result (λ whole. Framed (R.left r.old) (R.left r.new) (W.held w.old) (W.held w.new) whole) }
+    ensures end { result ≡ Ok true → IsAtEnd (R.left r.new) }
+    // The lines of each element that was read were written, and nothing else.
+    ensures read { result ≡ Err Fault.Read → FramedSoFar (R.left r.old) (R.left r.new) (W.held w.old) (W.held w.new) }
+    // A beginning of the lines for what was read was written.
+    ensures write { result ≡ Err Fault.Write → FramedInPart (R.left r.old) (R.left r.new) (W.held w.old) (W.held w.new) }
+    ensures source_failed { result ≡ Err Fault.Read → R.has_failed r.new ≡ true }
+    ensures sink_failed { result ≡ Err Fault.Write → W.has_failed w.new ≡ true }
+    ensures source_kept { OnOk result (R.has_failed r.new ≡ R.has_failed r.old) }
+    ensures sink_kept { OnOk result (W.has_failed w.new ≡ W.has_failed w.old) }
+    ensures no_memory { result ≢ Err Fault.Memory }
+{
+    let mut pending = Pending::new();
+    let mut buffer = [0u8; MAX_PULL];
+    'pulls: loop {
+        let Some(count) = r.pull(&mut buffer) else {
+            return Err(Fault::Read);
+        };
+        if count == 0 {
+            return pending.finish(w);
+        }
+        if !pending.take_octets(&buffer[..count], w)? {
+            return Ok(false);
+        }
+    }
+}

@@ -1,0 +1,79 @@
+//! What the octets of an unfinished header say.
+
+ghost use Rattle.std.specs.Prelude.{◌≡◌, ◌≤◌, List, ℕ, length, MatchOption, MatchResult};
+ghost use Rattle.asn1.specs.declared.Tag.{Tag};
+ghost use Rattle.asn1.specs.Tag.{tag_front};
+ghost use Rattle.dercheck.specs.Pending.{HoldsLength, IsSplit, Needs, IsFault, Says};
+
+use asn1::{ParseErrorKind, Tag, strip_tlv};
+
+/// The octets of the longest header that is looked at: one that begins a tag, eighteen that go on with its number,
+/// and the one that decides.
+pub const MAX_HEADER: usize = 20;
+
+/// What the octets of a header say.
+pub enum Header {
+    /// The tag or the length octets go on, and framing needs so many octets.
+    Open {
+        needed: usize,
+    },
+    /// Both are there: how many octets the tag has, and how many the content has and still needs.
+    Whole {
+        tag: usize,
+        length: usize,
+        needed: usize,
+    },
+    /// No element begins so.
+    Faulty(ParseErrorKind),
+}
+
+/// How many octets the tag has, and how many stand behind the length octets, where these are all there.
+fn header_parts(octets: &[u8]) -> Option<(usize, usize)>
+    ensures { MatchOption result
+        ((tag : Tag) → (after : List ℕ) → tag_front octets.now ≡ Ok (tag, after) → ¬ HoldsLength after)
+        (λ counts. IsSplit octets.now counts.0 counts.1) }
+{
+    let Ok((_, after)) = Tag::from_bytes(octets) else {
+        return None;
+    };
+    if after.is_empty() {
+        return None;
+    }
+    let further = usize::from(after[0].saturating_sub(0x80));
+    if after.len() <= further {
+        return None;
+    }
+    Some((octets.len() - after.len(), after.len() - 1 - further))
+}
+
+/// How many octets framing needs behind these, or its fault.
+fn needed_behind(octets: &[u8]) -> Result<usize, ParseErrorKind>
+    ensures { MatchResult result (Needs octets.now) (IsFault octets.now) }
+{
+    match strip_tlv(octets) {
+        Ok(_) => Ok(0),
+        Err(e) => match e.kind() {
+            ParseErrorKind::ShortData { needed } => Ok(needed),
+            kind => Err(kind),
+        },
+    }
+}
+
+/// What the octets say, which are a header, or one that goes on.
+pub fn read_header(octets: &[u8]) -> Header
+    requires { length octets.now ≤ MAX_HEADER }
+    ensures { Says result octets.now }
+{
+    let needed = match needed_behind(octets) {
+        Ok(needed) => needed,
+        Err(kind) => return Header::Faulty(kind),
+    };
+    match header_parts(octets) {
+        None => Header::Open { needed },
+        Some((tag, content)) => Header::Whole {
+            tag,
+            length: needed + content,
+            needed,
+        },
+    }
+}

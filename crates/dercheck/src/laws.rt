@@ -1,0 +1,28 @@
+//! Laws of the definitions, each the contract of a function that does nothing.
+
+ghost use Rattle.dercheck.specs.Frames.{EachTextHasAFraming, TextsHaveOneFraming};
+ghost use Rattle.dercheck.specs.Laws.{LinesAreRight, RequestsAreRight, BadLinesAreBad, ValuesAreOk, OkLinesAreOk, FaultsAreErr};
+
+/// The lines of a text hold no line feed, and the text is the lines each with a line feed behind it, but for a last
+/// line feed that may be missing. No other lines are so.
+pub fn lines_are_right()
+    ensures { LinesAreRight }
+{}
+
+/// A line is answered by its form.
+///
+/// Where it is no request it is a bad line. A request is answered `ok` exactly where its octets are the text of a value
+/// of the type, and else by the fault.
+pub fn answers_are_right()
+    ensures requests { RequestsAreRight }
+    ensures bad { BadLinesAreBad }
+    ensures ok { ValuesAreOk }
+    ensures ok_lines { OkLinesAreOk }
+    ensures err { FaultsAreErr }
+{}
+
+/// Each text has a framing, and no other.
+pub fn one_framing()
+    ensures some { EachTextHasAFraming }
+    ensures one { TextsHaveOneFraming }
+{}

@@ -1,0 +1,30 @@
+//! Reads DER texts that are given in hex, one a line, and answers each by what it is written as or why it is refused;
+//! and cuts a stream of octets into its elements, a line for each, without taking memory.
+#![tactic(auto)]
+
+mod answers;
+mod frame_lines;
+pub mod framing;
+mod header;
+mod kinds;
+pub mod laws;
+mod lines;
+pub mod memory;
+mod modes;
+mod pending;
+mod program;
+mod replies;
+pub mod stream;
+pub mod system;
+mod words;
+
+pub use answers::{Fault, check};
+pub use framing::frames;
+pub use memory::{Held, Pieces};
+pub use modes::Mode;
+pub use program::{mode, status};
+pub use stream::{Sink, Source};
+pub use system::{Input, Output};
+
+#[cfg(test)]
+mod tests;

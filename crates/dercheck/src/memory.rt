@@ -1,0 +1,152 @@
+//! Streams over memory.
+
+ghost use Rattle.std.specs.Prelude.{◌≡◌, ◌+◌, ◌<◌, ◌≤◌, ◌++◌, ◌↔◌, min, IsTrue, false, List, ℕ, [], length, Some, IfSome, IsNone, MatchOption};
+ghost use Rattle.dercheck.specs.Streams.{FlagFollows, PullTakes, PutAppends};
+
+use crate::stream::{Sink, Source};
+
+/// Two slices, given one after the other.
+#[derive(Drop)]
+pub struct Pieces<'a> {
+    first: &'a [u8],
+    second: &'a [u8],
+    piece: usize,
+    fails: bool,
+    has_failed: bool,
+    ghost positive: { 0 < piece },
+}
+
+impl<'a> Pieces<'a> {
+    ghost use Rattle.dercheck.specs.InMemory.{pieces_left, piece_of, fails_at_end, pieces_failed};
+
+    /// The octets of `first`, then of `second`, at most `piece` a call; at their end a call fails where `fails`.
+    pub fn new(first: &'a [u8], second: &'a [u8], piece: usize, fails: bool) -> Self
+        requires { 0 < piece }
+        ensures left { pieces_left result ≡ first.now ++ second.now }
+        ensures piece { piece_of result ≡ piece }
+        ensures end { fails_at_end result ≡ fails }
+        ensures flag { pieces_failed result ≡ false }
+    {
+        Pieces {
+            first,
+            second,
+            piece,
+            fails,
+            has_failed: false,
+        }
+    }
+}
+
+impl Source for Pieces<'_> {
+    ghost use Rattle.dercheck.specs.InMemory.{pieces_left, piece_of, fails_at_end, pieces_failed};
+
+    ghost left = { λ s. Some (pieces_left s) };
+
+    ghost has_failed = { λ s. pieces_failed s };
+
+    ghost bound = { λ s. length s.first.now + length s.second.now };
+
+    fn pull(&mut self, buf: &mut [u8]) -> Option<usize>
+        ensures within { IfSome result (λ n. n ≤ length buf.new) }
+        ensures octets { PullTakes (Some (pieces_left self.old)) (Some (pieces_left self.new)) result buf.new }
+        ensures bound { MatchOption result (length self.new.first.now + length self.new.second.now ≤ length self.old.first.now + length self.old.second.now)
+            (λ n. length self.new.first.now + length self.new.second.now + n ≤ length self.old.first.now + length self.old.second.now) }
+        ensures flag { FlagFollows (pieces_failed self.old) (pieces_failed self.new) result }
+        ensures most { IfSome result (λ n. n ≤ piece_of self.old) }
+        ensures end { IsNone result ↔ ((pieces_left self.old ≡ []) × IsTrue (fails_at_end self.old)) }
+        ensures piece { piece_of self.new ≡ piece_of self.old }
+        ensures fails { fails_at_end self.new ≡ fails_at_end self.old }
+    {
+        let room = buf.len().min(self.piece);
+        if !self.first.is_empty() {
+            let n = room.min(self.first.len());
+            buf[..n].copy_from_slice(&self.first[..n]);
+            self.first = &self.first[n..];
+            return Some(n);
+        }
+        if !self.second.is_empty() {
+            let n = room.min(self.second.len());
+            buf[..n].copy_from_slice(&self.second[..n]);
+            self.second = &self.second[n..];
+            return Some(n);
+        }
+        if self.fails {
+            self.has_failed = true;
+            return None;
+        }
+        Some(0)
+    }
+
+    fn failed(&self) -> bool {
+        self.has_failed
+    }
+}
+
+/// A sink of at most 256 octets.
+#[derive(Drop)]
+pub struct Held {
+    octets: [u8; 256],
+    count: usize,
+    room: usize,
+    has_failed: bool,
+    ghost within: { count ≤ room },
+    ghost fits: { room ≤ 256 },
+}
+
+impl Held {
+    ghost use Rattle.dercheck.specs.InMemory.{held_octets, room_left, held_failed};
+
+    /// An empty sink that keeps `room` octets.
+    pub fn new(room: usize) -> Self
+        requires { room ≤ 256 }
+        ensures empty { held_octets result ≡ [] }
+        ensures room { room_left result ≡ room }
+        ensures flag { held_failed result ≡ false }
+    {
+        Held {
+            octets: [0; 256],
+            count: 0,
+            room,
+            has_failed: false,
+        }
+    }
+
+    /// The octets held.
+    pub fn held(&self) -> &[u8]
+        ensures { result.now ≡ held_octets self.now }
+    {
+        &self.octets[..self.count]
+    }
+}
+
+impl Sink for Held {
+    ghost use Rattle.dercheck.specs.InMemory.{held_octets, room_left, held_failed};
+
+    ghost held = { λ s. Some (held_octets s) };
+
+    ghost has_failed = { λ s. held_failed s };
+
+    fn put(&mut self, octets: &[u8]) -> Option<usize>
+        ensures within { IfSome result (λ n. n ≤ length octets.now) }
+        ensures some { IfSome result (λ n. 0 < length octets.now → 0 < n) }
+        ensures octets { PutAppends (Some (held_octets self.old)) (Some (held_octets self.new)) result octets.now }
+        ensures flag { FlagFollows (held_failed self.old) (held_failed self.new) result }
+        ensures full { IsNone result ↔ ((room_left self.old ≡ 0) × (0 < length octets.now)) }
+        ensures most { IfSome result (λ n. n ≡ min (length octets.now) (room_left self.old)) }
+        ensures room { IfSome result (λ n. room_left self.new + n ≡ room_left self.old) }
+    {
+        let n = octets.len().min(self.room - self.count);
+        if n == 0 && !octets.is_empty() {
+            self.has_failed = true;
+            return None;
+        }
+        let end = self.count + n;
+        self.octets[self.count..end].copy_from_slice(&octets[..n]);
+        self.count = end;
+        Some(n)
+    }
+
+    fn failed(&self) -> bool {
+        self.has_failed
+    }
+}

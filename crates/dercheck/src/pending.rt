@@ -1,0 +1,162 @@
+//! The element that is being read.
+
+ghost use Rattle.std.specs.Prelude.{◌≡◌, ◌+◌, ◌<◌, ◌≤◌, ◌∷◌, ◌++◌, ◌↔◌, [], List, ℕ, IsTrue, true, false, length, take, IfOk, IfErr, OnOk, OnErr};
+ghost use Rattle.dercheck.specs.declared.header.TheConstants.{MAX_HEADER};
+
+use crate::answers::Fault;
+use crate::frame_lines::{fault_text, put_all, put_element, put_short};
+use crate::header::{Header, MAX_HEADER, read_header};
+use crate::stream::Sink;
+use asn1::ParseErrorKind;
+
+/// What octets more made of an unfinished element.
+pub enum Progress {
+    /// It needs still more.
+    GoesOn,
+    /// It is complete.
+    Completes,
+    /// No element begins so.
+    Fails(ParseErrorKind),
+}
+
+/// An unfinished element. Its content is counted and not kept.
+#[derive(Drop)]
+pub struct Pending {
+    // The header while it goes on, and then the tag, which the element's line tells.
+    octets: [u8; MAX_HEADER],
+    count: usize,
+    in_content: bool,
+    content_length: usize,
+    needed: usize,
+    ghost size: { length octets ≡ MAX_HEADER },
+    ghost few: { count < MAX_HEADER },
+    ghost wants: { 0 < needed },
+}
+
+impl Pending {
+    ghost use Rattle.std.specs.Io.KnownBytes.{Appends};
+    ghost use Rattle.dercheck.specs.Streams.{AppendsInPart};
+    ghost use Rattle.dercheck.specs.Frames.{end_line};
+    ghost use Rattle.dercheck.specs.Pending.{Stands, Advances, Taken, TakenToFault, TakenInPart};
+
+    /// No octets of an element.
+    pub fn new() -> Self
+        ensures { Stands result [] }
+    {
+        Pending {
+            octets: [0; MAX_HEADER],
+            count: 0,
+            in_content: false,
+            content_length: 0,
+            needed: 1,
+        }
+    }
+
+    /// Takes an octet of the header.
+    fn take_header(&mut self, octet: u8) -> Progress
+        requires { self.old.in_content ≡ false }
+        ensures { Advances self.old self.new result (octet ∷ []) }
+    {
+        self.octets[self.count] = octet;
+        let count = self.count + 1;
+        match read_header(&self.octets[..count]) {
+            Header::Open { needed } => {
+                self.count = count;
+                self.needed = needed;
+                Progress::GoesOn
+            }
+            Header::Whole {
+                tag,
+                length,
+                needed,
+            } => {
+                self.count = tag;
+                self.content_length = length;
+                if needed == 0 {
+                    return Progress::Completes;
+                }
+                self.in_content = true;
+                self.needed = needed;
+                Progress::GoesOn
+            }
+            Header::Faulty(kind) => Progress::Fails(kind),
+        }
+    }
+
+    /// Takes so many octets of the content.
+    fn take_content(&mut self, count: usize) -> Progress
+        requires stage { self.old.in_content ≡ true }
+        requires within { count ≤ self.old.needed }
+        ensures { (octets : List ℕ) → length octets ≡ count → Advances self.old self.new result octets }
+    {
+        if count == self.needed {
+            return Progress::Completes;
+        }
+        self.needed -= count;
+        Progress::GoesOn
+    }
+
+    /// Takes some of the octets, from the front, and answers how many.
+    fn advance(&mut self, octets: &[u8]) -> (usize, Progress)
+        requires { 0 < length octets.now }
+        ensures some { 0 < result.0 }
+        ensures within { result.0 ≤ length octets.now }
+        ensures advances { Advances self.old self.new result.1 (take result.0 octets.now) }
+    {
+        if self.in_content {
+            let count = self.needed.min(octets.len());
+            (count, self.take_content(count))
+        } else {
+            (1, self.take_header(octets[0]))
+        }
+    }
+
+    /// Takes the octets, and writes the lines of the elements that they complete. The answer is false where they
+    /// hold a fault, whose line is then written too.
+    pub fn take_octets<W: Sink>(&mut self, octets: &[u8], sink: &mut W) -> Result<bool, Fault>
+        ensures goes_on { result ≡ Ok true → (text : List ℕ) → Stands self.old text → Taken self.new (text ++ octets.now) (W.held sink.old) (W.held sink.new) }
+        ensures fault { result ≡ Ok false → (text : List ℕ) → Stands self.old text → TakenToFault (text ++ octets.now) (W.held sink.old) (W.held sink.new) }
+        ensures cut { OnErr result ((text : List ℕ) → Stands self.old text → TakenInPart (text ++ octets.now) (W.held sink.old) (W.held sink.new)) }
+        ensures kept { OnOk result (W.has_failed sink.new ≡ W.has_failed sink.old) }
+        ensures fails { IfErr result (λ e. (e ≡ Fault.Write) × (W.has_failed sink.new ≡ true)) }
+    {
+        let mut rest = octets;
+        while !rest.is_empty() {
+            let (count, progress) = self.advance(rest);
+            rest = &rest[count..];
+            match progress {
+                Progress::GoesOn => {}
+                Progress::Completes => {
+                    if !put_element(sink, &self.octets[..self.count], self.content_length) {
+                        return Err(Fault::Write);
+                    }
+                    *self = Pending::new();
+                }
+                Progress::Fails(kind) => {
+                    if !put_all(sink, fault_text(kind)) {
+                        return Err(Fault::Write);
+                    }
+                    return Ok(false);
+                }
+            }
+        }
+        Ok(true)
+    }
+
+    /// Writes what is missing at the end of the input. The answer is true where nothing is pending.
+    pub fn finish<W: Sink>(&self, sink: &mut W) -> Result<bool, Fault>
+        ensures answer { IfOk result (λ whole. (text : List ℕ) → Stands self.now text → (IsTrue whole ↔ (text ≡ []))) }
+        ensures line { OnOk result ((text : List ℕ) → Stands self.now text → Appends (W.held sink.old) (W.held sink.new) (end_line text)) }
+        ensures cut { OnErr result ((text : List ℕ) → Stands self.now text → AppendsInPart (W.held sink.old) (W.held sink.new) (end_line text)) }
+        ensures kept { OnOk result (W.has_failed sink.new ≡ W.has_failed sink.old) }
+        ensures fails { IfErr result (λ e. (e ≡ Fault.Write) × (W.has_failed sink.new ≡ true)) }
+    {
+        if self.count == 0 {
+            return Ok(true);
+        }
+        if !put_short(sink, self.needed) {
+            return Err(Fault::Write);
+        }
+        Ok(false)
+    }
+}

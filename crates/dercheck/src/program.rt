@@ -1,0 +1,31 @@
+//! What the program does with its arguments, and how it ends.
+
+ghost use Rattle.std.specs.Prelude.{◌≡◌, ◌↔◌, [], Some};
+ghost use Rattle.dercheck.specs.Program.{mode_of, status_of};
+
+use crate::answers::Fault;
+use crate::modes::Mode;
+
+/// The mode that the words behind the program's name ask for: `Check` for none, `Frames` for the one word `frames`.
+/// Others ask for nothing that is known.
+pub fn mode(args: &[String]) -> Option<Mode>
+    ensures { result ≡ mode_of args.now }
+{
+    match args {
+        [] => Some(Mode::Check),
+        [word] if word.as_str() == "frames" => Some(Mode::Frames),
+        _ => None,
+    }
+}
+
+/// The status that the program ends with: 0 where each answer is `ok`, 1 where one isn't, and 2 where the text was not
+/// answered.
+pub fn status(answer: Option<Result<bool, Fault>>) -> u8
+    ensures { result ≡ status_of answer }
+{
+    match answer {
+        Some(Ok(true)) => 0,
+        Some(Ok(false)) => 1,
+        _ => 2,
+    }
+}

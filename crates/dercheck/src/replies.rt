@@ -1,0 +1,86 @@
+//! What a line is answered with.
+
+ghost use Rattle.std.specs.Prelude.{◌≡◌, ◌++◌, ◌∷◌, [], OnOk, IfOk, IsOkUnless};
+ghost use Rattle.asn1.specs.Reading.{whole};
+ghost use Rattle.dercheck.specs.Replies.{IsReply, reply_text, is_written};
+ghost use Rattle.dercheck.specs.Answers.{answer, is_ok_line, reading};
+
+use crate::answers::Fault;
+use crate::kinds::push_kind;
+use crate::words::{Word, request};
+use asn1::{
+    Asn1Readable, Asn1Writable, ParseErrorKind, Tlv, WriteError, parse_single, write_single,
+};
+use std::alloc::{AllocError, Global};
+
+/// What a line is answered with.
+#[derive(Drop)]
+pub(crate) enum Reply {
+    /// The line has not the form of a request.
+    BadLine,
+    /// The octets are no text of the type.
+    Refused(ParseErrorKind),
+    /// The octets are the text of a value, which is written as these.
+    Written(Vec<u8>),
+}
+
+/// Reads a value of the type, and writes it back. `Memory` where there is no room for what is written.
+fn reply_as<'a, T: Asn1Readable<'a> + Asn1Writable<Error = WriteError>>(
+    alloc: Global,
+    octets: &'a [u8],
+) -> Result<Reply, Fault>
+    requires plain { T.der.plain }
+    requires needs_no_memory { T.der.takes_memory → ⊥ }
+    ensures ok { IfOk result (IsReply octets.entry.now (whole (T.der.read octets.entry.now))) }
+    ensures error { IsOkUnless result Fault.Memory }
+{
+    match parse_single::<T>(alloc, octets) {
+        Ok(value) => match write_single(alloc, &value) {
+            Ok(written) => Ok(Reply::Written(written)),
+            Err(_) => Err(Fault::Memory),
+        },
+        Err(error) => Ok(Reply::Refused(error.kind())),
+    }
+}
+
+/// The reply to octets that are to be a text of the word's type. `Memory` where there is no room.
+fn reply_to_octets(alloc: Global, word: Word, octets: &[u8]) -> Result<Reply, Fault>
+    ensures ok { IfOk result (IsReply octets.entry.now (reading word octets.entry.now)) }
+    ensures error { IsOkUnless result Fault.Memory }
+{
+    match word {
+        Word::Bool => reply_as::<bool>(alloc, octets),
+        Word::Tlv => reply_as::<Tlv<'_>>(alloc, octets),
+    }
+}
+
+/// The reply to a line. `Memory` where there is no room.
+pub(crate) fn reply_to_line(alloc: Global, line: &[u8]) -> Result<Reply, Fault>
+    ensures text { IfOk result (λ reply. reply_text reply ≡ answer line.now) }
+    ensures written { IfOk result (λ reply. is_written reply ≡ is_ok_line line.now) }
+    ensures error { IsOkUnless result Fault.Memory }
+{
+    match request(alloc, line)? {
+        Some((word, octets)) => reply_to_octets(alloc, word, &octets),
+        None => Ok(Reply::BadLine),
+    }
+}
+
+/// Appends the reply's text and a line feed.
+pub(crate) fn push_reply(alloc: Global, out: &mut Vec<u8>, reply: &Reply) -> Result<(), AllocError>
+    ensures { OnOk result (out.new.items ≡ out.old.items ++ (reply_text reply.now ++ 10 ∷ [])) }
+{
+    match reply {
+        Reply::BadLine => out.extend_from_slice(b"bad line")?,
+        Reply::Refused(kind) => {
+            out.extend_from_slice(b"err ")?;
+            push_kind(out, *kind)?;
+        }
+        Reply::Written(octets) => {
+            out.extend_from_slice(b"ok ")?;
+            out.extend_from_slice(hex::encode(alloc, octets)?.as_bytes())?;
+        }
+    }
+    out.push(b'\n')?;
+    Ok(())
+}

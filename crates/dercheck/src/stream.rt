@@ -1,0 +1,49 @@
+//! Streams of octets to read and to write.
+
+ghost use Rattle.std.specs.Prelude.{◌≡◌, ◌+◌, ◌<◌, ◌≤◌, List, ℕ, Bool, Option, length, take, IfSome, MatchOption};
+ghost use Rattle.dercheck.specs.Streams.{PullTakes, PutAppends, FlagFollows};
+
+/// A stream of octets to read.
+pub trait Source {
+    // The octets left, where the source tells them.
+    ghost left: { Self → Option (List ℕ) };
+
+    // Whether it has failed.
+    ghost has_failed: { Self → Bool };
+
+    // At least as many octets as it can still give.
+    ghost bound: { Self → ℕ };
+
+    /// Gives octets at the front of `buf`, and answers how many. Where `buf` has room, none means the end. `None` is a
+    /// failure, and then nothing is given.
+    fn pull(&mut self, buf: &mut [u8]) -> Option<usize>
+        ensures within { IfSome result (λ n. n ≤ length buf.new) }
+        ensures octets { PullTakes (left self.old) (left self.new) result buf.new }
+        ensures bound { MatchOption result (bound self.new ≤ bound self.old) (λ n. bound self.new + n ≤ bound self.old) }
+        ensures flag { FlagFollows (has_failed self.old) (has_failed self.new) result };
+
+    /// Whether a pull has failed.
+    fn failed(&self) -> bool
+        ensures { result ≡ has_failed self.now };
+}
+
+/// A stream of octets to write.
+pub trait Sink {
+    // The octets that it holds, where the sink tells them.
+    ghost held: { Self → Option (List ℕ) };
+
+    // Whether it has failed.
+    ghost has_failed: { Self → Bool };
+
+    /// Appends octets from the front, and answers how many: at least one, where there are any. `None` is a failure, and
+    /// then nothing is appended.
+    fn put(&mut self, octets: &[u8]) -> Option<usize>
+        ensures within { IfSome result (λ n. n ≤ length octets.now) }
+        ensures some { IfSome result (λ n. 0 < length octets.now → 0 < n) }
+        ensures octets { PutAppends (held self.old) (held self.new) result octets.now }
+        ensures flag { FlagFollows (has_failed self.old) (has_failed self.new) result };
+
+    /// Whether a put has failed.
+    fn failed(&self) -> bool
+        ensures { result ≡ has_failed self.now };
+}

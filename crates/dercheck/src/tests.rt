@@ -1,0 +1,207 @@
+//! The answers to lines from outside, and a type of one's own.
+
+ghost use Rattle.std.specs.Prelude.{◌≡◌, ℕ, Some, OnOk};
+ghost use Rattle.asn1.specs.Der.{simple_der};
+ghost use Rattle.dercheck.specs.Code.{code_content};
+
+mod frames;
+
+use super::*;
+use asn1::{
+    Asn1Type, ParseError, ParseErrorKind, ParseResult, SimpleAsn1Readable, SimpleAsn1Writable, Tag,
+    WriteBuf, WriteError, WriteResult, parse_single, write_single,
+};
+use std::alloc::Global;
+use std::test::Fail;
+
+/// Lines and the answers to them.
+const LINES: [(&str, &str); 27] = [
+    ("bool 0101ff", "ok 0101ff"),
+    ("bool 0101FF", "ok 0101ff"),
+    ("bool 010100", "ok 010100"),
+    ("bool 010101", "err InvalidValue"),
+    ("bool 0101ff00", "err ExtraData"),
+    ("bool 018101ff", "err InvalidLength"),
+    ("bool 0180", "err InvalidLength"),
+    ("bool 1f1e00", "err InvalidTag"),
+    (
+        "bool 1f8fffffff7f00",
+        "err UnexpectedTag universal 4294967295 primitive",
+    ),
+    ("bool e100", "err UnexpectedTag private 1 constructed"),
+    ("bool 7e00", "err UnexpectedTag application 30 constructed"),
+    ("bool 8000", "err UnexpectedTag context 0 primitive"),
+    ("bool 020105", "err UnexpectedTag universal 2 primitive"),
+    ("bool 0201", "err ShortData 1"),
+    ("bool ", "err ShortData 1"),
+    ("tlv 1f81800100", "ok 1f81800100"),
+    ("tlv 0403616263", "ok 0403616263"),
+    ("tlv 30000500", "err ExtraData"),
+    ("tlv 04820010", "err InvalidLength"),
+    ("tlv 048200", "err ShortData 1"),
+    ("tlv 1f9080808000", "err InvalidTag"),
+    ("tlv", "bad line"),
+    ("bool 0", "bad line"),
+    ("BOOL 0101ff", "bad line"),
+    ("bool", "bad line"),
+    ("bool  0101ff", "bad line"),
+    ("", "bad line"),
+];
+
+/// What stands in the output before, the input, the output after, and whether each answer is `ok`.
+const INPUTS: [(&str, &str, &str, bool); 6] = [
+    ("", "", "", true),
+    ("before", "", "before", true),
+    ("", "\n", "bad line\n", false),
+    ("before\n", "bool 0101ff", "before\nok 0101ff\n", true),
+    (
+        "",
+        "bool 0101ff\nbool 010100\n",
+        "ok 0101ff\nok 010100\n",
+        true,
+    ),
+    (
+        "",
+        "bool 0101ff\n\nbool 01\nbool 010100",
+        "ok 0101ff\nbad line\nerr ShortData 1\nok 010100\n",
+        false,
+    ),
+];
+
+/// The output behind what stood in it before, and whether each answer is `ok`.
+fn answered(alloc: Global, before: &str, input: &str) -> Result<(Vec<u8>, bool), Fail> {
+    let mut out = Vec::from_slice(alloc, before.as_bytes())?;
+    let all_ok = check(alloc, input.as_bytes(), &mut out)?;
+    Ok((out, all_ok))
+}
+
+#[test]
+fn each_line(rt: HostRuntime) -> Result<(), Fail> {
+    for (line, answer) in LINES {
+        let input = format!(in rt.alloc(); "{line}\n")?;
+        let output = format!(in rt.alloc(); "{answer}\n")?;
+        let (out, all_ok) = answered(rt.alloc(), "", input.as_str())?;
+        assert_eq!(rt; out.as_slice(), output.as_bytes(), "at {line}");
+        assert_eq!(rt; all_ok, answer.starts_with("ok "), "at {line}");
+    }
+    Ok(())
+}
+
+#[test]
+fn each_input(rt: HostRuntime) -> Result<(), Fail> {
+    for (before, input, after, all_ok) in INPUTS {
+        let (out, was_ok) = answered(rt.alloc(), before, input)?;
+        assert_eq!(rt; out.as_slice(), after.as_bytes(), "at {input}");
+        assert_eq!(rt; was_ok, all_ok, "at {input}");
+    }
+    Ok(())
+}
+
+#[test]
+fn other_kinds(rt: HostRuntime) -> Result<(), Fail> {
+    for (kind, text) in [
+        (
+            ParseErrorKind::InvalidSize {
+                min: 1,
+                max: 20,
+                actual: 0,
+            },
+            "InvalidSize 1 20 0",
+        ),
+        (ParseErrorKind::IntegerOverflow, "IntegerOverflow"),
+        (ParseErrorKind::InvalidSetOrdering, "InvalidSetOrdering"),
+        (ParseErrorKind::EncodedDefault, "EncodedDefault"),
+        (ParseErrorKind::OidTooLong, "OidTooLong"),
+        (ParseErrorKind::UnknownDefinedBy, "UnknownDefinedBy"),
+        (ParseErrorKind::AllocationError, "AllocationError"),
+    ] {
+        let mut out = Vec::new(rt.alloc());
+        kinds::push_kind(&mut out, kind)?;
+        assert_eq!(rt; out.as_slice(), text.as_bytes());
+    }
+    Ok(())
+}
+
+#[test]
+fn modes(rt: HostRuntime) -> Result<(), Fail> {
+    let mut args = Vec::with_capacity(rt.alloc(), 2)?;
+    assert_eq!(rt; mode(&args), Some(Mode::Check));
+    args.push(String::from_str(rt.alloc(), "frames")?)?;
+    assert_eq!(rt; mode(&args), Some(Mode::Frames));
+    args.push(String::from_str(rt.alloc(), "x")?)?;
+    assert_eq!(rt; mode(&args), None);
+    assert_eq!(rt; mode(&args[1..]), None);
+    Ok(())
+}
+
+#[test]
+fn statuses(rt: HostRuntime) {
+    assert_eq!(rt; status(Some(Ok(true))), 0);
+    assert_eq!(rt; status(Some(Ok(false))), 1);
+    for fault in [Fault::Memory, Fault::Read, Fault::Write] {
+        assert_eq!(rt; status(Some(Err(fault))), 2);
+    }
+    assert_eq!(rt; status(None), 2);
+}
+
+/// An enumerated value of one octet.
+#[derive(Clone, Copy, Debug, PartialEq, Eq)]
+struct Code(u8);
+
+impl Asn1Type for Code {
+    ghost der = { simple_der (λ code. code.0) code_content };
+
+    fn known(&self) {
+        let _number = self.0;
+    }
+}
+
+impl<'a> SimpleAsn1Readable<'a> for Code {
+    fn tag() -> Tag {
+        Tag::primitive(0x0a)
+    }
+
+    fn parse_data(_alloc: Global, data: &'a [u8]) -> ParseResult<Code> {
+        match data {
+            [number] => Ok(Code(*number)),
+            _ => Err(ParseError::new(ParseErrorKind::InvalidValue)),
+        }
+    }
+}
+
+impl SimpleAsn1Writable for Code {
+    type Error = WriteError;
+
+    ghost refusals = { λ _ _. ⊥ };
+
+    fn tag() -> Tag {
+        Tag::primitive(0x0a)
+    }
+
+    fn write_data(&self, dest: &mut WriteBuf) -> WriteResult<()> {
+        dest.push_byte(self.0)
+    }
+
+    fn data_length(&self) -> Option<usize>
+        ensures { result ≡ Some 1 }
+    {
+        Some(1)
+    }
+}
+
+#[test]
+fn own_type(rt: HostRuntime) -> Result<(), Fail> {
+    let octets = write_single(rt.alloc(), &Code(7))?;
+    assert_eq!(rt; octets.as_slice(), [0x0au8, 1, 7].as_slice());
+    assert!(rt;
+        matches!(
+            parse_single::<Code>(rt.alloc(), octets.as_slice()),
+            Ok(Code(7))
+        )
+    );
+    match parse_single::<Code>(rt.alloc(), &[0x0au8, 2, 0, 7]) {
+        Ok(_) => assert!(rt; false),
+        Err(error) => assert_eq!(rt; error.kind(), ParseErrorKind::InvalidValue),
+    }
+    Ok(())
+}
