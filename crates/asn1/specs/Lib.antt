@@ -14,8 +14,15 @@ pub use Rattle.asn1_core.specs.Buffer
 pub use Rattle.asn1_core.specs.Calls
 pub use Rattle.asn1_core.specs.Closures
 pub use Rattle.asn1_core.specs.Writing
+pub use Rattle.asn1_core.specs.Integer
 pub use Rattle.asn1_core.specs.Der
+pub use Rattle.asn1_core.specs.Sized
+pub use Rattle.asn1_core.specs.Boxed
 pub use Rattle.asn1_core.specs.Laws
 pub use Rattle.asn1_core.specs.Examples
 pub use Rattle.asn1_core.specs.Lemmas
 pub mod Example
+pub use Rattle.asn1_values.specs.Big
+pub use Rattle.asn1_values.specs.BigContents
+pub use Rattle.asn1_values.specs.Values
+pub use Rattle.asn1_values.specs.Enumerated

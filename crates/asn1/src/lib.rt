@@ -32,6 +32,7 @@ pub use asn1_core::{
     WriteResult, Writer, explicit_tag, implicit_tag, parse, parse_single, strip_tlv, write,
     write_single,
 };
+pub use asn1_values::{BigInt, BigUint, Enumerated, OwnedBigInt, OwnedBigUint};
 
 #[cfg(test)]
 mod tests;

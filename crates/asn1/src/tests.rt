@@ -1,10 +1,11 @@
-//! The example of the crate's page.
+//! The examples of the crate's page and of the README.
 
 ghost use Rattle.std.specs.Prelude.{◌≡◌, ◌++◌, true, false, OnOk, OnErr};
 ghost use Rattle.asn1.specs.Buffer.{KeepsFront};
 ghost use Rattle.asn1.specs.Example.{bool_text};
 
 use super::*;
+use std::alloc::Global;
 use std::test::Fail;
 
 #[test]
@@ -41,5 +42,26 @@ fn several_values(rt: HostRuntime) -> Result<(), Fail> {
         },
     )?;
     assert_eq!(rt; written.as_slice(), [1u8, 1, 0xff, 1, 1, 0].as_slice());
+    Ok(())
+}
+
+/// An octet string of these octets, whose length is patched.
+fn octet_string(alloc: Global, octets: &[u8]) -> WriteResult<Vec<u8>> {
+    write(alloc, |writer: &mut Writer<'_>| {
+        writer.write_tlv(Tag::primitive(4), None, |dest| dest.push_slice(octets))
+    })
+}
+
+#[test]
+fn tags_of_ones_own(rt: HostRuntime) -> Result<(), Fail> {
+    let octets = write(rt.alloc(), |writer: &mut Writer<'_>| {
+        writer.write_explicit_element(&true, 2)
+    })?;
+    assert_eq!(rt; octets.as_slice(), [0xa2u8, 3, 1, 1, 0xff].as_slice());
+    let octets = octet_string(rt.alloc(), b"ab")?;
+    let (tlv, rest) = strip_tlv(octets.as_slice())?;
+    assert_eq!(rt; tlv.data(), b"ab".as_slice());
+    assert_eq!(rt; tlv.full_data(), [4u8, 2, 0x61, 0x62].as_slice());
+    assert!(rt; rest.is_empty());
     Ok(())
 }

@@ -1,4 +1,5 @@
 mod Finish
+mod Integers
 mod Kept
 mod Ordered
 mod Patch

@@ -13,3 +13,4 @@ pub mod Wholes
 pub mod Closures
 pub mod Same
 pub mod Bodies
+pub mod Integers

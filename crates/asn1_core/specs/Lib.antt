@@ -14,7 +14,10 @@ pub mod Buffer
 pub mod Calls
 pub mod Closures
 pub mod Writing
+pub mod Integer
 pub mod Der
+pub mod Sized
+pub mod Boxed
 pub mod Laws
 pub mod Examples
 pub mod Lemmas

@@ -1,9 +1,10 @@
-//! DER at its lowest: numbers in base 128, tags, framing, the buffer that is written to, and the traits of reading
-//! and writing.
+//! DER at its lowest: numbers in base 128, tags, framing, the buffer that is written to, the traits of reading and
+//! writing, and the types of the language itself: Booleans, integers with a range, boxes and references.
 #![tactic(auto)]
 
 pub mod base128;
 pub mod laws;
+pub mod laws_integers;
 pub mod parser;
 pub mod tag;
 pub mod types;

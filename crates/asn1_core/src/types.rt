@@ -8,9 +8,13 @@ ghost use Rattle.asn1_core.specs.Reading.{Answers, EndsWith, Fits, element_front
 ghost use Rattle.asn1_core.specs.Writing.{KnowsLength, Refuses};
 ghost use Rattle.asn1_core.specs.Der.{Der, simple_der, tlv_der, seen, bool_content};
 
+mod boxes;
+mod integers;
+
 use crate::parser::{ParseError, ParseErrorKind, ParseResult, Parser, parse_single, with_no_place};
 use crate::tag::Tag;
 use crate::writer::{WriteBuf, WriteError, WriteResult, Writer, full_length};
+pub use integers::is_integer_content;
 use std::alloc::Global;
 
 /// An element as it stands: its tag, its content, and its text.

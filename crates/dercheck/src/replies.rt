@@ -9,7 +9,8 @@ use crate::answers::Fault;
 use crate::kinds::push_kind;
 use crate::words::{Word, request};
 use asn1::{
-    Asn1Readable, Asn1Writable, ParseErrorKind, Tlv, WriteError, parse_single, write_single,
+    Asn1Readable, Asn1Writable, BigInt, BigUint, Enumerated, ParseErrorKind, Tlv, WriteError,
+    parse_single, write_single,
 };
 use std::alloc::{AllocError, Global};
 
@@ -51,6 +52,17 @@ fn reply_to_octets(alloc: Global, word: Word, octets: &[u8]) -> Result<Reply, Fa
     match word {
         Word::Bool => reply_as::<bool>(alloc, octets),
         Word::Tlv => reply_as::<Tlv<'_>>(alloc, octets),
+        Word::I8 => reply_as::<i8>(alloc, octets),
+        Word::U8 => reply_as::<u8>(alloc, octets),
+        Word::I16 => reply_as::<i16>(alloc, octets),
+        Word::U16 => reply_as::<u16>(alloc, octets),
+        Word::I32 => reply_as::<i32>(alloc, octets),
+        Word::U32 => reply_as::<u32>(alloc, octets),
+        Word::I64 => reply_as::<i64>(alloc, octets),
+        Word::U64 => reply_as::<u64>(alloc, octets),
+        Word::Int => reply_as::<BigInt<'_>>(alloc, octets),
+        Word::Uint => reply_as::<BigUint<'_>>(alloc, octets),
+        Word::Enum => reply_as::<Enumerated>(alloc, octets),
     }
 }
 

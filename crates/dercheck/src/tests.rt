@@ -12,6 +12,7 @@ use asn1::{
     WriteBuf, WriteError, WriteResult, parse_single, write_single,
 };
 use std::alloc::Global;
+use std::process::Abort;
 use std::test::Fail;
 
 /// Lines and the answers to them.
@@ -48,6 +49,39 @@ const LINES: [(&str, &str); 27] = [
     ("", "bad line"),
 ];
 
+/// Lines with integers, and the answers to them.
+const INTEGERS: [(&str, &str); 29] = [
+    ("i8 020180", "ok 020180"),
+    ("i8 0202ff7f", "err IntegerOverflow"),
+    ("u8 020180", "err InvalidValue"),
+    ("u8 020200ff", "ok 020200ff"),
+    ("u8 02020100", "err IntegerOverflow"),
+    ("i16 02028000", "ok 02028000"),
+    ("i16 0203ff7fff", "err IntegerOverflow"),
+    ("u16 020300ffff", "ok 020300ffff"),
+    ("u16 0203010000", "err IntegerOverflow"),
+    ("i32 02047fffffff", "ok 02047fffffff"),
+    ("i32 02050080000000", "err IntegerOverflow"),
+    ("u32 020500ffffffff", "ok 020500ffffffff"),
+    ("u32 02050100000000", "err IntegerOverflow"),
+    ("i64 02088000000000000000", "ok 02088000000000000000"),
+    ("i64 0209008000000000000000", "err IntegerOverflow"),
+    ("u64 020900ffffffffffffffff", "ok 020900ffffffffffffffff"),
+    ("u64 0209010000000000000000", "err IntegerOverflow"),
+    ("u64 0209ff7f00000000000000", "err InvalidValue"),
+    ("u64 02020001", "err InvalidValue"),
+    ("int 0200", "err InvalidValue"),
+    ("int 02020001", "err InvalidValue"),
+    ("int 0209ff7f00000000000000", "ok 0209ff7f00000000000000"),
+    ("uint 0201ff", "err InvalidValue"),
+    ("uint 02020080", "ok 02020080"),
+    ("uint 0202007f", "err InvalidValue"),
+    ("enum 0a0500ffffffff", "ok 0a0500ffffffff"),
+    ("enum 0a050100000000", "err IntegerOverflow"),
+    ("enum 0a01ff", "err InvalidValue"),
+    ("enum 02010c", "err UnexpectedTag universal 2 primitive"),
+];
+
 /// What stands in the output before, the input, the output after, and whether each answer is `ok`.
 const INPUTS: [(&str, &str, &str, bool); 6] = [
     ("", "", "", true),
@@ -75,16 +109,26 @@ fn answered(alloc: Global, before: &str, input: &str) -> Result<(Vec<u8>, bool),
     Ok((out, all_ok))
 }
 
-#[test]
-fn each_line(rt: HostRuntime) -> Result<(), Fail> {
-    for (line, answer) in LINES {
-        let input = format!(in rt.alloc(); "{line}\n")?;
-        let output = format!(in rt.alloc(); "{answer}\n")?;
-        let (out, all_ok) = answered(rt.alloc(), "", input.as_str())?;
+/// Each line alone is answered so.
+fn check_lines<A: Abort>(rt: &A, alloc: Global, lines: &[(&str, &str)]) -> Result<(), Fail> {
+    for (line, answer) in lines {
+        let input = format!(in alloc; "{line}\n")?;
+        let output = format!(in alloc; "{answer}\n")?;
+        let (out, all_ok) = answered(alloc, "", input.as_str())?;
         assert_eq!(rt; out.as_slice(), output.as_bytes(), "at {line}");
         assert_eq!(rt; all_ok, answer.starts_with("ok "), "at {line}");
     }
     Ok(())
+}
+
+#[test]
+fn each_line(rt: HostRuntime) -> Result<(), Fail> {
+    check_lines(&rt, rt.alloc(), &LINES)
+}
+
+#[test]
+fn integers(rt: HostRuntime) -> Result<(), Fail> {
+    check_lines(&rt, rt.alloc(), &INTEGERS)
 }
 
 #[test]

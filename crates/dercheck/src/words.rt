@@ -16,11 +16,47 @@ pub(crate) enum Word {
     Bool,
     /// `tlv`: any element.
     Tlv,
+    /// `i8`.
+    I8,
+    /// `u8`.
+    U8,
+    /// `i16`.
+    I16,
+    /// `u16`.
+    U16,
+    /// `i32`.
+    I32,
+    /// `u32`.
+    U32,
+    /// `i64`.
+    I64,
+    /// `u64`.
+    U64,
+    /// `int`: an integer of any length.
+    Int,
+    /// `uint`: one that isn't negative.
+    Uint,
+    /// `enum`: an enumerated value.
+    Enum,
 }
 
 impl Word {
     /// Each word once.
-    pub(crate) const ALL: [Word; 2] = [Word::Bool, Word::Tlv];
+    pub(crate) const ALL: [Word; 13] = [
+        Word::Bool,
+        Word::Tlv,
+        Word::I8,
+        Word::U8,
+        Word::I16,
+        Word::U16,
+        Word::I32,
+        Word::U32,
+        Word::I64,
+        Word::U64,
+        Word::Int,
+        Word::Uint,
+        Word::Enum,
+    ];
 
     /// The word as a line has it.
     fn text(self) -> &'static [u8]
@@ -29,6 +65,17 @@ impl Word {
         match self {
             Word::Bool => b"bool",
             Word::Tlv => b"tlv",
+            Word::I8 => b"i8",
+            Word::U8 => b"u8",
+            Word::I16 => b"i16",
+            Word::U16 => b"u16",
+            Word::I32 => b"i32",
+            Word::U32 => b"u32",
+            Word::I64 => b"i64",
+            Word::U64 => b"u64",
+            Word::Int => b"int",
+            Word::Uint => b"uint",
+            Word::Enum => b"enum",
         }
     }
 

@@ -4,6 +4,7 @@ use crate::{Fault, Held, Input, Output, Pieces, Sink, Source, frames};
 use std::io;
 use std::io::{Error, ErrorKind, Read, Write};
 use std::process::Abort;
+use std::test::Fail;
 
 /// A reader that is interrupted at first, and at its end then.
 #[derive(Drop)]
@@ -177,11 +178,12 @@ fn reads_more_than_a_pull(rt: HostRuntime) {
 }
 
 #[test]
-fn writes_through_an_output(rt: HostRuntime) {
-    let mut out = Vec::new(rt.alloc());
+fn writes_through_an_output(rt: HostRuntime) -> Result<(), Fail> {
+    let mut out = Vec::with_capacity(rt.alloc(), 64)?;
     let mut source = Input::new([0x05u8, 0x00, 0x30, 0x00].as_slice());
     let mut sink = Output::new(&mut out);
     assert_eq!(rt; frames(&mut source, &mut sink), Ok(true));
     assert!(rt; !sink.failed());
     assert_eq!(rt; out.as_slice(), b"05 0\n30 0\n".as_slice());
+    Ok(())
 }

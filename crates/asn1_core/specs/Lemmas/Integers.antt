@@ -1,0 +1,314 @@
+-- Each number has one content, and the first nine bits tell whether a text is one.
+use Rattle.std.proofs.Common.{◌≡◌, ℕ, zero, suc, ◌+◌, ◌-◌, ◌*◌, ◌^◌, ◌<◌, ◌≤◌, ◌⊎◌, ◌↔◌, Bool, true, false, cond, eqb, ◌||◌, List, [], ◌∷◌, length, get_or, Result, Ok, Err, refl, sym, ap, subst, ◌∙◌, inl, inr, arith, lit<, lit≤}
+use Rattle.std.specs.Prelude.{ℤ, pos, negsuc, ◌-ℤ◌, ◌≤ℤ◌, ◌<ℤ◌, int_lt}
+use Rattle.std.specs.Int.Digits.{digits_of}
+use Rattle.std.proofs.lemmas.Int.{ints}
+use Rattle.std.proofs.lemmas.Int.Digits.{number_digits_of, all_below_base_digits_of, first_digits_of}
+use Rattle.std.proofs.lemmas.Bool.{le-leb, lt-leb, ne_eqb, eqb-true, eqb-false, cases_lt, cases_Bool, or_parts, or_cases, not-true, not-false}
+use Rattle.std.proofs.lemmas.List.{length-map}
+use Rattle.std.proofs.Math.Nat.{pow-suc, add-mul}
+use Rattle.asn1_core.specs.Text.{IsText, number, signed_number}
+use Rattle.asn1_core.specs.Integer.{IsIntegerContent, nine_bits, is_shortest, with_sign, turned, integer_content, read_integer, below, within_range, read_sized}
+use Rattle.asn1_core.specs.Fault.{Fault, fault}
+use Rattle.asn1_core.specs.Lemmas.Digits.{digits_back, number_by_digits, Leads}
+use Rattle.asn1_core.specs.Lemmas.Results.{ok_is, passed, bind_ok}
+use Rattle.asn1_core.specs.declared.parser.ParseErrorKind.TheVariants.{InvalidValue, IntegerOverflow}
+
+-- ---- each bit turned
+
+pub turned_length : (c : List ℕ) → length (turned c) ≡ length c
+turned_length c = length-map c (λ x. 255 - x)
+
+pub turned_text : (c : List ℕ) → IsText (turned c)
+turned_text [] = tt
+turned_text (x ∷ xs) = (omega arith, turned_text xs)
+
+pub turned_twice : (c : List ℕ) → IsText c → turned (turned c) ≡ c
+turned_twice [] is = refl
+turned_twice (x ∷ xs) is =
+    let head : 255 - (255 - x) ≡ x = omega (arith, is.0) in
+    rw (head, turned_twice xs is.1) refl
+
+parts_of : (a b p : ℕ) → a + b ≡ 255 → a * p + b * p ≡ 255 * p
+parts_of a b p e = sym (add-mul a b p) ∙ ap (λ (k : ℕ). k * p) e
+
+pub turned_number : (c : List ℕ) → IsText c → number (turned c) + number c + 1 ≡ 256 ^ length c
+turned_number [] is = refl
+turned_number (x ∷ xs) is =
+    let rest : number (turned xs) + number xs + 1 ≡ 256 ^ length xs = turned_number xs is.1 in
+    let sum : (255 - x) * 256 ^ length xs + x * 256 ^ length xs ≡ 255 * 256 ^ length xs = parts_of (255 - x) x (256 ^ length xs) (omega (arith, is.0)) in
+    rw (pow-suc 256 (length xs), turned_length xs) (omega (arith, rest, sum))
+
+pub turned_low : (c : List ℕ) → IsText c → 128 ≤ get_or c 0 0 → get_or (turned c) 0 0 < 128
+turned_low [] is h = absurd (omega arith)
+turned_low (x ∷ xs) is h = omega arith
+
+-- a zero octet in front is worth nothing
+pub zero_front : (c : List ℕ) → number (0 ∷ c) ≡ number c
+zero_front c = omega arith
+
+-- ---- the signed number, by the top bit
+
+pub signed_low : (c : List ℕ) → get_or c 0 0 < 128 → signed_number c ≡ pos (number c)
+signed_low c h = rw (lt-leb 128 (get_or c 0 0) h) refl
+
+less : (a b p : ℕ) → b + a + 1 ≡ p → pos a -ℤ pos p ≡ negsuc b
+less a b p e = omega (arith, ints)
+
+pub signed_high : (c : List ℕ) → IsText c → 128 ≤ get_or c 0 0 → signed_number c ≡ negsuc (number (turned c))
+signed_high c is h = rw (le-leb 128 (get_or c 0 0) h) (less (number c) (number (turned c)) (256 ^ length c) (turned_number c is))
+
+-- ---- the first nine bits
+
+pub nine_shortest : (x y : ℕ) (ys : List ℕ) → 0 < nine_bits x y → nine_bits x y < 511 → is_shortest (x ∷ y ∷ ys) ≡ true
+nine_shortest x y ys low high = rw (ne_eqb (nine_bits x y) 0 (λ e. omega arith), ne_eqb (nine_bits x y) 511 (λ e. omega arith)) refl
+
+pub shortest_nine : (x y : ℕ) (ys : List ℕ) → is_shortest (x ∷ y ∷ ys) ≡ true → (nine_bits x y ≡ 0 → ⊥) × (nine_bits x y ≡ 511 → ⊥)
+shortest_nine x y ys e =
+    let none = or_parts (eqb (nine_bits x y) 0) (eqb (nine_bits x y) 511) (not-true (eqb (nine_bits x y) 0 || eqb (nine_bits x y) 511) e) in
+    (eqb-false _ _ none.0, eqb-false _ _ none.1)
+
+pub longer_nine : (x y : ℕ) (ys : List ℕ) → is_shortest (x ∷ y ∷ ys) ≡ false → (nine_bits x y ≡ 0) ⊎ (nine_bits x y ≡ 511)
+longer_nine x y ys e =
+    elim (or_cases (eqb (nine_bits x y) 0) (eqb (nine_bits x y) 511) (not-false (eqb (nine_bits x y) 0 || eqb (nine_bits x y) 511) e)) [
+      | inl h ↦ inl (eqb-true _ _ h)
+      | inr h ↦ inr (eqb-true _ _ h)
+    ]
+
+pub turned_shortest : (c : List ℕ) → IsText c → is_shortest c ≡ true → is_shortest (turned c) ≡ true
+turned_shortest [] is e = e
+turned_shortest (x ∷ []) is e = refl
+turned_shortest (x ∷ y ∷ ys) is e =
+    let h = shortest_nine x y ys e in
+    let low : 0 < nine_bits x y = omega (arith, h.0) in
+    let high : nine_bits x y < 511 = omega (arith, h.1, is.0, is.1.0) in
+    nine_shortest (255 - x) (255 - y) (turned ys) (omega (arith, low, high, is.0, is.1.0)) (omega (arith, low, high, is.0, is.1.0))
+
+-- an octet that the nine bits show superfluous can go
+same_low : (x y : ℕ) (ys : List ℕ) → x ≡ 0 → y < 128 → signed_number (x ∷ y ∷ ys) ≡ signed_number (y ∷ ys)
+same_low x y ys e h =
+    let first : x < 128 = omega arith in
+    rw (lt-leb 128 x first, lt-leb 128 y h, e) (ap pos (zero_front (y ∷ ys)))
+
+pub fewer_same : (x y : ℕ) (ys : List ℕ) → IsText (x ∷ y ∷ ys) → is_shortest (x ∷ y ∷ ys) ≡ false → signed_number (x ∷ y ∷ ys) ≡ signed_number (y ∷ ys)
+fewer_same x y ys is e =
+    elim (longer_nine x y ys e) [
+      | inl h ↦ same_low x y ys (omega arith) (omega arith)
+      | inr h ↦
+          let first : 255 - x ≡ 0 = omega (arith, is.0, is.1.0) in
+          let same : number (turned (x ∷ y ∷ ys)) ≡ number (turned (y ∷ ys)) = rw first (zero_front (turned (y ∷ ys))) in
+          signed_high (x ∷ y ∷ ys) is (omega (arith, is.0, is.1.0)) ∙ ap negsuc same ∙ sym (signed_high (y ∷ ys) is.1 (omega (arith, is.0, is.1.0)))
+    ]
+
+-- ---- numbers that aren't negative
+
+digits_same : (c : List ℕ) → IsText c → Leads c → digits_of 256 (number c) ≡ c
+digits_same c is leads = ap (digits_of 256) (sym (number_by_digits c)) ∙ digits_back 256 c (lit≤ tt) is leads
+
+with_sign_low : (x : ℕ) (xs : List ℕ) → x < 128 → with_sign (x ∷ xs) ≡ x ∷ xs
+with_sign_low x xs h = rw (lt-leb 128 x h) refl
+
+with_sign_high : (x : ℕ) (xs : List ℕ) → 128 ≤ x → with_sign (x ∷ xs) ≡ 0 ∷ x ∷ xs
+with_sign_high x xs h = rw (le-leb 128 x h) refl
+
+sign_only : (c : List ℕ) → IsText c → is_shortest c ≡ true → get_or c 0 0 < 128 → c ≡ with_sign (digits_of 256 (number c))
+sign_only [] is e h = absurd cc
+sign_only (zero ∷ []) is e h = refl
+sign_only (zero ∷ y ∷ ys) is e h =
+    let high : 128 ≤ y = omega (arith, (shortest_nine zero y ys e).0) in
+    let same : digits_of 256 (number (zero ∷ y ∷ ys)) ≡ y ∷ ys = ap (digits_of 256) (zero_front (y ∷ ys)) ∙ digits_same (y ∷ ys) is.1 (λ l. omega arith) in
+    rw same (sym (with_sign_high y ys high))
+sign_only (suc x ∷ xs) is e h =
+    rw (digits_same (suc x ∷ xs) is (λ l. omega arith)) (sym (with_sign_low (suc x) xs h))
+
+-- digits behind a sign
+record IsSigned (s : List ℕ) (n : ℕ) : Type 0 where
+  octets : IsText s
+  value : number s ≡ n
+  low : get_or s 0 0 < 128
+  shortest : is_shortest s ≡ true
+
+low_shortest : (x : ℕ) (xs : List ℕ) → IsText (x ∷ xs) → 0 < x → x < 128 → is_shortest (x ∷ xs) ≡ true
+low_shortest x [] is a b = refl
+low_shortest x (y ∷ ys) is a b = nine_shortest x y ys (omega arith) (omega (arith, is.1.0))
+
+signed_is : (ds : List ℕ) (n : ℕ) → IsText ds → Leads ds → number ds ≡ n → IsSigned (with_sign ds) n
+signed_is [] n is leads e = record { octets = (lit< tt, tt); value = e; low = lit< tt; shortest = refl }
+signed_is (x ∷ xs) n is leads e =
+    let first : 0 < x = leads (omega arith) in
+    let P : List ℕ → Type 0 = λ s. IsSigned s n in
+    elim (cases_lt x 128) [
+      | inl h ↦ subst P (sym (with_sign_low x xs h)) (record { octets = is; value = e; low = h; shortest = low_shortest x xs is first h })
+      | inr h ↦ subst P (sym (with_sign_high x xs h)) (record { octets = (lit< tt, is); value = zero_front (x ∷ xs) ∙ e; low = lit< tt; shortest = nine_shortest 0 x xs (omega arith) (omega (arith, is.0)) })
+    ]
+
+digits_lead : (n : ℕ) → Leads (digits_of 256 n)
+digits_lead zero l = absurd (omega arith)
+digits_lead (suc n) l = first_digits_of 256 (suc n) (lit≤ tt) (omega arith)
+
+signed_digits : (n : ℕ) → IsSigned (with_sign (digits_of 256 n)) n
+signed_digits n = signed_is (digits_of 256 n) n (all_below_base_digits_of 256 n (lit≤ tt)) (digits_lead n) (sym (number_by_digits (digits_of 256 n)) ∙ number_digits_of 256 n (lit≤ tt))
+
+-- ---- every number
+
+-- a text of which no octet is superfluous is the content of its number
+pub content_only : (c : List ℕ) → IsText c → is_shortest c ≡ true → c ≡ integer_content (signed_number c)
+unfolding integer_content
+content_only c is e =
+    elim (cases_lt (get_or c 0 0) 128) [
+      | inl h ↦ sign_only c is e h ∙ ap integer_content (sym (signed_low c h))
+      | inr h ↦
+          sym (turned_twice c is) ∙ ap turned (sign_only (turned c) (turned_text c) (turned_shortest c is e) (turned_low c is h)) ∙ ap integer_content (sym (signed_high c is h))
+    ]
+
+pub content_text : (z : ℤ) → IsText (integer_content z)
+unfolding integer_content
+content_text (pos n) = (signed_digits n).octets
+content_text (negsuc n) = turned_text (with_sign (digits_of 256 n))
+
+pub content_shortest : (z : ℤ) → is_shortest (integer_content z) ≡ true
+unfolding integer_content
+content_shortest (pos n) = (signed_digits n).shortest
+content_shortest (negsuc n) = turned_shortest (with_sign (digits_of 256 n)) (signed_digits n).octets (signed_digits n).shortest
+
+turned_high : (s : List ℕ) → 0 < length s → get_or s 0 0 < 128 → 128 ≤ get_or (turned s) 0 0
+turned_high [] l h = absurd (omega arith)
+turned_high (x ∷ xs) l h = omega arith
+
+shortest_some : (c : List ℕ) → is_shortest c ≡ true → 0 < length c
+shortest_some [] e = absurd cc
+shortest_some (x ∷ xs) e = omega arith
+
+pub content_value : (z : ℤ) → signed_number (integer_content z) ≡ z
+unfolding integer_content
+content_value (pos n) = let s = signed_digits n in signed_low (with_sign (digits_of 256 n)) s.low ∙ ap pos s.value
+content_value (negsuc n) =
+    let s = signed_digits n in
+    let ds = with_sign (digits_of 256 n) in
+    signed_high (turned ds) (turned_text ds) (turned_high ds (shortest_some ds s.shortest) s.low) ∙ ap (λ (t : List ℕ). negsuc (number t)) (turned_twice ds s.octets) ∙ ap negsuc s.value
+
+-- ---- contents, and no shorter text
+
+-- what is left of a text without superfluous octets
+record Shortened (t : List ℕ) : Type 0 where
+  text : List ℕ
+  octets : IsText text
+  shortest : is_shortest text ≡ true
+  same : signed_number text ≡ signed_number t
+  fewer : length text ≤ length t
+
+shortened : (t : List ℕ) → IsText t → 0 < length t → Shortened t
+shortened [] is l = absurd (omega arith)
+shortened (x ∷ []) is l = record { text = x ∷ []; octets = is; shortest = refl; same = refl; fewer = omega arith }
+shortened (x ∷ y ∷ ys) is l =
+    elim (cases_Bool (is_shortest (x ∷ y ∷ ys))) [
+      | inl e ↦ record { text = x ∷ y ∷ ys; octets = is; shortest = e; same = refl; fewer = omega arith }
+      | inr e ↦
+          let s = shortened (y ∷ ys) is.1 (omega arith) in
+          record { text = s.text; octets = s.octets; shortest = s.shortest; same = s.same ∙ sym (fewer_same x y ys is e); fewer = omega (arith, s.fewer) }
+    ]
+
+pub is_content : (c : List ℕ) → IsText c → is_shortest c ≡ true → IsIntegerContent c (signed_number c)
+is_content c is e = record {
+  octets = is;
+  some = shortest_some c e;
+  value = refl;
+  shortest = λ t octets some fewer same.
+      let s = shortened t octets some in
+      let one : s.text ≡ c = content_only s.text s.octets s.shortest ∙ ap integer_content (s.same ∙ same) ∙ sym (content_only c is e) in
+      omega (arith, s.fewer, fewer, ap length one);
+}
+
+pub content_is : (z : ℤ) → IsIntegerContent (integer_content z) z
+content_is z = subst (λ (x : ℤ). IsIntegerContent (integer_content z) x) (content_value z) (is_content (integer_content z) (content_text z) (content_shortest z))
+
+pub is_content_shortest : (c : List ℕ) (z : ℤ) → IsIntegerContent c z → is_shortest c ≡ true
+is_content_shortest [] z is = absurd (omega (arith, is.some))
+is_content_shortest (x ∷ []) z is = refl
+is_content_shortest (x ∷ y ∷ ys) z is =
+    elim (cases_Bool (is_shortest (x ∷ y ∷ ys))) [
+      | inl e ↦ e
+      | inr e ↦ absurd (is.shortest (y ∷ ys) is.octets.1 (omega arith) (omega arith) (sym (fewer_same x y ys is.octets e) ∙ is.value))
+    ]
+
+pub is_content_only : (c : List ℕ) (z : ℤ) → IsIntegerContent c z → c ≡ integer_content z
+is_content_only c z is = content_only c is.octets (is_content_shortest c z is) ∙ ap integer_content is.value
+
+pub nine_bits_tell : (x y : ℕ) (ys : List ℕ) → IsText (x ∷ y ∷ ys) → (is_shortest (x ∷ y ∷ ys) ≡ false) ↔ (signed_number (x ∷ y ∷ ys) ≡ signed_number (y ∷ ys))
+nine_bits_tell x y ys is = (
+  fewer_same x y ys is,
+  λ same. elim (cases_Bool (is_shortest (x ∷ y ∷ ys))) [
+    | inl e ↦ absurd ((is_content (x ∷ y ∷ ys) is e).shortest (y ∷ ys) is.1 (omega arith) (omega arith) (sym same))
+    | inr e ↦ e
+  ],
+)
+
+-- ---- reading
+
+pub read_integer_ok : (c : List ℕ) → is_shortest c ≡ true → read_integer c ≡ Ok (signed_number c)
+unfolding read_integer
+read_integer_ok c e = rw e refl
+
+pub read_integer_is : (c : List ℕ) (z : ℤ) → read_integer c ≡ Ok z → (is_shortest c ≡ true) × (signed_number c ≡ z)
+unfolding read_integer
+read_integer_is c z e =
+    let p = passed (is_shortest c) (Ok (signed_number c)) _ z e in
+    (p.0, ok_is (signed_number c) z p.1)
+
+pub reads_contents_alone : (c : List ℕ) (z : ℤ) → IsText c → (read_integer c ≡ Ok z) ↔ IsIntegerContent c z
+reads_contents_alone c z is = (
+  (λ e. let p = read_integer_is c z e in subst (λ (x : ℤ). IsIntegerContent c x) p.1 (is_content c is p.0)),
+  λ h. read_integer_ok c (is_content_shortest c z h) ∙ ap Ok h.value,
+)
+
+-- ---- numbers of a range
+
+-- a test with a fault in its first place
+refused : {A : Type 0} (b : Bool) (d : Fault) (x : Result A Fault) (y : A) → cond b (Err d) x ≡ Ok y → (b ≡ false) × (x ≡ Ok y)
+refused true d x y e = absurd cc
+refused false d x y e = (refl, e)
+
+pub range_ok : (low high z : ℤ) → low ≤ℤ z → z ≤ℤ high → within_range low high z ≡ Ok z
+range_ok low high z a b =
+    let above : int_lt z low ≡ false = grind (arith, ints) in
+    let below_high : int_lt high z ≡ false = grind (arith, ints) in
+    rw (above, below_high) refl
+
+pub range_below : (low high z : ℤ) → z <ℤ low → within_range low high z ≡ Err (fault (below low))
+range_below low high z a =
+    let test : int_lt z low ≡ true = grind (arith, ints) in
+    rw test refl
+
+pub range_above : (low high z : ℤ) → low ≤ℤ z → high <ℤ z → within_range low high z ≡ Err (fault IntegerOverflow)
+range_above low high z a b =
+    let above : int_lt z low ≡ false = grind (arith, ints) in
+    let over : int_lt high z ≡ true = grind (arith, ints) in
+    rw (above, over) refl
+
+range_takes : (low high z m : ℤ) → within_range low high z ≡ Ok m → (z ≡ m) × ((low ≤ℤ m) × (m ≤ℤ high))
+range_takes low high z m e =
+    let first = refused (int_lt z low) (fault (below low)) _ m e in
+    let second = refused (int_lt high z) (fault IntegerOverflow) (Ok z) m first.1 in
+    let same : z ≡ m = ok_is z m second.1 in
+    let above : low ≤ℤ z = let h = first.0 in omega (arith, ints) in
+    let under : z ≤ℤ high = let h = second.0 in omega (arith, ints) in
+    (same, subst (λ (x : ℤ). (low ≤ℤ x) × (x ≤ℤ high)) same (above, under))
+
+pub sized_ok : (low high : ℤ) (c : List ℕ) (r : Result ℤ Fault) → is_shortest c ≡ true → within_range low high (signed_number c) ≡ r → read_sized low high c ≡ r
+unfolding read_sized
+sized_ok low high c r e f = rw (read_integer_ok c e) f
+
+pub sized_refused : (low high : ℤ) (c : List ℕ) → is_shortest c ≡ false → read_sized low high c ≡ Err (fault InvalidValue)
+unfolding read_sized read_integer
+sized_refused low high c e = rw e refl
+
+pub sized_takes : (low high : ℤ) (c : List ℕ) (m : ℤ) → IsText c → read_sized low high c ≡ Ok m → (c ≡ integer_content m) × ((low ≤ℤ m) × (m ≤ℤ high))
+unfolding read_sized
+sized_takes low high c m is e =
+    let p = bind_ok (read_integer c) (within_range low high) m e in
+    let q = read_integer_is c p.0 p.1 in
+    let r = range_takes low high p.0 m p.2 in
+    (content_only c is q.0 ∙ ap integer_content (q.1 ∙ r.0), r.1)
+
+pub sized_again : (low high : ℤ) (m : ℤ) → (low ≤ℤ m) × (m ≤ℤ high) → read_sized low high (integer_content m) ≡ Ok m
+sized_again low high m range = sized_ok low high (integer_content m) (Ok m) (content_shortest m) (ap (within_range low high) (content_value m) ∙ range_ok low high m range.0 range.1)

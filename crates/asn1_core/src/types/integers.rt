@@ -1,0 +1,157 @@
+//! Integers: their contents octets, and the types with a range (X.690 8.3).
+
+ghost use Rattle.std.specs.Prelude.{◌≡◌, ℕ, ◌+◌, ◌-◌, ◌^◌, ◌<◌, ◌≤◌, ◌||◌, ◌==◌, ◌++◌, cond, length, pos, neg_ℤ, ◌≤ℤ◌, ◌<ℤ◌, IfOk, OnOk, OnErr, IsOkUnless, Some};
+ghost use Rattle.asn1_core.specs.Text.{number, signed_number};
+ghost use Rattle.asn1_core.specs.Integer.{nine_bits, is_shortest, integer_content, below, read_sized};
+ghost use Rattle.asn1_core.specs.Fault.{fault};
+ghost use Rattle.asn1_core.specs.Reading.{Answers};
+ghost use Rattle.asn1_core.specs.declared.writer.WriteError.TheVariants.{AllocationError};
+ghost use Rattle.asn1_core.specs.declared.parser.ParseErrorKind.TheVariants.{IntegerOverflow};
+
+mod nonzero;
+mod signed;
+mod unsigned;
+
+use crate::parser::{ParseError, ParseErrorKind, ParseResult};
+use crate::writer::{WriteBuf, WriteError, WriteResult};
+use std::marker::Model;
+
+/// A content with more octets is no number of a type here.
+const MOST_OCTETS: usize = 9;
+
+/// The place of the last octet of an `i128`.
+const LAST: usize = 15;
+
+/// Whether the octet is superfluous in front of the next: its bits and the top bit of the next are all zero or all one.
+fn is_superfluous(octet: u8, next: u8) -> bool
+    ensures { result ≡ (nine_bits octet next == 0 || nine_bits octet next == 0x1ff) }
+{
+    let bits = u16::from(octet) * 2 + u16::from(next / 0x80);
+    bits == 0 || bits == 0x1ff
+}
+
+/// Whether the octets are the content of a number: there are some, and none is superfluous.
+pub fn is_integer_content(octets: &[u8]) -> bool
+    ensures { result ≡ is_shortest octets.now }
+{
+    match octets {
+        [] => false,
+        [_] => true,
+        [octet, next, ..] => !is_superfluous(*octet, *next),
+    }
+}
+
+/// The number of at most nine octets.
+fn number(octets: &[u8]) -> u128
+    requires { length octets.now ≤ MOST_OCTETS }
+    ensures value { result ≡ number octets.now }
+    ensures small { result < 2 ^ 72 }
+{
+    let mut number = 0u128;
+    for octet in octets {
+        number = number * 0x100 + u128::from(*octet);
+    }
+    number
+}
+
+/// The signed number of one to nine octets.
+fn signed_number(octets: &[u8]) -> i128
+    requires some { 0 < length octets.now }
+    requires few { length octets.now ≤ MOST_OCTETS }
+    ensures { result ≡ signed_number octets.now }
+{
+    let number = number(octets) as i128;
+    if octets[0] < 0x80 {
+        return number;
+    }
+    let weight = 1u128 << (8 * octets.len());
+    number - weight as i128
+}
+
+/// Why a number beyond the range of a type is refused: below it, or above it.
+fn beyond(is_below: bool, low: i128) -> ParseError
+    ensures { result ≡ fault (cond is_below (below low) IntegerOverflow) }
+{
+    if is_below && low >= 0 {
+        ParseError::new(ParseErrorKind::InvalidValue)
+    } else {
+        ParseError::new(ParseErrorKind::IntegerOverflow)
+    }
+}
+
+/// The number of a content, for a type that has those from `low` to `high`.
+///
+/// `InvalidValue` where the octets are no content, and for a negative number where the type is unsigned;
+/// `IntegerOverflow` for another number beyond the range.
+pub(crate) fn read(octets: &[u8], low: i128, high: i128) -> ParseResult<i128>
+    requires least { neg_ℤ (pos (2 ^ 71)) ≤ℤ low }
+    requires greatest { high <ℤ pos (2 ^ 71) }
+    requires ordered { low ≤ℤ high }
+    ensures exact { Answers (λ z. z) (λ _. ⊥) result (read_sized low high octets.now) }
+    ensures within { IfOk result (λ z. (low ≤ℤ z) × (z ≤ℤ high)) }
+{
+    if !is_integer_content(octets) {
+        return Err(ParseError::new(ParseErrorKind::InvalidValue));
+    }
+    if octets.len() > MOST_OCTETS {
+        return Err(beyond(octets[0] >= 0x80, low));
+    }
+    let number = signed_number(octets);
+    if number < low || number > high {
+        return Err(beyond(number < low, low));
+    }
+    Ok(number)
+}
+
+/// The content of a number, at the end of an array.
+#[derive(Drop)]
+struct IntegerText {
+    octets: [u8; 16],
+    start: usize,
+}
+
+impl Model for IntegerText {
+    ghost use Rattle.std.specs.Prelude.{List, ℕ, drop, length, ◌≤◌, ◌≡◌};
+
+    ghost Value = { List ℕ };
+
+    ghost view = { λ text. drop text.start text.octets };
+
+    ghost invariant = { λ text. (text.start ≤ 16) × (length text.octets ≡ 16) };
+}
+
+impl IntegerText {
+    /// The content of the number.
+    fn new(number: i128) -> IntegerText
+        ensures { result ≡ integer_content number }
+    {
+        let octets = number.to_be_bytes();
+        let mut start = 0;
+        while start < LAST && is_superfluous(octets[start], octets[start + 1]) {
+            start += 1;
+        }
+        IntegerText { octets, start }
+    }
+
+    fn octets(&self) -> &[u8]
+        ensures { result.now ≡ self.now }
+    {
+        &self.octets[self.start..]
+    }
+}
+
+/// Appends the content of the number. `AllocationError` where memory runs out, with nothing appended.
+pub(crate) fn write(number: i128, dest: &mut WriteBuf) -> WriteResult<()>
+    ensures ok { OnOk result (dest.new.bytes ≡ dest.old.bytes ++ integer_content number) }
+    ensures err { OnErr result (dest.new ≡ dest.old) }
+    ensures error { IsOkUnless result WriteError.AllocationError }
+{
+    dest.push_slice(IntegerText::new(number).octets())
+}
+
+/// How many octets the content of the number has.
+pub(crate) fn length(number: i128) -> usize
+    ensures { result ≡ length (integer_content number) }
+{
+    IntegerText::new(number).octets().len()
+}

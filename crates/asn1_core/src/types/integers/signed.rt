@@ -1,0 +1,168 @@
+//! The signed integers with a range: `i8` to `i64`.
+
+ghost use Rattle.std.specs.Prelude.{◌≡◌, length, Some};
+ghost use Rattle.asn1_core.specs.Integer.{integer_content};
+ghost use Rattle.asn1_core.specs.Sized.{signed_der};
+
+use crate::parser::ParseResult;
+use crate::tag::Tag;
+use crate::types::integers::{length, read, write};
+use crate::types::{Asn1Type, SimpleAsn1Readable, SimpleAsn1Writable};
+use crate::writer::{WriteBuf, WriteError, WriteResult};
+use std::alloc::Global;
+
+impl Asn1Type for i8 {
+    ghost der = { signed_der 8 (λ number. number) };
+
+    fn known(&self) {
+        // Reading the number tells that it is in its type's range.
+        let _number = *self;
+    }
+}
+
+impl<'a> SimpleAsn1Readable<'a> for i8 {
+    fn tag() -> Tag {
+        Tag::primitive(0x02)
+    }
+
+    fn parse_data(_alloc: Global, data: &'a [u8]) -> ParseResult<i8> {
+        Ok(read(data, i128::from(i8::MIN), i128::from(i8::MAX))? as i8)
+    }
+}
+
+impl SimpleAsn1Writable for i8 {
+    type Error = WriteError;
+
+    ghost refusals = { λ _ _. ⊥ };
+
+    fn tag() -> Tag {
+        Tag::primitive(0x02)
+    }
+
+    fn write_data(&self, dest: &mut WriteBuf) -> WriteResult<()> {
+        write(i128::from(*self), dest)
+    }
+
+    fn data_length(&self) -> Option<usize>
+        ensures { result ≡ Some (length (integer_content self.now)) }
+    {
+        Some(length(i128::from(*self)))
+    }
+}
+
+impl Asn1Type for i16 {
+    ghost der = { signed_der 16 (λ number. number) };
+
+    fn known(&self) {
+        // Reading the number tells that it is in its type's range.
+        let _number = *self;
+    }
+}
+
+impl<'a> SimpleAsn1Readable<'a> for i16 {
+    fn tag() -> Tag {
+        Tag::primitive(0x02)
+    }
+
+    fn parse_data(_alloc: Global, data: &'a [u8]) -> ParseResult<i16> {
+        Ok(read(data, i128::from(i16::MIN), i128::from(i16::MAX))? as i16)
+    }
+}
+
+impl SimpleAsn1Writable for i16 {
+    type Error = WriteError;
+
+    ghost refusals = { λ _ _. ⊥ };
+
+    fn tag() -> Tag {
+        Tag::primitive(0x02)
+    }
+
+    fn write_data(&self, dest: &mut WriteBuf) -> WriteResult<()> {
+        write(i128::from(*self), dest)
+    }
+
+    fn data_length(&self) -> Option<usize>
+        ensures { result ≡ Some (length (integer_content self.now)) }
+    {
+        Some(length(i128::from(*self)))
+    }
+}
+
+impl Asn1Type for i32 {
+    ghost der = { signed_der 32 (λ number. number) };
+
+    fn known(&self) {
+        // Reading the number tells that it is in its type's range.
+        let _number = *self;
+    }
+}
+
+impl<'a> SimpleAsn1Readable<'a> for i32 {
+    fn tag() -> Tag {
+        Tag::primitive(0x02)
+    }
+
+    fn parse_data(_alloc: Global, data: &'a [u8]) -> ParseResult<i32> {
+        Ok(read(data, i128::from(i32::MIN), i128::from(i32::MAX))? as i32)
+    }
+}
+
+impl SimpleAsn1Writable for i32 {
+    type Error = WriteError;
+
+    ghost refusals = { λ _ _. ⊥ };
+
+    fn tag() -> Tag {
+        Tag::primitive(0x02)
+    }
+
+    fn write_data(&self, dest: &mut WriteBuf) -> WriteResult<()> {
+        write(i128::from(*self), dest)
+    }
+
+    fn data_length(&self) -> Option<usize>
+        ensures { result ≡ Some (length (integer_content self.now)) }
+    {
+        Some(length(i128::from(*self)))
+    }
+}
+
+impl Asn1Type for i64 {
+    ghost der = { signed_der 64 (λ number. number) };
+
+    fn known(&self) {
+        // Reading the number tells that it is in its type's range.
+        let _number = *self;
+    }
+}
+
+impl<'a> SimpleAsn1Readable<'a> for i64 {
+    fn tag() -> Tag {
+        Tag::primitive(0x02)
+    }
+
+    fn parse_data(_alloc: Global, data: &'a [u8]) -> ParseResult<i64> {
+        Ok(read(data, i128::from(i64::MIN), i128::from(i64::MAX))? as i64)
+    }
+}
+
+impl SimpleAsn1Writable for i64 {
+    type Error = WriteError;
+
+    ghost refusals = { λ _ _. ⊥ };
+
+    fn tag() -> Tag {
+        Tag::primitive(0x02)
+    }
+
+    fn write_data(&self, dest: &mut WriteBuf) -> WriteResult<()> {
+        write(i128::from(*self), dest)
+    }
+
+    fn data_length(&self) -> Option<usize>
+        ensures { result ≡ Some (length (integer_content self.now)) }
+    {
+        Some(length(i128::from(*self)))
+    }
+}

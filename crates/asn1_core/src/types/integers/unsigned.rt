@@ -1,0 +1,168 @@
+//! The unsigned integers with a range: `u8` to `u64`.
+
+ghost use Rattle.std.specs.Prelude.{◌≡◌, length, pos, Some};
+ghost use Rattle.asn1_core.specs.Integer.{integer_content};
+ghost use Rattle.asn1_core.specs.Sized.{unsigned_der};
+
+use crate::parser::ParseResult;
+use crate::tag::Tag;
+use crate::types::integers::{length, read, write};
+use crate::types::{Asn1Type, SimpleAsn1Readable, SimpleAsn1Writable};
+use crate::writer::{WriteBuf, WriteError, WriteResult};
+use std::alloc::Global;
+
+impl Asn1Type for u8 {
+    ghost der = { unsigned_der 8 (λ number. number) };
+
+    fn known(&self) {
+        // Reading the number tells that it is in its type's range.
+        let _number = *self;
+    }
+}
+
+impl<'a> SimpleAsn1Readable<'a> for u8 {
+    fn tag() -> Tag {
+        Tag::primitive(0x02)
+    }
+
+    fn parse_data(_alloc: Global, data: &'a [u8]) -> ParseResult<u8> {
+        Ok(read(data, 0, i128::from(u8::MAX))? as u8)
+    }
+}
+
+impl SimpleAsn1Writable for u8 {
+    type Error = WriteError;
+
+    ghost refusals = { λ _ _. ⊥ };
+
+    fn tag() -> Tag {
+        Tag::primitive(0x02)
+    }
+
+    fn write_data(&self, dest: &mut WriteBuf) -> WriteResult<()> {
+        write(i128::from(*self), dest)
+    }
+
+    fn data_length(&self) -> Option<usize>
+        ensures { result ≡ Some (length (integer_content (pos self.now))) }
+    {
+        Some(length(i128::from(*self)))
+    }
+}
+
+impl Asn1Type for u16 {
+    ghost der = { unsigned_der 16 (λ number. number) };
+
+    fn known(&self) {
+        // Reading the number tells that it is in its type's range.
+        let _number = *self;
+    }
+}
+
+impl<'a> SimpleAsn1Readable<'a> for u16 {
+    fn tag() -> Tag {
+        Tag::primitive(0x02)
+    }
+
+    fn parse_data(_alloc: Global, data: &'a [u8]) -> ParseResult<u16> {
+        Ok(read(data, 0, i128::from(u16::MAX))? as u16)
+    }
+}
+
+impl SimpleAsn1Writable for u16 {
+    type Error = WriteError;
+
+    ghost refusals = { λ _ _. ⊥ };
+
+    fn tag() -> Tag {
+        Tag::primitive(0x02)
+    }
+
+    fn write_data(&self, dest: &mut WriteBuf) -> WriteResult<()> {
+        write(i128::from(*self), dest)
+    }
+
+    fn data_length(&self) -> Option<usize>
+        ensures { result ≡ Some (length (integer_content (pos self.now))) }
+    {
+        Some(length(i128::from(*self)))
+    }
+}
+
+impl Asn1Type for u32 {
+    ghost der = { unsigned_der 32 (λ number. number) };
+
+    fn known(&self) {
+        // Reading the number tells that it is in its type's range.
+        let _number = *self;
+    }
+}
+
+impl<'a> SimpleAsn1Readable<'a> for u32 {
+    fn tag() -> Tag {
+        Tag::primitive(0x02)
+    }
+
+    fn parse_data(_alloc: Global, data: &'a [u8]) -> ParseResult<u32> {
+        Ok(read(data, 0, i128::from(u32::MAX))? as u32)
+    }
+}
+
+impl SimpleAsn1Writable for u32 {
+    type Error = WriteError;
+
+    ghost refusals = { λ _ _. ⊥ };
+
+    fn tag() -> Tag {
+        Tag::primitive(0x02)
+    }
+
+    fn write_data(&self, dest: &mut WriteBuf) -> WriteResult<()> {
+        write(i128::from(*self), dest)
+    }
+
+    fn data_length(&self) -> Option<usize>
+        ensures { result ≡ Some (length (integer_content (pos self.now))) }
+    {
+        Some(length(i128::from(*self)))
+    }
+}
+
+impl Asn1Type for u64 {
+    ghost der = { unsigned_der 64 (λ number. number) };
+
+    fn known(&self) {
+        // Reading the number tells that it is in its type's range.
+        let _number = *self;
+    }
+}
+
+impl<'a> SimpleAsn1Readable<'a> for u64 {
+    fn tag() -> Tag {
+        Tag::primitive(0x02)
+    }
+
+    fn parse_data(_alloc: Global, data: &'a [u8]) -> ParseResult<u64> {
+        Ok(read(data, 0, i128::from(u64::MAX))? as u64)
+    }
+}
+
+impl SimpleAsn1Writable for u64 {
+    type Error = WriteError;
+
+    ghost refusals = { λ _ _. ⊥ };
+
+    fn tag() -> Tag {
+        Tag::primitive(0x02)
+    }
+
+    fn write_data(&self, dest: &mut WriteBuf) -> WriteResult<()> {
+        write(i128::from(*self), dest)
+    }
+
+    fn data_length(&self) -> Option<usize>
+        ensures { result ≡ Some (length (integer_content (pos self.now))) }
+    {
+        Some(length(i128::from(*self)))
+    }
+}

@@ -1,0 +1,46 @@
+-- Integers of any length (X.690 8.3).
+use Rattle.std.specs.Prelude.{ℕ, ◌-◌, ◌^◌, ◌<◌, ◌≡◌, ◌⊎◌, Bool, true, false, ℤ, pos, ◌≤ℤ◌, int_lt, unsigned_abs, cond, List, length, slice_index, Result, Ok, Err}
+use Rattle.std.specs.Int.Digits.{digits_of}
+use Rattle.asn1_core.specs.declared.parser.ParseErrorKind.TheVariants.{InvalidValue}
+use Rattle.asn1_core.specs.Text.{IsText, number, signed_number}
+use Rattle.asn1_core.specs.Element.{◌>>=◌}
+use Rattle.asn1_core.specs.Fault.{Fault, fault}
+use Rattle.asn1_core.specs.Integer.{IsIntegerContent, is_shortest, read_integer}
+
+-- The octets are the content of a number.
+abbrev pub IsSigned : List ℕ → Type 0
+IsSigned octets = IsIntegerContent octets (signed_number octets)
+
+-- The octets are the content of a number that isn't negative.
+abbrev pub IsUnsigned : List ℕ → Type 0
+IsUnsigned octets = IsSigned octets × (pos 0 ≤ℤ signed_number octets)
+
+-- The same of octets in hand, by the test of the first nine bits.
+abbrev pub IsSignedForm : List ℕ → Type 0
+IsSignedForm octets = (is_shortest octets ≡ true) × ((k : ℕ) → slice_index octets k < 256)
+
+abbrev pub IsUnsignedForm : List ℕ → Type 0
+IsUnsignedForm octets = IsSignedForm octets × (slice_index octets 0 < 0x80)
+
+-- How many binary digits the absolute value has: none for 0.
+abbrev pub bit_count : ℤ → ℕ
+bit_count z = length (digits_of 2 (unsigned_abs z))
+
+-- A number, unless it is negative.
+abbrev pub not_negative : ℤ → Result ℤ Fault
+not_negative z = cond (int_lt z (pos 0)) (Err (fault InvalidValue)) (Ok z)
+
+unfoldable pub read_unsigned : List ℕ → Result ℤ Fault
+read_unsigned c = read_integer c >>= not_negative
+
+-- The absolute value of the number that octets have in two's complement, or, without a sign, the number that they have.
+abbrev pub magnitude : Bool → List ℕ → ℕ
+magnitude true octets = 256 ^ length octets - number octets
+magnitude false octets = number octets
+
+-- These octets have the absolute value of a content's number, and the first of them counts. Whether the number is
+-- negative is given.
+pub record IsMagnitude (content octets : List ℕ) (is_negative : Bool) : Type 0 where
+  pub value : unsigned_abs (signed_number content) ≡ magnitude is_negative octets
+  pub text : IsText octets
+  pub counts : 0 < length octets → ((is_negative ≡ false) × (0 < slice_index octets 0)) ⊎ ((is_negative ≡ true) × (slice_index octets 0 < 0xff))

@@ -1,0 +1,5 @@
+pub mod Big
+pub mod BigContents
+pub mod Values
+pub mod Enumerated
+pub mod Lemmas

@@ -1,0 +1,202 @@
+//! Integers of any length, over octets that they borrow.
+
+ghost use Rattle.std.specs.Prelude.{◌≡◌, ◌^◌, ◌<◌, length, pos, int_lt, Some, MatchOption};
+ghost use Rattle.asn1_core.specs.Tag.{universal};
+ghost use Rattle.asn1_core.specs.Integer.{integer_content, read_integer};
+ghost use Rattle.asn1_core.specs.Reading.{Answers};
+ghost use Rattle.asn1_core.specs.Writing.{KnowsLength};
+ghost use Rattle.asn1_core.specs.Der.{simple_der};
+ghost use Rattle.asn1_values.specs.Big.{IsSigned, IsUnsigned, IsSignedForm, IsUnsignedForm, bit_count, read_unsigned};
+ghost use Rattle.asn1_values.specs.BigContents.{signed_content, unsigned_content};
+
+use crate::values::{bit_length, is_negative, is_signed_content, is_unsigned_content};
+use asn1_core::{
+    Asn1Type, ParseError, ParseErrorKind, ParseResult, SimpleAsn1Readable, SimpleAsn1Writable, Tag,
+    WriteBuf, WriteError, WriteResult,
+};
+use std::alloc::Global;
+
+/// An integer that isn't negative, of any length: the contents octets that a read lends.
+#[derive(Clone, Copy, Debug, PartialEq, Eq, Hash)]
+pub struct BigUint<'a> {
+    octets: &'a [u8],
+    pub ghost is_content: { IsUnsignedForm octets.now },
+}
+
+impl<'a> BigUint<'a> {
+    ghost use Rattle.asn1_values.specs.Values.{big_uint_octets};
+
+    /// The integer with these contents octets. `None` where they are none: there is no octet, or the first nine bits are
+    /// all zero or all one, or the number is negative, since the top bit is set.
+    pub fn new(octets: &'a [u8]) -> Option<BigUint<'a>>
+        ensures { MatchOption result (¬ IsUnsigned octets.entry.now) (λ n. big_uint_octets n ≡ octets.entry.now) }
+    {
+        if !is_unsigned_content(octets) {
+            return None;
+        }
+        Some(BigUint { octets })
+    }
+
+    /// The contents octets.
+    pub fn as_bytes(&self) -> &'a [u8]
+        ensures value { result.now ≡ big_uint_octets self.now }
+        ensures content { IsUnsigned result.now }
+    {
+        self.octets
+    }
+}
+
+impl<'a> Asn1Type for BigUint<'a> {
+    ghost use Rattle.asn1_values.specs.Values.{big_uint_number};
+
+    ghost der = { simple_der big_uint_number unsigned_content };
+
+    fn known(&self) {}
+}
+
+impl<'a> SimpleAsn1Readable<'a> for BigUint<'a> {
+    ghost use Rattle.asn1_values.specs.Values.{big_uint_number};
+
+    fn tag() -> Tag
+        ensures value { result ≡ universal 2 }
+        ensures simple { Unit {0} }
+        ensures plain { Unit {0} }
+    {
+        Tag::primitive(0x02)
+    }
+
+    fn parse_data(_alloc: Global, data: &'a [u8]) -> ParseResult<BigUint<'a>>
+        ensures { Answers big_uint_number (λ _. ⊥) result (read_unsigned «data».entry.now) }
+    {
+        match BigUint::new(data) {
+            Some(number) => Ok(number),
+            None => Err(ParseError::new(ParseErrorKind::InvalidValue)),
+        }
+    }
+}
+
+impl SimpleAsn1Writable for BigUint<'_> {
+    ghost use Rattle.asn1_values.specs.Values.{big_uint_number};
+
+    type Error = WriteError;
+
+    ghost refusals = { λ _ _. ⊥ };
+
+    fn tag() -> Tag
+        ensures value { result ≡ universal 2 }
+        ensures simple { Unit {0} }
+    {
+        Tag::primitive(0x02)
+    }
+
+    fn write_data(&self, dest: &mut WriteBuf) -> WriteResult<()> {
+        dest.push_slice(self.octets)
+    }
+
+    fn data_length(&self) -> Option<usize>
+        ensures known { KnowsLength (unsigned_content.texts (big_uint_number self.now)) result }
+        ensures exact { result ≡ Some (length (integer_content (big_uint_number self.now))) }
+    {
+        Some(self.octets.len())
+    }
+}
+
+/// An integer of any length: the contents octets that a read lends.
+#[derive(Clone, Copy, Debug, PartialEq, Eq, Hash)]
+pub struct BigInt<'a> {
+    octets: &'a [u8],
+    pub ghost is_content: { IsSignedForm octets.now },
+}
+
+impl<'a> BigInt<'a> {
+    ghost use Rattle.asn1_values.specs.Values.{big_int_octets, big_int_number};
+
+    /// The integer with these contents octets. `None` where they are none: there is no octet, or there are more and the
+    /// first nine bits are all zero or all one.
+    pub fn new(octets: &'a [u8]) -> Option<BigInt<'a>>
+        ensures { MatchOption result (¬ IsSigned octets.entry.now) (λ n. big_int_octets n ≡ octets.entry.now) }
+    {
+        if !is_signed_content(octets) {
+            return None;
+        }
+        Some(BigInt { octets })
+    }
+
+    /// The contents octets.
+    pub fn as_bytes(&self) -> &'a [u8]
+        ensures value { result.now ≡ big_int_octets self.now }
+        ensures content { IsSigned result.now }
+    {
+        self.octets
+    }
+
+    /// Whether the number is negative.
+    pub fn is_negative(&self) -> bool
+        ensures { result ≡ int_lt (big_int_number self.now) (pos 0) }
+    {
+        is_negative(self.octets)
+    }
+
+    /// How many binary digits the absolute value has: 0 for 0.
+    pub fn bit_length(&self) -> usize
+        requires { length (big_int_octets self.now) < 2 ^ 61 }
+        ensures { result ≡ bit_count (big_int_number self.now) }
+    {
+        bit_length(self.octets)
+    }
+}
+
+impl<'a> Asn1Type for BigInt<'a> {
+    ghost use Rattle.asn1_values.specs.Values.{big_int_number};
+
+    ghost der = { simple_der big_int_number signed_content };
+
+    fn known(&self) {}
+}
+
+impl<'a> SimpleAsn1Readable<'a> for BigInt<'a> {
+    ghost use Rattle.asn1_values.specs.Values.{big_int_number};
+
+    fn tag() -> Tag
+        ensures value { result ≡ universal 2 }
+        ensures simple { Unit {0} }
+        ensures plain { Unit {0} }
+    {
+        Tag::primitive(0x02)
+    }
+
+    fn parse_data(_alloc: Global, data: &'a [u8]) -> ParseResult<BigInt<'a>>
+        ensures { Answers big_int_number (λ _. ⊥) result (read_integer «data».entry.now) }
+    {
+        match BigInt::new(data) {
+            Some(number) => Ok(number),
+            None => Err(ParseError::new(ParseErrorKind::InvalidValue)),
+        }
+    }
+}
+
+impl SimpleAsn1Writable for BigInt<'_> {
+    ghost use Rattle.asn1_values.specs.Values.{big_int_number};
+
+    type Error = WriteError;
+
+    ghost refusals = { λ _ _. ⊥ };
+
+    fn tag() -> Tag
+        ensures value { result ≡ universal 2 }
+        ensures simple { Unit {0} }
+    {
+        Tag::primitive(0x02)
+    }
+
+    fn write_data(&self, dest: &mut WriteBuf) -> WriteResult<()> {
+        dest.push_slice(self.octets)
+    }
+
+    fn data_length(&self) -> Option<usize>
+        ensures known { KnowsLength (signed_content.texts (big_int_number self.now)) result }
+        ensures exact { result ≡ Some (length (integer_content (big_int_number self.now))) }
+    {
+        Some(self.octets.len())
+    }
+}

@@ -1,0 +1,81 @@
+//! Enumerated values.
+
+ghost use Rattle.std.specs.Prelude.{◌≡◌, ◌-ℤ◌, ◌^◌, pos, length, Some};
+ghost use Rattle.asn1_core.specs.Tag.{universal};
+ghost use Rattle.asn1_core.specs.Integer.{integer_content};
+ghost use Rattle.asn1_core.specs.Sized.{sized_content};
+ghost use Rattle.asn1_core.specs.Der.{simple_der};
+
+use asn1_core::{
+    Asn1Type, ParseResult, SimpleAsn1Readable, SimpleAsn1Writable, Tag, WriteBuf, WriteError,
+    WriteResult,
+};
+use std::alloc::Global;
+
+/// An enumerated value: a number that stands for one of a list.
+#[derive(Debug, PartialEq, Eq, Drop)]
+pub struct Enumerated {
+    value: u32,
+}
+
+impl Enumerated {
+    ghost use Rattle.asn1_values.specs.Enumerated.{enumerated_value};
+
+    /// The value with this number.
+    pub fn new(value: u32) -> Enumerated
+        ensures { enumerated_value result ≡ value }
+    {
+        Enumerated { value }
+    }
+
+    /// The number.
+    pub fn value(&self) -> u32
+        ensures { result ≡ enumerated_value self.now }
+    {
+        self.value
+    }
+}
+
+impl Asn1Type for Enumerated {
+    ghost use Rattle.asn1_values.specs.Enumerated.{enumerated_value};
+
+    ghost der = { simple_der (λ e. pos (enumerated_value e)) (sized_content (universal 10) (pos 0) (pos (2 ^ 32) -ℤ pos 1)) };
+
+    fn known(&self) {
+        // Reading the number tells that it is in its type's range.
+        let _value = self.value;
+    }
+}
+
+impl<'a> SimpleAsn1Readable<'a> for Enumerated {
+    fn tag() -> Tag {
+        Tag::primitive(0x0a)
+    }
+
+    fn parse_data(alloc: Global, data: &'a [u8]) -> ParseResult<Enumerated> {
+        let value = u32::parse_data(alloc, data)?;
+        Ok(Enumerated { value })
+    }
+}
+
+impl SimpleAsn1Writable for Enumerated {
+    ghost use Rattle.asn1_values.specs.Enumerated.{enumerated_value};
+
+    type Error = WriteError;
+
+    ghost refusals = { λ _ _. ⊥ };
+
+    fn tag() -> Tag {
+        Tag::primitive(0x0a)
+    }
+
+    fn write_data(&self, dest: &mut WriteBuf) -> WriteResult<()> {
+        self.value.write_data(dest)
+    }
+
+    fn data_length(&self) -> Option<usize>
+        ensures { result ≡ Some (length (integer_content (pos (enumerated_value self.now)))) }
+    {
+        self.value.data_length()
+    }
+}
