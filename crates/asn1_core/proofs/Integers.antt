@@ -11,7 +11,7 @@ use Rattle.std.proofs.Math.Nat.{pow-suc, pow-le-pow_right, mul-le-mul_right}
 use Rattle.asn1_core.specs.Text.{IsText, number, signed_number}
 use Rattle.asn1_core.specs.declared.parser.ParseErrorKind.TheVariants.{InvalidValue, IntegerOverflow}
 use Rattle.asn1_core.specs.Fault.{Fault, fault}
-use Rattle.asn1_core.specs.Integer.{nine_bits, is_shortest, turned, integer_content, below, within_range, read_sized}
+use Rattle.asn1_core.specs.Integer.{nine_bits, is_minimal, turned, integer_content, below, within_range, read_sized}
 use Rattle.asn1_core.specs.Lemmas.Digits.{number_by_digits}
 use Rattle.asn1_core.specs.Lemmas.Lengths.{number_lt}
 use Rattle.asn1_core.specs.Lemmas.Texts.{IsText-from_reads}
@@ -44,7 +44,7 @@ long_number : (x y r p q : ℕ) → 0 < nine_bits x y → 2 ^ 64 ≤ p → q ≡
 long_number zero y r p q some most e = omega (arith, mul-le-mul_right {m = 128} {n = y} p (omega arith))
 long_number (suc x) y r p q some most e = omega (arith, mul-le-mul_right {m = 1} {n = suc x} q (omega arith))
 
-pub long_low : (c : List ℕ) → is_shortest c ≡ true → 9 < length c → 2 ^ 71 ≤ number c
+pub long_low : (c : List ℕ) → is_minimal c ≡ true → 9 < length c → 2 ^ 71 ≤ number c
 long_low [] e l = absurd (omega arith)
 long_low (x ∷ []) e l = absurd (omega arith)
 long_low (x ∷ y ∷ ys) e l =
@@ -52,10 +52,10 @@ long_low (x ∷ y ∷ ys) e l =
     let most : 256 ^ 8 ≤ 256 ^ length ys = pow-le-pow_right {n = 256} (lit< tt) {i = 8} {j = length ys} (omega arith) in
     long_number x y (number ys) (256 ^ length ys) (256 ^ suc (length ys)) some most (pow-suc 256 (length ys))
 
-pub long_above : (c : List ℕ) (high : ℤ) → is_shortest c ≡ true → 9 < length c → get_or c 0 0 < 128 → high <ℤ pos (2 ^ 71) → high <ℤ signed_number c
+pub long_above : (c : List ℕ) (high : ℤ) → is_minimal c ≡ true → 9 < length c → get_or c 0 0 < 128 → high <ℤ pos (2 ^ 71) → high <ℤ signed_number c
 long_above c high e l h most = rw (signed_low c h) (let n = long_low c e l in omega (arith, ints))
 
-pub long_below : (c : List ℕ) (low : ℤ) → IsText c → is_shortest c ≡ true → 9 < length c → 128 ≤ get_or c 0 0 → neg_ℤ (pos (2 ^ 71)) ≤ℤ low → signed_number c <ℤ low
+pub long_below : (c : List ℕ) (low : ℤ) → IsText c → is_minimal c ≡ true → 9 < length c → 128 ≤ get_or c 0 0 → neg_ℤ (pos (2 ^ 71)) ≤ℤ low → signed_number c <ℤ low
 long_below c low is e l h least =
     rw (signed_high c is h) (
     let n : 2 ^ 71 ≤ number (turned c) = long_low (turned c) (turned_shortest c is e) (omega (arith, turned_length c)) in
@@ -124,15 +124,15 @@ next_kept t i each h e =
     let same = fewer_same (get_or t i 0) (get_or t (i + 1) 0) octets is (not_from_true _ e) in
     ap signed_number (drop_more t (i + 1) 0 h) ∙ sym same ∙ ap signed_number (sym split)
 
-pub kept_one : (t : List ℕ) (i : ℕ) → i + 1 ≡ length t → is_shortest (drop i t) ≡ true
-kept_one t i h = ap is_shortest (drop_more t i 0 (omega arith) ∙ ap (λ (u : List ℕ). get_or t i 0 ∷ u) (drop_all (i + 1) t (omega arith)))
+pub kept_one : (t : List ℕ) (i : ℕ) → i + 1 ≡ length t → is_minimal (drop i t) ≡ true
+kept_one t i h = ap is_minimal (drop_more t i 0 (omega arith) ∙ ap (λ (u : List ℕ). get_or t i 0 ∷ u) (drop_all (i + 1) t (omega arith)))
 
 pub kept_shortest : (t : List ℕ) (i : ℕ) → i + 1 < length t →
     (eqb (nine_bits (get_or t i 0) (get_or t (i + 1) 0)) 0 || eqb (nine_bits (get_or t i 0) (get_or t (i + 1) 0)) 511) ≡ false →
-    is_shortest (drop i t) ≡ true
-kept_shortest t i h e = ap is_shortest (two_left t i h) ∙ not_from_false _ e
+    is_minimal (drop i t) ≡ true
+kept_shortest t i h e = ap is_minimal (two_left t i h) ∙ not_from_false _ e
 
-pub kept_is : (t : List ℕ) (i : ℕ) (z : ℤ) → ((k : ℕ) → get_or t k 0 < 256) → is_shortest (drop i t) ≡ true → signed_number (drop i t) ≡ z → drop i t ≡ integer_content z
+pub kept_is : (t : List ℕ) (i : ℕ) (z : ℤ) → ((k : ℕ) → get_or t k 0 < 256) → is_minimal (drop i t) ≡ true → signed_number (drop i t) ≡ z → drop i t ≡ integer_content z
 kept_is t i z each e value = content_only (drop i t) (text_drop i t (IsText-from_reads t each)) e ∙ ap integer_content value
 
 -- ---- the weight of the octet in front
@@ -154,25 +154,25 @@ signed_difference c h = rw (le-leb 128 (get_or c 0 0) h) refl
 
 -- ---- what reading refuses
 
-pub refused_content : (low high : ℤ) (c : List ℕ) (f : Fault) → is_shortest c ≡ false → f ≡ fault InvalidValue → read_sized low high c ≡ Err f
+pub refused_content : (low high : ℤ) (c : List ℕ) (f : Fault) → is_minimal c ≡ false → f ≡ fault InvalidValue → read_sized low high c ≡ Err f
 refused_content low high c f e same = sized_refused low high c e ∙ ap Err (sym same)
 
-pub refused_number : (low high : ℤ) (c : List ℕ) (f : Fault) (b : Bool) → is_shortest c ≡ true → f ≡ fault (cond b (below low) IntegerOverflow) →
+pub refused_number : (low high : ℤ) (c : List ℕ) (f : Fault) (b : Bool) → is_minimal c ≡ true → f ≡ fault (cond b (below low) IntegerOverflow) →
     (b ≡ true → signed_number c <ℤ low) → (b ≡ false → (low ≤ℤ signed_number c) × (high <ℤ signed_number c)) → read_sized low high c ≡ Err f
 refused_number low high c f true e same lower upper = sized_ok low high c (Err f) e (range_below low high (signed_number c) (lower refl) ∙ ap Err (sym same))
 refused_number low high c f false e same lower upper = sized_ok low high c (Err f) e (range_above low high (signed_number c) (upper refl).0 (upper refl).1 ∙ ap Err (sym same))
 
-pub answered_number : (low high : ℤ) (c : List ℕ) (z : ℤ) → is_shortest c ≡ true → z ≡ signed_number c → low ≤ℤ z → z ≤ℤ high → read_sized low high c ≡ Ok z
+pub answered_number : (low high : ℤ) (c : List ℕ) (z : ℤ) → is_minimal c ≡ true → z ≡ signed_number c → low ≤ℤ z → z ≤ℤ high → read_sized low high c ≡ Ok z
 answered_number low high c z e same a b = sized_ok low high c (Ok z) e (ap (within_range low high) (sym same) ∙ range_ok low high z a b)
 
-pub long_refused : (low high : ℤ) (c : List ℕ) (f : Fault) → IsText c → is_shortest c ≡ true → 9 < length c → neg_ℤ (pos (2 ^ 71)) ≤ℤ low → high <ℤ pos (2 ^ 71) → low ≤ℤ high →
+pub long_refused : (low high : ℤ) (c : List ℕ) (f : Fault) → IsText c → is_minimal c ≡ true → 9 < length c → neg_ℤ (pos (2 ^ 71)) ≤ℤ low → high <ℤ pos (2 ^ 71) → low ≤ℤ high →
     f ≡ fault (cond (leb 128 (get_or c 0 0)) (below low) IntegerOverflow) → read_sized low high c ≡ Err f
 long_refused low high c f is e long least greatest ordered same =
     refused_number low high c f (leb 128 (get_or c 0 0)) e same
     (λ t. long_below c low is e long (leb-true 128 (get_or c 0 0) t) least)
     (λ t. let over : high <ℤ signed_number c = long_above c high e long (leb-false 128 (get_or c 0 0) t) greatest in (omega (arith, ints), over))
 
-pub beyond_refused : (low high z : ℤ) (c : List ℕ) (f : Fault) → is_shortest c ≡ true → z ≡ signed_number c → f ≡ fault (cond (int_lt z low) (below low) IntegerOverflow) →
+pub beyond_refused : (low high z : ℤ) (c : List ℕ) (f : Fault) → is_minimal c ≡ true → z ≡ signed_number c → f ≡ fault (cond (int_lt z low) (below low) IntegerOverflow) →
     low ≤ℤ high → (z <ℤ low) ⊎ (high <ℤ z) → read_sized low high c ≡ Err f
 beyond_refused low high z c f e value same ordered (inl h) =
     let test : int_lt z low ≡ true = grind (arith, ints) in

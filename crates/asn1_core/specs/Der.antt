@@ -1,17 +1,20 @@
 -- What a type means in DER, for both directions: its values without where they lie in memory, their texts, what
 -- reading and writing answer, and the laws that it keeps.
-use Rattle.std.specs.Prelude.{ℕ, ◌<◌, ◌^◌, ◌≡◌, ◌⊎◌, List, [], ◌++◌, length, Result, Ok, Bool, true, false}
+use Rattle.std.specs.Prelude.{ℕ, ◌<◌, ◌^◌, ◌≡◌, ◌⊎◌, ◌↔◌, List, [], ◌++◌, length, Result, Ok, IfErr, Bool, true, false, Option}
 use Rattle.std.proofs.Common.{inr, refl}
 use Rattle.asn1_core.specs.declared.tag.Tag.{Tag}
 use Rattle.asn1_core.specs.declared.parser.Place.{Place}
 use Rattle.asn1_core.specs.Text.{IsText}
 use Rattle.asn1_core.specs.Tag.{tag_eq, universal}
-use Rattle.asn1_core.specs.Element.{Element, element, element_text}
-use Rattle.asn1_core.specs.Fault.{Fault}
+use Rattle.asn1_core.specs.Element.{Element, element, element_text, front}
+use Rattle.asn1_core.specs.Fault.{Fault, IsOfText}
 use Rattle.asn1_core.specs.Writing.{IsElementOf}
-use Rattle.asn1_core.specs.Reading.{Takes, Fits, IsAccepted, simple, simple_out, simple_stops, element_front, tlv_stops, stands, bool_content_text, read_bool, refuses}
+use Rattle.asn1_core.specs.Reading.{Takes, Fits, IsOneElement, simple, simple_out, simple_stops, element_front, tlv_stops, stands, bool_content_text, read_bool, refuses}
+use Rattle.asn1_core.specs.Options.{option_meaning, IfThere, option_text, option_texts, option_read, option_out}
+use Rattle.asn1_core.specs.Lemmas.Options.{option_takes, option_shape, option_accepted, option_again, option_both, option_pair, option_one, option_all, option_faults}
 use Rattle.asn1_core.specs.Lemmas.Elements.{element_some}
-use Rattle.asn1_core.specs.Lemmas.Contents.{simple_takes, simple_shape, simple_again, one_element, tlv_takes, tlv_again, bool_takes, bool_again, refuses_takes}
+use Rattle.asn1_core.specs.Lemmas.Faults.{simple_faults, tlv_faults, bool_faults, refuses_faults}
+use Rattle.asn1_core.specs.Lemmas.Contents.{simple_takes, simple_shape, simple_accepted, simple_again, one_element, tlv_takes, tlv_again, bool_takes, bool_again, refuses_takes}
 
 -- the content of a simple type, whose values mean an M
 pub record Content (M : Type 0) : Type 1 where
@@ -38,6 +41,7 @@ pub record Content (M : Type 0) : Type 1 where
   pub takes : (c : List ℕ) (m : M) → IsText c → read c ≡ Ok m → (c ≡ text m) × (valid m × allowed m)
   pub again : (m : M) → lawful → valid m → allowed m → length (text m) < 2 ^ 32 → read (text m) ≡ Ok m
   pub memory : (c : List ℕ) (places : List Place) → runs_out c places → takes_memory
+  pub faults : (c : List ℕ) → IfErr (read c) IsOfText
 
 pub record Der (V : Type 0) : Type 1 where
   -- a value, without where it lies in memory
@@ -71,20 +75,27 @@ pub record Der (V : Type 0) : Type 1 where
   pub one_text : plain → (m : Meaning) (t : List ℕ) → texts m t → t ≡ text m
   pub no_closures : plain → (m : Meaning) → closures m
   pub takes : (t rest : List ℕ) (m : Meaning) → IsText t → read t ≡ Ok (m, rest) → Takes t (text m) rest × (valid m × allowed m)
-  pub shape : (m : Meaning) → lawful → valid m → (text m ≡ []) ⊎ IsAccepted accepts (text m)
+  pub shape : (m : Meaning) → lawful → valid m → (text m ≡ []) ⊎ IsOneElement (text m)
+  pub accepted : (m : Meaning) (e : Element) → valid m → text m ≡ element_text e → accepts e.tag ≡ true
   pub solid : (m : Meaning) → lawful → is_element → valid m → text m ≡ [] → ⊥
   pub again : (m : Meaning) (rest : List ℕ) → lawful → valid m → allowed m → Fits (text m) → (text m ≡ [] → stands accepts rest ≡ false) → read (text m ++ rest) ≡ Ok (m, rest)
   pub memory : (t : List ℕ) (places : List Place) → runs_out t places → takes_memory
+  -- memory runs out only where an element stands in front
+  pub in_front : (t : List ℕ) (places : List Place) → runs_out t places → (f : Element × List ℕ) × (front t ≡ Ok f)
+  -- the first fault is never want of memory
+  pub faults : (t : List ℕ) → IfErr (read t) IsOfText
   -- a simple type is one element with its tag and its content
   pub is_simple : Type 0
   pub content : Content Meaning
   pub as_closures : (m : Meaning) → closures m → content.closures m
   pub as_valid : (m : Meaning) → valid m → content.valid m
+  pub as_plain : is_simple → plain → content.plain
+  pub as_lawful : is_simple → lawful → content.lawful
   pub as_texts : is_simple → (m : Meaning) → texts m ≡ IsElementOf content.tag (content.texts m)
   pub as_accepts : is_simple → (t : Tag) → accepts t ≡ tag_eq t content.tag
   pub as_read : is_simple → (t : List ℕ) → read t ≡ simple content.tag content.read t
-  pub as_out : is_simple → (t : List ℕ) (places : List Place) → simple_out content.tag content.runs_out t places → runs_out t places
-  pub as_stops : is_simple → (t rest : List ℕ) → simple_stops t rest → stops t rest
+  pub as_out : is_simple → (t : List ℕ) (places : List Place) → simple_out content.tag content.runs_out t places ↔ runs_out t places
+  pub as_stops : is_simple → (t rest : List ℕ) → simple_stops t rest ↔ stops t rest
 
 -- a simple type, by its content
 abbrev pub simple_der : {V M : Type 0} → (V → M) → Content M → Der V
@@ -108,18 +119,23 @@ simple_der {M = M} meaning c = record {
   no_closures = c.no_closures;
   takes = simple_takes c.tag c.text (λ m. c.valid m × c.allowed m) c.read c.takes;
   shape = λ m l v. simple_shape c.tag (c.text m) l.1;
+  accepted = λ m e v same. simple_accepted c.tag (c.text m) e same;
   solid = λ m l i v e. element_some (element c.tag (c.text m)) e;
   again = λ m rest l v a fits none. simple_again c.tag c.text c.read m rest l.1 (c.again m l.0 v a) fits;
   memory = λ t places out. c.memory out.0.0.content places out.3;
+  in_front = λ t places out. (out.0, out.1);
+  faults = simple_faults c.tag c.read c.faults;
   is_simple = Unit {0};
   content = c;
   as_closures = λ m h. h;
   as_valid = λ m v. v;
+  as_plain = λ i p. p;
+  as_lawful = λ i l. l.0;
   as_texts = λ i m. refl;
   as_accepts = λ i t. refl;
   as_read = λ i t. refl;
-  as_out = λ i t places out. out;
-  as_stops = λ i t rest h. h;
+  as_out = λ i t places. (λ out. out, λ out. out);
+  as_stops = λ i t rest. (λ h. h, λ h. h);
 }
 
 -- a content without parts
@@ -130,6 +146,7 @@ pub record Basic (M : Type 0) : Type 1 where
   pub read : List ℕ → Result M Fault
   pub takes : (c : List ℕ) (m : M) → IsText c → read c ≡ Ok m → (c ≡ text m) × valid m
   pub again : (m : M) → valid m → read (text m) ≡ Ok m
+  pub faults : (c : List ℕ) → IfErr (read c) IsOfText
 
 abbrev pub basic : {M : Type 0} → Basic M → Content M
 basic b = record {
@@ -149,11 +166,12 @@ basic b = record {
   takes = λ c m bytes e. let h = b.takes c m bytes e in (h.0, (h.1, tt));
   again = λ m l v a s. b.again m v;
   memory = λ c places out. out;
+  faults = b.faults;
 }
 
 -- no content: the type is not simple
 abbrev pub no_content : {M : Type 0} → Content M
-no_content = record {
+no_content {M = M} = record {
   tag = universal 0;
   text = λ m. [];
   texts = λ m t. ⊥;
@@ -170,6 +188,7 @@ no_content = record {
   takes = λ c m b e. absurd (refuses_takes c m e);
   again = λ m l. absurd l;
   memory = λ c places out. out;
+  faults = refuses_faults M;
 }
 
 abbrev pub bool_content : Content Bool
@@ -180,6 +199,7 @@ bool_content = basic (record {
   read = read_bool;
   takes = λ c m b e. (bool_takes c m e, tt);
   again = λ m v. bool_again m;
+  faults = bool_faults;
 })
 
 -- the same, of values that are seen through something, as a reference
@@ -204,13 +224,18 @@ seen view d = record {
   no_closures = d.no_closures;
   takes = d.takes;
   shape = d.shape;
+  accepted = d.accepted;
   solid = d.solid;
   again = d.again;
   memory = d.memory;
+  in_front = d.in_front;
+  faults = d.faults;
   is_simple = d.is_simple;
   content = d.content;
   as_closures = d.as_closures;
   as_valid = d.as_valid;
+  as_plain = d.as_plain;
+  as_lawful = d.as_lawful;
   as_texts = d.as_texts;
   as_accepts = d.as_accepts;
   as_read = d.as_read;
@@ -239,14 +264,60 @@ tlv_der view = record {
   one_text = λ p m t e. e;
   no_closures = λ p m. tt;
   takes = tlv_takes;
-  shape = λ m l v. inr (record { element = m; is = refl; readable = v; accepted = refl });
+  shape = λ m l v. inr (record { element = m; is = refl; readable = v });
+  accepted = λ m e v same. refl;
   solid = λ m l i v e. element_some m e;
   again = λ m rest l v a fits none. tlv_again m rest v fits;
   memory = λ t places out. out;
+  in_front = λ t places out. absurd out;
+  faults = tlv_faults;
   is_simple = ⊥;
   content = no_content;
   as_closures = λ m h. tt;
   as_valid = λ m v. tt;
+  as_plain = λ i. absurd i;
+  as_lawful = λ i. absurd i;
+  as_texts = λ i. absurd i;
+  as_accepts = λ i. absurd i;
+  as_read = λ i. absurd i;
+  as_out = λ i. absurd i;
+  as_stops = λ i. absurd i;
+}
+
+-- a value of the type or nothing, told by the tag in front
+abbrev pub option_der : {V : Type 0} → Der V → Der (Option V)
+option_der d = record {
+  Meaning = Option d.Meaning;
+  meaning = option_meaning d.meaning;
+  text = option_text d.text;
+  texts = option_texts d.texts;
+  closures = IfThere d.closures;
+  valid = IfThere d.valid;
+  allowed = IfThere d.allowed;
+  plain = d.plain;
+  lawful = d.lawful × d.is_element;
+  is_element = ⊥;
+  takes_memory = d.takes_memory;
+  runs_out = option_out d.accepts d.runs_out;
+  accepts = d.accepts;
+  read = option_read d.accepts d.read;
+  stops = d.stops;
+  one_text = λ p. option_one d.text d.texts (d.one_text p);
+  no_closures = λ p. option_all d.closures (d.no_closures p);
+  takes = λ t rest o b e. let h = option_takes d.accepts d.text (λ m. d.valid m × d.allowed m) d.read d.takes t rest o b e in (h.0, option_both d.valid d.allowed o h.1);
+  shape = λ m l v. option_shape d.text d.valid (λ x w. d.shape x l.0 w) m v;
+  accepted = λ m e v same. option_accepted d.accepts d.text d.valid d.accepted m e v same;
+  solid = λ m l i v e. i;
+  again = λ m rest l v a fits none. option_again d.accepts d.text (λ x. d.valid x × d.allowed x) d.read (λ x w. d.shape x l.0 w.0) (λ x e w. d.accepted x e w.0) (λ x w e. d.solid x l.0 l.1 w.0 e) (λ x r w o n. d.again x r l.0 w.0 w.1 o n) m rest (option_pair d.valid d.allowed m v a) fits none;
+  memory = λ t places out. d.memory t places out.1;
+  in_front = λ t places out. d.in_front t places out.1;
+  faults = option_faults d.accepts d.read d.faults;
+  is_simple = ⊥;
+  content = no_content;
+  as_closures = λ m h. tt;
+  as_valid = λ m v. tt;
+  as_plain = λ i. absurd i;
+  as_lawful = λ i. absurd i;
   as_texts = λ i. absurd i;
   as_accepts = λ i. absurd i;
   as_read = λ i. absurd i;

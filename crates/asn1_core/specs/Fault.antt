@@ -1,6 +1,7 @@
 -- What a refusal of reading says: its kind, and the places around it, innermost first.
 use Rattle.std.specs.Prelude.{◌≡◌, List, [], ◌∷◌, ◌++◌, take, Result, Ok, Err}
 use Rattle.asn1_core.specs.declared.parser.ParseErrorKind.{ParseErrorKind}
+use Rattle.asn1_core.specs.declared.parser.ParseErrorKind.TheVariants.{AllocationError}
 use Rattle.asn1_core.specs.declared.parser.Place.{Place}
 use Rattle.asn1_core.specs.declared.parser.TheConstants.{MAX_PLACES}
 
@@ -26,11 +27,15 @@ framed (Ok x) = Ok x
 framed (Err kind) = Err (fault kind)
 
 -- A call gave this answer, its value seen by view.
-abbrev pub Tells : {V A : Type 0} → (V → A) → Result V ParseErrorKind → Result A ParseErrorKind → Type 0
-Tells view (Ok v) answer = answer ≡ Ok (view v)
-Tells view (Err kind) answer = answer ≡ Err kind
+abbrev pub AnswersKind : {V A : Type 0} → (V → A) → Result V ParseErrorKind → Result A ParseErrorKind → Type 0
+AnswersKind view (Ok v) answer = answer ≡ Ok (view v)
+AnswersKind view (Err kind) answer = answer ≡ Err kind
 
 -- A call gave this answer, its value seen by view, or a fault of that kind with no place.
-abbrev pub Gives : {V A : Type 0} → (V → A) → Result V Fault → Result A ParseErrorKind → Type 0
-Gives view (Ok v) answer = answer ≡ Ok (view v)
-Gives view (Err e) answer = (answer ≡ Err e.kind) × (e.places ≡ [])
+abbrev pub AnswersError : {V A : Type 0} → (V → A) → Result V Fault → Result A ParseErrorKind → Type 0
+AnswersError view (Ok v) answer = answer ≡ Ok (view v)
+AnswersError view (Err e) answer = (answer ≡ Err e.kind) × (e.places ≡ [])
+
+-- The fault is one of the text, and not want of memory.
+abbrev pub IsOfText : Fault → Type 0
+IsOfText f = f.kind ≡ AllocationError → ⊥

@@ -20,10 +20,10 @@ abbrev pub nine_bits : ℕ → ℕ → ℕ
 nine_bits octet next = octet * 2 + next / 0x80
 
 -- There is one octet; or more, and the first nine bits are neither all zero nor all one. (8.3.2)
-abbrev pub is_shortest : List ℕ → Bool
-is_shortest [] = false
-is_shortest (octet ∷ []) = true
-is_shortest (octet ∷ next ∷ octets) = not (nine_bits octet next == 0 || nine_bits octet next == 0x1ff)
+abbrev pub is_minimal : List ℕ → Bool
+is_minimal [] = false
+is_minimal (octet ∷ []) = true
+is_minimal (octet ∷ next ∷ octets) = not (nine_bits octet next == 0 || nine_bits octet next == 0x1ff)
 
 -- Digits with a zero octet in front where there is none or the top bit is set, which would be the sign.
 abbrev pub with_sign : List ℕ → List ℕ
@@ -42,7 +42,7 @@ integer_content (negsuc n) = turned (with_sign (digits_of 256 n))
 
 -- The number of a content, or the fault of what is none.
 unfoldable pub read_integer : List ℕ → Result ℤ Fault
-read_integer c = cond (is_shortest c) (Ok (signed_number c)) (Err (fault InvalidValue))
+read_integer c = cond (is_minimal c) (Ok (signed_number c)) (Err (fault InvalidValue))
 
 -- The fault of a number below the lowest of a type: an unsigned type, whose lowest is 0, has no sign.
 abbrev pub below : ℤ → ParseErrorKind
@@ -70,4 +70,4 @@ ReadsContentsAlone = (c : List ℕ) (z : ℤ) → IsText c → (read_integer c �
 -- behind the first are a text of the same number.
 abbrev pub NineBitsTell : Type 0
 NineBitsTell = (octet next : ℕ) (octets : List ℕ) → IsText (octet ∷ next ∷ octets)
-    → (is_shortest (octet ∷ next ∷ octets) ≡ false) ↔ (signed_number (octet ∷ next ∷ octets) ≡ signed_number (next ∷ octets))
+    → (is_minimal (octet ∷ next ∷ octets) ≡ false) ↔ (signed_number (octet ∷ next ∷ octets) ≡ signed_number (next ∷ octets))

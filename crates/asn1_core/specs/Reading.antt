@@ -74,23 +74,22 @@ accepts_front accepts (Err kind) = false
 abbrev pub stands : (Tag → Bool) → List ℕ → Bool
 stands accepts t = accepts_front accepts (tag_front t)
 
--- An element with an accepted, readable tag.
-pub record IsAccepted (accepts : Tag → Bool) (text : List ℕ) : Type 0 where
+-- An element with a readable tag.
+pub record IsOneElement (text : List ℕ) : Type 0 where
   pub element : Element
   pub is : text ≡ element_text element
   pub readable : element.tag.value < 2 ^ 32
-  pub accepted : accepts element.tag ≡ true
 
 -- What is left, where nothing may be left.
-abbrev pub finished : List ℕ → Result (Unit {0}) Fault
-finished [] = Ok tt
-finished (octet ∷ octets) = Err (fault ExtraData)
+abbrev pub rest_refused : List ℕ → Result (Unit {0}) Fault
+rest_refused [] = Ok tt
+rest_refused (octet ∷ octets) = Err (fault ExtraData)
 
 -- What a closure's answer becomes, once nothing may be left of the text.
-abbrev pub Finished : {T E : Type 0} → (Fault → E → Type 0) → Result T E → List ℕ → Result T E → Type 0
-Finished gives (Err e) rest result = result ≡ Err e
-Finished gives (Ok v) [] result = result ≡ Ok v
-Finished gives (Ok v) (octet ∷ octets) result = IsErrAnd result (gives (fault ExtraData))
+abbrev pub IsHandedOn : {T E : Type 0} → (Fault → E → Type 0) → Result T E → List ℕ → Result T E → Type 0
+IsHandedOn gives (Err e) rest result = result ≡ Err e
+IsHandedOn gives (Ok v) [] result = result ≡ Ok v
+IsHandedOn gives (Ok v) (octet ∷ octets) result = IsErrAnd result (gives (fault ExtraData))
 
 -- The content of a truth value: one octet, all its bits 0 for false, all 1 for true. (X.690 8.2, 11.1)
 abbrev pub bool_content_text : Bool → List ℕ

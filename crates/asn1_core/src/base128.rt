@@ -2,30 +2,30 @@
 //! bit set (X.690 8.1.2.4.2, 8.19.2). A number is below 2^128, so its text has at most 19 octets.
 
 ghost use Rattle.std.specs.Prelude.{◌≡◌, ℕ, ◌+◌, ◌<◌, ◌≤◌, ◌++◌, List, length, drop, IfNone, IfSome};
-ghost use Rattle.asn1_core.specs.Fault.{Gives, Tells};
+ghost use Rattle.asn1_core.specs.Fault.{AnswersError, AnswersKind};
 ghost use Rattle.asn1_core.specs.Base128.{number_text, number_front};
 
-use crate::parser::{ParseErrorKind, ParseResult, with_no_place};
+use crate::parser::{ParseErrorKind, ParseResult, kind_as_error};
 
 /// How many octets the text of the largest number has.
-const MAX_OCTETS: usize = 19;
+const MAX_NUMBER_OCTETS: usize = 19;
 
 /// The number in front of the octets, and what follows it.
 ///
 /// `InvalidValue` where the octets begin with no number, however they go on: the first is 0x80, 19 of them have their
 /// top bit set, or the number is 2^128 or more. `ShortData { needed: 1 }` where the number isn't finished.
 pub fn read(octets: &[u8]) -> ParseResult<(u128, &[u8])>
-    ensures { Gives (λ x. (x.0, x.1.now)) result (number_front octets.now) }
+    ensures { AnswersError (λ x. (x.0, x.1.now)) result (number_front octets.now) }
 {
-    with_no_place(read_number(octets))
+    kind_as_error(read_number(octets))
 }
 
 /// What [`read`] answers, with no more than the kind of a refusal.
 pub(crate) fn read_number(octets: &[u8]) -> Result<(u128, &[u8]), ParseErrorKind>
-    ensures { Tells (λ x. (x.0, x.1.now)) result (number_front octets.now) }
+    ensures { AnswersKind (λ x. (x.0, x.1.now)) result (number_front octets.now) }
 {
     let mut number = 0u128;
-    for i in 0..MAX_OCTETS {
+    for i in 0..MAX_NUMBER_OCTETS {
         if i >= octets.len() {
             return Err(ParseErrorKind::ShortData { needed: 1 });
         }

@@ -9,9 +9,9 @@ ghost use Rattle.asn1_core.specs.Tag.{tag_front, found_tag, explicit_tag_of, imp
 ghost use Rattle.asn1_core.specs.Length.{length_front};
 ghost use Rattle.asn1_core.specs.Element.{Element, IsFront, front, element_text};
 ghost use Rattle.asn1_core.specs.Tlv.{element_of, full_octets, stripped};
-ghost use Rattle.asn1_core.specs.Fault.{fault, within, framed, Gives, Tells};
+ghost use Rattle.asn1_core.specs.Fault.{fault, within, framed, AnswersError, AnswersKind, IsOfText};
 ghost use Rattle.asn1_core.specs.Places.{place_of};
-ghost use Rattle.asn1_core.specs.Reading.{Answers, EndsWith, Finished, Fits, whole, finished, simple, simple_out, simple_stops};
+ghost use Rattle.asn1_core.specs.Reading.{Answers, EndsWith, IsHandedOn, Fits, whole, rest_refused, simple, simple_out, simple_stops};
 ghost use Rattle.asn1_core.specs.Laws.{IsShort, with_more};
 ghost use Rattle.std.specs.Cmp.{decided, partial_equiv_from_equiv};
 ghost use Rattle.asn1_core.specs.Display.{error_text};
@@ -333,7 +333,7 @@ impl<'a> Parser<'a> {
     /// Refuses octets that are left, with `ExtraData`.
     #[inline]
     fn finish(self) -> ParseResult<()>
-        ensures { result ≡ finished self.entry }
+        ensures { result ≡ rest_refused self.entry }
     {
         if !self.is_empty() {
             return Err(ParseError::new(ParseErrorKind::ExtraData));
@@ -344,7 +344,7 @@ impl<'a> Parser<'a> {
     /// Reads the element in front. A refusal leaves the parser as it was.
     #[inline]
     pub(crate) fn read_tlv(&mut self) -> Result<Tlv<'a>, ParseErrorKind>
-        ensures answers { Tells (λ t. (element_of t, self.new)) result (front self.old) }
+        ensures answers { AnswersKind (λ t. (element_of t, self.new)) result (front self.old) }
         ensures rest { EndsWith self.old self.new }
         ensures unmoved { OnErr result (self.new ≡ self.old) }
     {
@@ -410,7 +410,7 @@ impl<'a> Parser<'a> {
 ///
 /// Framing answers kinds alone, which are small, and takes no time to carry places that it never has.
 #[inline]
-pub(crate) fn with_no_place<T: Drop>(answer: Result<T, ParseErrorKind>) -> ParseResult<T>
+pub(crate) fn kind_as_error<T: Drop>(answer: Result<T, ParseErrorKind>) -> ParseResult<T>
     ensures { result ≡ framed answer }
 {
     match answer {
@@ -435,7 +435,7 @@ fn number_in(octets: &[u8]) -> usize
 /// The length in front of the octets, and what follows it.
 #[inline]
 fn read_length(octets: &[u8]) -> Result<(usize, &[u8]), ParseErrorKind>
-    ensures { Tells (λ x. (x.0, x.1.now)) result (length_front octets.now) }
+    ensures { AnswersKind (λ x. (x.0, x.1.now)) result (length_front octets.now) }
 {
     let [first, rest @ ..] = octets else {
         return Err(ParseErrorKind::ShortData { needed: 1 });
@@ -478,15 +478,15 @@ pub fn strip_tlv(data: &[u8]) -> ParseResult<(Tlv<'_>, &[u8])>
     // On each longer text the answer stands, unless it is that octets are missing.
     ensures stands { (more : List ℕ) → IsText more → ¬ IsShort (stripped result) → front («data».now ++ more) ≡ with_more (stripped result) more }
     ensures fewer { (more : List ℕ) (needed : ℕ) → IsText more → stripped result ≡ Err (ShortData needed) → length more < needed → IsShort (front («data».now ++ more)) }
-    ensures exact { Gives (λ x. (element_of x.0, x.1.now)) result (front «data».now) }
+    ensures exact { AnswersError (λ x. (element_of x.0, x.1.now)) result (front «data».now) }
 {
-    with_no_place(tlv_in(data))
+    kind_as_error(tlv_in(data))
 }
 
 /// The element in front of the octets, and what follows it.
 #[inline]
 fn tlv_in(octets: &[u8]) -> Result<(Tlv<'_>, &[u8]), ParseErrorKind>
-    ensures answer { Tells (λ x. (element_of x.0, x.1.now)) result (front octets.now) }
+    ensures answer { AnswersKind (λ x. (element_of x.0, x.1.now)) result (front octets.now) }
     ensures parts { IfOk result (λ x. octets.now ≡ full_octets x.0 ++ x.1.now) }
 {
     let (tag, rest) = Tag::in_front(octets)?;
@@ -516,7 +516,7 @@ pub fn parse<'a, T: Drop, E: From<ParseError> + Drop, F: FnOnce(&mut Parser<'a>)
     f: F,
 ) -> Result<T, E>
     requires { F.IsAlwaysCallable f }
-    ensures { (rest : List ℕ) × (answer : Result T E) × FnOnceReturnsAtMut F.FnOnce f «data».entry.now answer rest × Finished E.from_gives answer rest result }
+    ensures { (rest : List ℕ) × (answer : Result T E) × FnOnceReturnsAtMut F.FnOnce f «data».entry.now answer rest × IsHandedOn E.from_gives answer rest result }
 {
     let mut parser = Parser::new(alloc, data);
     let answer = f(&mut parser)?;
@@ -538,6 +538,9 @@ pub fn parse_single<'a, T: Asn1Readable<'a>>(alloc: Global, data: &'a [u8]) -> P
     // The text of a value is answered with that value.
     ensures only { (m : T.der.Meaning) → T.der.lawful → T.der.valid m → T.der.allowed m → Fits (T.der.text m) → «data».entry.now ≡ T.der.text m
         → Answers T.der.meaning (T.der.runs_out «data».entry.now) result (Ok m) }
+
+    // A type whose reading takes no memory never wants any.
+    ensures no_want { ¬ T.der.takes_memory → IfErr result IsOfText }
 {
     read_single(alloc, data)
 }

@@ -2,11 +2,11 @@
 
 ghost use Rattle.std.specs.Prelude.{◌≡◌, ℕ, ◌+◌, ◌*◌, ◌/◌, ◌%◌, ◌<◌, ◌≤◌, ◌++◌, ◌↔◌, IsTrue, List, length, SomeIff, OnOk, OnErr, IsOkUnless, Bool, true, false};
 ghost use Rattle.asn1_core.specs.declared.tag.TagClass.TheVariants.{Universal};
-ghost use Rattle.asn1_core.specs.Fault.{Gives, Tells};
-ghost use Rattle.asn1_core.specs.Tag.{tag_class, tag_constructed, tag_number, tag_with, universal, implicit_tag_of, explicit_tag_of, class_number, class_of, tag_of, tag_front, tag_text, first_octet, tag_eq};
+ghost use Rattle.asn1_core.specs.Fault.{AnswersError, AnswersKind};
+ghost use Rattle.asn1_core.specs.Tag.{tag_class, tag_constructed, tag_number, tag_with, universal, universal_constructed, implicit_tag_of, explicit_tag_of, class_number, class_of, tag_of, tag_front, tag_text, first_octet, tag_eq};
 
 use crate::base128;
-use crate::parser::{ParseErrorKind, ParseResult, with_no_place};
+use crate::parser::{ParseErrorKind, ParseResult, kind_as_error};
 use crate::writer::{WriteBuf, WriteError, WriteResult};
 
 /// The class of a tag (X.690 8.1.2.2).
@@ -38,7 +38,7 @@ const CONSTRUCTED: u8 = 0x20;
 /// The five bits that stand for a number in base 128 behind the first octet.
 const LONG_FORM: u8 = 0x1f;
 /// How many octets the longest text of a tag has.
-const MAX_TAG: usize = 6;
+const MAX_TAG_OCTETS: usize = 6;
 
 fn class_in(first: u8) -> TagClass
     ensures { result ≡ class_of (first / 64) }
@@ -48,16 +48,6 @@ fn class_in(first: u8) -> TagClass
         1 => TagClass::Application,
         2 => TagClass::ContextSpecific,
         _ => TagClass::Private,
-    }
-}
-
-fn tag_in(first: u8, value: u32) -> Tag
-    ensures { result ≡ tag_of first value }
-{
-    Tag {
-        value,
-        constructed: first & CONSTRUCTED == CONSTRUCTED,
-        class: class_in(first),
     }
 }
 
@@ -74,22 +64,22 @@ impl Tag {
     /// `InvalidTag` where the number is faulty, or is finished and below 31 or from 2^32 on; `ShortData { needed: 1 }`
     /// where the tag isn't finished.
     pub fn from_bytes(octets: &[u8]) -> ParseResult<(Tag, &[u8])>
-        ensures { Gives (λ x. (x.0, x.1.now)) result (tag_front octets.now) }
+        ensures { AnswersError (λ x. (x.0, x.1.now)) result (tag_front octets.now) }
     {
-        with_no_place(Tag::in_front(octets))
+        kind_as_error(Tag::in_front(octets))
     }
 
     /// What [`Tag::from_bytes`] answers, with no more than the kind of a refusal.
     #[inline]
     pub(crate) fn in_front(octets: &[u8]) -> Result<(Tag, &[u8]), ParseErrorKind>
-        ensures { Tells (λ x. (x.0, x.1.now)) result (tag_front octets.now) }
+        ensures { AnswersKind (λ x. (x.0, x.1.now)) result (tag_front octets.now) }
     {
         let [first, rest @ ..] = octets else {
             return Err(ParseErrorKind::ShortData { needed: 1 });
         };
         let low = *first & LONG_FORM;
         if low < LONG_FORM {
-            return Ok((tag_in(*first, u32::from(low)), rest));
+            return Ok((Tag::from_first_octet(*first, u32::from(low)), rest));
         }
         let (number, rest) = match base128::read_number(rest) {
             Ok(found) => found,
@@ -103,7 +93,18 @@ impl Tag {
         if number < u128::from(LONG_FORM) || number > u128::from(u32::MAX) {
             return Err(ParseErrorKind::InvalidTag);
         }
-        Ok((tag_in(*first, number as u32), rest))
+        Ok((Tag::from_first_octet(*first, number as u32), rest))
+    }
+
+    /// The tag of this number whose first identifier octet says the class and whether it is constructed.
+    fn from_first_octet(first: u8, value: u32) -> Tag
+        ensures { result ≡ tag_of first value }
+    {
+        Tag {
+            value,
+            constructed: first & CONSTRUCTED == CONSTRUCTED,
+            class: class_in(first),
+        }
     }
 
     fn new(value: u32, class: TagClass, constructed: bool) -> Tag
@@ -123,6 +124,13 @@ impl Tag {
         Tag::new(value, TagClass::Universal, false)
     }
 
+    /// A tag of the universal class, constructed, with this number.
+    pub fn constructed(value: u32) -> Tag
+        ensures { result ≡ universal_constructed value }
+    {
+        Tag::new(value, TagClass::Universal, true)
+    }
+
     /// The tag's one octet; `None` from number 31 on, where the tag has more.
     pub fn as_u8(self) -> Option<u8>
         ensures { SomeIff result (tag_number self < 31) (first_octet self (tag_number self)) }
@@ -130,11 +138,11 @@ impl Tag {
         if self.value >= u32::from(LONG_FORM) {
             return None;
         }
-        Some(self.leading(self.value as u8))
+        Some(self.first_octet(self.value as u8))
     }
 
     /// The first octet, with these five bits.
-    fn leading(self, low: u8) -> u8
+    fn first_octet(self, low: u8) -> u8
         requires { low < 32 }
         ensures { result ≡ first_octet self low }
     {
@@ -149,10 +157,10 @@ impl Tag {
         ensures error { IsOkUnless result WriteError.AllocationError }
     {
         if self.value < u32::from(LONG_FORM) {
-            return dest.push_byte(self.leading(self.value as u8));
+            return dest.push_byte(self.first_octet(self.value as u8));
         }
-        let mut octets = [0u8; MAX_TAG];
-        octets[0] = self.leading(LONG_FORM);
+        let mut octets = [0u8; MAX_TAG_OCTETS];
+        octets[0] = self.first_octet(LONG_FORM);
         let Some(count) = base128::write(u128::from(self.value), &mut octets[1..]) else {
             unreachable!()
         };
@@ -162,7 +170,7 @@ impl Tag {
     /// How many octets the text of the tag has.
     pub(crate) fn encoded_length(self) -> usize
         ensures value { result ≡ length (tag_text self) }
-        ensures most { result ≤ MAX_TAG }
+        ensures most { result ≤ MAX_TAG_OCTETS }
     {
         if self.value < u32::from(LONG_FORM) {
             1

@@ -9,11 +9,14 @@ ghost use Rattle.asn1_core.specs.Writing.{KnowsLength, Refuses};
 ghost use Rattle.asn1_core.specs.Der.{Der, simple_der, tlv_der, seen, bool_content};
 
 mod boxes;
+mod defined_by;
 mod integers;
+mod options;
 
-use crate::parser::{ParseError, ParseErrorKind, ParseResult, Parser, parse_single, with_no_place};
+use crate::parser::{ParseError, ParseErrorKind, ParseResult, Parser, parse_single, kind_as_error};
 use crate::tag::Tag;
 use crate::writer::{WriteBuf, WriteError, WriteResult, Writer, full_length};
+pub use defined_by::{Asn1DefinedBy, Asn1DefinedByReadable, Asn1DefinedByWritable};
 pub use integers::is_integer_content;
 use std::alloc::Global;
 
@@ -113,7 +116,7 @@ pub trait Asn1Writable: Asn1Type + Sized {
     type Error: From<WriteError>;
 
     // The errors that a write may answer, beside want of memory.
-    ghost named: { Self → Self.Error → Type 0 };
+    ghost write_errors: { Self → Self.Error → Type 0 };
 
     /// Appends the value's text. At Err what stood before still stands in front.
     fn write(&self, dest: &mut Writer<'_>) -> Result<(), Self::Error>
@@ -121,7 +124,7 @@ pub trait Asn1Writable: Asn1Type + Sized {
         ensures same_buffer { dest.new.buf.ghost_name ≡ dest.old.buf.ghost_name }
         ensures ok { OnOk result (Appends (Self.der.texts (Self.der.meaning self.now)) dest.old.buf.now.bytes dest.new.buf.now.bytes) }
         ensures err { OnErr result (KeepsFront dest.old.buf.now.bytes dest.new.buf.now.bytes) }
-        ensures error { IfErr result (Refuses Self.Error.from_gives (named self.now)) };
+        ensures error { IfErr result (Refuses Self.Error.from_gives (write_errors self.now)) };
 
     /// How many octets the value's text has, where that is known without writing it.
     fn encoded_length(&self) -> Option<usize>
@@ -134,7 +137,7 @@ pub trait SimpleAsn1Writable: Asn1Type + Sized {
     type Error: From<WriteError>;
 
     // The errors that a write may answer, beside want of memory.
-    ghost refusals: { Self → Self.Error → Type 0 };
+    ghost write_errors: { Self → Self.Error → Type 0 };
 
     /// The type's tag.
     fn tag() -> Tag
@@ -146,7 +149,7 @@ pub trait SimpleAsn1Writable: Asn1Type + Sized {
         requires { Self.der.content.closures (Self.der.meaning self.now) }
         ensures ok { OnOk result (Appends (Self.der.content.texts (Self.der.meaning self.now)) dest.old.bytes dest.new.bytes) }
         ensures err { OnErr result (KeepsFront dest.old.bytes dest.new.bytes) }
-        ensures error { IfErr result (Refuses Self.Error.from_gives (refusals self.now)) };
+        ensures error { IfErr result (Refuses Self.Error.from_gives (write_errors self.now)) };
 
     /// How many contents octets the value has, where that is known without writing them.
     fn data_length(&self) -> Option<usize>
@@ -176,7 +179,7 @@ impl<'a, T: SimpleAsn1Readable<'a>> Asn1Readable<'a> for T {
 impl<T: SimpleAsn1Writable> Asn1Writable for T {
     type Error = T::Error;
 
-    ghost named = { T.refusals };
+    ghost write_errors = { T.write_errors };
 
     #[inline]
     fn write(&self, dest: &mut Writer<'_>) -> Result<(), T::Error> {
@@ -208,7 +211,7 @@ impl<'a> Asn1Readable<'a> for Tlv<'a> {
         ensures rest { EndsWith parser.old parser.new }
         ensures stops { OnErr result (parser.new ≡ parser.old) }
     {
-        with_no_place(parser.read_tlv())
+        kind_as_error(parser.read_tlv())
     }
 
     #[inline]
@@ -225,7 +228,7 @@ impl Asn1Writable for Tlv<'_> {
 
     type Error = WriteError;
 
-    ghost named = { λ _ _. ⊥ };
+    ghost write_errors = { λ _ _. ⊥ };
 
     #[inline]
     fn write(&self, dest: &mut Writer<'_>) -> WriteResult<()> {
@@ -255,7 +258,7 @@ impl Asn1Writable for &Tlv<'_> {
 
     type Error = WriteError;
 
-    ghost named = { λ _ _. ⊥ };
+    ghost write_errors = { λ _ _. ⊥ };
 
     #[inline]
     fn write(&self, dest: &mut Writer<'_>) -> WriteResult<()> {
@@ -293,7 +296,7 @@ impl<'a> SimpleAsn1Readable<'a> for bool {
 impl SimpleAsn1Writable for bool {
     type Error = WriteError;
 
-    ghost refusals = { λ _ _. ⊥ };
+    ghost write_errors = { λ _ _. ⊥ };
 
     fn tag() -> Tag {
         Tag::primitive(0x01)

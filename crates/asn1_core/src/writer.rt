@@ -8,8 +8,12 @@ ghost use Rattle.asn1_core.specs.Closures.{IsWriter, WriterCall, MayAnswer};
 ghost use Rattle.asn1_core.specs.Writing.{Refuses, IsElementOf, full_count};
 ghost use Rattle.asn1_core.specs.declared.writer.WriteError.TheVariants.{AllocationError};
 
+mod sets;
+
 use crate::tag::{Tag, explicit_tag, implicit_tag};
 use crate::types::{Asn1Writable, SimpleAsn1Writable};
+use sets::Span;
+pub use sets::{SetElementWriter, SetOfWriter, SetWriter};
 use std::alloc::{AllocError, Global};
 use std::error::Error;
 use std::fmt;
@@ -49,27 +53,27 @@ impl From<AllocError> for WriteError {
 pub type WriteResult<T> = Result<T, WriteError>;
 
 /// How many octets the longest text of a length has.
-const MAX_LENGTH_TEXT: usize = 9;
+const MAX_LENGTH_OCTETS: usize = 9;
 
 /// The place of the last of them.
-const LAST: usize = MAX_LENGTH_TEXT - 1;
+const LAST_LENGTH_OCTET: usize = MAX_LENGTH_OCTETS - 1;
 
 /// The octets of a length, at the end of an array.
 #[derive(Drop)]
 struct LengthText {
-    octets: [u8; MAX_LENGTH_TEXT],
+    octets: [u8; MAX_LENGTH_OCTETS],
     start: usize,
 }
 
 impl Model for LengthText {
     ghost use Rattle.std.specs.Prelude.{List, ℕ, drop, length, ◌≤◌, ◌≡◌};
-    ghost use Rattle.asn1_core.specs.declared.writer.TheConstants.{MAX_LENGTH_TEXT};
+    ghost use Rattle.asn1_core.specs.declared.writer.TheConstants.{MAX_LENGTH_OCTETS};
 
     ghost Value = { List ℕ };
 
     ghost view = { λ text. drop text.start text.octets };
 
-    ghost invariant = { λ text. (text.start ≤ MAX_LENGTH_TEXT) × (length text.octets ≡ MAX_LENGTH_TEXT) };
+    ghost invariant = { λ text. (text.start ≤ MAX_LENGTH_OCTETS) × (length text.octets ≡ MAX_LENGTH_OCTETS) };
 }
 
 impl LengthText {
@@ -77,24 +81,24 @@ impl LengthText {
     fn new(n: usize) -> LengthText
         ensures text { result ≡ length_text n }
         ensures some { 0 < length result }
-        ensures most { length result ≤ MAX_LENGTH_TEXT }
+        ensures most { length result ≤ MAX_LENGTH_OCTETS }
     {
-        let mut octets = [0u8; MAX_LENGTH_TEXT];
+        let mut octets = [0u8; MAX_LENGTH_OCTETS];
         if n < 0x80 {
-            octets[LAST] = n as u8;
+            octets[LAST_LENGTH_OCTET] = n as u8;
             return LengthText {
                 octets,
-                start: LAST,
+                start: LAST_LENGTH_OCTET,
             };
         }
-        let mut start = MAX_LENGTH_TEXT;
+        let mut start = MAX_LENGTH_OCTETS;
         let mut rest = n;
         while rest > 0 {
             start -= 1;
             octets[start] = (rest & 0xff) as u8;
             rest >>= 8;
         }
-        let count = MAX_LENGTH_TEXT - start;
+        let count = MAX_LENGTH_OCTETS - start;
         start -= 1;
         octets[start] = 0x80 | count as u8;
         LengthText { octets, start }
@@ -108,7 +112,7 @@ impl LengthText {
 }
 
 /// How many octets an element has, by its tag and the length of its content. `None` where they pass `usize`.
-pub(crate) fn full_length(tag: Tag, content_length: usize) -> Option<usize>
+pub fn full_length(tag: Tag, content_length: usize) -> Option<usize>
     ensures value { SomeIff result (full_count tag content_length < 2 ^ 64) (full_count tag content_length) }
     ensures fits { content_length < 2 ^ 63 → full_count tag content_length < 2 ^ 64 }
 {
@@ -212,6 +216,53 @@ impl WriteBuf {
         Ok(())
     }
 
+    /// An empty buffer over the same memory.
+    fn spare(&self) -> WriteBuf
+        ensures { result.bytes ≡ [] }
+    {
+        let alloc: Global = *self.octets.allocator();
+        WriteBuf {
+            octets: Vec::new(alloc),
+        }
+    }
+
+    /// An empty list over the same memory.
+    fn no_spans(&self) -> Vec<Span>
+        ensures { result.items ≡ [] }
+    {
+        let alloc: Global = *self.octets.allocator();
+        Vec::new(alloc)
+    }
+
+    fn as_slice(&self) -> &[u8]
+        ensures { result.now ≡ self.now.bytes }
+    {
+        self.octets.as_slice()
+    }
+
+    /// Appends octets that stand in the buffer.
+    fn push_part(&mut self, span: &Span) -> WriteResult<()>
+        requires { span.now.from + span.now.len ≤ length self.old.bytes }
+        ensures ok { OnOk result (self.new.bytes ≡ self.old.bytes ++ take span.now.len (drop span.now.from self.old.bytes)) }
+        ensures err { OnErr result (self.new.bytes ≡ self.old.bytes) }
+        ensures error { IsOkUnless result WriteError.AllocationError }
+    {
+        self.octets
+            .extend_from_within(span.from..span.from + span.len)?;
+        Ok(())
+    }
+
+    /// Moves what stands from `from` on down to `to`, over what stands between.
+    fn move_down(&mut self, to: usize, from: usize)
+        requires ordered { to ≤ from }
+        requires within { from ≤ length self.old.bytes }
+        ensures { self.new.bytes ≡ take to self.old.bytes ++ drop from self.old.bytes }
+    {
+        let len = self.octets.len();
+        self.octets.copy_within(from..len, to);
+        self.octets.truncate(to + (len - from));
+    }
+
     /// Keeps the first octets alone.
     pub(crate) fn truncate(&mut self, len: usize)
         ensures { self.new.bytes ≡ take len self.old.bytes }
@@ -262,7 +313,7 @@ impl<'a> Writer<'a> {
         ensures error { IfErr result (Refused F.FnOnce body E.From.from_gives) }
     {
         let before = self.buf.len();
-        match self.put_tlv(tag, content_length, body) {
+        match self.write_tlv_or_part(tag, content_length, body) {
             Ok(()) => Ok(()),
             Err(e) => {
                 self.buf.truncate(before);
@@ -279,10 +330,10 @@ impl<'a> Writer<'a> {
         ensures same_buffer { self.new.buf.ghost_name ≡ self.old.buf.ghost_name }
         ensures ok { OnOk result (Appends (T.der.texts (T.der.meaning val.now)) self.old.buf.now.bytes self.new.buf.now.bytes) }
         ensures err { OnErr result (self.new.buf.now.bytes ≡ self.old.buf.now.bytes) }
-        ensures error { IfErr result (Refuses T.Error.from_gives (T.named val.now)) }
+        ensures error { IfErr result (Refuses T.Error.from_gives (T.write_errors val.now)) }
     {
         let before = self.buf.len();
-        match self.put_element(val) {
+        match self.write_element_or_part(val) {
             Ok(()) => Ok(()),
             Err(e) => {
                 self.buf.truncate(before);
@@ -301,7 +352,7 @@ impl<'a> Writer<'a> {
         ensures same_buffer { self.new.buf.ghost_name ≡ self.old.buf.ghost_name }
         ensures ok { OnOk result (Appends (IsElementOf (explicit_tag_of tag) (T.der.texts (T.der.meaning val.now))) self.old.buf.now.bytes self.new.buf.now.bytes) }
         ensures err { OnErr result (self.new.buf.now.bytes ≡ self.old.buf.now.bytes) }
-        ensures error { IfErr result (Refuses T.Error.from_gives (T.named val.now)) }
+        ensures error { IfErr result (Refuses T.Error.from_gives (T.write_errors val.now)) }
     {
         let tag = explicit_tag(tag);
         self.write_tlv(
@@ -324,18 +375,18 @@ impl<'a> Writer<'a> {
         ensures same_buffer { self.new.buf.ghost_name ≡ self.old.buf.ghost_name }
         ensures ok { OnOk result (Appends (IsElementOf (implicit_tag_of tag T.der.content.tag) (T.der.content.texts (T.der.meaning val.now))) self.old.buf.now.bytes self.new.buf.now.bytes) }
         ensures err { OnErr result (self.new.buf.now.bytes ≡ self.old.buf.now.bytes) }
-        ensures error { IfErr result (Refuses T.Error.from_gives (T.refusals val.now)) }
+        ensures error { IfErr result (Refuses T.Error.from_gives (T.write_errors val.now)) }
     {
         let tag = implicit_tag(tag, T::tag());
         self.write_tlv(tag, val.data_length(), |dest| val.write_data(dest))
     }
 
-    fn put_element<T: Asn1Writable>(&mut self, val: &T) -> Result<(), T::Error>
+    fn write_element_or_part<T: Asn1Writable>(&mut self, val: &T) -> Result<(), T::Error>
         requires { T.der.closures (T.der.meaning val.now) }
         ensures same_buffer { self.new.buf.ghost_name ≡ self.old.buf.ghost_name }
         ensures ok { OnOk result (Appends (T.der.texts (T.der.meaning val.now)) self.old.buf.now.bytes self.new.buf.now.bytes) }
         ensures err { OnErr result (KeepsFront self.old.buf.now.bytes self.new.buf.now.bytes) }
-        ensures error { IfErr result (Refuses T.Error.from_gives (T.named val.now)) }
+        ensures error { IfErr result (Refuses T.Error.from_gives (T.write_errors val.now)) }
     {
         if let Some(len) = val.encoded_length() {
             self.buf.reserve_additional(len)?;
@@ -343,7 +394,7 @@ impl<'a> Writer<'a> {
         val.write(self)
     }
 
-    fn put_tlv<E: From<WriteError>, F: FnOnce(&mut WriteBuf) -> Result<(), E>>(
+    fn write_tlv_or_part<E: From<WriteError>, F: FnOnce(&mut WriteBuf) -> Result<(), E>>(
         &mut self,
         tag: Tag,
         content_length: Option<usize>,
@@ -398,7 +449,7 @@ pub fn write_single<T: Asn1Writable>(alloc: Global, value: &T) -> Result<Vec<u8>
     requires { T.der.closures (T.der.meaning value.now) }
     ensures ok { IfOk result (λ v. T.der.texts (T.der.meaning value.now) v.items) }
     ensures text { T.der.plain → IfOk result (λ v. v.items ≡ T.der.text (T.der.meaning value.now)) }
-    ensures error { IfErr result (Refuses T.Error.from_gives (T.named value.now)) }
+    ensures error { IfErr result (Refuses T.Error.from_gives (T.write_errors value.now)) }
 {
     write(alloc, |writer: &mut Writer<'_>| writer.write_element(value))
 }

@@ -216,7 +216,7 @@ impl<'a> SimpleAsn1Readable<'a> for Code {
 impl SimpleAsn1Writable for Code {
     type Error = WriteError;
 
-    ghost refusals = { λ _ _. ⊥ };
+    ghost write_errors = { λ _ _. ⊥ };
 
     fn tag() -> Tag {
         Tag::primitive(0x0a)

@@ -1,5 +1,5 @@
 -- Each number has one content, and the first nine bits tell whether a text is one.
-use Rattle.std.proofs.Common.{◌≡◌, ℕ, zero, suc, ◌+◌, ◌-◌, ◌*◌, ◌^◌, ◌<◌, ◌≤◌, ◌⊎◌, ◌↔◌, Bool, true, false, cond, eqb, ◌||◌, List, [], ◌∷◌, length, get_or, Result, Ok, Err, refl, sym, ap, subst, ◌∙◌, inl, inr, arith, lit<, lit≤}
+use Rattle.std.proofs.Common.{◌≡◌, ℕ, zero, suc, ◌+◌, ◌-◌, ◌*◌, ◌^◌, ◌<◌, ◌≤◌, ◌⊎◌, ◌↔◌, Bool, true, false, cond, eqb, ◌||◌, List, [], ◌∷◌, length, get_or, Result, Ok, Err, IfErr, refl, sym, ap, subst, ◌∙◌, inl, inr, arith, lit<, lit≤}
 use Rattle.std.specs.Prelude.{ℤ, pos, negsuc, ◌-ℤ◌, ◌≤ℤ◌, ◌<ℤ◌, int_lt}
 use Rattle.std.specs.Int.Digits.{digits_of}
 use Rattle.std.proofs.lemmas.Int.{ints}
@@ -8,11 +8,12 @@ use Rattle.std.proofs.lemmas.Bool.{le-leb, lt-leb, ne_eqb, eqb-true, eqb-false, 
 use Rattle.std.proofs.lemmas.List.{length-map}
 use Rattle.std.proofs.Math.Nat.{pow-suc, add-mul}
 use Rattle.asn1_core.specs.Text.{IsText, number, signed_number}
-use Rattle.asn1_core.specs.Integer.{IsIntegerContent, nine_bits, is_shortest, with_sign, turned, integer_content, read_integer, below, within_range, read_sized}
-use Rattle.asn1_core.specs.Fault.{Fault, fault}
+use Rattle.asn1_core.specs.Integer.{IsIntegerContent, nine_bits, is_minimal, with_sign, turned, integer_content, read_integer, below, within_range, read_sized}
+use Rattle.asn1_core.specs.Fault.{Fault, fault, IsOfText}
 use Rattle.asn1_core.specs.Lemmas.Digits.{digits_back, number_by_digits, Leads}
 use Rattle.asn1_core.specs.Lemmas.Results.{ok_is, passed, bind_ok}
-use Rattle.asn1_core.specs.declared.parser.ParseErrorKind.TheVariants.{InvalidValue, IntegerOverflow}
+use Rattle.asn1_core.specs.Lemmas.Faults.{bind_faults, passed_faults, missed_faults}
+use Rattle.asn1_core.specs.declared.parser.ParseErrorKind.TheVariants.{AllocationError, InvalidValue, IntegerOverflow}
 
 -- ---- each bit turned
 
@@ -60,22 +61,22 @@ signed_high c is h = rw (le-leb 128 (get_or c 0 0) h) (less (number c) (number (
 
 -- ---- the first nine bits
 
-pub nine_shortest : (x y : ℕ) (ys : List ℕ) → 0 < nine_bits x y → nine_bits x y < 511 → is_shortest (x ∷ y ∷ ys) ≡ true
+pub nine_shortest : (x y : ℕ) (ys : List ℕ) → 0 < nine_bits x y → nine_bits x y < 511 → is_minimal (x ∷ y ∷ ys) ≡ true
 nine_shortest x y ys low high = rw (ne_eqb (nine_bits x y) 0 (λ e. omega arith), ne_eqb (nine_bits x y) 511 (λ e. omega arith)) refl
 
-pub shortest_nine : (x y : ℕ) (ys : List ℕ) → is_shortest (x ∷ y ∷ ys) ≡ true → (nine_bits x y ≡ 0 → ⊥) × (nine_bits x y ≡ 511 → ⊥)
+pub shortest_nine : (x y : ℕ) (ys : List ℕ) → is_minimal (x ∷ y ∷ ys) ≡ true → (nine_bits x y ≡ 0 → ⊥) × (nine_bits x y ≡ 511 → ⊥)
 shortest_nine x y ys e =
     let none = or_parts (eqb (nine_bits x y) 0) (eqb (nine_bits x y) 511) (not-true (eqb (nine_bits x y) 0 || eqb (nine_bits x y) 511) e) in
     (eqb-false _ _ none.0, eqb-false _ _ none.1)
 
-pub longer_nine : (x y : ℕ) (ys : List ℕ) → is_shortest (x ∷ y ∷ ys) ≡ false → (nine_bits x y ≡ 0) ⊎ (nine_bits x y ≡ 511)
+pub longer_nine : (x y : ℕ) (ys : List ℕ) → is_minimal (x ∷ y ∷ ys) ≡ false → (nine_bits x y ≡ 0) ⊎ (nine_bits x y ≡ 511)
 longer_nine x y ys e =
     elim (or_cases (eqb (nine_bits x y) 0) (eqb (nine_bits x y) 511) (not-false (eqb (nine_bits x y) 0 || eqb (nine_bits x y) 511) e)) [
       | inl h ↦ inl (eqb-true _ _ h)
       | inr h ↦ inr (eqb-true _ _ h)
     ]
 
-pub turned_shortest : (c : List ℕ) → IsText c → is_shortest c ≡ true → is_shortest (turned c) ≡ true
+pub turned_shortest : (c : List ℕ) → IsText c → is_minimal c ≡ true → is_minimal (turned c) ≡ true
 turned_shortest [] is e = e
 turned_shortest (x ∷ []) is e = refl
 turned_shortest (x ∷ y ∷ ys) is e =
@@ -90,7 +91,7 @@ same_low x y ys e h =
     let first : x < 128 = omega arith in
     rw (lt-leb 128 x first, lt-leb 128 y h, e) (ap pos (zero_front (y ∷ ys)))
 
-pub fewer_same : (x y : ℕ) (ys : List ℕ) → IsText (x ∷ y ∷ ys) → is_shortest (x ∷ y ∷ ys) ≡ false → signed_number (x ∷ y ∷ ys) ≡ signed_number (y ∷ ys)
+pub fewer_same : (x y : ℕ) (ys : List ℕ) → IsText (x ∷ y ∷ ys) → is_minimal (x ∷ y ∷ ys) ≡ false → signed_number (x ∷ y ∷ ys) ≡ signed_number (y ∷ ys)
 fewer_same x y ys is e =
     elim (longer_nine x y ys e) [
       | inl h ↦ same_low x y ys (omega arith) (omega arith)
@@ -111,7 +112,7 @@ with_sign_low x xs h = rw (lt-leb 128 x h) refl
 with_sign_high : (x : ℕ) (xs : List ℕ) → 128 ≤ x → with_sign (x ∷ xs) ≡ 0 ∷ x ∷ xs
 with_sign_high x xs h = rw (le-leb 128 x h) refl
 
-sign_only : (c : List ℕ) → IsText c → is_shortest c ≡ true → get_or c 0 0 < 128 → c ≡ with_sign (digits_of 256 (number c))
+sign_only : (c : List ℕ) → IsText c → is_minimal c ≡ true → get_or c 0 0 < 128 → c ≡ with_sign (digits_of 256 (number c))
 sign_only [] is e h = absurd cc
 sign_only (zero ∷ []) is e h = refl
 sign_only (zero ∷ y ∷ ys) is e h =
@@ -126,9 +127,9 @@ record IsSigned (s : List ℕ) (n : ℕ) : Type 0 where
   octets : IsText s
   value : number s ≡ n
   low : get_or s 0 0 < 128
-  shortest : is_shortest s ≡ true
+  shortest : is_minimal s ≡ true
 
-low_shortest : (x : ℕ) (xs : List ℕ) → IsText (x ∷ xs) → 0 < x → x < 128 → is_shortest (x ∷ xs) ≡ true
+low_shortest : (x : ℕ) (xs : List ℕ) → IsText (x ∷ xs) → 0 < x → x < 128 → is_minimal (x ∷ xs) ≡ true
 low_shortest x [] is a b = refl
 low_shortest x (y ∷ ys) is a b = nine_shortest x y ys (omega arith) (omega (arith, is.1.0))
 
@@ -152,7 +153,7 @@ signed_digits n = signed_is (digits_of 256 n) n (all_below_base_digits_of 256 n 
 -- ---- every number
 
 -- a text of which no octet is superfluous is the content of its number
-pub content_only : (c : List ℕ) → IsText c → is_shortest c ≡ true → c ≡ integer_content (signed_number c)
+pub content_only : (c : List ℕ) → IsText c → is_minimal c ≡ true → c ≡ integer_content (signed_number c)
 unfolding integer_content
 content_only c is e =
     elim (cases_lt (get_or c 0 0) 128) [
@@ -166,7 +167,7 @@ unfolding integer_content
 content_text (pos n) = (signed_digits n).octets
 content_text (negsuc n) = turned_text (with_sign (digits_of 256 n))
 
-pub content_shortest : (z : ℤ) → is_shortest (integer_content z) ≡ true
+pub content_shortest : (z : ℤ) → is_minimal (integer_content z) ≡ true
 unfolding integer_content
 content_shortest (pos n) = (signed_digits n).shortest
 content_shortest (negsuc n) = turned_shortest (with_sign (digits_of 256 n)) (signed_digits n).octets (signed_digits n).shortest
@@ -175,7 +176,7 @@ turned_high : (s : List ℕ) → 0 < length s → get_or s 0 0 < 128 → 128 ≤
 turned_high [] l h = absurd (omega arith)
 turned_high (x ∷ xs) l h = omega arith
 
-shortest_some : (c : List ℕ) → is_shortest c ≡ true → 0 < length c
+shortest_some : (c : List ℕ) → is_minimal c ≡ true → 0 < length c
 shortest_some [] e = absurd cc
 shortest_some (x ∷ xs) e = omega arith
 
@@ -193,7 +194,7 @@ content_value (negsuc n) =
 record Shortened (t : List ℕ) : Type 0 where
   text : List ℕ
   octets : IsText text
-  shortest : is_shortest text ≡ true
+  shortest : is_minimal text ≡ true
   same : signed_number text ≡ signed_number t
   fewer : length text ≤ length t
 
@@ -201,14 +202,14 @@ shortened : (t : List ℕ) → IsText t → 0 < length t → Shortened t
 shortened [] is l = absurd (omega arith)
 shortened (x ∷ []) is l = record { text = x ∷ []; octets = is; shortest = refl; same = refl; fewer = omega arith }
 shortened (x ∷ y ∷ ys) is l =
-    elim (cases_Bool (is_shortest (x ∷ y ∷ ys))) [
+    elim (cases_Bool (is_minimal (x ∷ y ∷ ys))) [
       | inl e ↦ record { text = x ∷ y ∷ ys; octets = is; shortest = e; same = refl; fewer = omega arith }
       | inr e ↦
           let s = shortened (y ∷ ys) is.1 (omega arith) in
           record { text = s.text; octets = s.octets; shortest = s.shortest; same = s.same ∙ sym (fewer_same x y ys is e); fewer = omega (arith, s.fewer) }
     ]
 
-pub is_content : (c : List ℕ) → IsText c → is_shortest c ≡ true → IsIntegerContent c (signed_number c)
+pub is_content : (c : List ℕ) → IsText c → is_minimal c ≡ true → IsIntegerContent c (signed_number c)
 is_content c is e = record {
   octets = is;
   some = shortest_some c e;
@@ -222,11 +223,11 @@ is_content c is e = record {
 pub content_is : (z : ℤ) → IsIntegerContent (integer_content z) z
 content_is z = subst (λ (x : ℤ). IsIntegerContent (integer_content z) x) (content_value z) (is_content (integer_content z) (content_text z) (content_shortest z))
 
-pub is_content_shortest : (c : List ℕ) (z : ℤ) → IsIntegerContent c z → is_shortest c ≡ true
+pub is_content_shortest : (c : List ℕ) (z : ℤ) → IsIntegerContent c z → is_minimal c ≡ true
 is_content_shortest [] z is = absurd (omega (arith, is.some))
 is_content_shortest (x ∷ []) z is = refl
 is_content_shortest (x ∷ y ∷ ys) z is =
-    elim (cases_Bool (is_shortest (x ∷ y ∷ ys))) [
+    elim (cases_Bool (is_minimal (x ∷ y ∷ ys))) [
       | inl e ↦ e
       | inr e ↦ absurd (is.shortest (y ∷ ys) is.octets.1 (omega arith) (omega arith) (sym (fewer_same x y ys is.octets e) ∙ is.value))
     ]
@@ -234,10 +235,10 @@ is_content_shortest (x ∷ y ∷ ys) z is =
 pub is_content_only : (c : List ℕ) (z : ℤ) → IsIntegerContent c z → c ≡ integer_content z
 is_content_only c z is = content_only c is.octets (is_content_shortest c z is) ∙ ap integer_content is.value
 
-pub nine_bits_tell : (x y : ℕ) (ys : List ℕ) → IsText (x ∷ y ∷ ys) → (is_shortest (x ∷ y ∷ ys) ≡ false) ↔ (signed_number (x ∷ y ∷ ys) ≡ signed_number (y ∷ ys))
+pub nine_bits_tell : (x y : ℕ) (ys : List ℕ) → IsText (x ∷ y ∷ ys) → (is_minimal (x ∷ y ∷ ys) ≡ false) ↔ (signed_number (x ∷ y ∷ ys) ≡ signed_number (y ∷ ys))
 nine_bits_tell x y ys is = (
   fewer_same x y ys is,
-  λ same. elim (cases_Bool (is_shortest (x ∷ y ∷ ys))) [
+  λ same. elim (cases_Bool (is_minimal (x ∷ y ∷ ys))) [
     | inl e ↦ absurd ((is_content (x ∷ y ∷ ys) is e).shortest (y ∷ ys) is.1 (omega arith) (omega arith) (sym same))
     | inr e ↦ e
   ],
@@ -245,14 +246,14 @@ nine_bits_tell x y ys is = (
 
 -- ---- reading
 
-pub read_integer_ok : (c : List ℕ) → is_shortest c ≡ true → read_integer c ≡ Ok (signed_number c)
+pub read_integer_ok : (c : List ℕ) → is_minimal c ≡ true → read_integer c ≡ Ok (signed_number c)
 unfolding read_integer
 read_integer_ok c e = rw e refl
 
-pub read_integer_is : (c : List ℕ) (z : ℤ) → read_integer c ≡ Ok z → (is_shortest c ≡ true) × (signed_number c ≡ z)
+pub read_integer_is : (c : List ℕ) (z : ℤ) → read_integer c ≡ Ok z → (is_minimal c ≡ true) × (signed_number c ≡ z)
 unfolding read_integer
 read_integer_is c z e =
-    let p = passed (is_shortest c) (Ok (signed_number c)) _ z e in
+    let p = passed (is_minimal c) (Ok (signed_number c)) _ z e in
     (p.0, ok_is (signed_number c) z p.1)
 
 pub reads_contents_alone : (c : List ℕ) (z : ℤ) → IsText c → (read_integer c ≡ Ok z) ↔ IsIntegerContent c z
@@ -294,11 +295,11 @@ range_takes low high z m e =
     let under : z ≤ℤ high = let h = second.0 in omega (arith, ints) in
     (same, subst (λ (x : ℤ). (low ≤ℤ x) × (x ≤ℤ high)) same (above, under))
 
-pub sized_ok : (low high : ℤ) (c : List ℕ) (r : Result ℤ Fault) → is_shortest c ≡ true → within_range low high (signed_number c) ≡ r → read_sized low high c ≡ r
+pub sized_ok : (low high : ℤ) (c : List ℕ) (r : Result ℤ Fault) → is_minimal c ≡ true → within_range low high (signed_number c) ≡ r → read_sized low high c ≡ r
 unfolding read_sized
 sized_ok low high c r e f = rw (read_integer_ok c e) f
 
-pub sized_refused : (low high : ℤ) (c : List ℕ) → is_shortest c ≡ false → read_sized low high c ≡ Err (fault InvalidValue)
+pub sized_refused : (low high : ℤ) (c : List ℕ) → is_minimal c ≡ false → read_sized low high c ≡ Err (fault InvalidValue)
 unfolding read_sized read_integer
 sized_refused low high c e = rw e refl
 
@@ -312,3 +313,17 @@ sized_takes low high c m is e =
 
 pub sized_again : (low high : ℤ) (m : ℤ) → (low ≤ℤ m) × (m ≤ℤ high) → read_sized low high (integer_content m) ≡ Ok m
 sized_again low high m range = sized_ok low high (integer_content m) (Ok m) (content_shortest m) (ap (within_range low high) (content_value m) ∙ range_ok low high m range.0 range.1)
+
+-- ---- no fault is want of memory
+
+pub integer_faults : (c : List ℕ) → IfErr (read_integer c) IsOfText
+unfolding read_integer
+integer_faults c = passed_faults (is_minimal c) (Ok (signed_number c)) InvalidValue tt (λ e. cc)
+
+below_kind : (low : ℤ) → below low ≡ AllocationError → ⊥
+below_kind (pos n) = λ e. cc
+below_kind (negsuc n) = λ e. cc
+
+pub sized_faults : (low high : ℤ) (c : List ℕ) → IfErr (read_sized low high c) IsOfText
+unfolding read_sized
+sized_faults low high c = bind_faults (read_integer c) (within_range low high) (integer_faults c) (λ z. missed_faults (int_lt z low) (below low) _ (below_kind low) (missed_faults (int_lt high z) IntegerOverflow (Ok z) (λ e. cc) tt))

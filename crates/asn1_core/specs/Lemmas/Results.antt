@@ -3,7 +3,7 @@ use Rattle.std.proofs.Common.{◌≡◌, List, [], Bool, true, false, cond, Resu
 use Rattle.asn1_core.specs.declared.parser.ParseErrorKind.{ParseErrorKind}
 use Rattle.asn1_core.specs.declared.parser.Place.{Place}
 use Rattle.asn1_core.specs.Element.{◌>>=◌}
-use Rattle.asn1_core.specs.Fault.{Fault, fault, framed, Gives}
+use Rattle.asn1_core.specs.Fault.{Fault, fault, framed, AnswersError}
 use Rattle.asn1_core.specs.Reading.{Answers}
 
 -- a result at Ok
@@ -35,6 +35,6 @@ no_place : (e : Fault) → e.places ≡ [] → fault e.kind ≡ e
 no_place e none = ap (λ (places : List Place). record { kind = e.kind; places = places }) (sym none)
 
 -- what framing gave is what a reading answers
-pub given : {V A : Type 0} (view : V → A) (r : Result V Fault) (answer : Result A ParseErrorKind) → Gives view r answer → Answers view (λ places. ⊥) r (framed answer)
+pub given : {V A : Type 0} (view : V → A) (r : Result V Fault) (answer : Result A ParseErrorKind) → AnswersError view r answer → Answers view (λ places. ⊥) r (framed answer)
 given view (Ok v) answer e = rw e refl
 given view (Err f) answer e = inl (rw (e.0, no_place f e.1) refl)

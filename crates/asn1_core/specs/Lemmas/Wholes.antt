@@ -1,15 +1,17 @@
 -- Texts that are read to their end.
-use Rattle.std.proofs.Common.{◌≡◌, ℕ, ◌<◌, ◌^◌, Bool, false, List, [], ◌∷◌, ◌++◌, length, Result, Ok, Err, refl, ap, ◌∙◌, ◌⊎◌, inl, inr, arith}
+use Rattle.std.proofs.Common.{◌≡◌, ℕ, ◌<◌, ◌^◌, Bool, true, false, List, [], ◌∷◌, ◌++◌, length, Result, Ok, Err, IfErr, refl, ap, subst, ◌∙◌, ◌⊎◌, inl, inr, arith}
 use Rattle.std.specs.Prelude.{IfOk}
 use Rattle.std.proofs.lemmas.List.{append-nil}
 use Rattle.asn1_core.specs.declared.parser.Place.{Place}
 use Rattle.asn1_core.specs.declared.tag.Tag.{Tag}
 use Rattle.asn1_core.specs.Text.{IsText}
+use Rattle.asn1_core.specs.Tag.{tag_text}
+use Rattle.asn1_core.specs.Length.{length_text}
 use Rattle.asn1_core.specs.Element.{element_text}
-use Rattle.asn1_core.specs.Fault.{Fault}
-use Rattle.asn1_core.specs.Reading.{stands, Answers, IsRefusal, Finished, Takes, Fits, IsAccepted, all_taken, whole}
-use Rattle.asn1_core.specs.Lemmas.Tags.{tag_none}
-use Rattle.asn1_core.specs.Lemmas.Elements.{content_less}
+use Rattle.asn1_core.specs.Fault.{Fault, IsOfText}
+use Rattle.asn1_core.specs.Reading.{stands, Answers, IsRefusal, IsHandedOn, Takes, Fits, IsOneElement, all_taken, whole}
+use Rattle.asn1_core.specs.Lemmas.Tags.{tag_none, tag_ok}
+use Rattle.asn1_core.specs.Lemmas.Elements.{content_less, regroup}
 use Rattle.asn1_core.specs.Lemmas.Results.{ok_is, bind_ok}
 
 taken_is : {M : Type 0} (m x : M) (rest : List ℕ) → all_taken m rest ≡ Ok x → (rest ≡ []) × (m ≡ x)
@@ -22,6 +24,13 @@ gave m rest = Ok (m, rest)
 -- nothing stands in an empty text
 pub stands-nil : (accepts : Tag → Bool) → stands accepts [] ≡ false
 stands-nil accepts = rw (tag_none [] refl) refl
+
+-- an element with an accepted tag stands in front of a text
+pub stands_tag : (accepts : Tag → Bool) (text rest : List ℕ) (one : IsOneElement text) → accepts one.element.tag ≡ true → stands accepts (text ++ rest) ≡ true
+stands_tag accepts text rest one a =
+    let e = one.element in
+    let at : text ++ rest ≡ tag_text e.tag ++ (length_text (length e.content) ++ (e.content ++ rest)) = ap (λ (t : List ℕ). t ++ rest) one.is ∙ regroup e rest in
+    rw (at, tag_ok e.tag (length_text (length e.content) ++ (e.content ++ rest)) one.readable) a
 
 -- what is read to its end is a text
 pub whole_is : {M : Type 0} (text : M → List ℕ) (valid : M → Type 0) (read : List ℕ → Result (M × List ℕ) Fault) →
@@ -47,8 +56,8 @@ found view out text valid read law t (Ok v) is e =
     (w.0.is ∙ append-nil (text (view v)), w.1)
 found view out text valid read law t (Err f) is e = tt
 
--- a text that is nothing or an accepted element fits, where it stands inside a content that can be read
-pub fits_inside : (text : List ℕ) {accepts : _} → (text ≡ []) ⊎ IsAccepted accepts text → length text < 2 ^ 32 → Fits text
+-- a text that is nothing or one element fits, where it stands inside a content that can be read
+pub fits_inside : (text : List ℕ) → (text ≡ []) ⊎ IsOneElement text → length text < 2 ^ 32 → Fits text
 fits_inside text (inl none) small = inl none
 fits_inside text (inr a) small =
     let same : length text ≡ length (element_text a.element) = ap length a.is in
@@ -66,8 +75,14 @@ whole_refusal out read e (inr is) = inr is
 
 -- what a closure answered, once nothing may be left
 pub closed : {V M : Type 0} (view : V → M) (out : List Place → Type 0) (read : Result (M × List ℕ) Fault) (answer result : Result V Fault) (rest : List ℕ) →
-    Answers (λ v. (view v, rest)) out answer read → Finished (λ x y. y ≡ x) answer rest result → Answers view out result (whole read)
+    Answers (λ v. (view v, rest)) out answer read → IsHandedOn (λ x y. y ≡ x) answer rest result → Answers view out result (whole read)
 closed view out read (Err e) result rest h f = rw f (whole_refusal out read e h)
 closed view out read (Ok v) result [] h f = rw (f, h) refl
 closed view out read (Ok v) (Ok w) (octet ∷ octets) h f = absurd f
 closed view out read (Ok v) (Err e) (octet ∷ octets) h f = inl (rw (h, ← f) refl)
+
+-- where no memory is taken, a fault is one of the text
+pub of_text : {V M : Type 0} (view : V → M) (out : List Place → Type 0) (result : Result V Fault) (read : Result M Fault) → Answers view out result read → IfErr read IsOfText → ((places : List Place) → out places → ⊥) → IfErr result IsOfText
+of_text view out (Ok v) read h law none = tt
+of_text view out (Err e) read (inl h) law none = subst (λ (r : Result _ Fault). IfErr r IsOfText) h law
+of_text view out (Err e) read (inr h) law none = absurd (none e.places h.1)

@@ -34,7 +34,7 @@ impl<'a, T: SimpleAsn1Readable<'a>> SimpleAsn1Readable<'a> for Box<T> {
 impl<T: SimpleAsn1Writable> SimpleAsn1Writable for Box<T> {
     type Error = T::Error;
 
-    ghost refusals = { λ v. T.refusals v.value };
+    ghost write_errors = { λ v. T.write_errors v.value };
 
     fn tag() -> Tag {
         T::tag()
@@ -52,7 +52,7 @@ impl<T: SimpleAsn1Writable> SimpleAsn1Writable for Box<T> {
 impl<T: SimpleAsn1Writable> SimpleAsn1Writable for &T {
     type Error = T::Error;
 
-    ghost refusals = { λ v. T.refusals v.now };
+    ghost write_errors = { λ v. T.write_errors v.now };
 
     fn tag() -> Tag {
         T::tag()

@@ -2,7 +2,7 @@
 
 ghost use Rattle.std.specs.Prelude.{◌≡◌, ℕ, ◌+◌, ◌-◌, ◌^◌, ◌<◌, ◌≤◌, ◌||◌, ◌==◌, ◌++◌, cond, length, pos, neg_ℤ, ◌≤ℤ◌, ◌<ℤ◌, IfOk, OnOk, OnErr, IsOkUnless, Some};
 ghost use Rattle.asn1_core.specs.Text.{number, signed_number};
-ghost use Rattle.asn1_core.specs.Integer.{nine_bits, is_shortest, integer_content, below, read_sized};
+ghost use Rattle.asn1_core.specs.Integer.{nine_bits, is_minimal, integer_content, below, read_sized};
 ghost use Rattle.asn1_core.specs.Fault.{fault};
 ghost use Rattle.asn1_core.specs.Reading.{Answers};
 ghost use Rattle.asn1_core.specs.declared.writer.WriteError.TheVariants.{AllocationError};
@@ -17,7 +17,7 @@ use crate::writer::{WriteBuf, WriteError, WriteResult};
 use std::marker::Model;
 
 /// A content with more octets is no number of a type here.
-const MOST_OCTETS: usize = 9;
+const MAX_CONTENT_OCTETS: usize = 9;
 
 /// The place of the last octet of an `i128`.
 const LAST: usize = 15;
@@ -32,7 +32,7 @@ fn is_superfluous(octet: u8, next: u8) -> bool
 
 /// Whether the octets are the content of a number: there are some, and none is superfluous.
 pub fn is_integer_content(octets: &[u8]) -> bool
-    ensures { result ≡ is_shortest octets.now }
+    ensures { result ≡ is_minimal octets.now }
 {
     match octets {
         [] => false,
@@ -43,7 +43,7 @@ pub fn is_integer_content(octets: &[u8]) -> bool
 
 /// The number of at most nine octets.
 fn number(octets: &[u8]) -> u128
-    requires { length octets.now ≤ MOST_OCTETS }
+    requires { length octets.now ≤ MAX_CONTENT_OCTETS }
     ensures value { result ≡ number octets.now }
     ensures small { result < 2 ^ 72 }
 {
@@ -57,7 +57,7 @@ fn number(octets: &[u8]) -> u128
 /// The signed number of one to nine octets.
 fn signed_number(octets: &[u8]) -> i128
     requires some { 0 < length octets.now }
-    requires few { length octets.now ≤ MOST_OCTETS }
+    requires few { length octets.now ≤ MAX_CONTENT_OCTETS }
     ensures { result ≡ signed_number octets.now }
 {
     let number = number(octets) as i128;
@@ -93,7 +93,7 @@ pub(crate) fn read(octets: &[u8], low: i128, high: i128) -> ParseResult<i128>
     if !is_integer_content(octets) {
         return Err(ParseError::new(ParseErrorKind::InvalidValue));
     }
-    if octets.len() > MOST_OCTETS {
+    if octets.len() > MAX_CONTENT_OCTETS {
         return Err(beyond(octets[0] >= 0x80, low));
     }
     let number = signed_number(octets);

@@ -4,7 +4,7 @@ use Rattle.asn1_core.specs.declared.parser.ParseErrorKind.{ParseErrorKind}
 use Rattle.asn1_core.specs.declared.types.Tlv.{Tlv}
 use Rattle.asn1_core.specs.Text.{IsText}
 use Rattle.asn1_core.specs.Element.{Element, IsFront, front}
-use Rattle.asn1_core.specs.Fault.{framed, Tells}
+use Rattle.asn1_core.specs.Fault.{framed, AnswersKind}
 use Rattle.asn1_core.specs.Tlv.{element_of, stripped}
 use Rattle.asn1_core.specs.Laws.{IsShort, with_more}
 use Rattle.asn1_core.specs.Lemmas.Texts.{IsText-from_reads, IsText-both}
@@ -13,14 +13,14 @@ use Rattle.asn1_core.specs.Lemmas.Stands.{answers_stand, fewer_are_short}
 use Rattle.asn1_core.proofs.parser.strip_tlv.Goals as goal
 
 -- what `strip_tlv` gives is what stands in front
-stripped_is : (r : Result (Tlv × Bor (List ℕ)) ParseErrorKind) (answer : Result (Element × List ℕ) ParseErrorKind) → Tells (λ x. (element_of x.0, x.1.now)) r answer → answer ≡ stripped (framed r)
+stripped_is : (r : Result (Tlv × Bor (List ℕ)) ParseErrorKind) (answer : Result (Element × List ℕ) ParseErrorKind) → AnswersKind (λ x. (element_of x.0, x.1.now)) r answer → answer ≡ stripped (framed r)
 stripped_is (Ok x) answer e = e
 stripped_is (Err kind) answer e = e
 
-answer : (c : goal.After-with_no_place) → front c.args.data.now ≡ stripped c.with_no_place.result
-answer c = stripped_is c.tlv_in.result (front c.args.data.now) c.tlv_in.ensures.answer ∙ ap stripped (sym c.with_no_place.ensures)
+answer : (c : goal.After-kind_as_error) → front c.args.data.now ≡ stripped c.kind_as_error.result
+answer c = stripped_is c.tlv_in.result (front c.args.data.now) c.tlv_in.ensures.answer ∙ ap stripped (sym c.kind_as_error.ensures)
 
-is_text : (c : goal.After-with_no_place) → IsText c.args.data.now
+is_text : (c : goal.After-kind_as_error) → IsText c.args.data.now
 is_text c = IsText-from_reads c.args.data.now (λ i. omega (arith, c.type_inv.data i))
 
 pub returns-clause-grammar : goal.returns-clause-grammar

@@ -23,7 +23,7 @@ impl Asn1Type for NonZeroI8 {
 impl SimpleAsn1Writable for NonZeroI8 {
     type Error = WriteError;
 
-    ghost refusals = { λ _ _. ⊥ };
+    ghost write_errors = { λ _ _. ⊥ };
 
     fn tag() -> Tag {
         i8::tag()
@@ -51,7 +51,7 @@ impl Asn1Type for NonZeroI16 {
 impl SimpleAsn1Writable for NonZeroI16 {
     type Error = WriteError;
 
-    ghost refusals = { λ _ _. ⊥ };
+    ghost write_errors = { λ _ _. ⊥ };
 
     fn tag() -> Tag {
         i16::tag()
@@ -79,7 +79,7 @@ impl Asn1Type for NonZeroI32 {
 impl SimpleAsn1Writable for NonZeroI32 {
     type Error = WriteError;
 
-    ghost refusals = { λ _ _. ⊥ };
+    ghost write_errors = { λ _ _. ⊥ };
 
     fn tag() -> Tag {
         i32::tag()
@@ -107,7 +107,7 @@ impl Asn1Type for NonZeroI64 {
 impl SimpleAsn1Writable for NonZeroI64 {
     type Error = WriteError;
 
-    ghost refusals = { λ _ _. ⊥ };
+    ghost write_errors = { λ _ _. ⊥ };
 
     fn tag() -> Tag {
         i64::tag()
@@ -135,7 +135,7 @@ impl Asn1Type for NonZeroU8 {
 impl SimpleAsn1Writable for NonZeroU8 {
     type Error = WriteError;
 
-    ghost refusals = { λ _ _. ⊥ };
+    ghost write_errors = { λ _ _. ⊥ };
 
     fn tag() -> Tag {
         u8::tag()
@@ -163,7 +163,7 @@ impl Asn1Type for NonZeroU16 {
 impl SimpleAsn1Writable for NonZeroU16 {
     type Error = WriteError;
 
-    ghost refusals = { λ _ _. ⊥ };
+    ghost write_errors = { λ _ _. ⊥ };
 
     fn tag() -> Tag {
         u16::tag()
@@ -191,7 +191,7 @@ impl Asn1Type for NonZeroU32 {
 impl SimpleAsn1Writable for NonZeroU32 {
     type Error = WriteError;
 
-    ghost refusals = { λ _ _. ⊥ };
+    ghost write_errors = { λ _ _. ⊥ };
 
     fn tag() -> Tag {
         u32::tag()
@@ -219,7 +219,7 @@ impl Asn1Type for NonZeroU64 {
 impl SimpleAsn1Writable for NonZeroU64 {
     type Error = WriteError;
 
-    ghost refusals = { λ _ _. ⊥ };
+    ghost write_errors = { λ _ _. ⊥ };
 
     fn tag() -> Tag {
         u64::tag()

@@ -33,7 +33,7 @@ impl<'a> SimpleAsn1Readable<'a> for i8 {
 impl SimpleAsn1Writable for i8 {
     type Error = WriteError;
 
-    ghost refusals = { λ _ _. ⊥ };
+    ghost write_errors = { λ _ _. ⊥ };
 
     fn tag() -> Tag {
         Tag::primitive(0x02)
@@ -72,7 +72,7 @@ impl<'a> SimpleAsn1Readable<'a> for i16 {
 impl SimpleAsn1Writable for i16 {
     type Error = WriteError;
 
-    ghost refusals = { λ _ _. ⊥ };
+    ghost write_errors = { λ _ _. ⊥ };
 
     fn tag() -> Tag {
         Tag::primitive(0x02)
@@ -111,7 +111,7 @@ impl<'a> SimpleAsn1Readable<'a> for i32 {
 impl SimpleAsn1Writable for i32 {
     type Error = WriteError;
 
-    ghost refusals = { λ _ _. ⊥ };
+    ghost write_errors = { λ _ _. ⊥ };
 
     fn tag() -> Tag {
         Tag::primitive(0x02)
@@ -150,7 +150,7 @@ impl<'a> SimpleAsn1Readable<'a> for i64 {
 impl SimpleAsn1Writable for i64 {
     type Error = WriteError;
 
-    ghost refusals = { λ _ _. ⊥ };
+    ghost write_errors = { λ _ _. ⊥ };
 
     fn tag() -> Tag {
         Tag::primitive(0x02)

@@ -33,7 +33,7 @@ impl<'a> SimpleAsn1Readable<'a> for u8 {
 impl SimpleAsn1Writable for u8 {
     type Error = WriteError;
 
-    ghost refusals = { λ _ _. ⊥ };
+    ghost write_errors = { λ _ _. ⊥ };
 
     fn tag() -> Tag {
         Tag::primitive(0x02)
@@ -72,7 +72,7 @@ impl<'a> SimpleAsn1Readable<'a> for u16 {
 impl SimpleAsn1Writable for u16 {
     type Error = WriteError;
 
-    ghost refusals = { λ _ _. ⊥ };
+    ghost write_errors = { λ _ _. ⊥ };
 
     fn tag() -> Tag {
         Tag::primitive(0x02)
@@ -111,7 +111,7 @@ impl<'a> SimpleAsn1Readable<'a> for u32 {
 impl SimpleAsn1Writable for u32 {
     type Error = WriteError;
 
-    ghost refusals = { λ _ _. ⊥ };
+    ghost write_errors = { λ _ _. ⊥ };
 
     fn tag() -> Tag {
         Tag::primitive(0x02)
@@ -150,7 +150,7 @@ impl<'a> SimpleAsn1Readable<'a> for u64 {
 impl SimpleAsn1Writable for u64 {
     type Error = WriteError;
 
-    ghost refusals = { λ _ _. ⊥ };
+    ghost write_errors = { λ _ _. ⊥ };
 
     fn tag() -> Tag {
         Tag::primitive(0x02)

@@ -13,7 +13,7 @@ pub returns-then-low-lt-LONG_FORM : goal.returns-then-low-lt-LONG_FORM
 returns-then-low-lt-LONG_FORM c =
     let text = c.args.octets.now in
     let low = and_mask (get_or text 0 0) 5 in
-    rw (c.tag_in.ensures, c.from.ensures, low, take_rest text 1) (tag_low text c.in-len1-up.len_at_least (omega (arith, low)))
+    rw (c.from_first_octet.ensures, c.from.ensures, low, take_rest text 1) (tag_low text c.in-len1-up.len_at_least (omega (arith, low)))
 
 pub returns-then-number-from : goal.returns-then-number-from
 returns-then-number-from c =
@@ -28,7 +28,7 @@ returns c =
     let text = c.args.octets.now in
     let low = and_mask (get_or text 0 0) 5 in
     let found = c.in-Ok.found in
-    rw c.tag_in-2.ensures (tag_found text found.0 found.1.now c.in-len1-up.len_at_least (omega (arith, low)) (ap number_front (sym (take_rest text 1)) ∙ c.in-Ok.ensures) (omega arith) (omega arith))
+    rw c.from_first_octet-2.ensures (tag_found text found.0 found.1.now c.in-len1-up.len_at_least (omega (arith, low)) (ap number_front (sym (take_rest text 1)) ∙ c.in-Ok.ensures) (omega arith) (omega arith))
 
 pub returns-in-ShortData : goal.returns-in-ShortData
 returns-in-ShortData c =

@@ -11,13 +11,13 @@ pub returns-then-not-is_integer_content-clause-exact : goal.returns-then-not-is_
 returns-then-not-is_integer_content-clause-exact c =
     inl (refused_content c.args.low c.args.high c.args.octets.now c.new.result (sym c.is_integer_content.ensures ∙ c.if-not-is_integer_content.true) c.new.ensures)
 
-pub returns-then-octets-gt-MOST_OCTETS-clause-exact : goal.returns-then-octets-gt-MOST_OCTETS-clause-exact
-returns-then-octets-gt-MOST_OCTETS-clause-exact c =
+pub returns-then-octets-gt-MAX_CONTENT_OCTETS-clause-exact : goal.returns-then-octets-gt-MAX_CONTENT_OCTETS-clause-exact
+returns-then-octets-gt-MAX_CONTENT_OCTETS-clause-exact c =
     let text = c.args.octets.now in
     let shortest = sym c.is_integer_content.ensures ∙ c.if-not-is_integer_content.false in
     let fits : FitsSigned w128 c.args.low = c.ranges.low in
     let fault = simp to_z-of_z at c.beyond.ensures in
-    inl (long_refused c.args.low c.args.high text c.beyond.result (IsText-from_reads text (λ k. omega (arith, c.type_inv.octets k))) shortest c.if-octets-gt-MOST_OCTETS.true c.requires.least c.requires.greatest c.requires.ordered fault)
+    inl (long_refused c.args.low c.args.high text c.beyond.result (IsText-from_reads text (λ k. omega (arith, c.type_inv.octets k))) shortest c.if-octets-gt-MAX_CONTENT_OCTETS.true c.requires.least c.requires.greatest c.requires.ordered fault)
 
 pub returns-then-number-low-clause-exact : goal.returns-then-number-low-clause-exact
 returns-then-number-low-clause-exact c =

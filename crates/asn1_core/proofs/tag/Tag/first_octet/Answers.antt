@@ -2,8 +2,8 @@ use Rattle.std.proofs.Common.{◌≡◌, cond}
 use Rattle.asn1_core.specs.Tag.{class_number}
 use Rattle.asn1_core.specs.Lemmas.Tags.{class_below, bit_cases}
 use Rattle.asn1_core.specs.Lemmas.Lengths.{octet_of}
-use Rattle.asn1_core.proofs.tag.Tag.leading.Goals as goal
-use Rattle.asn1_core.proofs.tag.Tag.leading.Goals.{then-self, else-self}
+use Rattle.asn1_core.proofs.tag.Tag.first_octet.Goals as goal
+use Rattle.asn1_core.proofs.tag.Tag.first_octet.Goals.{then-self, else-self}
 
 pub returns : goal.returns
 returns c =

@@ -1,0 +1,33 @@
+use Rattle.std.proofs.Common.{rules, ◌∙◌, ◌≡◌, ◌-◌, ◌++◌, ◌∷◌, [], length}
+use Rattle.asn1_core.specs.declared.writer.sets.Span.{Span}
+use Rattle.asn1_core.specs.Items.{AnyNames}
+use Rattle.asn1_core.specs.Lemmas.Bodies.{keeps_front_by, keeps_front_on}
+use Rattle.asn1_core.specs.Lemmas.Items.{names_at, exit_names, refuses_more, each_at}
+use Rattle.asn1_core.proofs.Noted.{notes_more}
+use Rattle.asn1_core.proofs.writer.sets.write_items.Goals as goal
+
+pub write_element-requires : goal.write_element-requires
+write_element-requires g c =
+    let d = g.T.Asn1Type.der in
+    each_at d.meaning d.closures c.args.items.now c.loop-item.item-index c.item-item.result c.requires.closures c.loop-item-test.true c.item-item.is
+
+pub returns-in_err-write_element-clause-error : goal.returns-in_err-write_element-clause-error
+returns-in_err-write_element-clause-error g c =
+    exit_names _ _ _ c.from_residual.ensures.1 (refuses_more (g.T.Asn1Writable.write_errors c.item-item.result) (AnyNames g.T.Asn1Writable.write_errors c.args.items.now) _ _ (names_at g.T.Asn1Writable.write_errors c.args.items.now c.loop-item.item-index c.item-item.result _ c.loop-item-test.true c.item-item.is) c.in_err-write_element.ensures.error)
+
+pub loop-item-preserved : goal.loop-item-preserved
+loop-item-preserved g c =
+    let d = g.T.Asn1Type.der in
+    let old = c.loop-item.writer.buf.now.bytes in
+    let new = c.write_element.new.self.buf.now.bytes in
+    let span : Span = record { from = c.len-from.result; len = c.len.result - c.len-from.result } in
+    let pushed : c.push.new.self.items ≡ c.loop-item.spans.items ++ span ∷ [] = search rules in
+    let size : c.len.result ≡ length new = c.len.ensures in
+    let first : c.len-from.result ≡ length old = c.len-from.ensures in
+    let less : span.len ≡ length new - length old = rw (size, first) in
+    let a = c.in_ok-write_element.ensures.ok in
+    record {
+      same_buffer = c.in_ok-write_element.ensures.same_buffer ∙ c.loop-item.invariant.same_buffer;
+      front = keeps_front_on c.loop-item.invariant.front (keeps_front_by a.text a.joined);
+      notes = rw pushed (notes_more (λ v. d.texts (d.meaning v)) c.args.items.now c.loop-item.item-index c.item-item.result old new c.loop-item.spans.items span c.loop-item-test.true c.item-item.is c.loop-item.invariant.notes c.in_ok-write_element.ensures.ok c.len-from.ensures less);
+    }

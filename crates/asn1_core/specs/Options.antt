@@ -1,0 +1,39 @@
+-- Options: a value of the type, or nothing.
+use Rattle.std.specs.Prelude.{ℕ, ◌≡◌, List, [], cond, Result, Ok, Bool, true, Option, Some, None}
+use Rattle.asn1_core.specs.declared.tag.Tag.{Tag}
+use Rattle.asn1_core.specs.declared.parser.Place.{Place}
+use Rattle.asn1_core.specs.Element.{◌>>=◌}
+use Rattle.asn1_core.specs.Fault.{Fault}
+use Rattle.asn1_core.specs.Reading.{stands}
+
+-- What the values mean.
+abbrev pub option_meaning : {V M : Type 0} → (V → M) → Option V → Option M
+option_meaning meaning None = None
+option_meaning meaning (Some v) = Some (meaning v)
+
+-- What is asked of the value that is there.
+abbrev pub IfThere : {M : Type 0} → (M → Type 0) → Option M → Type 0
+IfThere good None = Unit {0}
+IfThere good (Some m) = good m
+
+-- The text of the value that is there, or nothing.
+abbrev pub option_text : {M : Type 0} → (M → List ℕ) → Option M → List ℕ
+option_text text None = []
+option_text text (Some m) = text m
+
+abbrev pub option_texts : {M : Type 0} → (M → List ℕ → Type 0) → Option M → List ℕ → Type 0
+option_texts texts None t = t ≡ []
+option_texts texts (Some m) t = texts m t
+
+-- Where an accepted tag stands in front, a value is read; elsewhere nothing.
+abbrev pub option_read : {M : Type 0} → (Tag → Bool) → (List ℕ → Result (M × List ℕ) Fault) → List ℕ → Result (Option M × List ℕ) Fault
+option_read accepts read t = cond (stands accepts t) (read t >>= λ x. Ok (Some x.0, x.1)) (Ok (None, t))
+
+-- Memory may run out where a value is read.
+abbrev pub option_out : (Tag → Bool) → (List ℕ → List Place → Type 0) → List ℕ → List Place → Type 0
+option_out accepts out t places = (stands accepts t ≡ true) × out t places
+
+-- The errors of the value that is there.
+abbrev pub OptionErrors : {T E : Type 0} → (T → E → Type 0) → Option T → E → Type 0
+OptionErrors named None e = ⊥
+OptionErrors named (Some v) e = named v e

@@ -1,0 +1,279 @@
+//! Sets that are written in ascending order of their elements' texts.
+
+ghost use Rattle.std.specs.Prelude.{◌≡◌, ◌++◌, [], length, map, All, IsPermutation, OnOk, OnErr, IfErr, IsOkUnless, ◌⊎◌};
+ghost use Rattle.std.specs.List.Sorted.{IsSortedBy};
+ghost use Rattle.asn1_core.specs.Buffer.{Appends, KeepsFront};
+ghost use Rattle.asn1_core.specs.Writing.{Refuses};
+ghost use Rattle.asn1_core.specs.Der.{simple_der};
+ghost use Rattle.asn1_core.specs.Items.{Each, AnyNames, set_tag};
+ghost use Rattle.asn1_core.specs.Listing.{join, ListingOf};
+ghost use Rattle.asn1_core.specs.SetWriting.{AddsTo, IsLessThanLast, SetContent, MayRefuseSet, set_closure_written};
+ghost use Rattle.asn1_core.specs.Spans.{part_of, IsBefore, IsWithin, NotesTexts};
+ghost use Rattle.asn1_core.specs.Written.{listing_written};
+ghost use Rattle.asn1_core.specs.declared.writer.WriteError.TheVariants.{AllocationError, InvalidSetOrdering};
+
+use crate::tag::Tag;
+use crate::types::{Asn1Type, Asn1Writable, SimpleAsn1Writable};
+use crate::writer::{WriteBuf, WriteError, WriteResult, Writer};
+use std::marker::{Model, PhantomData};
+use std::mem;
+
+/// Where a text stands in the buffer.
+#[derive(Clone, Copy)]
+pub(crate) struct Span {
+    pub(crate) from: usize,
+    pub(crate) len: usize,
+}
+
+/// The octets of a span, or none where it passes the end.
+fn part<'a>(octets: &'a [u8], span: &Span) -> &'a [u8]
+    ensures { result.now ≡ part_of octets.now span.now }
+{
+    if span.from <= octets.len() && span.len <= octets.len() - span.from {
+        &octets[span.from..span.from + span.len]
+    } else {
+        &octets[..0]
+    }
+}
+
+/// Sorts spans by their octets.
+fn sort_spans(octets: &[u8], spans: &mut Vec<Span>)
+    ensures permutation { IsPermutation spans.old.items spans.new.items }
+    ensures sorted { IsSortedBy (IsBefore octets.now) spans.new.items }
+{
+    spans.sort_unstable_by(|a, b| part(octets, a).cmp(part(octets, b)));
+}
+
+/// Appends the items' texts one after another, and notes where each stands.
+fn write_items<T: Asn1Writable>(
+    items: &[T],
+    dest: &mut WriteBuf,
+    spans: &mut Vec<Span>,
+) -> Result<(), T::Error>
+    requires closures { Each T.der.closures (map T.der.meaning items.now) }
+    requires spans { spans.old.items ≡ [] }
+    ensures ok { OnOk result (NotesTexts (λ v. T.der.texts (T.der.meaning v)) items.now dest.new.bytes spans.new.items) }
+    ensures front { KeepsFront dest.old.bytes dest.new.bytes }
+    ensures error { IfErr result (Refuses T.Error.from_gives (AnyNames T.write_errors items.now)) }
+{
+    let mut writer = Writer::new(dest);
+    for item in items {
+        let from = writer.buf.len();
+        writer.write_element(item)?;
+        let span = Span {
+            from,
+            len: writer.buf.len() - from,
+        };
+        if spans.push(span).is_err() {
+            return Err(T::Error::from(WriteError::AllocationError));
+        }
+    }
+    Ok(())
+}
+
+/// Appends the octets of the spans, which stand in the buffer, in this order.
+fn push_spans(dest: &mut WriteBuf, spans: &[Span]) -> WriteResult<()>
+    requires { All (IsWithin (length dest.old.bytes)) spans.now }
+    ensures ok { OnOk result (dest.new.bytes ≡ dest.old.bytes ++ join (map (part_of dest.old.bytes) spans.now)) }
+    ensures err { OnErr result (KeepsFront dest.old.bytes dest.new.bytes) }
+    ensures error { IsOkUnless result WriteError.AllocationError }
+{
+    for span in spans {
+        dest.push_part(span)?;
+    }
+    Ok(())
+}
+
+/// Appends the listing of the items' texts. The texts are appended as they come, the listing behind them, and then it
+/// is moved down over them.
+fn write_listing<T: Asn1Writable>(items: &[T], dest: &mut WriteBuf) -> Result<(), T::Error>
+    requires { Each T.der.closures (map T.der.meaning items.now) }
+    ensures ok { OnOk result (Appends (ListingOf T.der.texts (map T.der.meaning items.now)) dest.old.bytes dest.new.bytes) }
+    ensures err { OnErr result (KeepsFront dest.old.bytes dest.new.bytes) }
+    ensures error { IfErr result (Refuses T.Error.from_gives (AnyNames T.write_errors items.now)) }
+{
+    let start = dest.len();
+    let mut spans = dest.no_spans();
+    write_items(items, dest, &mut spans)?;
+    let end = dest.len();
+    sort_spans(dest.as_slice(), &mut spans);
+    push_spans(dest, spans.as_slice())?;
+    dest.move_down(start, end);
+    Ok(())
+}
+
+/// The elements of a set: the texts of a slice's items in ascending order, equal ones as often as they stand there.
+#[derive(Clone, PartialEq, Eq, Hash, Drop)]
+pub struct SetOfWriter<'a, T> {
+    items: &'a [T],
+}
+
+impl<'a, T: Asn1Writable> SetOfWriter<'a, T> {
+    /// A set of these items.
+    pub fn new(items: &'a [T]) -> SetOfWriter<'a, T>
+        ensures { result.items.now ≡ items.now }
+    {
+        SetOfWriter { items }
+    }
+}
+
+impl<'a, T: Asn1Type> Asn1Type for SetOfWriter<'a, T> {
+    ghost der = { simple_der (λ v. map T.der.meaning v.items.now) (listing_written T.der) };
+
+    fn known(&self) {
+        for item in self.items {
+            item.known();
+        }
+    }
+}
+
+impl<T: Asn1Writable> SimpleAsn1Writable for SetOfWriter<'_, T> {
+    type Error = T::Error;
+
+    ghost write_errors = { λ v. AnyNames T.write_errors v.items.now };
+
+    fn tag() -> Tag
+        ensures value { result ≡ set_tag }
+        ensures simple { Unit {0} }
+    {
+        Tag::constructed(0x11)
+    }
+
+    fn write_data(&self, dest: &mut WriteBuf) -> Result<(), T::Error> {
+        match self.items {
+            [] => Ok(()),
+            [item] => Writer::new(dest).write_element(item),
+            items => write_listing(items, dest),
+        }
+    }
+
+    fn data_length(&self) -> Option<usize> {
+        let mut total = 0usize;
+        for item in self.items {
+            total = total.checked_add(item.encoded_length()?)?;
+        }
+        Some(total)
+    }
+}
+
+/// Writes the elements of a set in order.
+#[derive(Drop)]
+pub struct SetElementWriter<'a> {
+    buf: WriteBuf,
+    start: usize,
+    last: usize,
+    lifetime: PhantomData<&'a ()>,
+}
+
+impl<'a> Model for SetElementWriter<'a> {
+    ghost use Rattle.std.specs.Prelude.{take, drop};
+    ghost use Rattle.asn1_core.specs.SetWriting.{SetState, IsSetWithin};
+
+    ghost Value = { SetState };
+
+    ghost view = { λ s. record { front = take s.start s.buf.bytes; done = drop s.start s.buf.bytes; last = drop s.last s.buf.bytes } };
+
+    ghost invariant = { λ s. IsSetWithin s.buf.bytes s.start s.last };
+}
+
+impl<'a> SetElementWriter<'a> {
+    pub(crate) fn new(buf: WriteBuf) -> SetElementWriter<'a>
+        ensures front { result.front ≡ buf.bytes }
+        ensures done { result.done ≡ [] }
+        ensures last { result.last ≡ [] }
+    {
+        let start = buf.len();
+        SetElementWriter {
+            buf,
+            start,
+            last: start,
+            lifetime: PhantomData,
+        }
+    }
+
+    pub(crate) fn into_buf(self) -> WriteBuf
+        ensures octets { result.bytes ≡ self.entry.front ++ self.entry.done }
+        ensures ordered { SetContent self.entry.done self.entry.last }
+    {
+        let SetElementWriter {
+            buf,
+            start: _,
+            last: _,
+            lifetime: _,
+        } = self;
+        buf
+    }
+
+    /// Writes an element that is not less than the one before it.
+    pub fn write_element<T: Asn1Writable>(&mut self, val: &T) -> Result<(), T::Error>
+        requires { T.der.closures (T.der.meaning val.now) }
+        ensures front { self.new.front ≡ self.old.front }
+        ensures ok { OnOk result (AddsTo (T.der.texts (T.der.meaning val.now)) self.old self.new) }
+        ensures err { OnErr result (self.new ≡ self.old) }
+        ensures error { IfErr result (λ e. Refuses T.Error.from_gives (T.write_errors val.now) e ⊎ (IsLessThanLast (T.der.texts (T.der.meaning val.now)) self.old × T.Error.from_gives InvalidSetOrdering e)) }
+    {
+        let before = self.buf.len();
+        Writer::new(&mut self.buf).write_element(val)?;
+        let octets = self.buf.as_slice();
+        if octets.len() == before {
+            return Ok(());
+        }
+        if octets[before..].cmp(&octets[self.last..before]).is_lt() {
+            self.buf.truncate(before);
+            return Err(T::Error::from(WriteError::InvalidSetOrdering));
+        }
+        self.last = before;
+        Ok(())
+    }
+}
+
+/// A set whose elements a closure writes.
+#[derive(Drop)]
+pub struct SetWriter<'a, F: Fn(&mut SetElementWriter<'_>) -> Result<(), E>, E> {
+    f: &'a F,
+    error: PhantomData<E>,
+}
+
+impl<'a, F: Fn(&mut SetElementWriter<'_>) -> Result<(), E>, E> SetWriter<'a, F, E> {
+    /// A set of what the closure writes.
+    pub fn new(f: &'a F) -> SetWriter<'a, F, E>
+        ensures { result.f.now ≡ f.now }
+    {
+        SetWriter {
+            f,
+            error: PhantomData,
+        }
+    }
+}
+
+impl<'a, F: Fn(&mut SetElementWriter<'_>) -> Result<(), E>, E> Asn1Type for SetWriter<'a, F, E> {
+    ghost der = { simple_der (λ v. v.f.now) (set_closure_written F.FnOnce) };
+
+    fn known(&self) {}
+}
+
+impl<F: Fn(&mut SetElementWriter<'_>) -> Result<(), E>, E: From<WriteError>> SimpleAsn1Writable
+    for SetWriter<'_, F, E> {
+    type Error = E;
+
+    ghost write_errors = { λ v. MayRefuseSet F.FnOnce v.f.now };
+
+    fn tag() -> Tag
+        ensures value { result ≡ set_tag }
+        ensures simple { Unit {0} }
+    {
+        Tag::constructed(0x11)
+    }
+
+    fn write_data(&self, dest: &mut WriteBuf) -> Result<(), E> {
+        let spare = dest.spare();
+        let mut set = SetElementWriter::new(mem::replace(dest, spare));
+        let answer = (self.f)(&mut set);
+        *dest = set.into_buf();
+        answer
+    }
+
+    fn data_length(&self) -> Option<usize> {
+        None
+    }
+}
