@@ -5,7 +5,7 @@ use Rattle.asn1_core.specs.declared.parser.ParseErrorKind.TheVariants.{InvalidVa
 use Rattle.asn1_core.specs.Text.{IsText, number, signed_number}
 use Rattle.asn1_core.specs.Element.{◌>>=◌}
 use Rattle.asn1_core.specs.Fault.{Fault, fault}
-use Rattle.asn1_core.specs.Integer.{IsIntegerContent, is_shortest, read_integer}
+use Rattle.asn1_core.specs.Integer.{IsIntegerContent, is_minimal, read_integer}
 
 -- The octets are the content of a number.
 abbrev pub IsSigned : List ℕ → Type 0
@@ -17,7 +17,7 @@ IsUnsigned octets = IsSigned octets × (pos 0 ≤ℤ signed_number octets)
 
 -- The same of octets in hand, by the test of the first nine bits.
 abbrev pub IsSignedForm : List ℕ → Type 0
-IsSignedForm octets = (is_shortest octets ≡ true) × ((k : ℕ) → slice_index octets k < 256)
+IsSignedForm octets = (is_minimal octets ≡ true) × ((k : ℕ) → slice_index octets k < 256)
 
 abbrev pub IsUnsignedForm : List ℕ → Type 0
 IsUnsignedForm octets = IsSignedForm octets × (slice_index octets 0 < 0x80)

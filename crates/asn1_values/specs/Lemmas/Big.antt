@@ -1,5 +1,5 @@
 -- Integers of any length: what is read is a content, and a content is read.
-use Rattle.std.proofs.Common.{◌≡◌, ℕ, zero, suc, ◌<◌, ◌≤◌, Bool, true, false, cond, leb, ltb, List, [], ◌∷◌, ◌++◌, length, get_or, Result, Ok, Err, refl, sym, ap, subst, ◌∙◌, inl, inr, ⊎_elim, ◌↔◌, arith, lit<}
+use Rattle.std.proofs.Common.{◌≡◌, ℕ, zero, suc, ◌<◌, ◌≤◌, Bool, true, false, cond, leb, ltb, List, [], ◌∷◌, ◌++◌, length, get_or, Result, Ok, Err, IfErr, refl, sym, ap, subst, ◌∙◌, inl, inr, ⊎_elim, ◌↔◌, arith, lit<}
 use Rattle.std.specs.Prelude.{ℤ, pos, ◌≤ℤ◌, ◌<ℤ◌, int_lt, OnOk}
 use Rattle.std.proofs.lemmas.Int.{ints, by_lt_z}
 use Rattle.std.proofs.lemmas.Bool.{cases_Bool, cases_lt, both_ways, lt-leb, le-leb, lt-ltb, ltb-true}
@@ -9,11 +9,12 @@ use Rattle.asn1_core.specs.Buffer.{Appends}
 use Rattle.asn1_core.specs.Reading.{IsRefusal}
 use Rattle.asn1_core.specs.Boxed.{owned_out}
 use Rattle.asn1_core.specs.Text.{IsText, signed_number}
-use Rattle.asn1_core.specs.Fault.{Fault, fault}
-use Rattle.asn1_core.specs.Integer.{is_shortest, integer_content, read_integer}
+use Rattle.asn1_core.specs.Fault.{Fault, fault, IsOfText}
+use Rattle.asn1_core.specs.Integer.{is_minimal, integer_content, read_integer}
 use Rattle.asn1_core.specs.Lemmas.Texts.{IsText-from_reads}
 use Rattle.asn1_core.specs.Lemmas.Results.{ok_is, bind_ok}
-use Rattle.asn1_core.specs.Lemmas.Integers.{content_only, content_shortest, content_value, is_content, is_content_shortest, read_integer_ok, read_integer_is, signed_low, signed_high}
+use Rattle.asn1_core.specs.Lemmas.Faults.{bind_faults, missed_faults}
+use Rattle.asn1_core.specs.Lemmas.Integers.{content_only, content_shortest, content_value, is_content, is_content_shortest, read_integer_ok, read_integer_is, signed_low, signed_high, integer_faults}
 use Rattle.asn1_values.specs.Big.{IsSigned, IsUnsigned, IsSignedForm, IsUnsignedForm, not_negative, read_unsigned}
 
 pub signed_takes : (c : List ℕ) (m : ℤ) → IsText c → read_integer c ≡ Ok m → (c ≡ integer_content m) × Unit {0}
@@ -51,12 +52,16 @@ pub unsigned_again : (m : ℤ) → pos 0 ≤ℤ m → read_unsigned (integer_con
 unfolding read_unsigned
 unsigned_again m v = rw (signed_again m tt) (kept m v)
 
+pub unsigned_faults : (c : List ℕ) → IfErr (read_unsigned c) IsOfText
+unfolding read_unsigned
+unsigned_faults c = bind_faults (read_integer c) not_negative (integer_faults c) (λ z. missed_faults (int_lt z (pos 0)) InvalidValue (Ok z) (λ e. cc) tt)
+
 -- ---- octets in hand
 
-pub signed_by_test : (c : List ℕ) → IsText c → is_shortest c ≡ true → IsSigned c
+pub signed_by_test : (c : List ℕ) → IsText c → is_minimal c ≡ true → IsSigned c
 signed_by_test c is e = is_content c is e
 
-pub test_by_signed : (c : List ℕ) → IsSigned c → is_shortest c ≡ true
+pub test_by_signed : (c : List ℕ) → IsSigned c → is_minimal c ≡ true
 test_by_signed c h = is_content_shortest c (signed_number c) h
 
 pub read_signed_ok : (c : List ℕ) → IsSigned c → read_integer c ≡ Ok (signed_number c)
@@ -65,7 +70,7 @@ read_signed_ok c h = read_integer_ok c (test_by_signed c h)
 pub read_signed_err : (c : List ℕ) → IsText c → (IsSigned c → ⊥) → read_integer c ≡ Err (fault InvalidValue)
 unfolding read_integer
 read_signed_err c is none =
-    elim (cases_Bool (is_shortest c)) [
+    elim (cases_Bool (is_minimal c)) [
       | inl e ↦ absurd (none (signed_by_test c is e))
       | inr e ↦ rw e refl
     ]
@@ -77,12 +82,12 @@ read_unsigned_ok c h = rw (read_signed_ok c h.0) (kept (signed_number c) h.1)
 pub read_unsigned_err : (c : List ℕ) → IsText c → (IsUnsigned c → ⊥) → read_unsigned c ≡ Err (fault InvalidValue)
 unfolding read_unsigned
 read_unsigned_err c is none =
-    elim (cases_Bool (is_shortest c)) [
+    elim (cases_Bool (is_minimal c)) [
       | inl e ↦
           let signed = signed_by_test c is e in
           let under : signed_number c <ℤ pos 0 = by_lt_z (signed_number c) (pos 0) (λ h. h) (λ h. absurd (none (signed, h))) in
           rw (read_integer_ok c e) (refused (signed_number c) under)
-      | inr e ↦ rw (read_signed_err c is (λ h. both_ways (is_shortest c) e (test_by_signed c h))) refl
+      | inr e ↦ rw (read_signed_err c is (λ h. both_ways (is_minimal c) e (test_by_signed c h))) refl
     ]
 
 -- the top bit is the sign
@@ -118,7 +123,7 @@ form_of_unsigned c h =
 
 -- ---- what the code answers
 
-pub signed_test : (b : Bool) (c : List ℕ) → ((k : ℕ) → get_or c k 0 < 256) → b ≡ is_shortest c → (b ≡ true) ↔ IsSigned c
+pub signed_test : (b : Bool) (c : List ℕ) → ((k : ℕ) → get_or c k 0 < 256) → b ≡ is_minimal c → (b ≡ true) ↔ IsSigned c
 signed_test b c each e = ((λ t. signed_by_test c (IsText-from_reads c each) (sym e ∙ t)), λ h. e ∙ test_by_signed c h)
 
 pub sign_test : (c : List ℕ) → IsText c → leb 128 (get_or c 0 0) ≡ int_lt (signed_number c) (pos 0)
@@ -134,14 +139,14 @@ sign_test c is =
           le-leb 128 (get_or c 0 0) h ∙ sym test
     ]
 
-pub unsigned_test : (c : List ℕ) → ((k : ℕ) → get_or c k 0 < 256) → is_shortest c ≡ true → (ltb (get_or c 0 0) 128 ≡ true) ↔ IsUnsigned c
+pub unsigned_test : (c : List ℕ) → ((k : ℕ) → get_or c k 0 < 256) → is_minimal c ≡ true → (ltb (get_or c 0 0) 128 ≡ true) ↔ IsUnsigned c
 unsigned_test c each e = (
   (λ t. (signed_by_test c (IsText-from_reads c each) e, top_bit_low c (ltb-true (get_or c 0 0) 128 t))),
   λ h. lt-ltb (get_or c 0 0) 128 (form_of_unsigned c h).1,
 )
 
-pub none_unsigned : (b : Bool) (c : List ℕ) → b ≡ is_shortest c → b ≡ false → (b ≡ true) ↔ IsUnsigned c
-none_unsigned b c e f = ((λ t. absurd (both_ways b f t)), λ h. absurd (both_ways (is_shortest c) (sym e ∙ f) (test_by_signed c h.0)))
+pub none_unsigned : (b : Bool) (c : List ℕ) → b ≡ is_minimal c → b ≡ false → (b ≡ true) ↔ IsUnsigned c
+none_unsigned b c e f = ((λ t. absurd (both_ways b f t)), λ h. absurd (both_ways (is_minimal c) (sym e ∙ f) (test_by_signed c h.0)))
 
 -- ---- what reading answers
 

@@ -80,7 +80,7 @@ impl SimpleAsn1Writable for BigUint<'_> {
 
     type Error = WriteError;
 
-    ghost refusals = { λ _ _. ⊥ };
+    ghost write_errors = { λ _ _. ⊥ };
 
     fn tag() -> Tag
         ensures value { result ≡ universal 2 }
@@ -180,7 +180,7 @@ impl SimpleAsn1Writable for BigInt<'_> {
 
     type Error = WriteError;
 
-    ghost refusals = { λ _ _. ⊥ };
+    ghost write_errors = { λ _ _. ⊥ };
 
     fn tag() -> Tag
         ensures value { result ≡ universal 2 }

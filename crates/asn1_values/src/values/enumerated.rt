@@ -63,7 +63,7 @@ impl SimpleAsn1Writable for Enumerated {
 
     type Error = WriteError;
 
-    ghost refusals = { λ _ _. ⊥ };
+    ghost write_errors = { λ _ _. ⊥ };
 
     fn tag() -> Tag {
         Tag::primitive(0x0a)

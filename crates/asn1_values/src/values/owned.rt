@@ -84,7 +84,7 @@ impl SimpleAsn1Writable for OwnedBigUint {
 
     type Error = WriteError;
 
-    ghost refusals = { λ _ _. ⊥ };
+    ghost write_errors = { λ _ _. ⊥ };
 
     fn tag() -> Tag {
         Tag::primitive(0x02)
@@ -186,7 +186,7 @@ impl SimpleAsn1Writable for OwnedBigInt {
 
     type Error = WriteError;
 
-    ghost refusals = { λ _ _. ⊥ };
+    ghost write_errors = { λ _ _. ⊥ };
 
     fn tag() -> Tag {
         Tag::primitive(0x02)

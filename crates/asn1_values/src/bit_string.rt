@@ -1,0 +1,135 @@
+//! Bit strings.
+
+ghost use Rattle.std.specs.Prelude.{◌≡◌, true, Some, length, MatchOption};
+ghost use Rattle.asn1_core.specs.Reading.{Answers};
+ghost use Rattle.asn1_core.specs.Der.{simple_der};
+ghost use Rattle.asn1_core.specs.Tag.{universal};
+ghost use Rattle.asn1_core.specs.Writing.{KnowsLength};
+ghost use Rattle.asn1_values.specs.Bits.{is_padded, IsBits, bits, bits_text, has_bit, read_bits};
+ghost use Rattle.asn1_values.specs.BitContents.{bits_content};
+
+use asn1_core::{
+    Asn1Type, ParseError, ParseErrorKind, ParseResult, SimpleAsn1Readable, SimpleAsn1Writable, Tag,
+    WriteBuf, WriteError, WriteResult,
+};
+use std::alloc::Global;
+
+/// Whether the padding is right: at most 7 bits, none where there is no octet, and those bits of the last octet are zero.
+fn has_padding(octets: &[u8], padding: u8) -> bool
+    ensures { result ≡ is_padded padding octets.now }
+{
+    if padding > 7 {
+        return false;
+    }
+    if octets.is_empty() {
+        return padding == 0;
+    }
+    octets[octets.len() - 1] % (1 << padding) == 0
+}
+
+/// Bits, in octets that a read lends.
+#[derive(Debug, PartialEq, Eq, Hash, Drop)]
+pub struct BitString<'a> {
+    octets: &'a [u8],
+    padding: u8,
+    pub ghost is_bits: { is_padded padding octets.now ≡ true },
+}
+
+impl<'a> BitString<'a> {
+    ghost use Rattle.asn1_values.specs.BitStrings.{bits_of};
+
+    /// The bits of these octets but for the padding, the low bits of the last. `None` where the padding is above 7 bits,
+    /// or not all zero, or there is some and no octet.
+    pub fn new(octets: &'a [u8], padding: u8) -> Option<BitString<'a>>
+        ensures { MatchOption result (¬ IsBits (bits octets.entry.now padding)) (λ b. bits_of b ≡ bits octets.entry.now padding) }
+    {
+        if !has_padding(octets, padding) {
+            return None;
+        }
+        Some(BitString { octets, padding })
+    }
+
+    /// The octets, padding included.
+    pub fn as_bytes(&self) -> &'a [u8]
+        ensures { result.now ≡ (bits_of self.now).octets }
+    {
+        self.octets
+    }
+
+    /// How many low bits of the last octet are padding.
+    pub fn padding_bits(&self) -> u8
+        ensures { result ≡ (bits_of self.now).padding }
+    {
+        self.padding
+    }
+
+    /// Whether a bit is set: bit 0 is the top bit of the first octet. Padding and bits past the end are not.
+    pub fn has_bit_set(&self, n: usize) -> bool
+        ensures { result ≡ has_bit (bits_of self.now) n }
+    {
+        let index = n / 8;
+        if index >= self.octets.len() {
+            return false;
+        }
+        (self.octets[index] >> (7 - n % 8)) % 2 == 1
+    }
+}
+
+impl<'a> Asn1Type for BitString<'a> {
+    ghost use Rattle.asn1_values.specs.BitStrings.{bits_of};
+
+    ghost der = { simple_der bits_of bits_content };
+
+    fn known(&self) {}
+}
+
+impl<'a> SimpleAsn1Readable<'a> for BitString<'a> {
+    ghost use Rattle.asn1_values.specs.BitStrings.{bits_of};
+
+    fn tag() -> Tag
+        ensures value { result ≡ universal 3 }
+        ensures simple { Unit {0} }
+        ensures plain { Unit {0} }
+    {
+        Tag::primitive(0x03)
+    }
+
+    fn parse_data(_alloc: Global, data: &'a [u8]) -> ParseResult<BitString<'a>>
+        ensures { Answers bits_of (λ _. ⊥) result (read_bits «data».entry.now) }
+    {
+        let [padding, octets @ ..] = data else {
+            return Err(ParseError::new(ParseErrorKind::InvalidValue));
+        };
+        match BitString::new(octets, *padding) {
+            Some(bits) => Ok(bits),
+            None => Err(ParseError::new(ParseErrorKind::InvalidValue)),
+        }
+    }
+}
+
+impl SimpleAsn1Writable for BitString<'_> {
+    ghost use Rattle.asn1_values.specs.BitStrings.{bits_of};
+
+    type Error = WriteError;
+
+    ghost write_errors = { λ _ _. ⊥ };
+
+    fn tag() -> Tag
+        ensures value { result ≡ universal 3 }
+        ensures simple { Unit {0} }
+    {
+        Tag::primitive(0x03)
+    }
+
+    fn write_data(&self, dest: &mut WriteBuf) -> WriteResult<()> {
+        dest.push_byte(self.padding)?;
+        dest.push_slice(self.octets)
+    }
+
+    fn data_length(&self) -> Option<usize>
+        ensures known { KnowsLength (bits_content.texts (bits_of self.now)) result }
+        ensures exact { result ≡ Some (length (bits_text (bits_of self.now))) }
+    {
+        Some(1 + self.octets.len())
+    }
+}

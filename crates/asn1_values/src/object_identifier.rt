@@ -1,0 +1,276 @@
+//! Identifiers: lists of numbers (X.690 8.19).
+
+ghost use Rattle.std.specs.Prelude.{⊤, ◌≡◌, ◌+◌, ◌<◌, ◌≤◌, ◌^◌, ◌++◌, IfSome, drop, ◌∷◌, None, option_map, length, true, Some, take, is_some, Ok, Err, MatchOption};
+ghost use Rattle.asn1_core.specs.declared.parser.ParseErrorKind.{ParseErrorKind};
+ghost use Rattle.asn1_core.specs.Base128.{number_front, number_text};
+ghost use Rattle.asn1_core.specs.Tag.{universal};
+ghost use Rattle.asn1_core.specs.Reading.{Answers};
+ghost use Rattle.asn1_core.specs.Writing.{KnowsLength};
+ghost use Rattle.asn1_core.specs.Der.{simple_der};
+ghost use Rattle.asn1_values.specs.Identifier.{identifier_content, identifier_numbers, numbers_in, read_identifier, IsIdentifierForm, IsIdentifier};
+ghost use Rattle.asn1_values.specs.IdentifierContent.{identifier_basic};
+ghost use Rattle.asn1_values.specs.Dotted.{dotted_text, first_text};
+ghost use Rattle.std.specs.Fmt.{DisplaysOnOk};
+ghost use Rattle.asn1_values.specs.IdentifierText.{part_number, text_numbers, left_numbers, left_size, first_of, and_then, if_few, read_text};
+
+use asn1_core::{
+    Asn1Type, ParseError, ParseErrorKind, ParseResult, SimpleAsn1Readable, SimpleAsn1Writable, Tag,
+    WriteBuf, WriteError, WriteResult, base128,
+};
+use std::alloc::{AllocError, Global};
+use std::fmt;
+
+/// How many octets the longest content has.
+const MAX_OCTETS: usize = 63;
+
+/// The number in front of the octets, and what follows it. `None` where they begin with no number.
+fn number_before(octets: &[u8]) -> Option<(u128, &[u8])>
+    ensures { MatchOption result ((kind : ParseErrorKind) × (number_front octets.now ≡ Err kind)) (λ x. number_front octets.now ≡ Ok (x.0, x.1.now)) }
+{
+    base128::read(octets).ok()
+}
+
+/// The number in front of the octets, which are texts of numbers, joined, and what follows it.
+fn first_number(octets: &[u8]) -> (u128, &[u8])
+    requires some { 0 < length octets.now }
+    requires numbers { is_some (numbers_in octets.now) ≡ true }
+    ensures number { number_front octets.now ≡ Ok (result.0, result.1.now) }
+{
+    match number_before(octets) {
+        Some(found) => found,
+        None => (0, octets),
+    }
+}
+
+/// Whether the octets are texts of numbers, joined.
+fn are_numbers(octets: &[u8]) -> bool
+    ensures { result ≡ is_some (numbers_in octets.now) }
+{
+    let mut rest = octets;
+    while !rest.is_empty() {
+        match number_before(rest) {
+            Some((_, after)) => rest = after,
+            None => return false,
+        }
+    }
+    true
+}
+
+/// The number of a part of a text.
+fn part_number(part: &str) -> Option<u128>
+    ensures { result ≡ part_number part.now }
+{
+    match part.parse::<u128>() {
+        Ok(number) => Some(number),
+        Err(_) => None,
+    }
+}
+
+/// The number in front of a text, and what follows its dot, where there is one.
+fn next_part(text: &str) -> Option<(u128, Option<&str>)>
+    ensures value { MatchOption result (text_numbers text.now ≡ None) (λ x. text_numbers text.now ≡ option_map (λ numbers. x.0 ∷ numbers) (left_numbers x.1)) }
+    ensures shorter { IfSome result (λ x. left_size x.1 ≤ length text.now) }
+    ensures small { IfSome result (λ x. x.0 < 2 ^ 128) }
+{
+    match text.split_once('.') {
+        Some((part, rest)) => {
+            let number = part_number(part)?;
+            Some((number, Some(rest)))
+        }
+        None => {
+            let number = part_number(text)?;
+            Some((number, None))
+        }
+    }
+}
+
+/// The first number of an identifier, by the first two that are shown.
+fn first_of(first: u128, second: u128) -> Option<u128>
+    ensures { result ≡ first_of first second }
+{
+    if first > 2 {
+        return None;
+    }
+    if first < 2 && second >= 40 {
+        return None;
+    }
+    (40 * first).checked_add(second)
+}
+
+/// An identifier of an object: one or more numbers, each below 2^128, whose content has at most 63 octets.
+#[derive(PartialEq, Eq, Hash, Drop)]
+pub struct ObjectIdentifier {
+    octets: [u8; 63],
+    count: u8,
+    pub ghost is_content: { IsIdentifierForm octets count },
+}
+
+/// Puts the text of a number behind the first `count` octets, and answers how many octets there are then. `None` where
+/// there is no room for it.
+fn append_number(octets: &mut [u8; 63], count: usize, number: u128) -> Option<usize>
+    requires { count ≤ 63 }
+    ensures { MatchOption result (63 < count + length (number_text number)) (λ total. (total ≡ count + length (number_text number)) × (total ≤ 63) × (octets.new ≡ take count octets.old ++ (number_text number ++ drop (length (number_text number)) (drop count octets.old)))) }
+{
+    let added = base128::write(number, &mut octets[count..])?;
+    Some(count + added)
+}
+
+impl ObjectIdentifier {
+    ghost use Rattle.asn1_values.specs.IdentifierValues.{identifier_octets, identifier_of};
+
+    /// The identifier with this first number, and with those of the text behind it.
+    fn with_others(first: u128, mut rest: Option<&str>) -> Option<ObjectIdentifier>
+        ensures { option_map identifier_of result ≡ and_then (option_map (λ numbers. first ∷ numbers) (left_numbers rest.entry)) if_few }
+    {
+        let mut octets = [0; 63];
+        let mut count = append_number(&mut octets, 0, first)?;
+        while let Some(text) = rest {
+            let (number, after) = next_part(text)?;
+            count = append_number(&mut octets, count, number)?;
+            rest = after;
+        }
+        Some(ObjectIdentifier {
+            octets,
+            count: count as u8,
+        })
+    }
+
+    /// The identifier that a text shows: numbers with dots between them, of which the first two stand for one. `None`
+    /// for any other text, and where the content would have more than 63 octets.
+    pub fn from_string(text: &str) -> Option<ObjectIdentifier>
+        ensures { option_map identifier_of result ≡ read_text text.now }
+    {
+        let (first, rest) = next_part(text)?;
+        let (second, rest) = next_part(rest?)?;
+        let number = first_of(first, second)?;
+        ObjectIdentifier::with_others(number, rest)
+    }
+
+    /// The identifier with this content. `OidTooLong` where there are more than 63 octets, else `InvalidValue` where they
+    /// are no numbers in base 128, or none.
+    pub fn from_der(octets: &[u8]) -> ParseResult<ObjectIdentifier>
+        ensures { Answers identifier_of (λ _. ⊥) result (read_identifier octets.now) }
+    {
+        if octets.len() > MAX_OCTETS {
+            return Err(ParseError::new(ParseErrorKind::OidTooLong));
+        }
+        if octets.is_empty() || !are_numbers(octets) {
+            return Err(ParseError::new(ParseErrorKind::InvalidValue));
+        }
+        let mut all = [0; 63];
+        all[..octets.len()].copy_from_slice(octets);
+        Ok(ObjectIdentifier {
+            octets: all,
+            count: octets.len() as u8,
+        })
+    }
+
+    /// The identifier whose content stands in front of the octets, with zeros behind it.
+    pub const fn from_der_unchecked(octets: [u8; 63], count: u8) -> ObjectIdentifier
+        requires { IsIdentifierForm octets count }
+        ensures { identifier_of result ≡ identifier_numbers (take count octets) }
+    {
+        ObjectIdentifier { octets, count }
+    }
+
+    /// The content.
+    pub fn as_der(&self) -> &[u8]
+        ensures octets { result.now ≡ identifier_octets self.now }
+        ensures content { result.now ≡ identifier_content (identifier_of self.now) }
+        ensures value { IsIdentifier (identifier_of self.now) }
+    {
+        &self.octets[..usize::from(self.count)]
+    }
+}
+
+impl Clone for ObjectIdentifier {
+    ghost use Rattle.asn1_values.specs.IdentifierValues.{identifier_octets};
+
+    ghost is_clone = { λ x y. identifier_octets y ≡ identifier_octets x };
+
+    ghost is_infallible = { λ _. ⊤ };
+
+    fn clone(&self) -> Result<ObjectIdentifier, AllocError> {
+        Ok(ObjectIdentifier {
+            octets: self.octets,
+            count: self.count,
+        })
+    }
+}
+
+/// Shows the first number of an identifier, which stands for two.
+fn show_first<W: fmt::Write>(first: u128, f: &mut fmt::Formatter<W>) -> fmt::Result
+    ensures { DisplaysOnOk W.write_str_gives f.old result (Some (first_text first)) f.new }
+{
+    if first < 80 {
+        let (high, low) = (first / 40, first % 40);
+        write!(f, "{high}.{low}")
+    } else {
+        let low = first - 80;
+        write!(f, "2.{low}")
+    }
+}
+
+/// The numbers with dots between them; the first stands for two.
+impl fmt::Display for ObjectIdentifier {
+    ghost use Rattle.asn1_values.specs.IdentifierValues.{identifier_of};
+
+    ghost output = { λ o. Some (dotted_text (identifier_of o)) };
+
+    fn fmt<W: fmt::Write>(&self, f: &mut fmt::Formatter<W>) -> fmt::Result {
+        let (first, mut rest) = first_number(self.as_der());
+        show_first(first, f)?;
+        while !rest.is_empty() {
+            let (number, after) = first_number(rest);
+            write!(f, ".{number}")?;
+            rest = after;
+        }
+        Ok(())
+    }
+}
+
+impl fmt::Debug for ObjectIdentifier {
+    fn fmt<W: fmt::Write>(&self, f: &mut fmt::Formatter<W>) -> fmt::Result {
+        write!(f, "ObjectIdentifier {{ oid: {self} }}")
+    }
+}
+
+impl Asn1Type for ObjectIdentifier {
+    ghost use Rattle.asn1_values.specs.IdentifierValues.{identifier_of};
+
+    ghost der = { simple_der identifier_of identifier_basic };
+
+    fn known(&self) {}
+}
+
+impl<'a> SimpleAsn1Readable<'a> for ObjectIdentifier {
+    fn tag() -> Tag {
+        Tag::primitive(0x06)
+    }
+
+    fn parse_data(_alloc: Global, data: &'a [u8]) -> ParseResult<ObjectIdentifier> {
+        ObjectIdentifier::from_der(data)
+    }
+}
+
+impl SimpleAsn1Writable for ObjectIdentifier {
+    ghost use Rattle.asn1_values.specs.IdentifierValues.{identifier_of};
+
+    type Error = WriteError;
+
+    ghost write_errors = { λ _ _. ⊥ };
+
+    fn tag() -> Tag {
+        Tag::primitive(0x06)
+    }
+
+    fn write_data(&self, dest: &mut WriteBuf) -> WriteResult<()> {
+        dest.push_slice(self.as_der())
+    }
+
+    fn data_length(&self) -> Option<usize>
+        ensures { result ≡ Some (length (identifier_content (identifier_of self.now))) }
+    {
+        Some(self.as_der().len())
+    }
+}

@@ -1,0 +1,112 @@
+//! Times with a fraction of a second.
+
+ghost use Rattle.std.specs.Prelude.{◌≡◌, ◌≤◌, Some, length, MatchResult};
+ghost use Rattle.std.proofs.Props.{props};
+ghost use Rattle.asn1_core.specs.declared.parser.ParseErrorKind.TheVariants.{InvalidValue};
+ghost use Rattle.asn1_core.specs.Fault.{fault};
+ghost use Rattle.asn1_core.specs.Der.{simple_der};
+ghost use Rattle.asn1_values.specs.Times.{IsNanoseconds, instant, instant_text};
+ghost use Rattle.asn1_values.specs.TimeContents.{instant_content};
+ghost use Rattle.asn1_values.specs.DateTimes.{moment};
+
+use crate::values::DateTime;
+use crate::values::time_digits::general_octets;
+use crate::values::time_fractions::{fraction_count, general, is_fraction, push_fraction};
+use asn1_core::{
+    Asn1Type, ParseError, ParseErrorKind, ParseResult, SimpleAsn1Readable, SimpleAsn1Writable, Tag,
+    WriteBuf, WriteError, WriteResult,
+};
+use std::alloc::{AllocError, Global};
+
+/// A date and a time of day, in UTC, of a year to 9999, with a fraction of a second or without.
+#[derive(Debug, PartialEq, Eq, PartialOrd, Hash, Drop)]
+pub struct GeneralizedTime {
+    datetime: DateTime,
+    nanoseconds: Option<u32>,
+    pub ghost in_range: { datetime.year ≤ 9999 },
+    pub ghost in_second: { IsNanoseconds nanoseconds } by { Prim.hlevel props },
+}
+
+impl GeneralizedTime {
+    ghost use Rattle.asn1_values.specs.GeneralizedTimes.{instant_of};
+
+    /// The time. A refusal is `InvalidValue`: the year is after 9999, or the nanoseconds are 0 or above 999999999.
+    pub fn new(datetime: DateTime, nanoseconds: Option<u32>) -> ParseResult<GeneralizedTime>
+        ensures { MatchResult result (λ t. instant_of t ≡ instant (moment datetime) nanoseconds) (λ e. (e ≡ fault InvalidValue) × ¬ (((moment datetime).year ≤ 9999) × IsNanoseconds nanoseconds)) }
+    {
+        if datetime.year() > 9999 || !is_fraction(nanoseconds) {
+            return Err(ParseError::new(ParseErrorKind::InvalidValue));
+        }
+        Ok(GeneralizedTime { datetime, nanoseconds })
+    }
+
+    /// The date and time, without the fraction.
+    pub fn as_datetime(&self) -> &DateTime
+        ensures { moment result.now ≡ (instant_of self.now).moment }
+    {
+        &self.datetime
+    }
+
+    /// The fraction of a second in nanoseconds, where there is one.
+    pub fn nanoseconds(&self) -> Option<u32>
+        ensures { result ≡ (instant_of self.now).nanoseconds }
+    {
+        self.nanoseconds
+    }
+}
+
+impl Clone for GeneralizedTime {
+    ghost use Rattle.asn1_values.specs.GeneralizedTimes.{instant_of};
+
+    ghost is_clone = { λ x y. instant_of y ≡ instant_of x };
+
+    fn clone(&self) -> Result<GeneralizedTime, AllocError> {
+        let datetime = self.datetime.clone()?;
+        Ok(GeneralizedTime { datetime, nanoseconds: self.nanoseconds })
+    }
+}
+
+impl Asn1Type for GeneralizedTime {
+    ghost use Rattle.asn1_values.specs.GeneralizedTimes.{instant_of};
+
+    ghost der = { simple_der instant_of instant_content };
+
+    fn known(&self) {}
+}
+
+impl<'a> SimpleAsn1Readable<'a> for GeneralizedTime {
+    fn tag() -> Tag {
+        Tag::primitive(0x18)
+    }
+
+    fn parse_data(_alloc: Global, data: &'a [u8]) -> ParseResult<GeneralizedTime> {
+        match general(data) {
+            Some((datetime, nanoseconds)) => Ok(GeneralizedTime { datetime, nanoseconds }),
+            None => Err(ParseError::new(ParseErrorKind::InvalidValue)),
+        }
+    }
+}
+
+impl SimpleAsn1Writable for GeneralizedTime {
+    ghost use Rattle.asn1_values.specs.GeneralizedTimes.{instant_of};
+
+    type Error = WriteError;
+
+    ghost write_errors = { λ _ _. ⊥ };
+
+    fn tag() -> Tag {
+        Tag::primitive(0x18)
+    }
+
+    fn write_data(&self, dest: &mut WriteBuf) -> WriteResult<()> {
+        dest.push_slice(&general_octets(&self.datetime))?;
+        push_fraction(self.nanoseconds, dest)?;
+        dest.push_byte(b'Z')
+    }
+
+    fn data_length(&self) -> Option<usize>
+        ensures { result ≡ Some (length (instant_text (instant_of self.now))) }
+    {
+        Some(15 + fraction_count(self.nanoseconds))
+    }
+}

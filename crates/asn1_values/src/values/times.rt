@@ -1,0 +1,177 @@
+//! Times as DER has them.
+
+ghost use Rattle.std.specs.Prelude.{◌≡◌, ◌≤◌, Some, MatchResult};
+ghost use Rattle.asn1_core.specs.declared.parser.ParseErrorKind.TheVariants.{InvalidValue};
+ghost use Rattle.asn1_core.specs.Fault.{fault};
+ghost use Rattle.asn1_core.specs.Der.{simple_der};
+ghost use Rattle.asn1_values.specs.TimeContents.{utc_content, x509_content};
+ghost use Rattle.asn1_values.specs.DateTimes.{moment};
+
+use crate::values::DateTime;
+use crate::values::time_digits::{general_octets, utc, utc_octets, x509};
+use asn1_core::{
+    Asn1Type, ParseError, ParseErrorKind, ParseResult, SimpleAsn1Readable, SimpleAsn1Writable, Tag,
+    WriteBuf, WriteError, WriteResult,
+};
+use std::alloc::{AllocError, Global};
+
+/// A date and a time of day, in UTC, of a year from 1950 to 2049.
+#[derive(Debug, PartialEq, Eq, Hash, Drop)]
+pub struct UtcTime {
+    datetime: DateTime,
+    pub ghost in_range: { (1950 ≤ datetime.year) × (datetime.year ≤ 2049) },
+}
+
+impl UtcTime {
+    ghost use Rattle.asn1_values.specs.TimeValues.{utc_moment};
+
+    /// The time. A refusal is `InvalidValue`: the year is before 1950 or after 2049.
+    pub fn new(datetime: DateTime) -> ParseResult<UtcTime>
+        ensures { MatchResult result (λ t. utc_moment t ≡ moment datetime) (λ e. (e ≡ fault InvalidValue) × ¬ ((1950 ≤ (moment datetime).year) × ((moment datetime).year ≤ 2049))) }
+    {
+        if datetime.year() < 1950 || datetime.year() > 2049 {
+            return Err(ParseError::new(ParseErrorKind::InvalidValue));
+        }
+        Ok(UtcTime { datetime })
+    }
+
+    /// The date and time.
+    pub fn as_datetime(&self) -> &DateTime
+        ensures { moment result.now ≡ utc_moment self.now }
+    {
+        &self.datetime
+    }
+}
+
+impl Clone for UtcTime {
+    ghost use Rattle.asn1_values.specs.TimeValues.{utc_moment};
+
+    ghost is_clone = { λ x y. utc_moment y ≡ utc_moment x };
+
+    fn clone(&self) -> Result<UtcTime, AllocError> {
+        let datetime = self.datetime.clone()?;
+        Ok(UtcTime { datetime })
+    }
+}
+
+impl Asn1Type for UtcTime {
+    ghost use Rattle.asn1_values.specs.TimeValues.{utc_moment};
+
+    ghost der = { simple_der utc_moment utc_content };
+
+    fn known(&self) {}
+}
+
+impl<'a> SimpleAsn1Readable<'a> for UtcTime {
+    fn tag() -> Tag {
+        Tag::primitive(0x17)
+    }
+
+    fn parse_data(_alloc: Global, data: &'a [u8]) -> ParseResult<UtcTime> {
+        match utc(data) {
+            Some(datetime) => Ok(UtcTime { datetime }),
+            None => Err(ParseError::new(ParseErrorKind::InvalidValue)),
+        }
+    }
+}
+
+impl SimpleAsn1Writable for UtcTime {
+    type Error = WriteError;
+
+    ghost write_errors = { λ _ _. ⊥ };
+
+    fn tag() -> Tag {
+        Tag::primitive(0x17)
+    }
+
+    fn write_data(&self, dest: &mut WriteBuf) -> WriteResult<()> {
+        dest.push_slice(&utc_octets(&self.datetime))
+    }
+
+    fn data_length(&self) -> Option<usize>
+        ensures { result ≡ Some 13 }
+    {
+        Some(13)
+    }
+}
+
+/// A date and a time of day, in UTC, of a year to 9999, whose content has no fraction.
+#[derive(Debug, PartialEq, Eq, Hash, Drop)]
+pub struct X509GeneralizedTime {
+    datetime: DateTime,
+    pub ghost in_range: { datetime.year ≤ 9999 },
+}
+
+impl X509GeneralizedTime {
+    ghost use Rattle.asn1_values.specs.TimeValues.{x509_moment};
+
+    /// The time. A refusal is `InvalidValue`: the year is after 9999.
+    pub fn new(datetime: DateTime) -> ParseResult<X509GeneralizedTime>
+        ensures { MatchResult result (λ t. x509_moment t ≡ moment datetime) (λ e. (e ≡ fault InvalidValue) × ¬ ((moment datetime).year ≤ 9999)) }
+    {
+        if datetime.year() > 9999 {
+            return Err(ParseError::new(ParseErrorKind::InvalidValue));
+        }
+        Ok(X509GeneralizedTime { datetime })
+    }
+
+    /// The date and time.
+    pub fn as_datetime(&self) -> &DateTime
+        ensures { moment result.now ≡ x509_moment self.now }
+    {
+        &self.datetime
+    }
+}
+
+impl Clone for X509GeneralizedTime {
+    ghost use Rattle.asn1_values.specs.TimeValues.{x509_moment};
+
+    ghost is_clone = { λ x y. x509_moment y ≡ x509_moment x };
+
+    fn clone(&self) -> Result<X509GeneralizedTime, AllocError> {
+        let datetime = self.datetime.clone()?;
+        Ok(X509GeneralizedTime { datetime })
+    }
+}
+
+impl Asn1Type for X509GeneralizedTime {
+    ghost use Rattle.asn1_values.specs.TimeValues.{x509_moment};
+
+    ghost der = { simple_der x509_moment x509_content };
+
+    fn known(&self) {}
+}
+
+impl<'a> SimpleAsn1Readable<'a> for X509GeneralizedTime {
+    fn tag() -> Tag {
+        Tag::primitive(0x18)
+    }
+
+    fn parse_data(_alloc: Global, data: &'a [u8]) -> ParseResult<X509GeneralizedTime> {
+        match x509(data) {
+            Some(datetime) => Ok(X509GeneralizedTime { datetime }),
+            None => Err(ParseError::new(ParseErrorKind::InvalidValue)),
+        }
+    }
+}
+
+impl SimpleAsn1Writable for X509GeneralizedTime {
+    type Error = WriteError;
+
+    ghost write_errors = { λ _ _. ⊥ };
+
+    fn tag() -> Tag {
+        Tag::primitive(0x18)
+    }
+
+    fn write_data(&self, dest: &mut WriteBuf) -> WriteResult<()> {
+        dest.push_slice(&general_octets(&self.datetime))?;
+        dest.push_byte(b'Z')
+    }
+
+    fn data_length(&self) -> Option<usize>
+        ensures { result ≡ Some 15 }
+    {
+        Some(15)
+    }
+}
