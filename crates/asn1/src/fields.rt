@@ -1,0 +1,175 @@
+//! Fields of structures, one behind another, each with its name: a structure by hand is read and written as such a list.
+
+ghost use Rattle.std.specs.Prelude.{◌≡◌, ◌⊎◌, List, ℕ, OnOk, OnErr, IfErr};
+ghost use Rattle.asn1_core.specs.Buffer.{Appends, KeepsFront};
+ghost use Rattle.asn1_core.specs.Reading.{Answers, rest_refused};
+ghost use Rattle.asn1_core.specs.Writing.{KnowsLength, Refuses};
+ghost use Rattle.asn1.specs.FieldLaws.{in_field};
+ghost use Rattle.asn1.specs.FieldSteps.{IsSum};
+ghost use Rattle.asn1.specs.FieldLists.{FieldList, last_field, first_field};
+
+use asn1_core::{
+    Asn1Readable, Asn1Type, Asn1Writable, ParseError, ParseErrorKind, ParseLocation, ParseResult,
+    Parser, WriteError, Writer,
+};
+use std::marker::PhantomData;
+
+/// The name of a field.
+pub trait FieldName {
+    ghost label: { List ℕ };
+
+    /// The name, as places have it.
+    fn name() -> &'static str
+        ensures { result.now ≡ label };
+}
+
+/// What fields mean, for contracts alone.
+pub trait Row: Sized {
+    ghost list: { FieldList Self };
+
+    /// The values in hand are such of which the laws speak.
+    fn known_row(&self)
+        ensures { list.fields.valid (list.meaning self.now) };
+}
+
+/// Fields that are read.
+pub trait RowReadable<'a>: Row + Sized + Drop {
+    /// Reads the fields and nothing behind them.
+    fn read(parser: Parser<'a>) -> ParseResult<Self>
+        ensures { Answers Self.list.meaning (Self.list.fields.runs_out parser.entry) result (Self.list.fields.read parser.entry) };
+}
+
+/// The last field.
+#[derive(Drop)]
+pub struct Last<N, A> {
+    pub value: A,
+    pub of: PhantomData<N>,
+}
+
+/// A field, and those behind it.
+#[derive(Drop)]
+pub struct Field<N, A, R> {
+    pub value: A,
+    pub rest: R,
+    pub of: PhantomData<N>,
+}
+
+/// A fault of a field gets the field's place.
+pub fn placed<T: Drop>(answer: ParseResult<T>, name: &'static str) -> ParseResult<T>
+    ensures { result ≡ in_field name.now answer }
+{
+    match answer {
+        Ok(value) => Ok(value),
+        Err(error) => Err(error.add_location(ParseLocation::Field(name))),
+    }
+}
+
+/// Refuses what is left behind the last field.
+pub fn finish(parser: Parser<'_>) -> ParseResult<()>
+    ensures { result ≡ rest_refused parser.entry }
+{
+    if !parser.is_empty() {
+        return Err(ParseError::new(ParseErrorKind::ExtraData));
+    }
+    Ok(())
+}
+
+/// The length of two texts, one behind the other, where both are known and the sum fits.
+pub fn sum(a: Option<usize>, b: Option<usize>) -> Option<usize>
+    ensures { IsSum a b result }
+{
+    a?.checked_add(b?)
+}
+
+impl<N: FieldName, A: Asn1Type> Row for Last<N, A> {
+    ghost list = { last_field N.label (λ x. x.value) A.der };
+
+    fn known_row(&self) {
+        self.value.known()
+    }
+}
+
+impl<'a, N: FieldName, A: Asn1Readable<'a>> RowReadable<'a> for Last<N, A> {
+    fn read(parser: Parser<'a>) -> ParseResult<Self> {
+        let mut parser = parser;
+        let value = placed(parser.read_element::<A>(), N::name())?;
+        finish(parser)?;
+        Ok(Last {
+            value,
+            of: PhantomData,
+        })
+    }
+}
+
+impl<N: FieldName, A: Asn1Type, R: Row> Row for Field<N, A, R> {
+    ghost list = { first_field N.label (λ x. x.value) A.der (λ x. x.rest) R.list };
+
+    fn known_row(&self) {
+        self.value.known();
+        self.rest.known_row()
+    }
+}
+
+impl<'a, N: FieldName, A: Asn1Readable<'a>, R: RowReadable<'a>> RowReadable<'a> for Field<N, A, R> {
+    fn read(parser: Parser<'a>) -> ParseResult<Self> {
+        let mut parser = parser;
+        let value = placed(parser.read_element::<A>(), N::name())?;
+        let rest = R::read(parser)?;
+        Ok(Field {
+            value,
+            rest,
+            of: PhantomData,
+        })
+    }
+}
+
+/// Fields that are written.
+pub trait RowWritable: Row + Sized {
+    /// What a refused write answers.
+    type Error: From<WriteError>;
+
+    // The errors that a write may answer, beside want of memory.
+    ghost refused: { Self → Self.Error → Type 0 };
+
+    /// Appends the texts of the fields, one behind another. At Err what stood before still stands in front.
+    fn write(&self, dest: &mut Writer<'_>) -> Result<(), Self::Error>
+        requires { Self.list.fields.closures (Self.list.meaning self.now) }
+        ensures same_buffer { dest.new.buf.ghost_name ≡ dest.old.buf.ghost_name }
+        ensures ok { OnOk result (Appends (Self.list.fields.texts (Self.list.meaning self.now)) dest.old.buf.now.bytes dest.new.buf.now.bytes) }
+        ensures err { OnErr result (KeepsFront dest.old.buf.now.bytes dest.new.buf.now.bytes) }
+        ensures error { IfErr result (Refuses Self.Error.from_gives (refused self.now)) };
+
+    /// How many octets the texts have together, where that is known without writing them.
+    fn length(&self) -> Option<usize>
+        ensures { KnowsLength (Self.list.fields.texts (Self.list.meaning self.now)) result };
+}
+
+impl<N: FieldName, A: Asn1Writable> RowWritable for Last<N, A> {
+    type Error = A::Error;
+
+    ghost refused = { λ x. A.write_errors x.value };
+
+    fn write(&self, dest: &mut Writer<'_>) -> Result<(), A::Error> {
+        dest.write_element(&self.value)
+    }
+
+    fn length(&self) -> Option<usize> {
+        self.value.encoded_length()
+    }
+}
+
+impl<N: FieldName, A: Asn1Writable, R: RowWritable<Error = A::Error>> RowWritable
+    for Field<N, A, R> {
+    type Error = A::Error;
+
+    ghost refused = { λ x e. A.write_errors x.value e ⊎ R.refused x.rest e };
+
+    fn write(&self, dest: &mut Writer<'_>) -> Result<(), A::Error> {
+        dest.write_element(&self.value)?;
+        self.rest.write(dest)
+    }
+
+    fn length(&self) -> Option<usize> {
+        sum(self.value.encoded_length(), self.rest.length())
+    }
+}

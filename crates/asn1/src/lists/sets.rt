@@ -1,0 +1,332 @@
+//! Sets: elements in ascending order of their texts.
+
+ghost use Rattle.std.specs.Prelude.{◌≡◌, ◌<◌, List, ℕ, [], length, Result, Some, OnOk, OnErr, IfErr, nat_eq};
+ghost use Rattle.std.specs.Fn.{FnOnceReturnsAtMut};
+ghost use Rattle.std.specs.Iterator.{at_most};
+ghost use Rattle.std.specs.Hash as fed;
+ghost use Rattle.std.specs.Cmp.{partial_equiv_from_equiv, on_per, on_equiv};
+ghost use Rattle.std.specs.Cmp.Lexicographic.{pointwise, nat_list_eq_equiv};
+ghost use Rattle.std.specs.Cmp.Rules.{hashing};
+ghost use Rattle.std.proofs.Common.{rules};
+ghost use Rattle.asn1_core.specs.Buffer.{Appends, KeepsFront};
+ghost use Rattle.asn1_core.specs.Order.{text_less};
+ghost use Rattle.asn1_core.specs.Reading.{Answers, EndsWith, IsHandedOn, element_front};
+ghost use Rattle.asn1_core.specs.Der.{simple_der};
+ghost use Rattle.asn1_core.specs.Items.{Each, Joins, OneNames, set_tag};
+ghost use Rattle.asn1_core.specs.Writing.{KnowsLength, Refuses};
+ghost use Rattle.asn1.specs.Lists.{NextItem};
+ghost use Rattle.asn1.specs.Sets.{AreOrdered, set_left, set_item, checked, set_item_out, set_out, set_read, set_octets};
+ghost use Rattle.asn1.specs.SetTypes.{set_inside, set_content};
+
+use crate::lists::are_octets;
+use asn1_core::{
+    Asn1Readable, Asn1Type, Asn1Writable, ParseError, ParseErrorKind, ParseLocation, ParseResult,
+    Parser, SimpleAsn1Readable, SimpleAsn1Writable, Tag, Tlv, WriteBuf, WriteError, WriteResult,
+    Writer, parse,
+};
+use std::alloc::{AllocError, Global};
+use std::hash::{Hash, Hasher};
+use std::marker::PhantomData;
+
+/// Reads the element at an index, which stands behind one with the text `before`: framing, then its place in the order,
+/// then the item. Answers the item and the element's text.
+fn read_in_order<'a, T: Asn1Readable<'a>>(
+    parser: &mut Parser<'a>,
+    before: &'a [u8],
+    index: usize,
+) -> ParseResult<(T, &'a [u8])>
+    ensures answers { Answers (λ x. (T.der.meaning x.0, x.1.now, parser.new)) (set_item_out text_less T.der.runs_out before.now index parser.old) result (set_item text_less T.der.read before.now index parser.old) }
+    ensures rest { EndsWith parser.old parser.new }
+{
+    let tlv = match parser.read_element::<Tlv<'a>>() {
+        Ok(tlv) => tlv,
+        Err(error) => return Err(error.add_location(ParseLocation::Index(index))),
+    };
+    let text = tlv.full_data();
+    if text.cmp(before).is_lt() {
+        return Err(ParseError::new(ParseErrorKind::InvalidSetOrdering).add_location(
+            ParseLocation::Index(index),
+        ));
+    }
+    match tlv.parse::<T>(parser.alloc()) {
+        Ok(value) => Ok((value, text)),
+        Err(error) => Err(error.add_location(ParseLocation::Index(index))),
+    }
+}
+
+/// Reads the items of a content, which stand in order.
+fn check_items<'a, T: Asn1Readable<'a>>(alloc: Global, content: &'a [u8]) -> ParseResult<()>
+    ensures { Answers (λ x. x) (set_out text_less T.der.read T.der.runs_out [] (length content.entry.now) 0 content.entry.now) result (checked text_less T.der.read [] 0 content.entry.now) }
+{
+    let mut parser = Parser::new(alloc, content);
+    let mut before = &content[..0];
+    let mut index = 0;
+    'items: while !parser.is_empty() {
+        let (_item, text) = read_in_order::<T>(&mut parser, before, index)?;
+        before = text;
+        index += 1;
+    }
+    Ok(())
+}
+
+/// The content of a set: any elements in ascending order of their texts.
+#[derive(Debug, PartialEq, Eq, Hash, Drop)]
+pub struct Set<'a> {
+    data: &'a [u8],
+    pub ghost is_ordered: { AreOrdered text_less element_front «data».now },
+}
+
+impl<'a> Set<'a> {
+    /// Runs `f` over the content, and refuses with `ExtraData` what it leaves.
+    pub fn parse<T: Drop, E: From<ParseError> + Drop, F: Fn(&mut Parser<'a>) -> Result<T, E>>(
+        self,
+        alloc: Global,
+        f: F,
+    ) -> Result<T, E>
+        requires { F.IsAlwaysCallable f }
+        ensures { (rest : List ℕ) × (answer : Result T E) × FnOnceReturnsAtMut F.FnOnce f self.entry.«data».now answer rest × IsHandedOn E.from_gives answer rest result }
+    {
+        parse(alloc, self.data, f)
+    }
+}
+
+impl<'a> Clone for Set<'a> {
+    ghost is_clone = { λ x y. y.«data».now ≡ x.«data».now };
+
+    ghost is_infallible = { λ _. Unit {0} };
+
+    fn clone(&self) -> Result<Self, AllocError> {
+        Ok(Set { data: self.data })
+    }
+}
+
+impl<'a> Asn1Type for Set<'a> {
+    ghost der = { simple_der (λ s. s.«data».now) set_content };
+
+    fn known(&self) {
+        are_octets(self.data);
+    }
+}
+
+impl<'a> SimpleAsn1Readable<'a> for Set<'a> {
+    fn tag() -> Tag
+        ensures value { result ≡ set_tag }
+        ensures simple { Unit {0} }
+        ensures plain { Unit {0} }
+    {
+        Tag::constructed(0x11)
+    }
+
+    fn parse_data(alloc: Global, data: &'a [u8]) -> ParseResult<Self>
+        ensures { Answers (λ s. s.«data».now) (λ _. ⊥) result (set_octets text_less «data».entry.now) }
+    {
+        check_items::<Tlv<'a>>(alloc, data)?;
+        Ok(Set { data })
+    }
+}
+
+impl SimpleAsn1Writable for Set<'_> {
+    type Error = WriteError;
+
+    ghost write_errors = { λ _ _. ⊥ };
+
+    fn tag() -> Tag
+        ensures value { result ≡ set_tag }
+        ensures simple { Unit {0} }
+    {
+        Tag::constructed(0x11)
+    }
+
+    fn write_data(&self, dest: &mut WriteBuf) -> WriteResult<()> {
+        dest.push_slice(self.data)
+    }
+
+    fn data_length(&self) -> Option<usize>
+        ensures length { KnowsLength (λ t. t ≡ self.now.«data».now) result }
+        ensures known { result ≡ Some (length self.now.«data».now) }
+    {
+        Some(self.data.len())
+    }
+}
+
+/// The items of a set's content that are left.
+#[derive(Drop)]
+pub struct SetOf<'a, T: Asn1Type> {
+    content: &'a [u8],
+    alloc: Global,
+    of: PhantomData<T>,
+    pub ghost are_ordered: { AreOrdered text_less T.der.read content.now },
+}
+
+impl<'a, T: Asn1Type> Clone for SetOf<'a, T> {
+    ghost is_clone = { λ x y. y.content.now ≡ x.content.now };
+
+    ghost is_infallible = { λ _. Unit {0} };
+
+    fn clone(&self) -> Result<Self, AllocError> {
+        Ok(SetOf {
+            content: self.content,
+            alloc: self.alloc,
+            of: PhantomData,
+        })
+    }
+}
+
+/// Equal exactly where the octets that are left are.
+impl<'a, T: Asn1Type> PartialEq for SetOf<'a, T> {
+    ghost eq = { λ x y. pointwise nat_eq x.content.now y.content.now };
+
+    ghost laws = { on_per (λ x. x.content.now) (partial_equiv_from_equiv nat_list_eq_equiv) };
+
+    fn eq(&self, other: &Self) -> bool {
+        self.content == other.content
+    }
+}
+
+impl<'a, T: Asn1Type> Eq for SetOf<'a, T> {
+    ghost laws = { on_equiv (λ x. x.content.now) nat_list_eq_equiv };
+}
+
+impl<'a, T: Asn1Type> Hash for SetOf<'a, T> {
+    ghost hash_input = { λ x. fed.slice fed.u8 x.content.now };
+
+    ghost respects_eq = { Prim.search (hashing, rules) };
+
+    fn hash<H: Hasher>(&self, state: &mut H) {
+        self.content.hash(state);
+    }
+}
+
+impl<'a, T: Asn1Type> Asn1Type for SetOf<'a, T> {
+    ghost der = { simple_der (λ s. set_left text_less T.der.read s.content.now) (set_inside T.der) };
+
+    fn known(&self) {
+        are_octets(self.content);
+    }
+}
+
+impl<'a, T: Asn1Readable<'a>> SimpleAsn1Readable<'a> for SetOf<'a, T> {
+    fn tag() -> Tag
+        ensures value { result ≡ set_tag }
+        ensures simple { Unit {0} }
+        ensures plain { T.der.plain }
+    {
+        let tag = Tag::constructed(0x11);
+        // The items' type says by this call that each value has one text.
+        let _accepted = T::can_parse(tag);
+        tag
+    }
+
+    fn parse_data(alloc: Global, data: &'a [u8]) -> ParseResult<Self>
+        ensures { Answers (λ s. set_left text_less T.der.read s.content.now) (λ places. set_out text_less T.der.read T.der.runs_out [] (length «data».entry.now) 0 «data».entry.now places) result (set_read text_less T.der.read «data».entry.now) }
+    {
+        check_items::<T>(alloc, data)?;
+        Ok(SetOf {
+            content: data,
+            alloc,
+            of: PhantomData,
+        })
+    }
+}
+
+/// Reads the first of the items, and says what follows it.
+fn first_in_set<'a, T: Asn1Readable<'a>>(
+    alloc: Global,
+    content: &'a [u8],
+) -> (ParseResult<T>, &'a [u8])
+    requires some { 0 < length content.now }
+    requires are_ordered { AreOrdered text_less T.der.read content.now }
+    ensures item { NextItem T.der.takes_memory T.der.meaning (set_left text_less T.der.read content.entry.now) (Some result.0) (set_left text_less T.der.read result.1.now) }
+    ensures after { AreOrdered text_less T.der.read result.1.now }
+    ensures shorter { length result.1.now < length content.entry.now }
+{
+    let mut parser = Parser::new(alloc, content);
+    let Ok(tlv) = parser.read_element::<Tlv<'a>>() else {
+        unreachable!()
+    };
+    (tlv.parse::<T>(alloc), parser.rest())
+}
+
+impl<'a, T: Asn1Readable<'a>> Iterator for SetOf<'a, T> {
+    type Item = ParseResult<T>;
+
+    ghost next_gives = { λ s r t. NextItem T.der.takes_memory T.der.meaning (set_left text_less T.der.read s.content.now) r (set_left text_less T.der.read t.content.now) };
+
+    ghost remaining = { λ s. at_most (length s.content.now) };
+
+    fn next(&mut self) -> Option<ParseResult<T>> {
+        if self.content.is_empty() {
+            return None;
+        }
+        let (answer, rest) = first_in_set::<T>(self.alloc, self.content);
+        self.content = rest;
+        Some(answer)
+    }
+}
+
+/// Writes the items of a content.
+fn write_set_items<'a, T: Asn1Readable<'a> + Asn1Writable>(
+    alloc: Global,
+    items: &'a [u8],
+    writer: &mut Writer<'_>,
+) -> Result<(), T::Error>
+    requires are_ordered { AreOrdered text_less T.der.read items.now }
+    requires closures { Each T.der.closures (set_left text_less T.der.read items.now) }
+    ensures same_buffer { writer.new.buf.ghost_name ≡ writer.old.buf.ghost_name }
+    ensures ok { OnOk result (Appends (Joins T.der.texts (set_left text_less T.der.read items.entry.now)) writer.old.buf.now.bytes writer.new.buf.now.bytes) }
+    ensures err { OnErr result (KeepsFront writer.old.buf.now.bytes writer.new.buf.now.bytes) }
+    ensures error { IfErr result (Refuses T.Error.from_gives (OneNames T.write_errors)) }
+{
+    let mut content = items;
+    'items: while !content.is_empty() {
+        let (answer, rest) = first_in_set::<T>(alloc, content);
+        match answer {
+            Ok(value) => writer.write_element(&value)?,
+            Err(_) => return Err(T::Error::from(WriteError::AllocationError)),
+        }
+        content = rest;
+    }
+    Ok(())
+}
+
+/// The length of the items of a content.
+fn set_items_length<'a, T: Asn1Readable<'a> + Asn1Writable>(
+    alloc: Global,
+    items: &'a [u8],
+) -> Option<usize>
+    requires { AreOrdered text_less T.der.read items.now }
+    ensures { KnowsLength (Joins T.der.texts (set_left text_less T.der.read items.entry.now)) result }
+{
+    let mut content = items;
+    let mut total = 0usize;
+    'items: while !content.is_empty() {
+        let (answer, rest) = first_in_set::<T>(alloc, content);
+        match answer {
+            Ok(value) => total = total.checked_add(value.encoded_length()?)?,
+            Err(_) => return None,
+        }
+        content = rest;
+    }
+    Some(total)
+}
+
+impl<'a, T: Asn1Readable<'a> + Asn1Writable> SimpleAsn1Writable for SetOf<'a, T> {
+    type Error = T::Error;
+
+    ghost write_errors = { λ _. OneNames T.write_errors };
+
+    fn tag() -> Tag
+        ensures value { result ≡ set_tag }
+        ensures simple { Unit {0} }
+    {
+        Tag::constructed(0x11)
+    }
+
+    fn write_data(&self, dest: &mut WriteBuf) -> Result<(), T::Error> {
+        write_set_items::<T>(self.alloc, self.content, &mut Writer::new(dest))
+    }
+
+    fn data_length(&self) -> Option<usize> {
+        set_items_length::<T>(self.alloc, self.content)
+    }
+}

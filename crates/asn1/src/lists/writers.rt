@@ -1,0 +1,112 @@
+//! Sequences that are only written.
+
+ghost use Rattle.std.specs.Prelude.{◌≡◌, map};
+ghost use Rattle.asn1_core.specs.Closures.{MayAnswer};
+ghost use Rattle.asn1_core.specs.Der.{simple_der};
+ghost use Rattle.asn1_core.specs.Items.{AnyNames, sequence_tag};
+ghost use Rattle.asn1_core.specs.Written.{items_written};
+ghost use Rattle.asn1.specs.ClosureWritten.{closure_written};
+
+use asn1_core::{Asn1Type, Asn1Writable, SimpleAsn1Writable, Tag, WriteBuf, WriteError, Writer};
+use std::marker::PhantomData;
+
+/// A sequence whose content a closure writes.
+#[derive(Drop)]
+pub struct SequenceWriter<'a, F: Fn(&mut Writer<'_>) -> Result<(), E>, E> {
+    f: &'a F,
+    error: PhantomData<E>,
+}
+
+impl<'a, F: Fn(&mut Writer<'_>) -> Result<(), E>, E> SequenceWriter<'a, F, E> {
+    /// A sequence of what the closure writes.
+    pub fn new(f: &'a F) -> SequenceWriter<'a, F, E>
+        ensures { result.f.now ≡ f.now }
+    {
+        SequenceWriter {
+            f,
+            error: PhantomData,
+        }
+    }
+}
+
+impl<'a, F: Fn(&mut Writer<'_>) -> Result<(), E>, E> Asn1Type for SequenceWriter<'a, F, E> {
+    ghost der = { simple_der (λ v. v.f.now) (closure_written F.FnOnce) };
+
+    fn known(&self) {}
+}
+
+impl<F: Fn(&mut Writer<'_>) -> Result<(), E>, E: From<WriteError>> SimpleAsn1Writable
+    for SequenceWriter<'_, F, E> {
+    type Error = E;
+
+    ghost write_errors = { λ v. MayAnswer F.FnOnce v.f.now };
+
+    fn tag() -> Tag
+        ensures value { result ≡ sequence_tag }
+        ensures simple { Unit {0} }
+    {
+        Tag::constructed(0x10)
+    }
+
+    fn write_data(&self, dest: &mut WriteBuf) -> Result<(), E> {
+        (self.f)(&mut Writer::new(dest))
+    }
+
+    fn data_length(&self) -> Option<usize> {
+        None
+    }
+}
+
+/// A sequence of the items of a slice.
+#[derive(Clone, PartialEq, Eq, Hash, Drop)]
+pub struct SequenceOfWriter<'a, T> {
+    items: &'a [T],
+}
+
+impl<'a, T: Asn1Writable> SequenceOfWriter<'a, T> {
+    /// A sequence of these items.
+    pub fn new(items: &'a [T]) -> SequenceOfWriter<'a, T>
+        ensures { result.items.now ≡ items.now }
+    {
+        SequenceOfWriter { items }
+    }
+}
+
+impl<'a, T: Asn1Type> Asn1Type for SequenceOfWriter<'a, T> {
+    ghost der = { simple_der (λ v. map T.der.meaning v.items.now) (items_written T.der) };
+
+    fn known(&self) {
+        for item in self.items {
+            item.known();
+        }
+    }
+}
+
+impl<T: Asn1Writable> SimpleAsn1Writable for SequenceOfWriter<'_, T> {
+    type Error = T::Error;
+
+    ghost write_errors = { λ v. AnyNames T.write_errors v.items.now };
+
+    fn tag() -> Tag
+        ensures value { result ≡ sequence_tag }
+        ensures simple { Unit {0} }
+    {
+        Tag::constructed(0x10)
+    }
+
+    fn write_data(&self, dest: &mut WriteBuf) -> Result<(), T::Error> {
+        let mut writer = Writer::new(dest);
+        for item in self.items {
+            writer.write_element(item)?;
+        }
+        Ok(())
+    }
+
+    fn data_length(&self) -> Option<usize> {
+        let mut total = 0usize;
+        for item in self.items {
+            total = total.checked_add(item.encoded_length()?)?;
+        }
+        Some(total)
+    }
+}

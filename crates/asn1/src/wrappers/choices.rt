@@ -1,0 +1,193 @@
+//! Choices: an element that is read as the first alternative that accepts its tag.
+
+ghost use Rattle.asn1.specs.Choices.{choice_der, only, or};
+ghost use Rattle.asn1.specs.ChoiceValues.{choice1_meaning, choice2_meaning, choice3_meaning, Choice1Errors, Choice2Errors, Choice3Errors};
+
+use asn1_core::{
+    Asn1Readable, Asn1Type, Asn1Writable, ParseError, ParseErrorKind, ParseResult, Parser, Tag,
+    Tlv, WriteError, WriteResult, Writer,
+};
+
+/// A value of one type, told by the tag.
+#[derive(Debug, PartialEq, Eq, Drop)]
+pub enum Choice1<T1> {
+    /// A value of the first type.
+    ChoiceA(T1),
+}
+
+impl<T1: Asn1Type> Asn1Type for Choice1<T1> {
+    ghost der = { choice_der (choice1_meaning T1.der.meaning) (only T1.der) };
+
+    fn known(&self) {
+        match self {
+            Choice1::ChoiceA(value) => value.known(),
+        }
+    }
+}
+
+impl<'a, T1: Asn1Readable<'a>> Asn1Readable<'a> for Choice1<T1> {
+    fn parse(parser: &mut Parser<'a>) -> ParseResult<Self> {
+        let tlv = parser.read_element::<Tlv<'a>>()?;
+        if T1::can_parse(tlv.tag()) {
+            return Ok(Choice1::ChoiceA(tlv.parse::<T1>(parser.alloc())?));
+        }
+        Err(ParseError::new(ParseErrorKind::UnexpectedTag { actual: tlv.tag() }))
+    }
+
+    fn can_parse(tag: Tag) -> bool {
+        T1::can_parse(tag)
+    }
+}
+
+impl<T1: Asn1Writable<Error = WriteError>> Asn1Writable for Choice1<T1> {
+    type Error = WriteError;
+
+    ghost write_errors = { Choice1Errors T1.write_errors };
+
+    fn write(&self, dest: &mut Writer<'_>) -> WriteResult<()> {
+        match self {
+            Choice1::ChoiceA(value) => dest.write_element(value),
+        }
+    }
+
+    fn encoded_length(&self) -> Option<usize> {
+        match self {
+            Choice1::ChoiceA(value) => value.encoded_length(),
+        }
+    }
+}
+
+/// A value of one of two types, told by the tag.
+#[derive(Debug, PartialEq, Eq, Drop)]
+pub enum Choice2<T1, T2> {
+    /// A value of the first type.
+    ChoiceA(T1),
+    /// A value of the second type.
+    ChoiceB(T2),
+}
+
+impl<T1: Asn1Type, T2: Asn1Type> Asn1Type for Choice2<T1, T2> {
+    ghost der = { choice_der (choice2_meaning T1.der.meaning T2.der.meaning) (or T1.der (only T2.der)) };
+
+    fn known(&self) {
+        match self {
+            Choice2::ChoiceA(value) => value.known(),
+            Choice2::ChoiceB(value) => value.known(),
+        }
+    }
+}
+
+impl<'a, T1: Asn1Readable<'a>, T2: Asn1Readable<'a>> Asn1Readable<'a> for Choice2<T1, T2> {
+    fn parse(parser: &mut Parser<'a>) -> ParseResult<Self> {
+        let tlv = parser.read_element::<Tlv<'a>>()?;
+        if T1::can_parse(tlv.tag()) {
+            return Ok(Choice2::ChoiceA(tlv.parse::<T1>(parser.alloc())?));
+        }
+        if T2::can_parse(tlv.tag()) {
+            return Ok(Choice2::ChoiceB(tlv.parse::<T2>(parser.alloc())?));
+        }
+        Err(ParseError::new(ParseErrorKind::UnexpectedTag { actual: tlv.tag() }))
+    }
+
+    fn can_parse(tag: Tag) -> bool {
+        // Each alternative is asked, since each tells that its values have one text.
+        let first = T1::can_parse(tag);
+        let second = T2::can_parse(tag);
+        first || second
+    }
+}
+
+impl<T1: Asn1Writable<Error = WriteError>, T2: Asn1Writable<Error = WriteError>> Asn1Writable
+    for Choice2<T1, T2> {
+    type Error = WriteError;
+
+    ghost write_errors = { Choice2Errors T1.write_errors T2.write_errors };
+
+    fn write(&self, dest: &mut Writer<'_>) -> WriteResult<()> {
+        match self {
+            Choice2::ChoiceA(value) => dest.write_element(value),
+            Choice2::ChoiceB(value) => dest.write_element(value),
+        }
+    }
+
+    fn encoded_length(&self) -> Option<usize> {
+        match self {
+            Choice2::ChoiceA(value) => value.encoded_length(),
+            Choice2::ChoiceB(value) => value.encoded_length(),
+        }
+    }
+}
+
+/// A value of one of three types, told by the tag.
+#[derive(Debug, PartialEq, Eq, Drop)]
+pub enum Choice3<T1, T2, T3> {
+    /// A value of the first type.
+    ChoiceA(T1),
+    /// A value of the second type.
+    ChoiceB(T2),
+    /// A value of the third type.
+    ChoiceC(T3),
+}
+
+impl<T1: Asn1Type, T2: Asn1Type, T3: Asn1Type> Asn1Type for Choice3<T1, T2, T3> {
+    ghost der = { choice_der (choice3_meaning T1.der.meaning T2.der.meaning T3.der.meaning) (or T1.der (or T2.der (only T3.der))) };
+
+    fn known(&self) {
+        match self {
+            Choice3::ChoiceA(value) => value.known(),
+            Choice3::ChoiceB(value) => value.known(),
+            Choice3::ChoiceC(value) => value.known(),
+        }
+    }
+}
+
+impl<'a, T1: Asn1Readable<'a>, T2: Asn1Readable<'a>, T3: Asn1Readable<'a>> Asn1Readable<'a>
+    for Choice3<T1, T2, T3> {
+    fn parse(parser: &mut Parser<'a>) -> ParseResult<Self> {
+        let tlv = parser.read_element::<Tlv<'a>>()?;
+        if T1::can_parse(tlv.tag()) {
+            return Ok(Choice3::ChoiceA(tlv.parse::<T1>(parser.alloc())?));
+        }
+        if T2::can_parse(tlv.tag()) {
+            return Ok(Choice3::ChoiceB(tlv.parse::<T2>(parser.alloc())?));
+        }
+        if T3::can_parse(tlv.tag()) {
+            return Ok(Choice3::ChoiceC(tlv.parse::<T3>(parser.alloc())?));
+        }
+        Err(ParseError::new(ParseErrorKind::UnexpectedTag { actual: tlv.tag() }))
+    }
+
+    fn can_parse(tag: Tag) -> bool {
+        // Each alternative is asked, since each tells that its values have one text.
+        let first = T1::can_parse(tag);
+        let second = T2::can_parse(tag);
+        let third = T3::can_parse(tag);
+        first || second || third
+    }
+}
+
+impl<
+    T1: Asn1Writable<Error = WriteError>,
+    T2: Asn1Writable<Error = WriteError>,
+    T3: Asn1Writable<Error = WriteError>,
+> Asn1Writable for Choice3<T1, T2, T3> {
+    type Error = WriteError;
+
+    ghost write_errors = { Choice3Errors T1.write_errors T2.write_errors T3.write_errors };
+
+    fn write(&self, dest: &mut Writer<'_>) -> WriteResult<()> {
+        match self {
+            Choice3::ChoiceA(value) => dest.write_element(value),
+            Choice3::ChoiceB(value) => dest.write_element(value),
+            Choice3::ChoiceC(value) => dest.write_element(value),
+        }
+    }
+
+    fn encoded_length(&self) -> Option<usize> {
+        match self {
+            Choice3::ChoiceA(value) => value.encoded_length(),
+            Choice3::ChoiceB(value) => value.encoded_length(),
+            Choice3::ChoiceC(value) => value.encoded_length(),
+        }
+    }
+}

@@ -1,0 +1,64 @@
+//! Values that an item beside them defines.
+
+ghost use Rattle.asn1_core.specs.Tag.{explicit_tag_of};
+ghost use Rattle.asn1.specs.Defined.{by_inside};
+
+use super::Explicit;
+use asn1_core::writer::full_length;
+use asn1_core::{
+    Asn1DefinedBy, Asn1DefinedByReadable, Asn1DefinedByWritable, Asn1Readable, Asn1Type,
+    Asn1Writable, ParseError, ParseErrorKind, ParseResult, Parser, Tlv, WriteBuf, Writer,
+    explicit_tag,
+};
+
+impl<T: Asn1Type, U: Asn1DefinedBy<T>, const TAG: u32> Asn1DefinedBy<T> for Explicit<U, TAG> {
+    ghost by = { by_inside (explicit_tag_of TAG) (λ x. x.inner) U.by };
+
+    fn known_by(&self) {
+        self.as_inner().known_by()
+    }
+}
+
+/// Reads the element under the tag as it stands, and then its text as the item defines it. A rest is `ExtraData`.
+impl<
+    'a,
+    T: Asn1Readable<'a>,
+    U: Asn1DefinedByReadable<'a, T>,
+    const TAG: u32,
+> Asn1DefinedByReadable<'a, T> for Explicit<U, TAG> {
+    fn parse(item: T, parser: &mut Parser<'a>) -> ParseResult<Self> {
+        let element = parser.read_element::<Explicit<Tlv<'a>, TAG>>()?;
+        let mut inner = Parser::new(parser.alloc(), element.as_inner().full_data());
+        let value = U::parse(item, &mut inner)?;
+        if !inner.is_empty() {
+            return Err(ParseError::new(ParseErrorKind::ExtraData));
+        }
+        Ok(Explicit::new(value))
+    }
+}
+
+impl<T: Asn1Writable, U: Asn1DefinedByWritable<T>, const TAG: u32> Asn1DefinedByWritable<T>
+    for Explicit<U, TAG> {
+    type Error = U::Error;
+
+    ghost write_errors_by = { λ x. U.write_errors_by x.inner };
+
+    fn item(&self) -> T {
+        self.as_inner().item()
+    }
+
+    fn write(&self, dest: &mut Writer<'_>) -> Result<(), U::Error> {
+        let inner = self.as_inner();
+        dest.write_tlv(
+            explicit_tag(TAG),
+            inner.encoded_length(),
+            |dest: &mut WriteBuf| -> Result<(), U::Error>
+                requires { U.by.means.closures (U.by.means.meaning inner.now) }
+            { inner.write(&mut Writer::new(dest)) },
+        )
+    }
+
+    fn encoded_length(&self) -> Option<usize> {
+        full_length(explicit_tag(TAG), self.as_inner().encoded_length()?)
+    }
+}

@@ -1,0 +1,229 @@
+//! Values under another tag, and in an element of their own.
+
+ghost use Rattle.std.specs.Prelude.{◌≡◌};
+ghost use Rattle.asn1_core.specs.Tag.{explicit_tag_of, implicit_tag_of, universal};
+ghost use Rattle.asn1_core.specs.Der.{simple_der};
+ghost use Rattle.asn1.specs.Inside.{one_inside, retagged};
+
+use asn1_core::{
+    Asn1Readable, Asn1Type, Asn1Writable, ParseResult, SimpleAsn1Readable, SimpleAsn1Writable, Tag,
+    WriteBuf, Writer, explicit_tag, implicit_tag, parse_single,
+};
+use std::alloc::Global;
+
+/// A value in an element with an explicit tag.
+#[derive(Debug, PartialEq, Eq, Drop)]
+pub struct Explicit<T, const TAG: u32> {
+    inner: T,
+}
+
+impl<T, const TAG: u32> Explicit<T, TAG> {
+    /// The value under the tag.
+    pub fn new(inner: T) -> Self
+        ensures { result.inner ≡ inner }
+    {
+        Explicit { inner }
+    }
+
+    /// The value.
+    pub fn as_inner(&self) -> &T
+        ensures { result.now ≡ self.now.inner }
+    {
+        &self.inner
+    }
+
+    /// The value.
+    pub fn into_inner(self) -> T
+        ensures { result ≡ self.inner }
+    {
+        self.inner
+    }
+}
+
+impl<T, const TAG: u32> From<T> for Explicit<T, TAG> {
+    ghost from_gives = { λ inner result. result.inner ≡ inner };
+
+    fn from(inner: T) -> Self {
+        Explicit::new(inner)
+    }
+}
+
+impl<T: Asn1Type, const TAG: u32> Asn1Type for Explicit<T, TAG> {
+    ghost der = { simple_der (λ x. T.der.meaning x.inner) (one_inside (explicit_tag_of TAG) T.der) };
+
+    fn known(&self) {
+        self.inner.known()
+    }
+}
+
+impl<'a, T: Asn1Readable<'a>, const TAG: u32> SimpleAsn1Readable<'a> for Explicit<T, TAG> {
+    fn tag() -> Tag {
+        let tag = explicit_tag(TAG);
+        // The call tells that each value of the type has one text.
+        let _is_accepted = T::can_parse(tag);
+        tag
+    }
+
+    fn parse_data(alloc: Global, data: &'a [u8]) -> ParseResult<Self> {
+        Ok(Explicit::new(parse_single::<T>(alloc, data)?))
+    }
+}
+
+impl<T: Asn1Writable, const TAG: u32> SimpleAsn1Writable for Explicit<T, TAG> {
+    type Error = T::Error;
+
+    ghost write_errors = { λ x. T.write_errors x.inner };
+
+    fn tag() -> Tag {
+        explicit_tag(TAG)
+    }
+
+    fn write_data(&self, dest: &mut WriteBuf) -> Result<(), T::Error> {
+        Writer::new(dest).write_element(&self.inner)
+    }
+
+    fn data_length(&self) -> Option<usize> {
+        self.inner.encoded_length()
+    }
+}
+
+/// A value's content under an implicit tag in place of its own.
+#[derive(Debug, PartialEq, Eq, Drop)]
+pub struct Implicit<T, const TAG: u32> {
+    inner: T,
+}
+
+impl<T, const TAG: u32> Implicit<T, TAG> {
+    /// The value under the tag.
+    pub fn new(inner: T) -> Self
+        ensures { result.inner ≡ inner }
+    {
+        Implicit { inner }
+    }
+
+    /// The value.
+    pub fn as_inner(&self) -> &T
+        ensures { result.now ≡ self.now.inner }
+    {
+        &self.inner
+    }
+
+    /// The value.
+    pub fn into_inner(self) -> T
+        ensures { result ≡ self.inner }
+    {
+        self.inner
+    }
+}
+
+impl<T, const TAG: u32> From<T> for Implicit<T, TAG> {
+    ghost from_gives = { λ inner result. result.inner ≡ inner };
+
+    fn from(inner: T) -> Self {
+        Implicit::new(inner)
+    }
+}
+
+impl<T: Asn1Type, const TAG: u32> Asn1Type for Implicit<T, TAG> {
+    ghost der = { simple_der (λ x. T.der.meaning x.inner) (retagged (implicit_tag_of TAG) T.der.content) };
+
+    fn known(&self) {
+        self.inner.known()
+    }
+}
+
+impl<'a, T: SimpleAsn1Readable<'a>, const TAG: u32> SimpleAsn1Readable<'a> for Implicit<T, TAG> {
+    fn tag() -> Tag {
+        implicit_tag(TAG, T::tag())
+    }
+
+    fn parse_data(alloc: Global, data: &'a [u8]) -> ParseResult<Self> {
+        Ok(Implicit::new(T::parse_data(alloc, data)?))
+    }
+}
+
+impl<T: SimpleAsn1Writable, const TAG: u32> SimpleAsn1Writable for Implicit<T, TAG> {
+    type Error = T::Error;
+
+    ghost write_errors = { λ x. T.write_errors x.inner };
+
+    fn tag() -> Tag {
+        implicit_tag(TAG, T::tag())
+    }
+
+    fn write_data(&self, dest: &mut WriteBuf) -> Result<(), T::Error> {
+        self.inner.write_data(dest)
+    }
+
+    fn data_length(&self) -> Option<usize> {
+        self.inner.data_length()
+    }
+}
+
+/// A value in an octet string.
+#[derive(Debug, PartialEq, Eq, Drop)]
+pub struct OctetStringEncoded<T> {
+    inner: T,
+}
+
+impl<T> OctetStringEncoded<T> {
+    /// The value in an octet string.
+    pub fn new(inner: T) -> Self
+        ensures { result.inner ≡ inner }
+    {
+        OctetStringEncoded { inner }
+    }
+
+    /// The value.
+    pub fn get(&self) -> &T
+        ensures { result.now ≡ self.now.inner }
+    {
+        &self.inner
+    }
+
+    /// The value.
+    pub fn into_inner(self) -> T
+        ensures { result ≡ self.inner }
+    {
+        self.inner
+    }
+}
+
+impl<T: Asn1Type> Asn1Type for OctetStringEncoded<T> {
+    ghost der = { simple_der (λ x. T.der.meaning x.inner) (one_inside (universal 4) T.der) };
+
+    fn known(&self) {
+        self.inner.known()
+    }
+}
+
+impl<'a, T: Asn1Readable<'a>> SimpleAsn1Readable<'a> for OctetStringEncoded<T> {
+    fn tag() -> Tag {
+        let tag = Tag::primitive(0x04);
+        // The call tells that each value of the type has one text.
+        let _is_accepted = T::can_parse(tag);
+        tag
+    }
+
+    fn parse_data(alloc: Global, data: &'a [u8]) -> ParseResult<Self> {
+        Ok(OctetStringEncoded::new(parse_single::<T>(alloc, data)?))
+    }
+}
+
+impl<T: Asn1Writable> SimpleAsn1Writable for OctetStringEncoded<T> {
+    type Error = T::Error;
+
+    ghost write_errors = { λ x. T.write_errors x.inner };
+
+    fn tag() -> Tag {
+        Tag::primitive(0x04)
+    }
+
+    fn write_data(&self, dest: &mut WriteBuf) -> Result<(), T::Error> {
+        Writer::new(dest).write_element(&self.inner)
+    }
+
+    fn data_length(&self) -> Option<usize> {
+        self.inner.encoded_length()
+    }
+}
