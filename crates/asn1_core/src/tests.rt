@@ -2,6 +2,7 @@
 
 mod elements;
 mod integers;
+mod octets;
 mod reading;
 mod slow;
 mod tags;

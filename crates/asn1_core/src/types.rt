@@ -11,13 +11,15 @@ ghost use Rattle.asn1_core.specs.Der.{Der, simple_der, tlv_der, seen, bool_conte
 mod boxes;
 mod defined_by;
 mod integers;
+mod octets;
 mod options;
 
-use crate::parser::{ParseError, ParseErrorKind, ParseResult, Parser, parse_single, kind_as_error};
+use crate::parser::{ParseError, ParseErrorKind, ParseResult, Parser, kind_as_error, parse_single};
 use crate::tag::Tag;
 use crate::writer::{WriteBuf, WriteError, WriteResult, Writer, full_length};
 pub use defined_by::{Asn1DefinedBy, Asn1DefinedByReadable, Asn1DefinedByWritable};
 pub use integers::is_integer_content;
+pub use octets::Null;
 use std::alloc::Global;
 
 /// An element as it stands: its tag, its content, and its text.

@@ -1,0 +1,157 @@
+//! Octet strings and null (X.690 8.7, 8.8).
+
+ghost use Rattle.std.specs.Prelude.{◌≡◌, length, Some};
+ghost use Rattle.asn1_core.specs.Text.{IsText};
+ghost use Rattle.asn1_core.specs.Tag.{universal};
+ghost use Rattle.asn1_core.specs.Octets.{read_octets};
+ghost use Rattle.asn1_core.specs.OctetContents.{octets_content, sized_octets_content, null_content};
+ghost use Rattle.asn1_core.specs.Reading.{Answers};
+ghost use Rattle.asn1_core.specs.Writing.{KnowsLength};
+ghost use Rattle.asn1_core.specs.Der.{simple_der};
+
+use crate::parser::{ParseError, ParseErrorKind, ParseResult};
+use crate::tag::Tag;
+use crate::types::{Asn1Type, SimpleAsn1Readable, SimpleAsn1Writable};
+use crate::writer::{WriteBuf, WriteError, WriteResult};
+use std::alloc::Global;
+
+/// The value of which there is one, with no contents octets.
+pub type Null = ();
+
+impl Asn1Type for () {
+    ghost der = { simple_der (λ m. m) null_content };
+
+    fn known(&self) {}
+}
+
+impl<'a> SimpleAsn1Readable<'a> for () {
+    fn tag() -> Tag {
+        Tag::primitive(0x05)
+    }
+
+    fn parse_data(_alloc: Global, data: &'a [u8]) -> ParseResult<()> {
+        if !data.is_empty() {
+            return Err(ParseError::new(ParseErrorKind::InvalidValue));
+        }
+        Ok(())
+    }
+}
+
+impl SimpleAsn1Writable for () {
+    type Error = WriteError;
+
+    ghost write_errors = { λ _ _. ⊥ };
+
+    fn tag() -> Tag {
+        Tag::primitive(0x05)
+    }
+
+    fn write_data(&self, _dest: &mut WriteBuf) -> WriteResult<()> {
+        Ok(())
+    }
+
+    fn data_length(&self) -> Option<usize>
+        ensures { result ≡ Some 0 }
+    {
+        Some(0)
+    }
+}
+
+/// What a slice of octets says of them. The body looks at the slice, whose type says so.
+fn are_octets(octets: &[u8])
+    ensures { IsText octets.now }
+{
+    let _count = octets.len();
+}
+
+/// An octet string: a read lends the contents octets.
+impl<'a> Asn1Type for &'a [u8] {
+    ghost der = { simple_der (λ octets. octets.now) octets_content };
+
+    fn known(&self) {
+        are_octets(self)
+    }
+}
+
+impl<'a> SimpleAsn1Readable<'a> for &'a [u8] {
+    fn tag() -> Tag
+        ensures value { result ≡ universal 4 }
+        ensures simple { Unit {0} }
+        ensures plain { Unit {0} }
+    {
+        Tag::primitive(0x04)
+    }
+
+    fn parse_data(_alloc: Global, data: &'a [u8]) -> ParseResult<&'a [u8]>
+        ensures { Answers (λ octets. octets.now) (λ _. ⊥) result (read_octets «data».entry.now) }
+    {
+        Ok(data)
+    }
+}
+
+impl SimpleAsn1Writable for &[u8] {
+    type Error = WriteError;
+
+    ghost write_errors = { λ _ _. ⊥ };
+
+    fn tag() -> Tag
+        ensures value { result ≡ universal 4 }
+        ensures simple { Unit {0} }
+    {
+        Tag::primitive(0x04)
+    }
+
+    fn write_data(&self, dest: &mut WriteBuf) -> WriteResult<()> {
+        dest.push_slice(self)
+    }
+
+    fn data_length(&self) -> Option<usize>
+        ensures known { KnowsLength (octets_content.texts self.now.now) result }
+        ensures exact { result ≡ Some (length self.now.now) }
+    {
+        Some(self.len())
+    }
+}
+
+/// An octet string of a fixed size.
+impl<const N: usize> Asn1Type for [u8; N] {
+    ghost der = { simple_der (λ octets. octets) (sized_octets_content N) };
+
+    fn known(&self) {
+        are_octets(self)
+    }
+}
+
+impl<'a, const N: usize> SimpleAsn1Readable<'a> for [u8; N] {
+    fn tag() -> Tag {
+        Tag::primitive(0x04)
+    }
+
+    fn parse_data(_alloc: Global, data: &'a [u8]) -> ParseResult<[u8; N]> {
+        match <[u8; N]>::try_from(data) {
+            Ok(octets) => Ok(octets),
+            Err(_) => Err(ParseError::new(ParseErrorKind::InvalidValue)),
+        }
+    }
+}
+
+impl<const N: usize> SimpleAsn1Writable for [u8; N] {
+    type Error = WriteError;
+
+    ghost write_errors = { λ _ _. ⊥ };
+
+    fn tag() -> Tag {
+        Tag::primitive(0x04)
+    }
+
+    fn write_data(&self, dest: &mut WriteBuf) -> WriteResult<()> {
+        dest.push_slice(self)
+    }
+
+    fn data_length(&self) -> Option<usize>
+        ensures known { KnowsLength ((sized_octets_content N).texts self.now) result }
+        ensures exact { result ≡ Some N }
+    {
+        Some(N)
+    }
+}
