@@ -4,4 +4,4 @@ use Rattle.asn1_values.specs.declared.values.enumerated.Enumerated.{Enumerated}
 
 -- The number.
 abbrev pub enumerated_value : Enumerated → ℕ
-enumerated_value e = e.value
+enumerated_value e = e.0

@@ -15,9 +15,10 @@ use asn1_core::{
     WriteBuf, WriteError, WriteResult,
 };
 use std::alloc::Global;
+use std::fmt;
 
 /// An integer that isn't negative, of any length: the contents octets that a read lends.
-#[derive(Clone, Copy, Debug, PartialEq, Eq, Hash)]
+#[derive(Clone, Copy, PartialEq, Eq, Hash)]
 pub struct BigUint<'a> {
     octets: &'a [u8],
     pub ghost is_content: { IsUnsignedForm octets.now },
@@ -43,6 +44,12 @@ impl<'a> BigUint<'a> {
         ensures content { IsUnsigned result.now }
     {
         self.octets
+    }
+}
+
+impl fmt::Debug for BigUint<'_> {
+    fn fmt<W: fmt::Write>(&self, f: &mut fmt::Formatter<W>) -> fmt::Result {
+        write!(f, "BigUint {{ data: {:?} }}", self.octets)
     }
 }
 
@@ -102,7 +109,7 @@ impl SimpleAsn1Writable for BigUint<'_> {
 }
 
 /// An integer of any length: the contents octets that a read lends.
-#[derive(Clone, Copy, Debug, PartialEq, Eq, Hash)]
+#[derive(Clone, Copy, PartialEq, Eq, Hash)]
 pub struct BigInt<'a> {
     octets: &'a [u8],
     pub ghost is_content: { IsSignedForm octets.now },
@@ -143,6 +150,12 @@ impl<'a> BigInt<'a> {
         ensures { result ≡ bit_count (big_int_number self.now) }
     {
         bit_length(self.octets)
+    }
+}
+
+impl fmt::Debug for BigInt<'_> {
+    fn fmt<W: fmt::Write>(&self, f: &mut fmt::Formatter<W>) -> fmt::Result {
+        write!(f, "BigInt {{ data: {:?} }}", self.octets)
     }
 }
 

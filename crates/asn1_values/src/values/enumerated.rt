@@ -14,9 +14,7 @@ use std::alloc::Global;
 
 /// An enumerated value: a number that stands for one of a list.
 #[derive(Debug, PartialEq, Eq, Drop)]
-pub struct Enumerated {
-    value: u32,
-}
+pub struct Enumerated(u32);
 
 impl Enumerated {
     ghost use Rattle.asn1_values.specs.Enumerated.{enumerated_value};
@@ -25,14 +23,14 @@ impl Enumerated {
     pub fn new(value: u32) -> Enumerated
         ensures { enumerated_value result ≡ value }
     {
-        Enumerated { value }
+        Enumerated(value)
     }
 
     /// The number.
     pub fn value(&self) -> u32
         ensures { result ≡ enumerated_value self.now }
     {
-        self.value
+        self.0
     }
 }
 
@@ -43,7 +41,7 @@ impl Asn1Type for Enumerated {
 
     fn known(&self) {
         // Reading the number tells that it is in its type's range.
-        let _value = self.value;
+        let _value = self.0;
     }
 }
 
@@ -54,7 +52,7 @@ impl<'a> SimpleAsn1Readable<'a> for Enumerated {
 
     fn parse_data(alloc: Global, data: &'a [u8]) -> ParseResult<Enumerated> {
         let value = u32::parse_data(alloc, data)?;
-        Ok(Enumerated { value })
+        Ok(Enumerated(value))
     }
 }
 
@@ -70,12 +68,12 @@ impl SimpleAsn1Writable for Enumerated {
     }
 
     fn write_data(&self, dest: &mut WriteBuf) -> WriteResult<()> {
-        self.value.write_data(dest)
+        self.0.write_data(dest)
     }
 
     fn data_length(&self) -> Option<usize>
         ensures { result ≡ Some (length (integer_content (pos (enumerated_value self.now)))) }
     {
-        self.value.data_length()
+        self.0.data_length()
     }
 }

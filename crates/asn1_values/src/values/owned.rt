@@ -13,9 +13,10 @@ use asn1_core::{
     WriteBuf, WriteError, WriteResult,
 };
 use std::alloc::{AllocError, Global};
+use std::fmt;
 
 /// An integer that isn't negative, of any length, which owns its contents octets.
-#[derive(Debug, PartialEq, Eq, Hash, Drop)]
+#[derive(PartialEq, Eq, Hash, Drop)]
 pub struct OwnedBigUint {
     octets: Vec<u8>,
     pub ghost is_content: { IsUnsignedForm octets.items },
@@ -52,6 +53,12 @@ impl Clone for OwnedBigUint {
     fn clone(&self) -> Result<OwnedBigUint, AllocError> {
         let octets = Vec::from_slice(*self.octets.allocator(), self.octets.as_slice())?;
         Ok(OwnedBigUint { octets })
+    }
+}
+
+impl fmt::Debug for OwnedBigUint {
+    fn fmt<W: fmt::Write>(&self, f: &mut fmt::Formatter<W>) -> fmt::Result {
+        write!(f, "OwnedBigUint {{ data: {:?} }}", self.octets)
     }
 }
 
@@ -102,7 +109,7 @@ impl SimpleAsn1Writable for OwnedBigUint {
 }
 
 /// An integer of any length, which owns its contents octets.
-#[derive(Debug, PartialEq, Eq, Hash, Drop)]
+#[derive(PartialEq, Eq, Hash, Drop)]
 pub struct OwnedBigInt {
     octets: Vec<u8>,
     pub ghost is_content: { IsSignedForm octets.items },
@@ -154,6 +161,12 @@ impl Clone for OwnedBigInt {
     fn clone(&self) -> Result<OwnedBigInt, AllocError> {
         let octets = Vec::from_slice(*self.octets.allocator(), self.octets.as_slice())?;
         Ok(OwnedBigInt { octets })
+    }
+}
+
+impl fmt::Debug for OwnedBigInt {
+    fn fmt<W: fmt::Write>(&self, f: &mut fmt::Formatter<W>) -> fmt::Result {
+        write!(f, "OwnedBigInt {{ data: {:?} }}", self.octets)
     }
 }
 
