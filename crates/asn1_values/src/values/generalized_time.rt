@@ -37,7 +37,10 @@ impl GeneralizedTime {
         if datetime.year() > 9999 || !is_fraction(nanoseconds) {
             return Err(ParseError::new(ParseErrorKind::InvalidValue));
         }
-        Ok(GeneralizedTime { datetime, nanoseconds })
+        Ok(GeneralizedTime {
+            datetime,
+            nanoseconds,
+        })
     }
 
     /// The date and time, without the fraction.
@@ -62,7 +65,10 @@ impl Clone for GeneralizedTime {
 
     fn clone(&self) -> Result<GeneralizedTime, AllocError> {
         let datetime = self.datetime.clone()?;
-        Ok(GeneralizedTime { datetime, nanoseconds: self.nanoseconds })
+        Ok(GeneralizedTime {
+            datetime,
+            nanoseconds: self.nanoseconds,
+        })
     }
 }
 
@@ -81,7 +87,10 @@ impl<'a> SimpleAsn1Readable<'a> for GeneralizedTime {
 
     fn parse_data(_alloc: Global, data: &'a [u8]) -> ParseResult<GeneralizedTime> {
         match general(data) {
-            Some((datetime, nanoseconds)) => Ok(GeneralizedTime { datetime, nanoseconds }),
+            Some((datetime, nanoseconds)) => Ok(GeneralizedTime {
+                datetime,
+                nanoseconds,
+            }),
             None => Err(ParseError::new(ParseErrorKind::InvalidValue)),
         }
     }
