@@ -1,0 +1,84 @@
+//! A sequence whose content is read by the caller.
+
+ghost use Rattle.std.specs.Prelude.{◌≡◌, List, ℕ, length, Ok, Result, Some};
+ghost use Rattle.std.specs.Fn.{FnOnceReturnsAtMut};
+ghost use Rattle.asn1_core.specs.Reading.{Answers, IsHandedOn};
+ghost use Rattle.asn1_core.specs.Der.{simple_der};
+ghost use Rattle.asn1_core.specs.Items.{sequence_tag};
+ghost use Rattle.asn1_core.specs.Writing.{KnowsLength};
+ghost use Rattle.asn1.specs.Sequences.{sequence_octets, sequence_content};
+
+use crate::lists::are_octets;
+use asn1_core::{
+    Asn1Type, ParseError, ParseResult, Parser, SimpleAsn1Readable, SimpleAsn1Writable, Tag,
+    WriteBuf, WriteError, WriteResult, parse,
+};
+use std::alloc::Global;
+
+/// A sequence as it stands. Its tag is that of structures.
+#[derive(Clone, Copy, Debug, PartialEq, Eq)]
+pub struct Sequence<'a> {
+    content: &'a [u8],
+}
+
+impl<'a> Sequence<'a> {
+    /// Runs `f` over the content, and refuses with `ExtraData` what it leaves.
+    pub fn parse<T: Drop, E: From<ParseError> + Drop, F: Fn(&mut Parser<'a>) -> Result<T, E>>(
+        self,
+        alloc: Global,
+        f: F,
+    ) -> Result<T, E>
+        requires { F.IsAlwaysCallable f }
+        ensures { (rest : List ℕ) × (answer : Result T E) × FnOnceReturnsAtMut F.FnOnce f (sequence_octets self.entry) answer rest × IsHandedOn E.from_gives answer rest result }
+    {
+        parse(alloc, self.content, f)
+    }
+}
+
+impl<'a> Asn1Type for Sequence<'a> {
+    ghost der = { simple_der sequence_octets sequence_content };
+
+    fn known(&self) {
+        are_octets(self.content)
+    }
+}
+
+impl<'a> SimpleAsn1Readable<'a> for Sequence<'a> {
+    fn tag() -> Tag
+        ensures value { result ≡ sequence_tag }
+        ensures simple { Unit {0} }
+        ensures plain { Unit {0} }
+    {
+        Tag::constructed(0x10)
+    }
+
+    fn parse_data(_alloc: Global, data: &'a [u8]) -> ParseResult<Sequence<'a>>
+        ensures { Answers sequence_octets (λ _. ⊥) result (Ok «data».entry.now) }
+    {
+        Ok(Sequence { content: data })
+    }
+}
+
+impl<'a> SimpleAsn1Writable for Sequence<'a> {
+    type Error = WriteError;
+
+    ghost write_errors = { λ _ _. ⊥ };
+
+    fn tag() -> Tag
+        ensures value { result ≡ sequence_tag }
+        ensures simple { Unit {0} }
+    {
+        Tag::constructed(0x10)
+    }
+
+    fn write_data(&self, dest: &mut WriteBuf) -> WriteResult<()> {
+        dest.push_slice(self.content)
+    }
+
+    fn data_length(&self) -> Option<usize>
+        ensures length { KnowsLength (λ t. t ≡ sequence_octets self.now) result }
+        ensures known { result ≡ Some (length (sequence_octets self.now)) }
+    {
+        Some(self.content.len())
+    }
+}

@@ -1,0 +1,304 @@
+//! Lists of items.
+
+ghost use Rattle.std.specs.Prelude.{◌≡◌, ◌<◌, ◌-◌, ◌==◌, List, ℕ, length, nat_eq, Ok, OnOk, OnErr, IfErr, Some};
+ghost use Rattle.std.specs.Iterator.{at_most};
+ghost use Rattle.std.specs.Hash as fed;
+ghost use Rattle.std.specs.Cmp.{partial_equiv_from_equiv, on_per, on_equiv};
+ghost use Rattle.std.specs.Cmp.Lexicographic.{pointwise, nat_list_eq_equiv};
+ghost use Rattle.std.specs.Cmp.Rules.{hashing};
+ghost use Rattle.std.proofs.Common.{rules};
+ghost use Rattle.asn1_core.specs.Buffer.{Appends, KeepsFront};
+ghost use Rattle.asn1_core.specs.Element.{Element, front};
+ghost use Rattle.asn1_core.specs.Reading.{Answers, EndsWith};
+ghost use Rattle.asn1_core.specs.Der.{simple_der};
+ghost use Rattle.asn1_core.specs.Items.{Each, Joins, OneNames, sequence_tag};
+ghost use Rattle.asn1_core.specs.Writing.{KnowsLength, Refuses};
+ghost use Rattle.asn1.specs.Lists.{AreItems, left, item, counted, item_out, items_out, sequence_read, NextItem};
+ghost use Rattle.asn1.specs.ListTypes.{items_inside};
+
+use crate::lists::are_octets;
+use asn1_core::{
+    Asn1Readable, Asn1Type, Asn1Writable, ParseError, ParseErrorKind, ParseLocation, ParseResult,
+    Parser, SimpleAsn1Readable, SimpleAsn1Writable, Tag, Tlv, WriteBuf, WriteError, Writer,
+};
+use std::alloc::{AllocError, Global};
+use std::hash::{Hash, Hasher};
+use std::marker::PhantomData;
+
+/// The items of a content that are left.
+#[derive(Drop)]
+pub struct SequenceOf<'a, T: Asn1Type, const MINIMUM_LEN: usize, const MAXIMUM_LEN: usize> {
+    content: &'a [u8],
+    alloc: Global,
+    count: usize,
+    of: PhantomData<T>,
+    pub ghost are_items: { AreItems T.der.read content.now count },
+}
+
+impl<'a, T: Asn1Readable<'a>, const MINIMUM_LEN: usize, const MAXIMUM_LEN: usize> SequenceOf<
+    'a,
+    T,
+    MINIMUM_LEN,
+    MAXIMUM_LEN,
+> {
+    /// How many items are left.
+    pub fn len(&self) -> usize
+        ensures { result ≡ length (left T.der.read self.now.content.now) }
+    {
+        self.count
+    }
+
+    /// Whether no item is left.
+    pub fn is_empty(&self) -> bool
+        ensures { result ≡ (length (left T.der.read self.now.content.now) == 0) }
+    {
+        self.count == 0
+    }
+}
+
+impl<'a, T: Asn1Type, const MINIMUM_LEN: usize, const MAXIMUM_LEN: usize> Clone
+    for SequenceOf<'a, T, MINIMUM_LEN, MAXIMUM_LEN> {
+    ghost is_clone = { λ x y. y.content.now ≡ x.content.now };
+
+    ghost is_infallible = { λ _. Unit {0} };
+
+    fn clone(&self) -> Result<Self, AllocError> {
+        Ok(SequenceOf {
+            content: self.content,
+            alloc: self.alloc,
+            count: self.count,
+            of: PhantomData,
+        })
+    }
+}
+
+/// Equal exactly where the octets that are left are.
+impl<'a, T: Asn1Type, const MINIMUM_LEN: usize, const MAXIMUM_LEN: usize> PartialEq
+    for SequenceOf<'a, T, MINIMUM_LEN, MAXIMUM_LEN> {
+    ghost eq = { λ x y. pointwise nat_eq x.content.now y.content.now };
+
+    ghost laws = { on_per (λ x. x.content.now) (partial_equiv_from_equiv nat_list_eq_equiv) };
+
+    fn eq(&self, other: &Self) -> bool {
+        self.content == other.content
+    }
+}
+
+impl<'a, T: Asn1Type, const MINIMUM_LEN: usize, const MAXIMUM_LEN: usize> Eq
+    for SequenceOf<'a, T, MINIMUM_LEN, MAXIMUM_LEN> {
+    ghost laws = { on_equiv (λ x. x.content.now) nat_list_eq_equiv };
+}
+
+impl<'a, T: Asn1Type, const MINIMUM_LEN: usize, const MAXIMUM_LEN: usize> Hash
+    for SequenceOf<'a, T, MINIMUM_LEN, MAXIMUM_LEN> {
+    ghost hash_input = { λ x. fed.slice fed.u8 x.content.now };
+
+    ghost respects_eq = { Prim.search (hashing, rules) };
+
+    fn hash<H: Hasher>(&self, state: &mut H) {
+        self.content.hash(state);
+    }
+}
+
+impl<'a, T: Asn1Type, const MINIMUM_LEN: usize, const MAXIMUM_LEN: usize> Asn1Type
+    for SequenceOf<'a, T, MINIMUM_LEN, MAXIMUM_LEN> {
+    ghost der = { simple_der (λ s. left T.der.read s.content.now) (items_inside MINIMUM_LEN MAXIMUM_LEN T.der) };
+
+    fn known(&self) {
+        are_octets(self.content);
+    }
+}
+
+impl<
+    'a,
+    T: Asn1Readable<'a>,
+    const MINIMUM_LEN: usize,
+    const MAXIMUM_LEN: usize,
+> SimpleAsn1Readable<'a> for SequenceOf<'a, T, MINIMUM_LEN, MAXIMUM_LEN> {
+    fn tag() -> Tag
+        ensures value { result ≡ sequence_tag }
+        ensures simple { Unit {0} }
+        ensures plain { T.der.plain }
+    {
+        let tag = Tag::constructed(0x10);
+        // The items' type says by this call that each value has one text.
+        let _accepted = T::can_parse(tag);
+        tag
+    }
+
+    fn parse_data(alloc: Global, data: &'a [u8]) -> ParseResult<Self>
+        ensures { Answers (λ s. left T.der.read s.content.now) (λ places. items_out T.der.read T.der.runs_out (length «data».entry.now) 0 «data».entry.now places) result (sequence_read T.der.read MINIMUM_LEN MAXIMUM_LEN «data».entry.now) }
+    {
+        let count = count_items::<T>(alloc, data)?;
+        if count < MINIMUM_LEN || count > MAXIMUM_LEN {
+            return Err(ParseError::new(ParseErrorKind::InvalidSize {
+                min: MINIMUM_LEN,
+                max: MAXIMUM_LEN,
+                actual: count,
+            }));
+        }
+        Ok(SequenceOf {
+            content: data,
+            alloc,
+            count,
+            of: PhantomData,
+        })
+    }
+}
+
+/// Reads the item at an index. It takes something.
+fn read_item<'a, T: Asn1Readable<'a>>(parser: &mut Parser<'a>, index: usize) -> ParseResult<T>
+    ensures answers { Answers (λ v. (T.der.meaning v, parser.new)) (item_out T.der.runs_out index parser.old) result (item T.der.read index parser.old) }
+    ensures rest { EndsWith parser.old parser.new }
+{
+    let before = parser.rest().len();
+    match parser.read_element::<T>() {
+        Ok(value) => {
+            if parser.rest().len() == before {
+                return Err(ParseError::new(ParseErrorKind::ExtraData).add_location(
+                    ParseLocation::Index(index),
+                ));
+            }
+            Ok(value)
+        }
+        Err(error) => Err(error.add_location(ParseLocation::Index(index))),
+    }
+}
+
+/// Counts the items of a content.
+fn count_items<'a, T: Asn1Readable<'a>>(alloc: Global, content: &'a [u8]) -> ParseResult<usize>
+    ensures { Answers (λ n. n) (items_out T.der.read T.der.runs_out (length content.entry.now) 0 content.entry.now) result (counted T.der.read 0 content.entry.now) }
+{
+    let mut parser = Parser::new(alloc, content);
+    let mut count = 0;
+    'items: while !parser.is_empty() {
+        let _item = read_item::<T>(&mut parser, count)?;
+        count += 1;
+    }
+    Ok(count)
+}
+
+/// What follows the element in front.
+fn behind_element<'a>(alloc: Global, content: &'a [u8]) -> &'a [u8]
+    ensures { (f : Element × List ℕ) → front content.entry.now ≡ Ok f → result.now ≡ f.1 }
+{
+    let mut parser = Parser::new(alloc, content);
+    let _tlv = parser.read_element::<Tlv<'a>>();
+    parser.rest()
+}
+
+/// Reads the first of the items, and says what follows it.
+fn first_of<'a, T: Asn1Readable<'a>>(
+    alloc: Global,
+    content: &'a [u8],
+    count: usize,
+) -> (ParseResult<T>, &'a [u8])
+    requires some { 0 < length content.now }
+    requires are_items { AreItems T.der.read content.now count }
+    ensures item { NextItem T.der.takes_memory T.der.meaning (left T.der.read content.entry.now) (Some result.0) (left T.der.read result.1.now) }
+    ensures after { AreItems T.der.read result.1.now (count - 1) }
+    ensures counted { 0 < count }
+{
+    let mut parser = Parser::new(alloc, content);
+    match parser.read_element::<T>() {
+        Ok(value) => (Ok(value), parser.rest()),
+        Err(error) => (Err(error), behind_element(alloc, content)),
+    }
+}
+
+impl<'a, T: Asn1Readable<'a>, const MINIMUM_LEN: usize, const MAXIMUM_LEN: usize> Iterator
+    for SequenceOf<'a, T, MINIMUM_LEN, MAXIMUM_LEN> {
+    type Item = ParseResult<T>;
+
+    ghost next_gives = { λ s r t. NextItem T.der.takes_memory T.der.meaning (left T.der.read s.content.now) r (left T.der.read t.content.now) };
+
+    ghost remaining = { λ s. at_most s.count };
+
+    fn next(&mut self) -> Option<ParseResult<T>> {
+        if self.content.is_empty() {
+            return None;
+        }
+        let (answer, rest) = first_of::<T>(self.alloc, self.content, self.count);
+        self.content = rest;
+        self.count -= 1;
+        Some(answer)
+    }
+}
+
+/// Writes the items of a content.
+fn write_items<'a, T: Asn1Readable<'a> + Asn1Writable>(
+    alloc: Global,
+    items: &'a [u8],
+    number: usize,
+    writer: &mut Writer<'_>,
+) -> Result<(), T::Error>
+    requires are_items { AreItems T.der.read items.now number }
+    requires closures { Each T.der.closures (left T.der.read items.now) }
+    ensures same_buffer { writer.new.buf.ghost_name ≡ writer.old.buf.ghost_name }
+    ensures ok { OnOk result (Appends (Joins T.der.texts (left T.der.read items.entry.now)) writer.old.buf.now.bytes writer.new.buf.now.bytes) }
+    ensures err { OnErr result (KeepsFront writer.old.buf.now.bytes writer.new.buf.now.bytes) }
+    ensures error { IfErr result (Refuses T.Error.from_gives (OneNames T.write_errors)) }
+{
+    let mut content = items;
+    let mut count = number;
+    'items: while !content.is_empty() {
+        let (answer, rest) = first_of::<T>(alloc, content, count);
+        match answer {
+            Ok(value) => writer.write_element(&value)?,
+            Err(_) => return Err(T::Error::from(WriteError::AllocationError)),
+        }
+        content = rest;
+        count -= 1;
+    }
+    Ok(())
+}
+
+/// The length of the items of a content.
+fn items_length<'a, T: Asn1Readable<'a> + Asn1Writable>(
+    alloc: Global,
+    items: &'a [u8],
+    number: usize,
+) -> Option<usize>
+    requires { AreItems T.der.read items.now number }
+    ensures { KnowsLength (Joins T.der.texts (left T.der.read items.entry.now)) result }
+{
+    let mut content = items;
+    let mut count = number;
+    let mut total = 0usize;
+    'items: while !content.is_empty() {
+        let (answer, rest) = first_of::<T>(alloc, content, count);
+        match answer {
+            Ok(value) => total = total.checked_add(value.encoded_length()?)?,
+            Err(_) => return None,
+        }
+        content = rest;
+        count -= 1;
+    }
+    Some(total)
+}
+
+impl<
+    'a,
+    T: Asn1Readable<'a> + Asn1Writable,
+    const MINIMUM_LEN: usize,
+    const MAXIMUM_LEN: usize,
+> SimpleAsn1Writable for SequenceOf<'a, T, MINIMUM_LEN, MAXIMUM_LEN> {
+    type Error = T::Error;
+
+    ghost write_errors = { λ _. OneNames T.write_errors };
+
+    fn tag() -> Tag
+        ensures value { result ≡ sequence_tag }
+        ensures simple { Unit {0} }
+    {
+        Tag::constructed(0x10)
+    }
+
+    fn write_data(&self, dest: &mut WriteBuf) -> Result<(), T::Error> {
+        write_items::<T>(self.alloc, self.content, self.count, &mut Writer::new(dest))
+    }
+
+    fn data_length(&self) -> Option<usize> {
+        items_length::<T>(self.alloc, self.content, self.count)
+    }
+}
