@@ -1,4 +1,4 @@
-//! Fields of structures, one behind another, each with its name: a structure by hand is read and written as such a list.
+//! Fields of structures, one behind another, each with its name: a structure by hand is read and written as such a row.
 
 ghost use Rattle.std.specs.Prelude.{◌≡◌, ◌⊎◌, List, ℕ, OnOk, OnErr, IfErr};
 ghost use Rattle.asn1_core.specs.Buffer.{Appends, KeepsFront};
@@ -14,13 +14,13 @@ use asn1_core::{
 };
 use std::marker::PhantomData;
 
-/// The name of a field.
-pub trait FieldName {
-    ghost label: { List ℕ };
+/// The names of a structure's fields, as places have them.
+pub trait FieldNames {
+    ghost label: { ℕ → List ℕ };
 
-    /// The name, as places have it.
-    fn name() -> &'static str
-        ensures { result.now ≡ label };
+    /// The name of the field with this index.
+    fn name(index: usize) -> &'static str
+        ensures { result.now ≡ label index };
 }
 
 /// What fields mean, for contracts alone.
@@ -34,24 +34,72 @@ pub trait Row: Sized {
 
 /// Fields that are read.
 pub trait RowReadable<'a>: Row + Sized + Drop {
-    /// Reads the fields and nothing behind them.
+    /// Reads the fields and nothing behind them. A refusal is the first fault, at its field's place; a rest is
+    /// `ExtraData` without a place.
     fn read(parser: Parser<'a>) -> ParseResult<Self>
         ensures { Answers Self.list.meaning (Self.list.fields.runs_out parser.entry) result (Self.list.fields.read parser.entry) };
 }
 
-/// The last field.
+/// Fields that are written.
+pub trait RowWritable: Row + Sized {
+    /// What a refused write answers.
+    type Error: From<WriteError>;
+
+    // The errors that a write may answer, beside want of memory.
+    ghost write_errors: { Self → Self.Error → Type 0 };
+
+    /// Appends the texts of the fields, one behind another. At Err what stood before still stands in front.
+    fn write(&self, dest: &mut Writer<'_>) -> Result<(), Self::Error>
+        requires { Self.list.fields.closures (Self.list.meaning self.now) }
+        ensures same_buffer { dest.new.buf.ghost_name ≡ dest.old.buf.ghost_name }
+        ensures ok { OnOk result (Appends (Self.list.fields.texts (Self.list.meaning self.now)) dest.old.buf.now.bytes dest.new.buf.now.bytes) }
+        ensures err { OnErr result (KeepsFront dest.old.buf.now.bytes dest.new.buf.now.bytes) }
+        ensures error { IfErr result (Refuses Self.Error.from_gives (write_errors self.now)) };
+
+    /// How many octets the texts have together, where that is known without writing them.
+    fn length(&self) -> Option<usize>
+        ensures { KnowsLength (Self.list.fields.texts (Self.list.meaning self.now)) result };
+}
+
+/// The last field, which has this index among the names.
 #[derive(Drop)]
-pub struct Last<N, A> {
+pub struct Last<N, const I: usize, A> {
     pub value: A,
     pub of: PhantomData<N>,
 }
 
-/// A field, and those behind it.
+/// A field, which has this index among the names, and those behind it.
 #[derive(Drop)]
-pub struct Field<N, A, R> {
+pub struct Field<N, const I: usize, A, R> {
     pub value: A,
     pub rest: R,
     pub of: PhantomData<N>,
+}
+
+impl<N, const I: usize, A> Last<N, I, A> {
+    /// The last field.
+    pub fn new(value: A) -> Last<N, I, A>
+        ensures { result.value ≡ value }
+    {
+        Last {
+            value,
+            of: PhantomData,
+        }
+    }
+}
+
+impl<N, const I: usize, A, R> Field<N, I, A, R> {
+    /// A field, and those behind it.
+    pub fn new(value: A, rest: R) -> Field<N, I, A, R>
+        ensures value { result.value ≡ value }
+        ensures rest { result.rest ≡ rest }
+    {
+        Field {
+            value,
+            rest,
+            of: PhantomData,
+        }
+    }
 }
 
 /// A fault of a field gets the field's place.
@@ -81,73 +129,27 @@ pub fn sum(a: Option<usize>, b: Option<usize>) -> Option<usize>
     a?.checked_add(b?)
 }
 
-impl<N: FieldName, A: Asn1Type> Row for Last<N, A> {
-    ghost list = { last_field N.label (λ x. x.value) A.der };
+impl<N: FieldNames, const I: usize, A: Asn1Type> Row for Last<N, I, A> {
+    ghost list = { last_field (N.label I) (λ x. x.value) A.der };
 
     fn known_row(&self) {
         self.value.known()
     }
 }
 
-impl<'a, N: FieldName, A: Asn1Readable<'a>> RowReadable<'a> for Last<N, A> {
+impl<'a, N: FieldNames, const I: usize, A: Asn1Readable<'a>> RowReadable<'a> for Last<N, I, A> {
     fn read(parser: Parser<'a>) -> ParseResult<Self> {
         let mut parser = parser;
-        let value = placed(parser.read_element::<A>(), N::name())?;
+        let value = placed(parser.read_element::<A>(), N::name(I))?;
         finish(parser)?;
-        Ok(Last {
-            value,
-            of: PhantomData,
-        })
+        Ok(Last::new(value))
     }
 }
 
-impl<N: FieldName, A: Asn1Type, R: Row> Row for Field<N, A, R> {
-    ghost list = { first_field N.label (λ x. x.value) A.der (λ x. x.rest) R.list };
-
-    fn known_row(&self) {
-        self.value.known();
-        self.rest.known_row()
-    }
-}
-
-impl<'a, N: FieldName, A: Asn1Readable<'a>, R: RowReadable<'a>> RowReadable<'a> for Field<N, A, R> {
-    fn read(parser: Parser<'a>) -> ParseResult<Self> {
-        let mut parser = parser;
-        let value = placed(parser.read_element::<A>(), N::name())?;
-        let rest = R::read(parser)?;
-        Ok(Field {
-            value,
-            rest,
-            of: PhantomData,
-        })
-    }
-}
-
-/// Fields that are written.
-pub trait RowWritable: Row + Sized {
-    /// What a refused write answers.
-    type Error: From<WriteError>;
-
-    // The errors that a write may answer, beside want of memory.
-    ghost refused: { Self → Self.Error → Type 0 };
-
-    /// Appends the texts of the fields, one behind another. At Err what stood before still stands in front.
-    fn write(&self, dest: &mut Writer<'_>) -> Result<(), Self::Error>
-        requires { Self.list.fields.closures (Self.list.meaning self.now) }
-        ensures same_buffer { dest.new.buf.ghost_name ≡ dest.old.buf.ghost_name }
-        ensures ok { OnOk result (Appends (Self.list.fields.texts (Self.list.meaning self.now)) dest.old.buf.now.bytes dest.new.buf.now.bytes) }
-        ensures err { OnErr result (KeepsFront dest.old.buf.now.bytes dest.new.buf.now.bytes) }
-        ensures error { IfErr result (Refuses Self.Error.from_gives (refused self.now)) };
-
-    /// How many octets the texts have together, where that is known without writing them.
-    fn length(&self) -> Option<usize>
-        ensures { KnowsLength (Self.list.fields.texts (Self.list.meaning self.now)) result };
-}
-
-impl<N: FieldName, A: Asn1Writable> RowWritable for Last<N, A> {
+impl<N: FieldNames, const I: usize, A: Asn1Writable> RowWritable for Last<N, I, A> {
     type Error = A::Error;
 
-    ghost refused = { λ x. A.write_errors x.value };
+    ghost write_errors = { λ x. A.write_errors x.value };
 
     fn write(&self, dest: &mut Writer<'_>) -> Result<(), A::Error> {
         dest.write_element(&self.value)
@@ -158,11 +160,30 @@ impl<N: FieldName, A: Asn1Writable> RowWritable for Last<N, A> {
     }
 }
 
-impl<N: FieldName, A: Asn1Writable, R: RowWritable<Error = A::Error>> RowWritable
-    for Field<N, A, R> {
+impl<N: FieldNames, const I: usize, A: Asn1Type, R: Row> Row for Field<N, I, A, R> {
+    ghost list = { first_field (N.label I) (λ x. x.value) A.der (λ x. x.rest) R.list };
+
+    fn known_row(&self) {
+        self.value.known();
+        self.rest.known_row()
+    }
+}
+
+impl<'a, N: FieldNames, const I: usize, A: Asn1Readable<'a>, R: RowReadable<'a>> RowReadable<'a>
+    for Field<N, I, A, R> {
+    fn read(parser: Parser<'a>) -> ParseResult<Self> {
+        let mut parser = parser;
+        let value = placed(parser.read_element::<A>(), N::name(I))?;
+        let rest = R::read(parser)?;
+        Ok(Field::new(value, rest))
+    }
+}
+
+impl<N: FieldNames, const I: usize, A: Asn1Writable, R: RowWritable<Error = A::Error>> RowWritable
+    for Field<N, I, A, R> {
     type Error = A::Error;
 
-    ghost refused = { λ x e. A.write_errors x.value e ⊎ R.refused x.rest e };
+    ghost write_errors = { λ x e. A.write_errors x.value e ⊎ R.write_errors x.rest e };
 
     fn write(&self, dest: &mut Writer<'_>) -> Result<(), A::Error> {
         dest.write_element(&self.value)?;
