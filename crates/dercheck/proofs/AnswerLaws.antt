@@ -20,19 +20,8 @@ use Rattle.dercheck.proofs.RequestLaws.{request_of-is, requests_are_right}
 
 -- the laws speak of each type
 lawful : (word : Word) → (type_of word).der.lawful
-lawful words.Bool = (tt, lit< tt)
 lawful words.Tlv = tt
-lawful words.I8 = (tt, lit< tt)
-lawful words.U8 = (tt, lit< tt)
-lawful words.I16 = (tt, lit< tt)
-lawful words.U16 = (tt, lit< tt)
-lawful words.I32 = (tt, lit< tt)
-lawful words.U32 = (tt, lit< tt)
-lawful words.I64 = (tt, lit< tt)
-lawful words.U64 = (tt, lit< tt)
-lawful words.Int = (tt, lit< tt)
-lawful words.Uint = (tt, lit< tt)
-lawful words.Enum = (tt, lit< tt)
+lawful _ = (tt, lit< tt)
 
 -- ---- lines that are no request
 

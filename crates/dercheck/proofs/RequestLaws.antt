@@ -19,35 +19,13 @@ use Rattle.dercheck.proofs.Cuts.{split_once-behind, split_once-is, HasNone-missi
 
 word_of-text : (word : Word) → word_of (word_text word) ≡ Some word
 word_of-text words.Bool = refl
-word_of-text words.Tlv = refl
-word_of-text words.I8 = refl
-word_of-text words.U8 = refl
-word_of-text words.I16 = refl
-word_of-text words.U16 = refl
-word_of-text words.I32 = refl
-word_of-text words.U32 = refl
-word_of-text words.I64 = refl
-word_of-text words.U64 = refl
-word_of-text words.Int = refl
-word_of-text words.Uint = refl
-word_of-text words.Enum = refl
+word_of-text _ = refl
 
 -- a word has no space
 uncut : (word : Word) → split_once 32 (word_text word) ≡ None
 unfolding split_once
 uncut words.Bool = refl
-uncut words.Tlv = refl
-uncut words.I8 = refl
-uncut words.U8 = refl
-uncut words.I16 = refl
-uncut words.U16 = refl
-uncut words.I32 = refl
-uncut words.U32 = refl
-uncut words.I64 = refl
-uncut words.U64 = refl
-uncut words.Int = refl
-uncut words.Uint = refl
-uncut words.Enum = refl
+uncut _ = refl
 
 find-Some : {X : Type 0} (test : X → Bool) (xs : List X) (y : X) → find test xs ≡ Some y → test y ≡ true
 find-Some test [] y e = let no : None ≡ Some y = e in absurd cc
@@ -58,7 +36,7 @@ find-Some {X} test (x ∷ xs) y e = ⊎_elim
 
 word_of-is : (text : List ℕ) (word : Word) → word_of text ≡ Some word → text ≡ word_text word
 word_of-is text word e =
-    sym ((bytes_eq-Decides (word_text word) text).0 (find-Some (λ w. bytes_eq (word_text w) text) ALL word e))
+    sym ((bytes_eq-Decides (word_text word) text).0 (find-Some (λ w. bytes_eq (word_text w) text) ALL.now word e))
 
 -- ---- requests
 

@@ -34,7 +34,7 @@ word_text words.Enum = codes "enum"
 
 -- the word with that text
 abbrev pub word_of : List ℕ → Option Word
-word_of text = find (λ word. bytes_eq (word_text word) text) ALL
+word_of text = find (λ word. bytes_eq (word_text word) text) ALL.now
 
 -- a type, and what it means in DER
 pub record Asn1 : Type 1 where

@@ -42,7 +42,7 @@ pub(crate) enum Word {
 
 impl Word {
     /// Each word once.
-    pub(crate) const ALL: [Word; 13] = [
+    pub(crate) const ALL: &'static [Word] = &[
         Word::Bool,
         Word::Tlv,
         Word::I8,
