@@ -1,4 +1,4 @@
-//! A sequence whose content is read by the caller.
+//! A sequence whose content is read by the caller (X.690 8.9).
 
 ghost use Rattle.std.specs.Prelude.{◌≡◌, List, ℕ, length, Ok, Result, Some};
 ghost use Rattle.std.specs.Fn.{FnOnceReturnsAtMut};
@@ -15,14 +15,19 @@ use asn1_core::{
 };
 use std::alloc::Global;
 
-/// A sequence as it stands. Its tag is that of structures.
-#[derive(Clone, Copy, Debug, PartialEq, Eq)]
+/// A `SEQUENCE` as it stands: its contents octets, whatever they are. They are read by [`Sequence::parse`], and written as
+/// they were read.
+///
+/// Reading one refuses no content and takes no memory. Two are equal where their contents octets are.
+#[derive(Clone, Copy, Debug, PartialEq, Eq, Hash)]
 pub struct Sequence<'a> {
     content: &'a [u8],
 }
 
 impl<'a> Sequence<'a> {
-    /// Runs `f` over the content, and refuses with `ExtraData` what it leaves.
+    /// Reads the contents octets by `f`, as [`asn1_core::parse`] does.
+    ///
+    /// An error of `f` is handed on; where `f` answers a value and leaves octets, the error is `ExtraData`, without a place.
     pub fn parse<T: Drop, E: From<ParseError> + Drop, F: Fn(&mut Parser<'a>) -> Result<T, E>>(
         self,
         alloc: Global,

@@ -1,4 +1,4 @@
-//! Lists of items.
+//! Lists of items of one type (X.690 8.10).
 
 ghost use Rattle.std.specs.Prelude.{◌≡◌, ◌<◌, ◌-◌, ◌==◌, List, ℕ, length, nat_eq, Ok, OnOk, OnErr, IfErr, Some};
 ghost use Rattle.std.specs.Iterator.{at_most};
@@ -25,7 +25,19 @@ use std::alloc::{AllocError, Global};
 use std::hash::{Hash, Hasher};
 use std::marker::PhantomData;
 
-/// The items of a content that are left.
+/// A `SEQUENCE OF`, of `MINIMUM_LEN` to `MAXIMUM_LEN` items (both included), as an iterator over the items that are left.
+///
+/// Its value is the list of these items: what is written are their texts, and a list from which items were taken may have
+/// fewer than its bounds allow, so that its text is refused. Two lists are equal, and hash alike, where the octets left are
+/// the same, which they are exactly where the items are ([`crate::laws::equal_items`]). A clone takes no memory.
+///
+/// Reading a list looks at every item and keeps the octets. The first that is faulty decides: its first fault, or
+/// `ExtraData` where it takes no octet, with the place `Index(i)`, i being counted from 0. After all items comes
+/// `InvalidSize` where they are too few or too many, without a place of this list. Memory is taken only by the items.
+///
+/// The iterator reads each item again, and ends after the last: `None` comes exactly where no item is left. `Some(Err(..))`
+/// comes only where an item finds no memory (`AllocationError`, without a place of this list). That item counts as taken.
+/// Writing a list whose item finds no memory answers `AllocationError` too, and its length is `None`.
 #[derive(Drop)]
 pub struct SequenceOf<'a, T: Asn1Type, const MINIMUM_LEN: usize, const MAXIMUM_LEN: usize> {
     content: &'a [u8],
@@ -41,7 +53,7 @@ impl<'a, T: Asn1Readable<'a>, const MINIMUM_LEN: usize, const MAXIMUM_LEN: usize
     MINIMUM_LEN,
     MAXIMUM_LEN,
 > {
-    /// How many items are left.
+    /// How many items are left. The count is kept: no item is read.
     pub fn len(&self) -> usize
         ensures { result ≡ length (left T.der.read self.now.content.now) }
     {
@@ -72,7 +84,6 @@ impl<'a, T: Asn1Type, const MINIMUM_LEN: usize, const MAXIMUM_LEN: usize> Clone
     }
 }
 
-/// Equal exactly where the octets that are left are.
 impl<'a, T: Asn1Type, const MINIMUM_LEN: usize, const MAXIMUM_LEN: usize> PartialEq
     for SequenceOf<'a, T, MINIMUM_LEN, MAXIMUM_LEN> {
     ghost eq = { λ x y. pointwise nat_eq x.content.now y.content.now };
@@ -146,7 +157,7 @@ impl<
     }
 }
 
-/// Reads the item at an index. It takes something.
+/// Reads the item at an index. One that takes no octet is refused.
 fn read_item<'a, T: Asn1Readable<'a>>(parser: &mut Parser<'a>, index: usize) -> ParseResult<T>
     ensures answers { Answers (λ v. (T.der.meaning v, parser.new)) (item_out T.der.runs_out index parser.old) result (item T.der.read index parser.old) }
     ensures rest { EndsWith parser.old parser.new }
@@ -165,7 +176,7 @@ fn read_item<'a, T: Asn1Readable<'a>>(parser: &mut Parser<'a>, index: usize) -> 
     }
 }
 
-/// Counts the items of a content.
+/// Counts the items of a content, each of which it reads.
 fn count_items<'a, T: Asn1Readable<'a>>(alloc: Global, content: &'a [u8]) -> ParseResult<usize>
     ensures { Answers (λ n. n) (items_out T.der.read T.der.runs_out (length content.entry.now) 0 content.entry.now) result (counted T.der.read 0 content.entry.now) }
 {
@@ -178,7 +189,7 @@ fn count_items<'a, T: Asn1Readable<'a>>(alloc: Global, content: &'a [u8]) -> Par
     Ok(count)
 }
 
-/// What follows the element in front.
+/// What follows the element in front, where one stands there.
 fn behind_element<'a>(alloc: Global, content: &'a [u8]) -> &'a [u8]
     ensures { (f : Element × List ℕ) → front content.entry.now ≡ Ok f → result.now ≡ f.1 }
 {
@@ -187,7 +198,7 @@ fn behind_element<'a>(alloc: Global, content: &'a [u8]) -> &'a [u8]
     parser.rest()
 }
 
-/// Reads the first of the items, and says what follows it.
+/// Reads the first of the items, and says what follows it, also where memory ran out for it.
 fn first_of<'a, T: Asn1Readable<'a>>(
     alloc: Global,
     content: &'a [u8],
@@ -195,7 +206,7 @@ fn first_of<'a, T: Asn1Readable<'a>>(
 ) -> (ParseResult<T>, &'a [u8])
     requires some { 0 < length content.now }
     requires are_items { AreItems T.der.read content.now count }
-    ensures item { NextItem T.der.takes_memory T.der.meaning (left T.der.read content.entry.now) (Some result.0) (left T.der.read result.1.now) }
+    ensures item { NextItem (T.der.runs_out content.entry.now) T.der.meaning (left T.der.read content.entry.now) (Some result.0) (left T.der.read result.1.now) }
     ensures after { AreItems T.der.read result.1.now (count - 1) }
     ensures counted { 0 < count }
 {
@@ -210,7 +221,7 @@ impl<'a, T: Asn1Readable<'a>, const MINIMUM_LEN: usize, const MAXIMUM_LEN: usize
     for SequenceOf<'a, T, MINIMUM_LEN, MAXIMUM_LEN> {
     type Item = ParseResult<T>;
 
-    ghost next_gives = { λ s r t. NextItem T.der.takes_memory T.der.meaning (left T.der.read s.content.now) r (left T.der.read t.content.now) };
+    ghost next_gives = { λ s r t. NextItem (T.der.runs_out s.content.now) T.der.meaning (left T.der.read s.content.now) r (left T.der.read t.content.now) };
 
     ghost remaining = { λ s. at_most s.count };
 
@@ -225,7 +236,7 @@ impl<'a, T: Asn1Readable<'a>, const MINIMUM_LEN: usize, const MAXIMUM_LEN: usize
     }
 }
 
-/// Writes the items of a content.
+/// Writes the items of a content, in order.
 fn write_items<'a, T: Asn1Readable<'a> + Asn1Writable>(
     alloc: Global,
     items: &'a [u8],
@@ -253,7 +264,7 @@ fn write_items<'a, T: Asn1Readable<'a> + Asn1Writable>(
     Ok(())
 }
 
-/// The length of the items of a content.
+/// The length of the items' texts together, in octets. `None` where it isn't known.
 fn items_length<'a, T: Asn1Readable<'a> + Asn1Writable>(
     alloc: Global,
     items: &'a [u8],

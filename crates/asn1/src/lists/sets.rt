@@ -1,4 +1,4 @@
-//! Sets: elements in ascending order of their texts.
+//! Sets: elements in ascending order of their texts (X.690 8.11, 8.12, 10.3, 11.6).
 
 ghost use Rattle.std.specs.Prelude.{◌≡◌, ◌<◌, List, ℕ, [], length, Result, Some, OnOk, OnErr, IfErr, nat_eq};
 ghost use Rattle.std.specs.Fn.{FnOnceReturnsAtMut};
@@ -15,7 +15,7 @@ ghost use Rattle.asn1_core.specs.Der.{simple_der};
 ghost use Rattle.asn1_core.specs.Items.{Each, Joins, OneNames, set_tag};
 ghost use Rattle.asn1_core.specs.Writing.{KnowsLength, Refuses};
 ghost use Rattle.asn1.specs.Lists.{NextItem};
-ghost use Rattle.asn1.specs.Sets.{AreOrdered, set_left, set_item, checked, set_item_out, set_out, set_read, set_octets};
+ghost use Rattle.asn1.specs.Sets.{AreOrdered, set_left, set_item, checked, set_item_out, set_out, first_out, set_read, set_octets};
 ghost use Rattle.asn1.specs.SetTypes.{set_inside, set_content};
 
 use crate::lists::are_octets;
@@ -29,7 +29,7 @@ use std::hash::{Hash, Hasher};
 use std::marker::PhantomData;
 
 /// Reads the element at an index, which stands behind one with the text `before`: framing, then its place in the order,
-/// then the item. Answers the item and the element's text.
+/// then the item, which its whole text is. Answers the item and that text.
 fn read_in_order<'a, T: Asn1Readable<'a>>(
     parser: &mut Parser<'a>,
     before: &'a [u8],
@@ -54,7 +54,7 @@ fn read_in_order<'a, T: Asn1Readable<'a>>(
     }
 }
 
-/// Reads the items of a content, which stand in order.
+/// Reads the items of a content, and refuses them where they don't stand in order.
 fn check_items<'a, T: Asn1Readable<'a>>(alloc: Global, content: &'a [u8]) -> ParseResult<()>
     ensures { Answers (λ x. x) (set_out text_less T.der.read T.der.runs_out [] (length content.entry.now) 0 content.entry.now) result (checked text_less T.der.read [] 0 content.entry.now) }
 {
@@ -69,7 +69,12 @@ fn check_items<'a, T: Asn1Readable<'a>>(alloc: Global, content: &'a [u8]) -> Par
     Ok(())
 }
 
-/// The content of a set: any elements in ascending order of their texts.
+/// A `SET` as it stands: the octets of any elements in ascending order of their texts, equal neighbours allowed. They are
+/// read by [`Set::parse`], and written as they were read.
+///
+/// Texts are compared at the first octet that differs. Reading a set looks at each element in turn: the first fault of
+/// framing decides, or `InvalidSetOrdering` where an element's text is less than that of the one before it, with the place
+/// `Index(i)`, i being counted from 0. It takes no memory. Two sets are equal where their contents octets are.
 #[derive(Debug, PartialEq, Eq, Hash, Drop)]
 pub struct Set<'a> {
     data: &'a [u8],
@@ -77,7 +82,9 @@ pub struct Set<'a> {
 }
 
 impl<'a> Set<'a> {
-    /// Runs `f` over the content, and refuses with `ExtraData` what it leaves.
+    /// Reads the contents octets by `f`, as [`asn1_core::parse`] does.
+    ///
+    /// An error of `f` is handed on; where `f` answers a value and leaves octets, the error is `ExtraData`, without a place.
     pub fn parse<T: Drop, E: From<ParseError> + Drop, F: Fn(&mut Parser<'a>) -> Result<T, E>>(
         self,
         alloc: Global,
@@ -149,7 +156,18 @@ impl SimpleAsn1Writable for Set<'_> {
     }
 }
 
-/// The items of a set's content that are left.
+/// A `SET OF`, as an iterator over the items that are left: items of one type in ascending order of their texts, equal
+/// neighbours allowed.
+///
+/// Its value is the list of these items: what is written are their texts. Two sets are equal, and hash alike, where the
+/// octets left are the same, which they are exactly where the items are ([`crate::laws::equal_items`]). A clone takes no
+/// memory.
+///
+/// Reading a set looks at each element in turn: the first fault of framing decides, then `InvalidSetOrdering` where the
+/// element's text is less than that of the one before it, then the item's first fault on that text, of which a rest is
+/// `ExtraData`. Each has the place `Index(i)`, i being counted from 0. Memory is taken only by the items.
+///
+/// The iterator answers as that of [`crate::SequenceOf`], and so do writing and the length.
 #[derive(Drop)]
 pub struct SetOf<'a, T: Asn1Type> {
     content: &'a [u8],
@@ -172,7 +190,6 @@ impl<'a, T: Asn1Type> Clone for SetOf<'a, T> {
     }
 }
 
-/// Equal exactly where the octets that are left are.
 impl<'a, T: Asn1Type> PartialEq for SetOf<'a, T> {
     ghost eq = { λ x y. pointwise nat_eq x.content.now y.content.now };
 
@@ -229,14 +246,14 @@ impl<'a, T: Asn1Readable<'a>> SimpleAsn1Readable<'a> for SetOf<'a, T> {
     }
 }
 
-/// Reads the first of the items, and says what follows it.
+/// Reads the first of the items, and says what follows it, also where memory ran out for it.
 fn first_in_set<'a, T: Asn1Readable<'a>>(
     alloc: Global,
     content: &'a [u8],
 ) -> (ParseResult<T>, &'a [u8])
     requires some { 0 < length content.now }
     requires are_ordered { AreOrdered text_less T.der.read content.now }
-    ensures item { NextItem T.der.takes_memory T.der.meaning (set_left text_less T.der.read content.entry.now) (Some result.0) (set_left text_less T.der.read result.1.now) }
+    ensures item { NextItem (first_out T.der.runs_out content.entry.now) T.der.meaning (set_left text_less T.der.read content.entry.now) (Some result.0) (set_left text_less T.der.read result.1.now) }
     ensures after { AreOrdered text_less T.der.read result.1.now }
     ensures shorter { length result.1.now < length content.entry.now }
 {
@@ -250,7 +267,7 @@ fn first_in_set<'a, T: Asn1Readable<'a>>(
 impl<'a, T: Asn1Readable<'a>> Iterator for SetOf<'a, T> {
     type Item = ParseResult<T>;
 
-    ghost next_gives = { λ s r t. NextItem T.der.takes_memory T.der.meaning (set_left text_less T.der.read s.content.now) r (set_left text_less T.der.read t.content.now) };
+    ghost next_gives = { λ s r t. NextItem (first_out T.der.runs_out s.content.now) T.der.meaning (set_left text_less T.der.read s.content.now) r (set_left text_less T.der.read t.content.now) };
 
     ghost remaining = { λ s. at_most (length s.content.now) };
 
@@ -264,7 +281,7 @@ impl<'a, T: Asn1Readable<'a>> Iterator for SetOf<'a, T> {
     }
 }
 
-/// Writes the items of a content.
+/// Writes the items of a content, in order.
 fn write_set_items<'a, T: Asn1Readable<'a> + Asn1Writable>(
     alloc: Global,
     items: &'a [u8],
@@ -289,7 +306,7 @@ fn write_set_items<'a, T: Asn1Readable<'a> + Asn1Writable>(
     Ok(())
 }
 
-/// The length of the items of a content.
+/// The length of the items' texts together, in octets. `None` where it isn't known.
 fn set_items_length<'a, T: Asn1Readable<'a> + Asn1Writable>(
     alloc: Global,
     items: &'a [u8],

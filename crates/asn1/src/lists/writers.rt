@@ -1,4 +1,4 @@
-//! Sequences that are only written.
+//! Sequences that are only written (X.690 8.9, 8.10).
 
 ghost use Rattle.std.specs.Prelude.{◌≡◌, map};
 ghost use Rattle.asn1_core.specs.Closures.{MayAnswer};
@@ -10,7 +10,10 @@ ghost use Rattle.asn1.specs.ClosureWritten.{closure_written};
 use asn1_core::{Asn1Type, Asn1Writable, SimpleAsn1Writable, Tag, WriteBuf, WriteError, Writer};
 use std::marker::PhantomData;
 
-/// A sequence whose content a closure writes.
+/// A `SEQUENCE` whose contents octets a closure writes, for which it owes what [`asn1_core::write`] asks of a closure.
+///
+/// The length of the content isn't known before it is written. Writing answers `AllocationError`, or an error that the
+/// closure may answer.
 #[derive(Drop)]
 pub struct SequenceWriter<'a, F: Fn(&mut Writer<'_>) -> Result<(), E>, E> {
     f: &'a F,
@@ -18,7 +21,7 @@ pub struct SequenceWriter<'a, F: Fn(&mut Writer<'_>) -> Result<(), E>, E> {
 }
 
 impl<'a, F: Fn(&mut Writer<'_>) -> Result<(), E>, E> SequenceWriter<'a, F, E> {
-    /// A sequence of what the closure writes.
+    /// A sequence of what the closure will write. The closure isn't called yet.
     pub fn new(f: &'a F) -> SequenceWriter<'a, F, E>
         ensures { result.f.now ≡ f.now }
     {
@@ -57,7 +60,10 @@ impl<F: Fn(&mut Writer<'_>) -> Result<(), E>, E: From<WriteError>> SimpleAsn1Wri
     }
 }
 
-/// A sequence of the items of a slice.
+/// A `SEQUENCE OF` the items of a slice, in their order.
+///
+/// The length is known where each item's is, and their sum fits `usize`. Writing answers `AllocationError`, or an error of
+/// one of the items.
 #[derive(Clone, PartialEq, Eq, Hash, Drop)]
 pub struct SequenceOfWriter<'a, T> {
     items: &'a [T],
