@@ -1,6 +1,7 @@
 //! What no contract says: values from outside, and that calls succeed where there is memory.
 
 mod elements;
+mod errors;
 mod integers;
 mod octets;
 mod reading;

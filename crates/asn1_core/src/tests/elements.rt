@@ -1,12 +1,21 @@
 use crate::parser::{ParseError, ParseErrorKind, ParseLocation, Parser, parse_single, strip_tlv};
 use crate::tag::{Tag, TagClass, explicit_tag, implicit_tag};
-use crate::types::Tlv;
+use crate::types::{Asn1Readable, Tlv};
 use crate::writer::{WriteError, Writer, write, write_single};
+use std::alloc::Global;
 use std::process::Abort;
 use std::test::Fail;
 
 fn fault(octets: &[u8]) -> Option<ParseErrorKind> {
     match strip_tlv(octets) {
+        Ok(_) => None,
+        Err(error) => Some(error.kind()),
+    }
+}
+
+/// The kind of the refusal, where the octets are no one value of the type.
+fn refusal<'a, T: Asn1Readable<'a>>(alloc: Global, octets: &'a [u8]) -> Option<ParseErrorKind> {
+    match parse_single::<T>(alloc, octets) {
         Ok(_) => None,
         Err(error) => Some(error.kind()),
     }
@@ -18,13 +27,13 @@ fn short(needed: usize) -> Option<ParseErrorKind> {
 
 #[test]
 fn elements_in_front(rt: HostRuntime) -> Result<(), Fail> {
-    let octets = [0x04, 0x03, 0x61, 0x62, 0x63, 0x00];
+    let octets = [0x04, 0x03, 0x61, 0x62, 0x63, 0x00, 0x00, 0x00];
     let (tlv, rest) = strip_tlv(&octets)?;
     assert_eq!(rt; tlv.tag(), Tag::primitive(4));
     assert_eq!(rt; tlv.tag_bytes(), [0x04].as_slice());
     assert_eq!(rt; tlv.data(), [0x61, 0x62, 0x63].as_slice());
     assert_eq!(rt; tlv.full_data(), [0x04, 0x03, 0x61, 0x62, 0x63].as_slice());
-    assert_eq!(rt; rest, [0x00].as_slice());
+    assert_eq!(rt; rest, [0x00, 0x00, 0x00].as_slice());
     let (same, rest) = strip_tlv(&octets[..5])?;
     assert_eq!(rt; same, tlv);
     assert!(rt; rest.is_empty());
@@ -73,26 +82,106 @@ fn what_fronts_need(rt: HostRuntime) {
 }
 
 #[test]
+fn elements_with_long_lengths(rt: HostRuntime) -> Result<(), Fail> {
+    let headers: [(&[u8], usize); 3] = [
+        (&[0x04, 0x82, 0x01, 0x00], 256),
+        (&[0x04, 0x83, 0x01, 0x00, 0x00], 65536),
+        (&[0x04, 0x84, 0x01, 0x00, 0x00, 0x00], 16777216),
+    ];
+    for (header, count) in headers {
+        let mut octets = Vec::from_slice(rt.alloc(), header)?;
+        octets.resize(header.len() + count + 1, 0x61)?;
+        let (tlv, rest) = strip_tlv(octets.as_slice())?;
+        assert_eq!(rt; tlv.tag(), Tag::primitive(4), "{count}");
+        assert_eq!(rt; tlv.data().len(), count);
+        assert_eq!(rt; tlv.full_data().len(), header.len() + count);
+        assert_eq!(rt; rest, [0x61].as_slice(), "{count}");
+    }
+    Ok(())
+}
+
+#[test]
+fn parts_of_an_element(rt: HostRuntime) -> Result<(), Fail> {
+    let octets = [0x01, 0x03, 0x61, 0x62, 0x63];
+    let tlv = parse_single::<Tlv<'_>>(rt.alloc(), &octets)?;
+    assert_eq!(rt; tlv.tag_bytes(), [0x01].as_slice());
+    assert_eq!(rt; tlv.data(), [0x61, 0x62, 0x63].as_slice());
+    assert_eq!(rt; tlv.full_data(), octets.as_slice());
+    let octets = [0x1f, 0x1f, 0x03, 0x61, 0x62, 0x63];
+    let tlv = parse_single::<Tlv<'_>>(rt.alloc(), &octets)?;
+    assert_eq!(rt; tlv.tag_bytes(), [0x1f, 0x1f].as_slice());
+    Ok(())
+}
+
+#[test]
 fn any_element_is_read_and_written(rt: HostRuntime) -> Result<(), Fail> {
-    let octets = [0x1f, 0x81, 0x80, 0x01, 0x00];
-    let tlv = parse_single::<Tlv<'_>>(rt.alloc(), &octets)?;
-    assert_eq!(rt; tlv.tag(), Tag::primitive(16385));
-    assert_eq!(rt; tlv.tag_bytes(), &octets[..4]);
-    assert!(rt; tlv.data().is_empty());
+    let elements: [(&[u8], TagClass, u32, &[u8]); 6] = [
+        (
+            &[0x04, 0x03, 0x61, 0x62, 0x63],
+            TagClass::Universal,
+            4,
+            b"abc",
+        ),
+        (&[0x01, 0x01, 0x00], TagClass::Universal, 1, &[0x00]),
+        (&[0x1f, 0x1f, 0x00], TagClass::Universal, 31, &[]),
+        (&[0x1f, 0x81, 0x00, 0x00], TagClass::Universal, 128, &[]),
+        (
+            &[0x1f, 0x81, 0x80, 0x01, 0x00],
+            TagClass::Universal,
+            16385,
+            &[],
+        ),
+        (&[0x41, 0x00], TagClass::Application, 1, &[]),
+    ];
+    for (octets, class, number, content) in elements {
+        let tlv = parse_single::<Tlv<'_>>(rt.alloc(), octets)?;
+        assert_eq!(rt; tlv.tag().class(), class);
+        assert_eq!(rt; tlv.tag().value(), number);
+        assert!(rt; !tlv.tag().is_constructed());
+        assert_eq!(rt; tlv.data(), content);
+        assert_eq!(rt; tlv.full_data(), octets);
+        assert_eq!(rt; write_single(rt.alloc(), &tlv)?.as_slice(), octets);
+        assert_eq!(rt; write_single(rt.alloc(), &&tlv)?.as_slice(), octets);
+    }
+    Ok(())
+}
+
+#[test]
+fn faults_of_any_element(rt: HostRuntime) {
+    let faults: [(&[u8], Option<ParseErrorKind>); 9] = [
+        (&[0x04, 0x03, 0x61], short(2)),
+        (&[0x04], short(1)),
+        (&[], short(1)),
+        (&[0x1f], short(1)),
+        (&[0xff], short(1)),
+        (&[0x1f, 0x85], short(1)),
+        (
+            &[0x1f, 0x88, 0x80, 0x80, 0x80, 0x80, 0x00],
+            Some(ParseErrorKind::InvalidTag),
+        ),
+        (&[0x1f, 0x1e, 0x00], Some(ParseErrorKind::InvalidTag)),
+        (
+            &[0xff, 0x80, 0x84, 0x01, 0x01, 0xa9],
+            Some(ParseErrorKind::InvalidTag),
+        ),
+    ];
+    for (octets, kind) in faults {
+        assert_eq!(rt; refusal::<Tlv<'_>>(rt.alloc(), octets), kind, "{octets:?}");
+    }
+}
+
+#[test]
+fn an_element_is_read_as_a_value(rt: HostRuntime) -> Result<(), Fail> {
+    let octets = [0x02, 0x01, 0x03];
+    let (tlv, _rest) = strip_tlv(&octets)?;
+    assert_eq!(rt; tlv.parse::<u64>(rt.alloc())?, 3);
+    let actual = Tag::primitive(2);
     assert_eq!(rt;
-        write_single(rt.alloc(), &tlv)?.as_slice(),
-        octets.as_slice()
+        tlv.parse::<bool>(rt.alloc()),
+        Err(ParseError::new(ParseErrorKind::UnexpectedTag { actual }))
     );
-    assert_eq!(rt;
-        write_single(rt.alloc(), &&tlv)?.as_slice(),
-        octets.as_slice()
-    );
-    let octets = [0x41, 0x00];
-    let tlv = parse_single::<Tlv<'_>>(rt.alloc(), &octets)?;
-    assert_eq!(rt; tlv.tag().class(), TagClass::Application);
-    assert_eq!(rt; tlv.tag().value(), 1);
     let octets = [0x01, 0x01, 0xff];
-    let tlv = parse_single::<Tlv<'_>>(rt.alloc(), &octets)?;
+    let (tlv, _rest) = strip_tlv(&octets)?;
     assert!(rt; tlv.parse::<bool>(rt.alloc())?);
     Ok(())
 }
@@ -181,9 +270,15 @@ fn errors_displayed(rt: HostRuntime) -> Result<(), Fail> {
         (ParseErrorKind::AllocationError, "allocation error"),
     ];
     for (kind, text) in texts {
-        let error = ParseError::new(kind).add_location(ParseLocation::Field("Abc::123"));
-        let shown = format!(in rt.alloc(); "{error}")?;
         let wanted = format!(in rt.alloc(); "ASN.1 parsing error: {text}")?;
+        let error = ParseError::new(kind);
+        assert_eq!(rt; error.kind(), kind);
+        let shown = format!(in rt.alloc(); "{error}")?;
+        assert_eq!(rt; shown.as_str(), wanted.as_str());
+        let error = error
+            .add_location(ParseLocation::Index(12))
+            .add_location(ParseLocation::Field("Abc::123"));
+        let shown = format!(in rt.alloc(); "{error}")?;
         assert_eq!(rt; shown.as_str(), wanted.as_str());
     }
     let memory = WriteError::AllocationError;

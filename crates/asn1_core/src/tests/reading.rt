@@ -52,7 +52,7 @@ fn what_is_left_is_extra(rt: HostRuntime) {
 /// An error of a caller's own.
 #[derive(Debug, PartialEq, Eq, Drop)]
 enum Own {
-    False,
+    Odd(u64),
     Read(ParseError),
 }
 
@@ -62,23 +62,68 @@ impl From<ParseError> for Own {
     }
 }
 
-/// Reads a value that has to be true.
-fn truth(alloc: Global, octets: &[u8]) -> Result<(), Own> {
+/// Reads a number that has to be even.
+fn even_number(alloc: Global, octets: &[u8]) -> Result<u64, Own> {
     parse(alloc, octets, |parser: &mut Parser<'_>| {
-        if parser.read_element::<bool>()? {
-            Ok(())
+        let number = parser.read_element::<u64>()?;
+        if number % 2 == 0 {
+            Ok(number)
         } else {
-            Err(Own::False)
+            Err(Own::Odd(number))
         }
     })
 }
 
 #[test]
 fn errors_of_a_caller(rt: HostRuntime) {
-    assert_eq!(rt; truth(rt.alloc(), &[0x01, 0x01, 0xff]), Ok(()));
-    assert_eq!(rt; truth(rt.alloc(), &[0x01, 0x01, 0x00]), Err(Own::False));
+    assert_eq!(rt; even_number(rt.alloc(), &[0x02, 0x01, 0x08]), Ok(8));
+    assert_eq!(rt;
+        even_number(rt.alloc(), &[0x02, 0x01, 0x07]),
+        Err(Own::Odd(7))
+    );
     let short = ParseError::new(ParseErrorKind::ShortData { needed: 1 });
-    assert_eq!(rt; truth(rt.alloc(), &[0x01, 0x01]), Err(Own::Read(short)));
+    assert_eq!(rt;
+        even_number(rt.alloc(), &[0x02, 0x01]),
+        Err(Own::Read(short))
+    );
+}
+
+#[test]
+fn the_next_tag_is_seen_and_then_read(rt: HostRuntime) {
+    let read = parse(
+        rt.alloc(),
+        &[0x02, 0x01, 0x7f],
+        |parser: &mut Parser<'_>| -> ParseResult<(Option<Tag>, u8)> {
+            let tag = parser.peek_tag();
+            let number = parser.read_element::<u8>()?;
+            Ok((tag, number))
+        },
+    );
+    assert_eq!(rt; read, Ok((Some(Tag::primitive(2)), 127)));
+}
+
+/// Reads a Boolean behind an element that is refused as one.
+fn second_boolean(alloc: Global, octets: &[u8]) -> ParseResult<bool> {
+    parse(
+        alloc,
+        octets,
+        |parser: &mut Parser<'_>| -> ParseResult<bool> {
+            let _refused = parser.read_element::<bool>();
+            parser.read_element::<bool>()
+        },
+    )
+}
+
+#[test]
+fn a_closure_ignores_a_refusal(rt: HostRuntime) {
+    assert_eq!(rt;
+        second_boolean(rt.alloc(), &[0x02, 0x01, 0x05, 0x01, 0x01, 0xff]),
+        Ok(true)
+    );
+    assert_eq!(rt;
+        second_boolean(rt.alloc(), &[0x01, 0x01, 0x05, 0x01, 0x01, 0xff, 0x00]),
+        Err(ParseError::new(ParseErrorKind::ExtraData))
+    );
 }
 
 #[test]

@@ -70,6 +70,17 @@ fn tags_of_one_octet(rt: HostRuntime) -> Result<(), Fail> {
 }
 
 #[test]
+fn constructed_tags_of_one_octet(rt: HostRuntime) {
+    for number in 0..31u8 {
+        let tag = Tag::constructed(u32::from(number));
+        assert!(rt; tag.is_constructed(), "{number}");
+        assert_eq!(rt; tag.as_u8(), Some(0x20 | number));
+    }
+    assert_eq!(rt; Tag::constructed(31).as_u8(), None);
+    assert_eq!(rt; Tag::primitive(31).as_u8(), None);
+}
+
+#[test]
 fn tags_of_several_octets(rt: HostRuntime) -> Result<(), Fail> {
     let octets = [0x1f, 0x8f, 0xff, 0xff, 0xff, 0x7f];
     let (tag, rest) = Tag::from_bytes(&octets)?;

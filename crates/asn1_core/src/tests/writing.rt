@@ -2,7 +2,7 @@ ghost use Rattle.std.specs.Prelude.{◌≡◌, ◌++◌, OnOk, OnErr};
 ghost use Rattle.asn1_core.specs.Buffer.{KeepsFront};
 
 use crate::tag::Tag;
-use crate::writer::{WriteBuf, WriteResult, Writer, write, write_single};
+use crate::writer::{WriteBuf, WriteError, WriteResult, Writer, write, write_single};
 use std::alloc::Global;
 use std::test::Fail;
 
@@ -58,8 +58,6 @@ fn patched_element(alloc: Global, tag: Tag, octets: &[u8]) -> WriteResult<Vec<u8
     })
 }
 
-const ZEROS: [u8; 65536] = [0; 65536];
-
 #[test]
 fn headers_announced_and_patched(rt: HostRuntime) -> Result<(), Fail> {
     let cases: [(usize, &[u8]); 7] = [
@@ -72,12 +70,47 @@ fn headers_announced_and_patched(rt: HostRuntime) -> Result<(), Fail> {
         (65536, &[0x04, 0x83, 0x01, 0x00, 0x00]),
     ];
     for (n, header) in cases {
-        let zeros = &ZEROS[..n];
-        let announced = announced_element(rt.alloc(), Tag::primitive(4), zeros)?;
-        let patched = patched_element(rt.alloc(), Tag::primitive(4), zeros)?;
-        assert!(rt; announced.as_slice().starts_with(header), "{n}");
+        let mut content = Vec::new(rt.alloc());
+        for i in 0..n {
+            content.push((i % 251) as u8)?;
+        }
+        let announced = announced_element(rt.alloc(), Tag::primitive(4), content.as_slice())?;
+        let patched = patched_element(rt.alloc(), Tag::primitive(4), content.as_slice())?;
         assert_eq!(rt; announced.len(), header.len() + n);
+        assert!(rt; announced.as_slice().starts_with(header), "{n}");
+        assert!(rt; announced.as_slice().ends_with(content.as_slice()), "{n}");
         assert_eq!(rt; announced.as_slice(), patched.as_slice(), "{n}");
     }
     Ok(())
+}
+
+/// A length goes in place of one octet, and what stands behind moves.
+#[test]
+fn a_length_is_put_between(rt: HostRuntime) -> Result<(), Fail> {
+    let mut buffer = WriteBuf::new(Vec::from_slice(rt.alloc(), &[1, 0, 3, 4])?);
+    assert!(rt; buffer.len() == 4);
+    buffer.patch_length(2)?;
+    assert_eq!(rt; buffer.into_octets().as_slice(), [1, 2, 3, 4].as_slice());
+    let mut octets = [5; 131];
+    octets[0] = 1;
+    octets[2] = 3;
+    octets[130] = 4;
+    let mut buffer = WriteBuf::new(Vec::from_slice(rt.alloc(), &octets)?);
+    assert!(rt; buffer.len() == 131);
+    buffer.patch_length(2)?;
+    let octets = buffer.into_octets();
+    assert_eq!(rt; octets.len(), 132);
+    assert_eq!(rt; &octets.as_slice()[..5], [1, 0x81, 0x81, 3, 5].as_slice());
+    assert_eq!(rt; &octets.as_slice()[130..], [5, 4].as_slice());
+    Ok(())
+}
+
+#[test]
+fn errors_of_writes_compare(rt: HostRuntime) {
+    assert_eq!(rt; WriteError::AllocationError, WriteError::AllocationError);
+    assert_eq!(rt;
+        WriteError::InvalidSetOrdering,
+        WriteError::InvalidSetOrdering
+    );
+    assert_ne!(rt; WriteError::AllocationError, WriteError::InvalidSetOrdering);
 }
