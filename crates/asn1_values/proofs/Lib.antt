@@ -1,2 +1,3 @@
 mod Bits
 mod PlainTexts
+mod FractionDigits

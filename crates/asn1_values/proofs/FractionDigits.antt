@@ -1,0 +1,151 @@
+-- The nine digits of a number of nanoseconds, without the zeros at their end, are those of its fraction.
+use Rattle.std.proofs.Common.{rules, ◌≡◌, ℕ, zero, suc, ◌+◌, ◌-◌, ◌*◌, ◌^◌, ◌<◌, ◌≤◌, true, List, [], ◌∷◌, ◌++◌, length, get_or, take, drop, replicate, refl, sym, ap, subst, ◌∙◌, ⊎_elim, arith}
+use Rattle.std.specs.Prelude.{decimal, slice_index_or}
+use Rattle.std.specs.Str.{all_ascii_digits}
+use Rattle.std.specs.Str.Parse.{digits_value, AllDigits}
+use Rattle.std.proofs.lemmas.Fmt.{decimal_is_IsNumeral, length-decimal-le}
+use Rattle.std.proofs.lemmas.Str.Parse.{IsNumeralModel, numerals_by_weight, digit_from_value}
+use Rattle.std.proofs.lemmas.Int.Digits.{digits_value-lt}
+use Rattle.std.proofs.lemmas.List.{append-nil, length-append, length-replicate, length-take, take-append-drop}
+use Rattle.asn1_values.specs.Times.{fraction}
+use Rattle.asn1_values.specs.Lemmas.Fractions.{at, fraction_zero, fraction_step, parts_zero, power_some}
+
+-- the number of digits, by their places
+abbrev weighed : List ℕ → ℕ
+weighed [] = 0
+weighed (c ∷ cs) = (c - 48) * 10 ^ length cs + weighed cs
+
+by_places : IsNumeralModel (λ ds. all_ascii_digits ds ≡ true) weighed
+by_places = numerals_by_weight _ (search rules) weighed (search rules)
+
+zeros_in_front : (j : ℕ) (ds : List ℕ) → weighed (replicate j 48 ++ ds) ≡ weighed ds
+zeros_in_front zero ds = refl
+zeros_in_front (suc j) ds = let h = zeros_in_front j ds in omega (arith, h)
+
+weighed_decimal : (j n : ℕ) → n ≤ 999999999 → weighed (replicate j 48 ++ decimal n) ≡ n
+weighed_decimal j n few =
+    let d = decimal_is_IsNumeral n (omega (arith, few)) in
+    zeros_in_front j (decimal n) ∙ by_places.same (decimal n) d.0.1 ∙ d.1
+
+pub none_behind : (t : List ℕ) → t ++ drop 9 (replicate 9 48) ≡ t
+none_behind t = append-nil t
+
+-- ---- the last digit is not zero
+
+abbrev IsEnded : List ℕ → Type 0
+IsEnded [] = Unit {0}
+IsEnded (c ∷ []) = c ≡ 48 → ⊥
+IsEnded (c ∷ d ∷ ds) = IsEnded (d ∷ ds)
+
+ended_by : (c : ℕ) (ds : List ℕ) → 0 < length ds → IsEnded ds → IsEnded (c ∷ ds)
+ended_by c [] some h = absurd (omega (arith, some))
+ended_by c (d ∷ ds) some h = h
+
+some_taken : (k : ℕ) (ds : List ℕ) → k < length ds → 0 < length (take (k + 1) ds)
+some_taken k [] h = absurd (omega (arith, h))
+some_taken k (d ∷ ds) h =
+    let e : k + 1 ≡ suc k = omega arith in
+    rw e (omega arith)
+
+ended_at : (k : ℕ) (ds : List ℕ) → k < length ds → (slice_index_or ds k 0 ≡ 48 → ⊥) → IsEnded (take (k + 1) ds)
+ended_at k [] h other = absurd (omega (arith, h))
+ended_at zero (d ∷ ds) h other = other
+ended_at (suc k) (d ∷ ds) h other =
+    let e : suc k + 1 ≡ suc (k + 1) = omega arith in
+    rw e (ended_by d (take (k + 1) ds) (some_taken k ds (omega (arith, h))) (ended_at k ds (omega (arith, h)) other))
+
+-- ---- zeros at the end add no digit
+
+weighed_small : (ds : List ℕ) → AllDigits 10 ds → weighed ds < 10 ^ length ds
+weighed_small ds all = rw (by_places.same ds all) (digits_value-lt 10 ds all)
+
+digits_and_zeros : (ds : List ℕ) (j : ℕ) → AllDigits 10 ds → AllDigits 10 (ds ++ replicate j 48)
+digits_and_zeros [] zero all = tt
+digits_and_zeros [] (suc j) all = (omega arith, digits_and_zeros [] j tt)
+digits_and_zeros (d ∷ ds) j all = (all.0, digits_and_zeros ds j all.1)
+
+zeros_and_digits : (j : ℕ) (ds : List ℕ) → AllDigits 10 ds → AllDigits 10 (replicate j 48 ++ ds)
+zeros_and_digits zero ds all = all
+zeros_and_digits (suc j) ds all = (omega arith, zeros_and_digits j ds all)
+
+size : (ds : List ℕ) (j : ℕ) → length (ds ++ replicate j 48) ≡ length ds + j
+size ds j = length-append ds (replicate j 48) ∙ ap (λ (k : ℕ). length ds + k) (length-replicate j 48)
+
+-- a digit in front of digits that are those of their fraction
+one_more : (d j : ℕ) (ds : List ℕ) → AllDigits 10 (d ∷ ds) → ((d - 48) * 10 ^ (length ds + j) + weighed (ds ++ replicate j 48) ≡ 0 → ⊥)
+    → fraction (length ds + j) (weighed (ds ++ replicate j 48)) [] ≡ ds → fraction (length (d ∷ ds) + j) (weighed (d ∷ ds ++ replicate j 48)) [] ≡ d ∷ ds
+one_more d j ds all some e =
+    let behind = ds ++ replicate j 48 in
+    let k = length ds + j in
+    let m = weighed behind in
+    let range = digit_from_value d all.0 in
+    let long : length behind ≡ k = size ds j in
+    let more : length (d ∷ ds) + j ≡ suc k = omega arith in
+    let small : m < 10 ^ k = subst (λ (x : ℕ). m < 10 ^ x) long (weighed_small behind (digits_and_zeros ds j all.1)) in
+    let same : 48 + (d - 48) ≡ d = omega (arith, range) in
+    ap (λ (x : ℕ). fraction x ((d - 48) * 10 ^ length behind + m) []) more
+    ∙ ap (λ (x : ℕ). fraction (suc k) ((d - 48) * 10 ^ x + m) []) long
+    ∙ fraction_step k (d - 48) m [] small some
+    ∙ ap (λ (x : ℕ). x ∷ fraction k m []) same
+    ∙ ap (λ (x : List ℕ). d ∷ x) e
+
+without_zeros : (ds : List ℕ) (j : ℕ) → AllDigits 10 ds → IsEnded ds → fraction (length ds + j) (weighed (ds ++ replicate j 48)) [] ≡ ds
+without_zeros [] j all ended =
+    let none : weighed (replicate j 48) ≡ 0 = ap weighed (sym (append-nil (replicate j 48))) ∙ zeros_in_front j [] in
+    rw none (fraction_zero (0 + j) [])
+without_zeros (d ∷ []) j all ended =
+    let range = digit_from_value d all.0 in
+    let behind = without_zeros [] j tt tt in
+    one_more d j [] all (λ z. let p = parts_zero (d - 48) (10 ^ (0 + j)) (weighed (replicate j 48)) (power_some (0 + j)) z in ended (omega (arith, p, range))) behind
+without_zeros (d ∷ c ∷ ds) j all ended =
+    let behind = without_zeros (c ∷ ds) j all.1 ended in
+    let k = length (c ∷ ds) + j in
+    one_more d j (c ∷ ds) all (λ z.
+    let p = parts_zero (d - 48) (10 ^ k) (weighed (c ∷ ds ++ replicate j 48)) (power_some k) z in
+    let none : c ∷ ds ≡ [] = sym behind ∙ ap (λ (x : ℕ). fraction k x []) p.1 ∙ fraction_zero k [] in
+    absurd cc) behind
+
+-- ---- what the loop keeps and ends with
+
+all_of : (front behind : List ℕ) → AllDigits 10 (front ++ behind) → AllDigits 10 front
+all_of [] behind all = tt
+all_of (c ∷ cs) behind all = (all.0, all_of cs behind all.1)
+
+nine_long : (octets : List ℕ) (n : ℕ) → n ≤ 999999999 → octets ≡ replicate (9 - length (decimal n)) 48 ++ decimal n → length octets ≡ 9
+nine_long octets n few is =
+    let k = length (decimal n) in
+    let short : k ≤ 9 = length-decimal-le 9 n (omega arith) (omega (arith, few)) (omega (arith, few)) in
+    let sum : length octets ≡ 9 - k + k = ap length is ∙ length-append (replicate (9 - k) 48) (decimal n) ∙ ap (λ (x : ℕ). x + k) (length-replicate (9 - k) 48) in
+    omega (arith, sum, short)
+
+pub zeros_step : (octets : List ℕ) (n count : ℕ) → n ≤ 999999999 → octets ≡ replicate (9 - length (decimal n)) 48 ++ decimal n → 0 < count → count ≤ 9 → slice_index_or octets (count - 1) 0 ≡ 48 → drop count octets ≡ replicate (9 - count) 48 → drop (count - 1) octets ≡ replicate (9 - (count - 1)) 48
+zeros_step octets n count few is some most e h =
+    let k = count - 1 in
+    let next : k + 1 ≡ count = omega (arith, some) in
+    let more : suc (9 - count) ≡ 9 - k = omega (arith, some, most) in
+    let long = nine_long octets n few is in
+    at octets k (omega (arith, some, most, long)) ∙ ap (λ (x : ℕ). x ∷ drop (k + 1) octets) e ∙ ap (λ (x : ℕ). 48 ∷ drop x octets) next ∙ ap (λ (l : List ℕ). 48 ∷ l) h ∙ ap (λ (x : ℕ). replicate x 48) more
+
+front_is : (octets : List ℕ) (n count : ℕ) → n ≤ 999999999 → octets ≡ replicate (9 - length (decimal n)) 48 ++ decimal n → count ≤ 9 → IsEnded (take count octets) → drop count octets ≡ replicate (9 - count) 48 → take count octets ≡ fraction 9 n []
+front_is octets n count few is most ended zeros =
+    let front = take count octets in
+    let whole : front ++ replicate (9 - count) 48 ≡ octets = ap (λ (l : List ℕ). front ++ l) (sym zeros) ∙ take-append-drop count octets in
+    let d = decimal_is_IsNumeral n (omega (arith, few)) in
+    let digits = all_of front (replicate (9 - count) 48) (subst (AllDigits 10) (sym (whole ∙ is)) (zeros_and_digits (9 - length (decimal n)) (decimal n) d.0.1)) in
+    let value : weighed (front ++ replicate (9 - count) 48) ≡ n = ap weighed (whole ∙ is) ∙ weighed_decimal (9 - length (decimal n)) n few in
+    let long = nine_long octets n few is in
+    let size_of_front = length-take count octets in
+    let taken : length front + (9 - count) ≡ 9 = omega (arith, size_of_front, most, long) in
+    sym (ap (λ (k : ℕ). fraction k n []) (sym taken) ∙ ap (λ (k : ℕ). fraction (length front + (9 - count)) k []) (sym value) ∙ without_zeros front (9 - count) digits ended)
+
+-- the loop ends at a digit that is not zero
+pub digits_done : (octets : List ℕ) (n count : ℕ) → n ≤ 999999999 → octets ≡ replicate (9 - length (decimal n)) 48 ++ decimal n → 0 < count → count ≤ 9 → (slice_index_or octets (count - 1) 0 ≡ 48 → ⊥) → drop count octets ≡ replicate (9 - count) 48 → take count octets ≡ fraction 9 n []
+digits_done octets n count few is some most last zeros =
+    let k = count - 1 in
+    let next : k + 1 ≡ count = omega (arith, some) in
+    let long = nine_long octets n few is in
+    front_is octets n count few is most (subst (λ (x : ℕ). IsEnded (take x octets)) next (ended_at k octets (omega (arith, some, most, long)) last)) zeros
+
+-- or there is none
+pub no_digits : (octets : List ℕ) (n count : ℕ) → n ≤ 999999999 → octets ≡ replicate (9 - length (decimal n)) 48 ++ decimal n → count ≡ 0 → drop count octets ≡ replicate (9 - count) 48 → take count octets ≡ fraction 9 n []
+no_digits octets n count few is none zeros = front_is octets n count few is (omega (arith, none)) (subst (λ (x : ℕ). IsEnded (take x octets)) (sym none) tt) zeros
