@@ -1,10 +1,11 @@
 -- Worked examples: what stands in front of given texts, and what text a length, a tag and a value have.
 use Rattle.std.specs.Prelude.{◌≡◌, ◌^◌, true, [], ◌∷◌, ◌++◌, replicate, Ok, Err}
 use Rattle.asn1_core.specs.declared.parser.ParseErrorKind.TheVariants.{InvalidValue, InvalidTag, InvalidLength, ShortData, UnexpectedTag, ExtraData}
+use Rattle.asn1_core.specs.declared.parser.Place.TheVariants.{Index}
 use Rattle.asn1_core.specs.Tag.{universal, tag_front, tag_text}
 use Rattle.asn1_core.specs.Length.{length_text}
 use Rattle.asn1_core.specs.Element.{element, front}
-use Rattle.asn1_core.specs.Fault.{fault}
+use Rattle.asn1_core.specs.Fault.{fault, within}
 use Rattle.asn1_core.specs.Reading.{whole}
 use Rattle.asn1_core.specs.Der.{simple_der, bool_content}
 
@@ -39,3 +40,9 @@ pub record Booleans : Type 0 where
   pub other_octet : whole ((simple_der (λ b. b) bool_content).read (0x01 ∷ 0x01 ∷ 0x01 ∷ [])) ≡ Err (fault InvalidValue)
   pub other_tag : whole ((simple_der (λ b. b) bool_content).read (0x02 ∷ 0x01 ∷ 0x05 ∷ [])) ≡ Err (fault (UnexpectedTag (universal 2)))
   pub rest : whole ((simple_der (λ b. b) bool_content).read (0x01 ∷ 0x01 ∷ 0xff ∷ 0x00 ∷ [])) ≡ Err (fault ExtraData)
+
+-- Places are given from the innermost outward: of five, the innermost four are kept.
+pub record Places : Type 0 where
+  pub three : (within (Index 3) (within (Index 2) (within (Index 1) (fault ExtraData)))).places ≡ Index 1 ∷ Index 2 ∷ Index 3 ∷ []
+  pub four : (within (Index 4) (within (Index 3) (within (Index 2) (within (Index 1) (fault ExtraData))))).places ≡ Index 1 ∷ Index 2 ∷ Index 3 ∷ Index 4 ∷ []
+  pub five : (within (Index 5) (within (Index 4) (within (Index 3) (within (Index 2) (within (Index 1) (fault ExtraData)))))).places ≡ Index 1 ∷ Index 2 ∷ Index 3 ∷ Index 4 ∷ []

@@ -297,9 +297,12 @@ impl<'a> Parser<'a> {
         Parser { data, alloc }
     }
 
-    /// The memory with which the parser was made.
+    /// The memory with which the parser was made. A `Global` holds nothing that tells it from another, as the clause
+    /// says.
     #[inline]
-    pub fn alloc(&self) -> Global {
+    pub fn alloc(&self) -> Global
+        ensures { (handed : Global) → result ≡ handed }
+    {
         self.alloc
     }
 
@@ -355,13 +358,16 @@ impl<'a> Parser<'a> {
 
     /// Reads a value of the type.
     ///
-    /// A refusal is the type's first fault; the parser then stands where the type says, always at a back of what was
-    /// there.
+    /// A refusal is the type's first fault; the parser then stands where the type says, always before a suffix of what
+    /// was left.
     #[inline]
     pub fn read_element<T: Asn1Readable<'a>>(&mut self) -> ParseResult<T>
         ensures answers { Answers (λ v. (T.der.meaning v, self.new)) (T.der.runs_out self.old) result (T.der.read self.old) }
         ensures rest { EndsWith self.old self.new }
         ensures stops { OnErr result (T.der.stops self.old self.new) }
+
+        // A type whose reading takes no memory never wants any.
+        ensures no_want { ¬ T.der.takes_memory → IfErr result IsOfText }
     {
         T::parse(self)
     }

@@ -5,7 +5,7 @@ use Rattle.asn1_core.specs.Base128.{IsNumberText, number_front}
 use Rattle.asn1_core.specs.Tag.{tag_front}
 use Rattle.asn1_core.specs.Length.{length_text, length_front}
 use Rattle.asn1_core.specs.Element.{element_text, front}
-use Rattle.asn1_core.specs.Examples.{Fronts, Tags, Lengths, Booleans}
+use Rattle.asn1_core.specs.Examples.{Fronts, Tags, Lengths, Booleans, Places}
 use Rattle.asn1_core.specs.Lemmas.Digits.{Leads, digits_back, number_by_digits}
 use Rattle.asn1_core.specs.Lemmas.NumberTexts.{text_only}
 use Rattle.asn1_core.specs.Lemmas.Lengths.{length_text_low, length_text_high}
@@ -54,5 +54,8 @@ booleans : Booleans
 unfolding front tag_front length_front element_text length_text
 booleans = record { text = refl; read = refl; other_octet = refl; other_tag = refl; rest = refl }
 
+places : Places
+places = record { three = refl; four = refl; five = refl }
+
 pub returns : goal.returns
-returns c = record { fronts = fronts; tags = tags; lengths = lengths; booleans = booleans }
+returns c = record { fronts = fronts; tags = tags; lengths = lengths; booleans = booleans; places = places }

@@ -1,0 +1,8 @@
+use Rattle.asn1_core.specs.Lemmas.Wholes.{of_text}
+use Rattle.asn1_core.proofs.parser.Parser.read_element.Goals as goal
+
+pub returns-clause-no_want : goal.returns-clause-no_want
+returns-clause-no_want g c none =
+    let d = g.T.Asn1Type.der in
+    let t = c.args.self.now in
+    of_text _ (d.runs_out t) c.parse.result (d.read t) c.parse.ensures.answers (d.faults t) (λ places out. none (d.memory t places out))
