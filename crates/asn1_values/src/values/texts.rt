@@ -1,0 +1,468 @@
+//! Texts of characters that are read as `str`.
+
+ghost use Rattle.std.specs.Prelude.{◌≡◌, true, false, ⊤, Some, length, MatchOption, IsTrue, IsUtf8};
+ghost use Rattle.asn1_core.specs.Tag.{universal};
+ghost use Rattle.asn1_core.specs.Reading.{Answers};
+ghost use Rattle.asn1_core.specs.Writing.{KnowsLength};
+ghost use Rattle.asn1_core.specs.Der.{simple_der};
+ghost use Rattle.asn1_values.specs.Texts.{is_printable, is_printable_text, is_ia5_text, is_visible_text, is_utf8_text, IsTextOf, read_text};
+ghost use Rattle.asn1_values.specs.TextContents.{printable_content, ia5_content, visible_content, utf8_content};
+
+use asn1_core::{
+    Asn1Type, ParseError, ParseErrorKind, ParseResult, SimpleAsn1Readable, SimpleAsn1Writable, Tag,
+    WriteBuf, WriteError, WriteResult,
+};
+use std::alloc::{AllocError, Global};
+use std::fmt;
+
+/// A bit for each character below 64 that a `PrintableString` may have: space, `'()+,-./:=?` and the digits.
+const LOW_PRINTABLE: u64 = 0xa7ff_fb81_0000_0000;
+
+/// The same from 64 to 127: the letters.
+const HIGH_PRINTABLE: u64 = 0x07ff_fffe_07ff_fffe;
+
+/// Whether a `PrintableString` may have this character.
+fn is_printable(octet: u8) -> bool
+    ensures { result ≡ is_printable octet }
+{
+    let characters = if octet < 64 {
+        LOW_PRINTABLE
+    } else {
+        HIGH_PRINTABLE
+    };
+    octet < 128 && (characters >> (octet % 64)) % 2 == 1
+}
+
+fn is_printable_text(octets: &[u8]) -> bool
+    ensures { result ≡ is_printable_text octets.now }
+{
+    octets.iter().all(|octet| is_printable(*octet))
+}
+
+fn is_ia5_text(octets: &[u8]) -> bool
+    ensures { result ≡ is_ia5_text octets.now }
+{
+    octets.is_ascii()
+}
+
+fn is_visible_text(octets: &[u8]) -> bool
+    ensures { result ≡ is_visible_text octets.now }
+{
+    octets.iter().all(|octet| 0x20 <= *octet && *octet <= 0x7e)
+}
+
+/// The octets as `str`, where they follow their rule. Those that do are UTF-8.
+fn text_in(octets: &[u8], is_text: bool) -> Option<&str>
+    requires { is_text ≡ true → IsUtf8 octets.now }
+    ensures { MatchOption result (is_text ≡ false) (λ text. (is_text ≡ true) × (text.now ≡ octets.entry.now)) }
+{
+    if !is_text {
+        return None;
+    }
+    str::from_utf8(octets).ok()
+}
+
+/// A text of letters, digits, space and `'()+,-./:=?`.
+#[derive(PartialEq, Eq, Hash, Drop)]
+pub struct PrintableString<'a> {
+    text: &'a str,
+    pub ghost is_text: { IsTextOf is_printable_text text.now },
+}
+
+impl<'a> PrintableString<'a> {
+    ghost use Rattle.asn1_values.specs.TextValues.{printable_octets};
+
+    /// The string with these characters. `None` where there is another one.
+    pub fn new(text: &'a str) -> Option<PrintableString<'a>>
+        ensures { MatchOption result (¬ IsTextOf is_printable_text text.entry.now) (λ s. printable_octets s ≡ text.entry.now) }
+    {
+        if !is_printable_text(text.as_bytes()) {
+            return None;
+        }
+        Some(PrintableString { text })
+    }
+
+    /// The characters.
+    pub fn as_str(&self) -> &'a str
+        ensures { result.now ≡ printable_octets self.now }
+    {
+        self.text
+    }
+}
+
+/// Takes no memory.
+impl<'a> Clone for PrintableString<'a> {
+    ghost use Rattle.asn1_values.specs.TextValues.{printable_octets};
+
+    ghost is_clone = { λ x y. printable_octets y ≡ printable_octets x };
+
+    ghost is_infallible = { λ _. ⊤ };
+
+    fn clone(&self) -> Result<PrintableString<'a>, AllocError> {
+        Ok(PrintableString { text: self.text })
+    }
+}
+
+impl fmt::Debug for PrintableString<'_> {
+    fn fmt<W: fmt::Write>(&self, f: &mut fmt::Formatter<W>) -> fmt::Result {
+        f.debug_tuple("PrintableString").field(&self.text).finish()
+    }
+}
+
+impl<'a> Asn1Type for PrintableString<'a> {
+    ghost use Rattle.asn1_values.specs.TextValues.{printable_octets};
+
+    ghost der = { simple_der printable_octets printable_content };
+
+    fn known(&self) {}
+}
+
+impl<'a> SimpleAsn1Readable<'a> for PrintableString<'a> {
+    ghost use Rattle.asn1_values.specs.TextValues.{printable_octets};
+
+    fn tag() -> Tag
+        ensures value { result ≡ universal 19 }
+        ensures simple { Unit {0} }
+        ensures plain { Unit {0} }
+    {
+        Tag::primitive(0x13)
+    }
+
+    fn parse_data(_alloc: Global, data: &'a [u8]) -> ParseResult<PrintableString<'a>>
+        ensures { Answers printable_octets (λ _. ⊥) result (read_text is_printable_text «data».entry.now) }
+    {
+        match text_in(data, is_printable_text(data)) {
+            Some(text) => Ok(PrintableString { text }),
+            None => Err(ParseError::new(ParseErrorKind::InvalidValue)),
+        }
+    }
+}
+
+impl SimpleAsn1Writable for PrintableString<'_> {
+    ghost use Rattle.asn1_values.specs.TextValues.{printable_octets};
+
+    type Error = WriteError;
+
+    ghost write_errors = { λ _ _. ⊥ };
+
+    fn tag() -> Tag
+        ensures value { result ≡ universal 19 }
+        ensures simple { Unit {0} }
+    {
+        Tag::primitive(0x13)
+    }
+
+    fn write_data(&self, dest: &mut WriteBuf) -> WriteResult<()> {
+        dest.push_slice(self.text.as_bytes())
+    }
+
+    fn data_length(&self) -> Option<usize>
+        ensures known { KnowsLength (printable_content.texts (printable_octets self.now)) result }
+        ensures exact { result ≡ Some (length (printable_octets self.now)) }
+    {
+        Some(self.text.len())
+    }
+}
+
+/// A text of ASCII characters.
+#[derive(PartialEq, Eq, Drop)]
+pub struct IA5String<'a> {
+    text: &'a str,
+    pub ghost is_text: { IsTextOf is_ia5_text text.now },
+}
+
+impl<'a> IA5String<'a> {
+    ghost use Rattle.asn1_values.specs.TextValues.{ia5_octets};
+
+    /// The string with these characters. `None` where one isn't ASCII.
+    pub fn new(text: &'a str) -> Option<IA5String<'a>>
+        ensures { MatchOption result (¬ IsTextOf is_ia5_text text.entry.now) (λ s. ia5_octets s ≡ text.entry.now) }
+    {
+        if !is_ia5_text(text.as_bytes()) {
+            return None;
+        }
+        Some(IA5String { text })
+    }
+
+    /// The characters.
+    pub fn as_str(&self) -> &'a str
+        ensures { result.now ≡ ia5_octets self.now }
+    {
+        self.text
+    }
+}
+
+/// Takes no memory.
+impl<'a> Clone for IA5String<'a> {
+    ghost use Rattle.asn1_values.specs.TextValues.{ia5_octets};
+
+    ghost is_clone = { λ x y. ia5_octets y ≡ ia5_octets x };
+
+    ghost is_infallible = { λ _. ⊤ };
+
+    fn clone(&self) -> Result<IA5String<'a>, AllocError> {
+        Ok(IA5String { text: self.text })
+    }
+}
+
+impl fmt::Debug for IA5String<'_> {
+    fn fmt<W: fmt::Write>(&self, f: &mut fmt::Formatter<W>) -> fmt::Result {
+        f.debug_tuple("IA5String").field(&self.text).finish()
+    }
+}
+
+impl<'a> Asn1Type for IA5String<'a> {
+    ghost use Rattle.asn1_values.specs.TextValues.{ia5_octets};
+
+    ghost der = { simple_der ia5_octets ia5_content };
+
+    fn known(&self) {}
+}
+
+impl<'a> SimpleAsn1Readable<'a> for IA5String<'a> {
+    ghost use Rattle.asn1_values.specs.TextValues.{ia5_octets};
+
+    fn tag() -> Tag
+        ensures value { result ≡ universal 22 }
+        ensures simple { Unit {0} }
+        ensures plain { Unit {0} }
+    {
+        Tag::primitive(0x16)
+    }
+
+    fn parse_data(_alloc: Global, data: &'a [u8]) -> ParseResult<IA5String<'a>>
+        ensures { Answers ia5_octets (λ _. ⊥) result (read_text is_ia5_text «data».entry.now) }
+    {
+        match text_in(data, is_ia5_text(data)) {
+            Some(text) => Ok(IA5String { text }),
+            None => Err(ParseError::new(ParseErrorKind::InvalidValue)),
+        }
+    }
+}
+
+impl SimpleAsn1Writable for IA5String<'_> {
+    ghost use Rattle.asn1_values.specs.TextValues.{ia5_octets};
+
+    type Error = WriteError;
+
+    ghost write_errors = { λ _ _. ⊥ };
+
+    fn tag() -> Tag
+        ensures value { result ≡ universal 22 }
+        ensures simple { Unit {0} }
+    {
+        Tag::primitive(0x16)
+    }
+
+    fn write_data(&self, dest: &mut WriteBuf) -> WriteResult<()> {
+        dest.push_slice(self.text.as_bytes())
+    }
+
+    fn data_length(&self) -> Option<usize>
+        ensures known { KnowsLength (ia5_content.texts (ia5_octets self.now)) result }
+        ensures exact { result ≡ Some (length (ia5_octets self.now)) }
+    {
+        Some(self.text.len())
+    }
+}
+
+/// A text of ASCII characters but for control characters: from space to `~`.
+#[derive(PartialEq, Eq, Drop)]
+pub struct VisibleString<'a> {
+    text: &'a str,
+    pub ghost is_text: { IsTextOf is_visible_text text.now },
+}
+
+impl<'a> VisibleString<'a> {
+    ghost use Rattle.asn1_values.specs.TextValues.{visible_octets};
+
+    /// The string with these characters. `None` where there is another one.
+    pub fn new(text: &'a str) -> Option<VisibleString<'a>>
+        ensures { MatchOption result (¬ IsTextOf is_visible_text text.entry.now) (λ s. visible_octets s ≡ text.entry.now) }
+    {
+        if !is_visible_text(text.as_bytes()) {
+            return None;
+        }
+        Some(VisibleString { text })
+    }
+
+    /// The characters.
+    pub fn as_str(&self) -> &'a str
+        ensures { result.now ≡ visible_octets self.now }
+    {
+        self.text
+    }
+}
+
+/// Takes no memory.
+impl<'a> Clone for VisibleString<'a> {
+    ghost use Rattle.asn1_values.specs.TextValues.{visible_octets};
+
+    ghost is_clone = { λ x y. visible_octets y ≡ visible_octets x };
+
+    ghost is_infallible = { λ _. ⊤ };
+
+    fn clone(&self) -> Result<VisibleString<'a>, AllocError> {
+        Ok(VisibleString { text: self.text })
+    }
+}
+
+impl fmt::Debug for VisibleString<'_> {
+    fn fmt<W: fmt::Write>(&self, f: &mut fmt::Formatter<W>) -> fmt::Result {
+        f.debug_tuple("VisibleString").field(&self.text).finish()
+    }
+}
+
+impl<'a> Asn1Type for VisibleString<'a> {
+    ghost use Rattle.asn1_values.specs.TextValues.{visible_octets};
+
+    ghost der = { simple_der visible_octets visible_content };
+
+    fn known(&self) {}
+}
+
+impl<'a> SimpleAsn1Readable<'a> for VisibleString<'a> {
+    ghost use Rattle.asn1_values.specs.TextValues.{visible_octets};
+
+    fn tag() -> Tag
+        ensures value { result ≡ universal 26 }
+        ensures simple { Unit {0} }
+        ensures plain { Unit {0} }
+    {
+        Tag::primitive(0x1a)
+    }
+
+    fn parse_data(_alloc: Global, data: &'a [u8]) -> ParseResult<VisibleString<'a>>
+        ensures { Answers visible_octets (λ _. ⊥) result (read_text is_visible_text «data».entry.now) }
+    {
+        match text_in(data, is_visible_text(data)) {
+            Some(text) => Ok(VisibleString { text }),
+            None => Err(ParseError::new(ParseErrorKind::InvalidValue)),
+        }
+    }
+}
+
+impl SimpleAsn1Writable for VisibleString<'_> {
+    ghost use Rattle.asn1_values.specs.TextValues.{visible_octets};
+
+    type Error = WriteError;
+
+    ghost write_errors = { λ _ _. ⊥ };
+
+    fn tag() -> Tag
+        ensures value { result ≡ universal 26 }
+        ensures simple { Unit {0} }
+    {
+        Tag::primitive(0x1a)
+    }
+
+    fn write_data(&self, dest: &mut WriteBuf) -> WriteResult<()> {
+        dest.push_slice(self.text.as_bytes())
+    }
+
+    fn data_length(&self) -> Option<usize>
+        ensures known { KnowsLength (visible_content.texts (visible_octets self.now)) result }
+        ensures exact { result ≡ Some (length (visible_octets self.now)) }
+    {
+        Some(self.text.len())
+    }
+}
+
+/// A text of any characters, in UTF-8.
+#[derive(PartialEq, Eq, Hash, Drop)]
+pub struct Utf8String<'a> {
+    text: &'a str,
+    pub ghost is_text: { IsTextOf is_utf8_text text.now },
+}
+
+impl<'a> Utf8String<'a> {
+    ghost use Rattle.asn1_values.specs.TextValues.{utf8_octets};
+
+    /// The string with these characters.
+    pub fn new(text: &'a str) -> Utf8String<'a>
+        ensures { utf8_octets result ≡ text.entry.now }
+    {
+        Utf8String { text }
+    }
+
+    /// The characters.
+    pub fn as_str(&self) -> &'a str
+        ensures { result.now ≡ utf8_octets self.now }
+    {
+        self.text
+    }
+}
+
+/// Takes no memory.
+impl<'a> Clone for Utf8String<'a> {
+    ghost use Rattle.asn1_values.specs.TextValues.{utf8_octets};
+
+    ghost is_clone = { λ x y. utf8_octets y ≡ utf8_octets x };
+
+    ghost is_infallible = { λ _. ⊤ };
+
+    fn clone(&self) -> Result<Utf8String<'a>, AllocError> {
+        Ok(Utf8String { text: self.text })
+    }
+}
+
+impl fmt::Debug for Utf8String<'_> {
+    fn fmt<W: fmt::Write>(&self, f: &mut fmt::Formatter<W>) -> fmt::Result {
+        f.debug_tuple("Utf8String").field(&self.text).finish()
+    }
+}
+
+impl<'a> Asn1Type for Utf8String<'a> {
+    ghost use Rattle.asn1_values.specs.TextValues.{utf8_octets};
+
+    ghost der = { simple_der utf8_octets utf8_content };
+
+    fn known(&self) {}
+}
+
+impl<'a> SimpleAsn1Readable<'a> for Utf8String<'a> {
+    ghost use Rattle.asn1_values.specs.TextValues.{utf8_octets};
+
+    fn tag() -> Tag
+        ensures value { result ≡ universal 12 }
+        ensures simple { Unit {0} }
+        ensures plain { Unit {0} }
+    {
+        Tag::primitive(0x0c)
+    }
+
+    fn parse_data(_alloc: Global, data: &'a [u8]) -> ParseResult<Utf8String<'a>>
+        ensures { Answers utf8_octets (λ _. ⊥) result (read_text is_utf8_text «data».entry.now) }
+    {
+        match str::from_utf8(data) {
+            Ok(text) => Ok(Utf8String { text }),
+            Err(_) => Err(ParseError::new(ParseErrorKind::InvalidValue)),
+        }
+    }
+}
+
+impl SimpleAsn1Writable for Utf8String<'_> {
+    ghost use Rattle.asn1_values.specs.TextValues.{utf8_octets};
+
+    type Error = WriteError;
+
+    ghost write_errors = { λ _ _. ⊥ };
+
+    fn tag() -> Tag
+        ensures value { result ≡ universal 12 }
+        ensures simple { Unit {0} }
+    {
+        Tag::primitive(0x0c)
+    }
+
+    fn write_data(&self, dest: &mut WriteBuf) -> WriteResult<()> {
+        dest.push_slice(self.text.as_bytes())
+    }
+
+    fn data_length(&self) -> Option<usize>
+        ensures known { KnowsLength (utf8_content.texts (utf8_octets self.now)) result }
+        ensures exact { result ≡ Some (length (utf8_octets self.now)) }
+    {
+        Some(self.text.len())
+    }
+}

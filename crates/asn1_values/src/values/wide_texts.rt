@@ -1,0 +1,294 @@
+//! Texts of characters in two or four octets each.
+
+ghost use Rattle.std.specs.Prelude.{◌≡◌, ◌+◌, ◌%◌, ◌<◌, ◌≤◌, ◌↔◌, [], ◌∷◌, drop, true, false, ⊤, Some, length, MatchOption, IsTrue};
+ghost use Rattle.std.specs.Char.{IsScalar};
+ghost use Rattle.asn1_core.specs.Text.{number};
+ghost use Rattle.asn1_core.specs.Tag.{universal};
+ghost use Rattle.asn1_core.specs.Reading.{Answers};
+ghost use Rattle.asn1_core.specs.Writing.{KnowsLength};
+ghost use Rattle.asn1_core.specs.Der.{simple_der};
+ghost use Rattle.asn1_values.specs.Texts.{is_paired, is_utf16_text, fours, is_utf32_text, IsTextOf, read_text};
+ghost use Rattle.asn1_values.specs.TextContents.{utf16_content, utf32_content};
+
+use asn1_core::{
+    Asn1Type, ParseError, ParseErrorKind, ParseResult, SimpleAsn1Readable, SimpleAsn1Writable, Tag,
+    WriteBuf, WriteError, WriteResult,
+};
+use std::alloc::{AllocError, Global};
+use std::fmt;
+
+/// How many octets of UTF-16 the character at a place has: 2, or 4 where it is a pair of surrogates. 0 where a surrogate
+/// has no partner.
+fn utf16_length(octets: &[u8], at: usize) -> usize
+    requires { at + 2 ≤ length octets.now }
+    ensures unpaired { result ≡ 0 → is_paired (drop at octets.now) ≡ false }
+    ensures paired { 0 < result → is_paired (drop at octets.now) ≡ is_paired (drop (at + result) octets.now) }
+    ensures units { result % 2 ≡ 0 }
+    ensures within { at + result ≤ length octets.now }
+{
+    let first = octets[at];
+    if first < 0xd8 || 0xdf < first {
+        return 2;
+    }
+    if first > 0xdb || octets.len() - at < 4 {
+        return 0;
+    }
+    let second = octets[at + 2];
+    if second < 0xdc || 0xdf < second {
+        return 0;
+    }
+    4
+}
+
+fn is_utf16_text(octets: &[u8]) -> bool
+    ensures { result ≡ is_utf16_text octets.now }
+{
+    if octets.len() % 2 != 0 {
+        return false;
+    }
+    let mut at = 0;
+    while at < octets.len() {
+        let length = utf16_length(octets, at);
+        if length == 0 {
+            return false;
+        }
+        at += length;
+    }
+    true
+}
+
+/// Whether four octets are the number of a character.
+fn is_character(first: u8, second: u8, third: u8, fourth: u8) -> bool
+    ensures { IsTrue result ↔ IsScalar (number (first ∷ second ∷ third ∷ fourth ∷ [])) }
+{
+    let high = u32::from(first) * 0x100 + u32::from(second);
+    let low = u32::from(third) * 0x100 + u32::from(fourth);
+    char::from_u32(high * 0x1_0000 + low).is_some()
+}
+
+fn is_utf32_text(octets: &[u8]) -> bool
+    ensures { result ≡ is_utf32_text octets.now }
+{
+    if octets.len() % 4 != 0 {
+        return false;
+    }
+    let mut at = 0;
+    while at < octets.len() {
+        if !is_character(octets[at], octets[at + 1], octets[at + 2], octets[at + 3]) {
+            return false;
+        }
+        at += 4;
+    }
+    true
+}
+
+/// A text in UTF-16, the most significant octet of each unit first.
+#[derive(PartialEq, Eq, Hash, Drop)]
+pub struct BMPString<'a> {
+    octets: &'a [u8],
+    pub ghost is_text: { IsTextOf is_utf16_text octets.now },
+}
+
+impl<'a> BMPString<'a> {
+    ghost use Rattle.asn1_values.specs.WideTexts.{bmp_octets};
+
+    /// The string with these octets. `None` where the number of octets is odd, or a surrogate has no partner.
+    pub fn new(octets: &'a [u8]) -> Option<BMPString<'a>>
+        ensures { MatchOption result (¬ IsTextOf is_utf16_text octets.entry.now) (λ s. bmp_octets s ≡ octets.entry.now) }
+    {
+        if !is_utf16_text(octets) {
+            return None;
+        }
+        Some(BMPString { octets })
+    }
+
+    /// The octets.
+    pub fn as_utf16_be_bytes(&self) -> &'a [u8]
+        ensures { result.now ≡ bmp_octets self.now }
+    {
+        self.octets
+    }
+}
+
+/// Takes no memory.
+impl<'a> Clone for BMPString<'a> {
+    ghost use Rattle.asn1_values.specs.WideTexts.{bmp_octets};
+
+    ghost is_clone = { λ x y. bmp_octets y ≡ bmp_octets x };
+
+    ghost is_infallible = { λ _. ⊤ };
+
+    fn clone(&self) -> Result<BMPString<'a>, AllocError> {
+        Ok(BMPString {
+            octets: self.octets,
+        })
+    }
+}
+
+impl fmt::Debug for BMPString<'_> {
+    fn fmt<W: fmt::Write>(&self, f: &mut fmt::Formatter<W>) -> fmt::Result {
+        f.debug_tuple("BMPString").field(&self.octets).finish()
+    }
+}
+
+impl<'a> Asn1Type for BMPString<'a> {
+    ghost use Rattle.asn1_values.specs.WideTexts.{bmp_octets};
+
+    ghost der = { simple_der bmp_octets utf16_content };
+
+    fn known(&self) {}
+}
+
+impl<'a> SimpleAsn1Readable<'a> for BMPString<'a> {
+    ghost use Rattle.asn1_values.specs.WideTexts.{bmp_octets};
+
+    fn tag() -> Tag
+        ensures value { result ≡ universal 30 }
+        ensures simple { Unit {0} }
+        ensures plain { Unit {0} }
+    {
+        Tag::primitive(0x1e)
+    }
+
+    fn parse_data(_alloc: Global, data: &'a [u8]) -> ParseResult<BMPString<'a>>
+        ensures { Answers bmp_octets (λ _. ⊥) result (read_text is_utf16_text «data».entry.now) }
+    {
+        match BMPString::new(data) {
+            Some(text) => Ok(text),
+            None => Err(ParseError::new(ParseErrorKind::InvalidValue)),
+        }
+    }
+}
+
+impl SimpleAsn1Writable for BMPString<'_> {
+    ghost use Rattle.asn1_values.specs.WideTexts.{bmp_octets};
+
+    type Error = WriteError;
+
+    ghost write_errors = { λ _ _. ⊥ };
+
+    fn tag() -> Tag
+        ensures value { result ≡ universal 30 }
+        ensures simple { Unit {0} }
+    {
+        Tag::primitive(0x1e)
+    }
+
+    fn write_data(&self, dest: &mut WriteBuf) -> WriteResult<()> {
+        dest.push_slice(self.octets)
+    }
+
+    fn data_length(&self) -> Option<usize>
+        ensures known { KnowsLength (utf16_content.texts (bmp_octets self.now)) result }
+        ensures exact { result ≡ Some (length (bmp_octets self.now)) }
+    {
+        Some(self.octets.len())
+    }
+}
+
+/// A text in UTF-32: four octets a character, the most significant first.
+#[derive(PartialEq, Eq, Hash, Drop)]
+pub struct UniversalString<'a> {
+    octets: &'a [u8],
+    pub ghost is_text: { IsTextOf is_utf32_text octets.now },
+}
+
+impl<'a> UniversalString<'a> {
+    ghost use Rattle.asn1_values.specs.WideTexts.{universal_octets};
+
+    /// The string with these octets. `None` where the number of octets isn't a multiple of four, or four are above
+    /// 0x10ffff or a surrogate.
+    pub fn new(octets: &'a [u8]) -> Option<UniversalString<'a>>
+        ensures { MatchOption result (¬ IsTextOf is_utf32_text octets.entry.now) (λ s. universal_octets s ≡ octets.entry.now) }
+    {
+        if !is_utf32_text(octets) {
+            return None;
+        }
+        Some(UniversalString { octets })
+    }
+
+    /// The octets.
+    pub fn as_utf32_be_bytes(&self) -> &'a [u8]
+        ensures { result.now ≡ universal_octets self.now }
+    {
+        self.octets
+    }
+}
+
+/// Takes no memory.
+impl<'a> Clone for UniversalString<'a> {
+    ghost use Rattle.asn1_values.specs.WideTexts.{universal_octets};
+
+    ghost is_clone = { λ x y. universal_octets y ≡ universal_octets x };
+
+    ghost is_infallible = { λ _. ⊤ };
+
+    fn clone(&self) -> Result<UniversalString<'a>, AllocError> {
+        Ok(UniversalString {
+            octets: self.octets,
+        })
+    }
+}
+
+impl fmt::Debug for UniversalString<'_> {
+    fn fmt<W: fmt::Write>(&self, f: &mut fmt::Formatter<W>) -> fmt::Result {
+        f.debug_tuple("UniversalString")
+            .field(&self.octets)
+            .finish()
+    }
+}
+
+impl<'a> Asn1Type for UniversalString<'a> {
+    ghost use Rattle.asn1_values.specs.WideTexts.{universal_octets};
+
+    ghost der = { simple_der universal_octets utf32_content };
+
+    fn known(&self) {}
+}
+
+impl<'a> SimpleAsn1Readable<'a> for UniversalString<'a> {
+    ghost use Rattle.asn1_values.specs.WideTexts.{universal_octets};
+
+    fn tag() -> Tag
+        ensures value { result ≡ universal 28 }
+        ensures simple { Unit {0} }
+        ensures plain { Unit {0} }
+    {
+        Tag::primitive(0x1c)
+    }
+
+    fn parse_data(_alloc: Global, data: &'a [u8]) -> ParseResult<UniversalString<'a>>
+        ensures { Answers universal_octets (λ _. ⊥) result (read_text is_utf32_text «data».entry.now) }
+    {
+        match UniversalString::new(data) {
+            Some(text) => Ok(text),
+            None => Err(ParseError::new(ParseErrorKind::InvalidValue)),
+        }
+    }
+}
+
+impl SimpleAsn1Writable for UniversalString<'_> {
+    ghost use Rattle.asn1_values.specs.WideTexts.{universal_octets};
+
+    type Error = WriteError;
+
+    ghost write_errors = { λ _ _. ⊥ };
+
+    fn tag() -> Tag
+        ensures value { result ≡ universal 28 }
+        ensures simple { Unit {0} }
+    {
+        Tag::primitive(0x1c)
+    }
+
+    fn write_data(&self, dest: &mut WriteBuf) -> WriteResult<()> {
+        dest.push_slice(self.octets)
+    }
+
+    fn data_length(&self) -> Option<usize>
+        ensures known { KnowsLength (utf32_content.texts (universal_octets self.now)) result }
+        ensures exact { result ≡ Some (length (universal_octets self.now)) }
+    {
+        Some(self.octets.len())
+    }
+}
