@@ -21,6 +21,8 @@ use Rattle.dercheck.proofs.RequestLaws.{request_of-is, requests_are_right}
 -- the laws speak of each type
 lawful : (word : Word) → (type_of word).der.lawful
 lawful words.Tlv = tt
+lawful words.SeqOfInt = (((tt, lit< tt), tt), lit< tt)
+lawful words.SetOfInt = (((tt, lit< tt), tt), lit< tt)
 lawful _ = (tt, lit< tt)
 
 -- ---- lines that are no request

@@ -1,18 +1,19 @@
 -- The words that name types, and the types.
-use Rattle.std.specs.Prelude.{ℕ, ◌^◌, ℤ, pos, ◌-ℤ◌, Bool, List, codes, Option}
+use Rattle.std.specs.Prelude.{ℕ, ◌-◌, ◌^◌, ℤ, pos, ◌-ℤ◌, List, codes, Option}
 use Rattle.std.specs.List.{find}
 use Rattle.std.specs.Str.{bytes_eq}
-use Rattle.asn1.specs.declared.BigInt.{BigInt}
-use Rattle.asn1.specs.declared.BigUint.{BigUint}
-use Rattle.asn1.specs.declared.Enumerated.{Enumerated}
-use Rattle.asn1.specs.declared.Tlv.{Tlv}
 use Rattle.asn1.specs.Tag.{universal}
-use Rattle.asn1.specs.Tlv.{element_of}
-use Rattle.asn1.specs.Der.{Der, simple_der, tlv_der, bool_content}
+use Rattle.asn1.specs.Der.{Der, Content, simple_der, tlv_der, bool_content}
+use Rattle.asn1.specs.Element.{Element}
 use Rattle.asn1.specs.Sized.{sized_content, signed_der, unsigned_der}
+use Rattle.asn1.specs.OctetContents.{null_content, octets_content}
 use Rattle.asn1.specs.BigContents.{signed_content, unsigned_content}
-use Rattle.asn1.specs.Values.{big_int_number, big_uint_number}
-use Rattle.asn1.specs.Enumerated.{enumerated_value}
+use Rattle.asn1.specs.BitContents.{bits_content}
+use Rattle.asn1.specs.IdentifierContent.{identifier_basic}
+use Rattle.asn1.specs.TimeContents.{utc_content, x509_content, instant_content}
+use Rattle.asn1.specs.Sequences.{sequence_content}
+use Rattle.asn1.specs.ListTypes.{items_inside}
+use Rattle.asn1.specs.SetTypes.{set_content, set_inside}
 use Rattle.dercheck.specs.declared.words.Word.{Word}
 use Rattle.dercheck.specs.declared.words.Word.TheVariants as words
 use Rattle.dercheck.specs.declared.words.TheConstants.Word.{ALL}
@@ -31,28 +32,64 @@ word_text words.U64 = codes "u64"
 word_text words.Int = codes "int"
 word_text words.Uint = codes "uint"
 word_text words.Enum = codes "enum"
+word_text words.Null = codes "null"
+word_text words.Octets = codes "octets"
+word_text words.Bits = codes "bits"
+word_text words.Oid = codes "oid"
+word_text words.UtcTime = codes "utctime"
+word_text words.X509Time = codes "x509time"
+word_text words.GenTime = codes "gentime"
+word_text words.Seq = codes "seq"
+word_text words.Set = codes "set"
+word_text words.SeqOfInt = codes "seqof-int"
+word_text words.SetOfInt = codes "setof-int"
 
 -- the word with that text
 abbrev pub word_of : List ℕ → Option Word
 word_of text = find (λ word. bytes_eq (word_text word) text) ALL.now
 
--- a type, and what it means in DER
+-- a type, by what its values mean
 pub record Asn1 : Type 1 where
   pub Value : Type 0
   pub der : Der Value
 
+-- one that is an element with a tag of its own
+abbrev pub simple_type : {M : Type 0} → Content M → Asn1
+simple_type {M = M} content = record { Value = M; der = simple_der (λ value. value) content }
+
+abbrev pub signed_type : ℕ → Asn1
+signed_type bits = record { Value = ℤ; der = signed_der bits (λ value. value) }
+
+abbrev pub unsigned_type : ℕ → Asn1
+unsigned_type bits = record { Value = ℕ; der = unsigned_der bits (λ value. value) }
+
+-- an integer of any length
+abbrev pub int_der : Der ℤ
+int_der = simple_der (λ value. value) signed_content
+
 -- the type that a word names
 abbrev pub type_of : Word → Asn1
-type_of words.Bool = record { Value = Bool; der = simple_der (λ b. b) bool_content }
-type_of words.Tlv = record { Value = Tlv; der = tlv_der element_of }
-type_of words.I8 = record { Value = ℤ; der = signed_der 8 (λ z. z) }
-type_of words.U8 = record { Value = ℕ; der = unsigned_der 8 (λ n. n) }
-type_of words.I16 = record { Value = ℤ; der = signed_der 16 (λ z. z) }
-type_of words.U16 = record { Value = ℕ; der = unsigned_der 16 (λ n. n) }
-type_of words.I32 = record { Value = ℤ; der = signed_der 32 (λ z. z) }
-type_of words.U32 = record { Value = ℕ; der = unsigned_der 32 (λ n. n) }
-type_of words.I64 = record { Value = ℤ; der = signed_der 64 (λ z. z) }
-type_of words.U64 = record { Value = ℕ; der = unsigned_der 64 (λ n. n) }
-type_of words.Int = record { Value = BigInt; der = simple_der big_int_number signed_content }
-type_of words.Uint = record { Value = BigUint; der = simple_der big_uint_number unsigned_content }
-type_of words.Enum = record { Value = Enumerated; der = simple_der (λ e. pos (enumerated_value e)) (sized_content (universal 10) (pos 0) (pos (2 ^ 32) -ℤ pos 1)) }
+type_of words.Bool = simple_type bool_content
+type_of words.Tlv = record { Value = Element; der = tlv_der (λ value. value) }
+type_of words.I8 = signed_type 8
+type_of words.U8 = unsigned_type 8
+type_of words.I16 = signed_type 16
+type_of words.U16 = unsigned_type 16
+type_of words.I32 = signed_type 32
+type_of words.U32 = unsigned_type 32
+type_of words.I64 = signed_type 64
+type_of words.U64 = unsigned_type 64
+type_of words.Int = simple_type signed_content
+type_of words.Uint = simple_type unsigned_content
+type_of words.Enum = simple_type (sized_content (universal 10) (pos 0) (pos (2 ^ 32) -ℤ pos 1))
+type_of words.Null = simple_type null_content
+type_of words.Octets = simple_type octets_content
+type_of words.Bits = simple_type bits_content
+type_of words.Oid = simple_type identifier_basic
+type_of words.UtcTime = simple_type utc_content
+type_of words.X509Time = simple_type x509_content
+type_of words.GenTime = simple_type instant_content
+type_of words.Seq = simple_type sequence_content
+type_of words.Set = simple_type set_content
+type_of words.SeqOfInt = simple_type (items_inside 0 (2 ^ 64 - 1) int_der)
+type_of words.SetOfInt = simple_type (set_inside int_der)

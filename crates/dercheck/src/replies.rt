@@ -9,8 +9,9 @@ use crate::answers::Fault;
 use crate::kinds::push_kind;
 use crate::words::{Word, request};
 use asn1::{
-    Asn1Readable, Asn1Writable, BigInt, BigUint, Enumerated, ParseErrorKind, Tlv, WriteError,
-    parse_single, write_single,
+    Asn1Readable, Asn1Writable, BigInt, BigUint, BitString, Enumerated, GeneralizedTime, Null,
+    ObjectIdentifier, ParseErrorKind, Sequence, SequenceOf, Set, SetOf, Tlv, UtcTime, WriteError,
+    X509GeneralizedTime, parse_single, write_single,
 };
 use std::alloc::{AllocError, Global};
 
@@ -63,6 +64,17 @@ fn reply_to_octets(alloc: Global, word: Word, octets: &[u8]) -> Result<Reply, Fa
         Word::Int => reply_as::<BigInt<'_>>(alloc, octets),
         Word::Uint => reply_as::<BigUint<'_>>(alloc, octets),
         Word::Enum => reply_as::<Enumerated>(alloc, octets),
+        Word::Null => reply_as::<Null>(alloc, octets),
+        Word::Octets => reply_as::<&[u8]>(alloc, octets),
+        Word::Bits => reply_as::<BitString<'_>>(alloc, octets),
+        Word::Oid => reply_as::<ObjectIdentifier>(alloc, octets),
+        Word::UtcTime => reply_as::<UtcTime>(alloc, octets),
+        Word::X509Time => reply_as::<X509GeneralizedTime>(alloc, octets),
+        Word::GenTime => reply_as::<GeneralizedTime>(alloc, octets),
+        Word::Seq => reply_as::<Sequence<'_>>(alloc, octets),
+        Word::Set => reply_as::<Set<'_>>(alloc, octets),
+        Word::SeqOfInt => reply_as::<SequenceOf<'_, BigInt<'_>, 0, { usize::MAX }>>(alloc, octets),
+        Word::SetOfInt => reply_as::<SetOf<'_, BigInt<'_>>>(alloc, octets),
     }
 }
 

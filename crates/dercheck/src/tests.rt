@@ -16,7 +16,7 @@ use std::process::Abort;
 use std::test::Fail;
 
 /// Lines and the answers to them.
-const LINES: [(&str, &str); 27] = [
+const LINES: &[(&str, &str)] = &[
     ("bool 0101ff", "ok 0101ff"),
     ("bool 0101FF", "ok 0101ff"),
     ("bool 010100", "ok 010100"),
@@ -41,6 +41,7 @@ const LINES: [(&str, &str); 27] = [
     ("tlv 04820010", "err InvalidLength"),
     ("tlv 048200", "err ShortData 1"),
     ("tlv 1f9080808000", "err InvalidTag"),
+    ("tlv ", "err ShortData 1"),
     ("tlv", "bad line"),
     ("bool 0", "bad line"),
     ("BOOL 0101ff", "bad line"),
@@ -50,7 +51,7 @@ const LINES: [(&str, &str); 27] = [
 ];
 
 /// Lines with integers, and the answers to them.
-const INTEGERS: [(&str, &str); 29] = [
+const INTEGERS: &[(&str, &str)] = &[
     ("i8 020180", "ok 020180"),
     ("i8 0202ff7f", "err IntegerOverflow"),
     ("u8 020180", "err InvalidValue"),
@@ -82,8 +83,136 @@ const INTEGERS: [(&str, &str); 29] = [
     ("enum 02010c", "err UnexpectedTag universal 2 primitive"),
 ];
 
+/// Lines with octets, bits and identifiers.
+const STRINGS: &[(&str, &str)] = &[
+    ("null 0500", "ok 0500"),
+    ("null 0500ff", "err ExtraData"),
+    ("null 050100", "err InvalidValue"),
+    ("null", "bad line"),
+    ("octets 0403616263", "ok 0403616263"),
+    ("octets 0400", "ok 0400"),
+    ("octets 030100", "err UnexpectedTag universal 3 primitive"),
+    ("OCTETS 0400", "bad line"),
+    ("bits 03020101", "err InvalidValue"),
+    ("bits 0300", "err InvalidValue"),
+    ("bits 030101", "err InvalidValue"),
+    ("bits 0302017e", "ok 0302017e"),
+    ("oid 06062A864886F70D", "ok 06062a864886f70d"),
+    ("oid 060180", "err InvalidValue"),
+    (
+        "oid 064001010101010101010101010101010101010101010101010101010101010101010101010101010101010101010101010101010101010101010101010101010101",
+        "err OidTooLong",
+    ),
+];
+
+/// Lines with times.
+const TIMES: &[(&str, &str)] = &[
+    (
+        "utctime 170d3530303130313030303030305a",
+        "ok 170d3530303130313030303030305a",
+    ),
+    (
+        "utctime 170d3439313233313233353935395a",
+        "ok 170d3439313233313233353935395a",
+    ),
+    (
+        "utctime 170d3039313131353232353631365a",
+        "ok 170d3039313131353232353631365a",
+    ),
+    ("utctime 170d3233303232393030303030305a", "err InvalidValue"),
+    ("utctime 170d3439313233313233353936305a", "err InvalidValue"),
+    (
+        "x509time 180f32303030303232393030303030305a",
+        "ok 180f32303030303232393030303030305a",
+    ),
+    (
+        "x509time 180f31393030303232393030303030305a",
+        "err InvalidValue",
+    ),
+    (
+        "x509time 180f30303030303130313030303030305a",
+        "ok 180f30303030303130313030303030305a",
+    ),
+    (
+        "x509time 180f31393730303130313030303030305a",
+        "ok 180f31393730303130313030303030305a",
+    ),
+    (
+        "x509time 181132303039303130313030303030302e355a",
+        "err InvalidValue",
+    ),
+    (
+        "gentime 181132303039303130313030303030302e355a",
+        "ok 181132303039303130313030303030302e355a",
+    ),
+    (
+        "gentime 181932303039303130313030303030302e3030303030303030315a",
+        "ok 181932303039303130313030303030302e3030303030303030315a",
+    ),
+    (
+        "gentime 181132303039303130313030303030302e305a",
+        "err InvalidValue",
+    ),
+    (
+        "gentime 180f32303039303130313234303030305a",
+        "err InvalidValue",
+    ),
+    (
+        "gentime 181431393931303530363233343534302e313233305a",
+        "err InvalidValue",
+    ),
+    (
+        "gentime 181031393931303530363233343534302e5a",
+        "err InvalidValue",
+    ),
+    (
+        "gentime 181a31393931303530363233343534302e313233343536373839315a",
+        "err InvalidValue",
+    ),
+    (
+        "gentime 181931393931303530363233343534302e3030303030313233345a",
+        "ok 181931393931303530363233343534302e3030303030313233345a",
+    ),
+    (
+        "gentime 181132303039313131353232353631362e315a",
+        "ok 181132303039313131353232353631362e315a",
+    ),
+    (
+        "gentime 181932303039313131353232353631362e3939393939393939395a",
+        "ok 181932303039313131353232353631362e3939393939393939395a",
+    ),
+];
+
+/// Lines with sequences and sets.
+const LISTS: &[(&str, &str)] = &[
+    ("seq 30020500", "ok 30020500"),
+    ("seq 3000ff", "err ExtraData"),
+    ("seq 1000", "err UnexpectedTag universal 16 primitive"),
+    ("seqof-int 3006020107020105", "ok 3006020107020105"),
+    ("seqof-int 3000", "ok 3000"),
+    ("seqof-int 30050201050201", "err ShortData 1"),
+    (
+        "seqof-int 3003010100",
+        "err UnexpectedTag universal 1 primitive",
+    ),
+    ("seqof-int 300402020001", "err InvalidValue"),
+    ("set 31060201050101ff", "err InvalidSetOrdering"),
+    ("set 3103020205", "err ShortData 1"),
+    ("set 31060101ff020105", "ok 31060101ff020105"),
+    ("set 3104a0008100", "err InvalidSetOrdering"),
+    ("set 31048100a000", "ok 31048100a000"),
+    ("set 31099fff7f009f81800000", "err InvalidSetOrdering"),
+    ("setof-int 3106020107020105", "err InvalidSetOrdering"),
+    ("setof-int 31060201070101ff", "err InvalidSetOrdering"),
+    ("setof-int 3106020105020105", "ok 3106020105020105"),
+    (
+        "setof-int 31060101ff020105",
+        "err UnexpectedTag universal 1 primitive",
+    ),
+];
+
 /// What stands in the output before, the input, the output after, and whether each answer is `ok`.
-const INPUTS: [(&str, &str, &str, bool); 6] = [
+const INPUTS: [(&str, &str, &str, bool); 7] = [
     ("", "", "", true),
     ("before", "", "before", true),
     ("", "\n", "bad line\n", false),
@@ -98,6 +227,12 @@ const INPUTS: [(&str, &str, &str, bool); 6] = [
         "",
         "bool 0101ff\n\nbool 01\nbool 010100",
         "ok 0101ff\nbad line\nerr ShortData 1\nok 010100\n",
+        false,
+    ),
+    (
+        "",
+        "null 0500\noid 06062A864886F70D\nbits 03020101\nsetof-int 3106020107020105\ntlv \nnull\n\n",
+        "ok 0500\nok 06062a864886f70d\nerr InvalidValue\nerr InvalidSetOrdering\nerr ShortData 1\nbad line\nbad line\n",
         false,
     ),
 ];
@@ -123,12 +258,27 @@ fn check_lines<A: Abort>(rt: &A, alloc: Global, lines: &[(&str, &str)]) -> Resul
 
 #[test]
 fn each_line(rt: HostRuntime) -> Result<(), Fail> {
-    check_lines(&rt, rt.alloc(), &LINES)
+    check_lines(&rt, rt.alloc(), LINES)
 }
 
 #[test]
 fn integers(rt: HostRuntime) -> Result<(), Fail> {
-    check_lines(&rt, rt.alloc(), &INTEGERS)
+    check_lines(&rt, rt.alloc(), INTEGERS)
+}
+
+#[test]
+fn strings(rt: HostRuntime) -> Result<(), Fail> {
+    check_lines(&rt, rt.alloc(), STRINGS)
+}
+
+#[test]
+fn times(rt: HostRuntime) -> Result<(), Fail> {
+    check_lines(&rt, rt.alloc(), TIMES)
+}
+
+#[test]
+fn lists(rt: HostRuntime) -> Result<(), Fail> {
+    check_lines(&rt, rt.alloc(), LISTS)
 }
 
 #[test]

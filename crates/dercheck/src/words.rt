@@ -38,6 +38,28 @@ pub(crate) enum Word {
     Uint,
     /// `enum`: an enumerated value.
     Enum,
+    /// `null`.
+    Null,
+    /// `octets`: an octet string.
+    Octets,
+    /// `bits`: a bit string.
+    Bits,
+    /// `oid`: an object identifier.
+    Oid,
+    /// `utctime`: a date and time from 1950 to 2049.
+    UtcTime,
+    /// `x509time`: a date and time without a fraction.
+    X509Time,
+    /// `gentime`: a date and time, with a fraction or without.
+    GenTime,
+    /// `seq`: a sequence of any elements.
+    Seq,
+    /// `set`: a set of any elements.
+    Set,
+    /// `seqof-int`: a sequence of integers of any length.
+    SeqOfInt,
+    /// `setof-int`: a set of integers of any length.
+    SetOfInt,
 }
 
 impl Word {
@@ -56,6 +78,17 @@ impl Word {
         Word::Int,
         Word::Uint,
         Word::Enum,
+        Word::Null,
+        Word::Octets,
+        Word::Bits,
+        Word::Oid,
+        Word::UtcTime,
+        Word::X509Time,
+        Word::GenTime,
+        Word::Seq,
+        Word::Set,
+        Word::SeqOfInt,
+        Word::SetOfInt,
     ];
 
     /// The word as a line has it.
@@ -76,6 +109,17 @@ impl Word {
             Word::Int => b"int",
             Word::Uint => b"uint",
             Word::Enum => b"enum",
+            Word::Null => b"null",
+            Word::Octets => b"octets",
+            Word::Bits => b"bits",
+            Word::Oid => b"oid",
+            Word::UtcTime => b"utctime",
+            Word::X509Time => b"x509time",
+            Word::GenTime => b"gentime",
+            Word::Seq => b"seq",
+            Word::Set => b"set",
+            Word::SeqOfInt => b"seqof-int",
+            Word::SetOfInt => b"setof-int",
         }
     }
 

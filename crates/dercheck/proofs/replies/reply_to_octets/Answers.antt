@@ -38,3 +38,36 @@ returns-in-Uint-clause-ok c = rw c.in-Uint.is c.reply_as-in-Uint.ensures.ok
 
 pub returns-in-Enum-clause-ok : goal.returns-in-Enum-clause-ok
 returns-in-Enum-clause-ok c = rw c.in-Enum.is c.reply_as-in-Enum.ensures.ok
+
+pub returns-in-Null-clause-ok : goal.returns-in-Null-clause-ok
+returns-in-Null-clause-ok c = rw c.in-Null.is c.reply_as-in-Null.ensures.ok
+
+pub returns-in-Octets-clause-ok : goal.returns-in-Octets-clause-ok
+returns-in-Octets-clause-ok c = rw c.in-Octets.is c.reply_as-in-Octets.ensures.ok
+
+pub returns-in-Bits-clause-ok : goal.returns-in-Bits-clause-ok
+returns-in-Bits-clause-ok c = rw c.in-Bits.is c.reply_as-in-Bits.ensures.ok
+
+pub returns-in-Oid-clause-ok : goal.returns-in-Oid-clause-ok
+returns-in-Oid-clause-ok c = rw c.in-Oid.is c.reply_as-in-Oid.ensures.ok
+
+pub returns-in-UtcTime-clause-ok : goal.returns-in-UtcTime-clause-ok
+returns-in-UtcTime-clause-ok c = rw c.in-UtcTime.is c.reply_as-in-UtcTime.ensures.ok
+
+pub returns-in-X509Time-clause-ok : goal.returns-in-X509Time-clause-ok
+returns-in-X509Time-clause-ok c = rw c.in-X509Time.is c.reply_as-in-X509Time.ensures.ok
+
+pub returns-in-GenTime-clause-ok : goal.returns-in-GenTime-clause-ok
+returns-in-GenTime-clause-ok c = rw c.in-GenTime.is c.reply_as-in-GenTime.ensures.ok
+
+pub returns-in-Seq-clause-ok : goal.returns-in-Seq-clause-ok
+returns-in-Seq-clause-ok c = rw c.in-Seq.is c.reply_as-in-Seq.ensures.ok
+
+pub returns-in-Set-clause-ok : goal.returns-in-Set-clause-ok
+returns-in-Set-clause-ok c = rw c.in-Set.is c.reply_as-in-Set.ensures.ok
+
+pub returns-in-SeqOfInt-clause-ok : goal.returns-in-SeqOfInt-clause-ok
+returns-in-SeqOfInt-clause-ok c = rw c.in-SeqOfInt.is c.reply_as-in-SeqOfInt.ensures.ok
+
+pub returns-in-SetOfInt-clause-ok : goal.returns-in-SetOfInt-clause-ok
+returns-in-SetOfInt-clause-ok c = rw c.in-SetOfInt.is c.reply_as-in-SetOfInt.ensures.ok
