@@ -1,5 +1,5 @@
 -- Octets taken one after another, and the lines written for them.
-use Rattle.std.proofs.Common.{◌≡◌, ℕ, ◌<◌, ◌≤◌, ◌↔◌, Bool, false, IsTrue, IfOk, OnOk, OnErr, ◌-◌, codes, decimal, Option, List, [], ◌∷◌, ◌++◌, length, take, drop, Result, Ok, Err, refl, sym, ap, subst, ◌∙◌, inl, inr, ⊎_elim, append_assoc, arith}
+use Rattle.std.proofs.Common.{◌≡◌, ℕ, ◌<◌, ◌≤◌, ◌↔◌, Bool, true, false, IsTrue, IfOk, OnOk, OnErr, ◌-◌, codes, decimal, Option, List, [], ◌∷◌, ◌++◌, length, take, drop, Result, Ok, Err, refl, sym, ap, subst, ◌∙◌, inl, inr, ⊎_elim, append_assoc, arith}
 use Rattle.std.specs.Prelude.{IsErr}
 use Rattle.std.specs.List.{flat_map}
 use Rattle.std.specs.Io.KnownBytes.{Appends, Consumes, IsAtEnd, Keeps}
@@ -23,9 +23,9 @@ use Rattle.dercheck.specs.Frames.{IsFraming, IsUnfinished, line_of, element_line
 use Rattle.dercheck.specs.declared.answers.Fault.{Fault}
 use Rattle.dercheck.specs.declared.pending.Pending.{Pending}
 use Rattle.dercheck.specs.declared.pending.Progress.TheVariants.{GoesOn, Completes, Fails}
-use Rattle.dercheck.specs.Pending.{Stands, IsComplete, IsFault, Advances, Taken, TakenToFault, TakenInPart, FramedTo}
+use Rattle.dercheck.specs.Pending.{Stands, IsComplete, IsFault, Advances, Taken, TakenToFault, FramedTo}
 use Rattle.dercheck.proofs.Parts.{in_part_of_more, in_part_behind}
-use Rattle.dercheck.proofs.Framings.{err_at, framing_short, framing_one, framing_join, framing_some, lines_join, front_nothing}
+use Rattle.dercheck.proofs.Framings.{err_at, framing_short, framing_one, framing_join, lines_join, front_nothing}
 use Rattle.dercheck.proofs.States.{begun_short}
 
 -- what is pending wants more octets, and how many
@@ -41,13 +41,13 @@ stands_unfinished p text stands = short_at (front text) p.needed (stands_short p
 
 -- ---- one step
 
-pub taken_none : (p : Pending) (text : List ℕ) (held : Option (List ℕ)) → Stands p text → Taken p (text ++ []) held held
-taken_none p text held stands = record {
+pub taken_none : (p : Pending) (text : List ℕ) → Stands p text → Taken p (text ++ []) []
+taken_none p text stands = record {
   elements = [];
   rest = text;
   framing = rw (append-nil text) (framing_short text (stands_unfinished p text stands));
   stands = stands;
-  written = Appends-nil held;
+  made_lines = refl;
 }
 
 -- a rest that goes on, and is no element yet
@@ -58,8 +58,8 @@ framing_more a b es p framing stops = record {
   stops = stops;
 }
 
-pub goes_on : (p q : Pending) (a octets : List ℕ) (h0 h1 : Option (List ℕ)) → Taken p a h0 h1 → Advances p q GoesOn octets → Taken q (a ++ octets) h0 h1
-goes_on p q a octets h0 h1 taken step =
+pub goes_on : (p q : Pending) (a octets made : List ℕ) → Taken p a made → Advances p q GoesOn octets → Taken q (a ++ octets) made
+goes_on p q a octets made taken step =
     let rest = taken.rest ++ octets in
     let stands : Stands q rest = step taken.rest taken.stands in
     record {
@@ -67,7 +67,7 @@ goes_on p q a octets h0 h1 taken step =
       rest = rest;
       framing = framing_more a octets taken.elements taken.rest taken.framing (err_at (front rest) (ShortData q.needed) (stands_short q rest stands));
       stands = stands;
-      written = taken.written;
+      made_lines = taken.made_lines;
     }
 
 complete_line : (q : Pending) (text : List ℕ) (is : IsComplete q text) → line_of (take q.count q.octets) q.content_length ≡ element_line is.element
@@ -77,41 +77,19 @@ complete_line q text is = ap (λ (l : List ℕ). line_of l q.content_length) is.
 lines_push : (es : List Element) (e : Element) → flat_map element_line (es ++ e ∷ []) ≡ flat_map element_line es ++ element_line e
 lines_push es e = flat_map-append element_line es (e ∷ []) ∙ ap (λ (l : List ℕ). flat_map element_line es ++ l) (append-nil (element_line e))
 
-framing_push : (p q : Pending) (a octets : List ℕ) (h0 h1 : Option (List ℕ)) (taken : Taken p a h0 h1) (is : IsComplete q (taken.rest ++ octets))
-    → IsFraming (a ++ octets) (taken.elements ++ is.element ∷ []) []
-framing_push p q a octets h0 h1 taken is =
-    framing_join a octets taken.elements (is.element ∷ []) taken.rest [] taken.framing (framing_one (taken.rest ++ octets) is.element is.readable is.whole)
-
-pub completes : (p q s : Pending) (a octets : List ℕ) (h0 h1 h2 : Option (List ℕ)) → Taken p a h0 h1 → Advances p q Completes octets → Stands s []
-    → Appends h1 h2 (line_of (take q.count q.octets) q.content_length) → Taken s (a ++ octets) h0 h2
-completes p q s a octets h0 h1 h2 taken step fresh line =
+pub completes : (p q s : Pending) (a octets made made' : List ℕ) → Taken p a made → Advances p q Completes octets → Stands s []
+    → made' ≡ made ++ line_of (take q.count q.octets) q.content_length → Taken s (a ++ octets) made'
+completes p q s a octets made made' taken step fresh line =
     let is : IsComplete q (taken.rest ++ octets) = step taken.rest taken.stands in
-    let own : Appends h1 h2 (element_line is.element) = subst (Appends h1 h2) (complete_line q (taken.rest ++ octets) is) line in
     record {
       elements = taken.elements ++ is.element ∷ [];
       rest = [];
-      framing = framing_push p q a octets h0 h1 taken is;
+      framing = framing_join a octets taken.elements (is.element ∷ []) taken.rest [] taken.framing (framing_one (taken.rest ++ octets) is.element is.readable is.whole);
       stands = fresh;
-      written = subst (Appends h0 h2) (sym (lines_push taken.elements is.element)) (Appends-trans h0 h1 h2 (flat_map element_line taken.elements) (element_line is.element) taken.written own);
-    }
-
--- where the line of an element was cut, so were the lines of whatever follows
-pub completes_in_part : (p q : Pending) (a octets more : List ℕ) (h0 h1 h2 : Option (List ℕ)) → Taken p a h0 h1 → Advances p q Completes octets → IsText more
-    → AppendsInPart h1 h2 (line_of (take q.count q.octets) q.content_length) → TakenInPart ((a ++ octets) ++ more) h0 h2
-completes_in_part p q a octets more h0 h1 h2 taken step text line =
-    let is : IsComplete q (taken.rest ++ octets) = step taken.rest taken.stands in
-    let own : AppendsInPart h1 h2 (element_line is.element) = subst (AppendsInPart h1 h2) (complete_line q (taken.rest ++ octets) is) line in
-    let (fs, last, framing) = framing_some more text in
-    let es = taken.elements ++ is.element ∷ [] in
-    let same : lines (es ++ fs) last ≡ (flat_map element_line taken.elements ++ element_line is.element) ++ lines fs last =
-    lines_join es fs last ∙ ap (λ (l : List ℕ). l ++ lines fs last) (lines_push taken.elements is.element) in
-    record {
-      elements = es ++ fs;
-      rest = last;
-      framing = framing_join (a ++ octets) more es fs [] last (framing_push p q a octets h0 h1 taken is) framing;
-      written = subst (AppendsInPart h0 h2) (sym same)
-          (in_part_of_more h0 h2 (flat_map element_line taken.elements ++ element_line is.element) (lines fs last)
-          (in_part_behind h0 h1 h2 (flat_map element_line taken.elements) (element_line is.element) taken.written own));
+      made_lines = line
+          ∙ ap (λ (l : List ℕ). l ++ line_of (take q.count q.octets) q.content_length) taken.made_lines
+          ∙ ap (λ (l : List ℕ). flat_map element_line taken.elements ++ l) (complete_line q (taken.rest ++ octets) is)
+          ∙ sym (lines_push taken.elements is.element);
     }
 
 answer_fault : (kind : ParseErrorKind) → ¬ IsShort {A = Element × List ℕ} (Err kind) → answer_line (Err kind) ≡ fault_line kind
@@ -127,40 +105,21 @@ fault_end (x ∷ xs) kind e long = ap answer_line e ∙ answer_fault kind (subst
 fault_more : (text more : List ℕ) (kind : ParseErrorKind) → IsFault text kind → IsText more → ¬ IsUnfinished (text ++ more)
 fault_more text more kind fault is short = fault.long (subst (λ (a : ElementFront). IsShort a) (fault.stands more is ∙ sym fault.here) short)
 
-fault_framing : (p : Pending) (a octets more : List ℕ) (kind : ParseErrorKind) (h0 h1 : Option (List ℕ)) (taken : Taken p a h0 h1) → IsFault (taken.rest ++ octets) kind → IsText more
-    → IsFraming ((a ++ octets) ++ more) taken.elements ((taken.rest ++ octets) ++ more)
-fault_framing p a octets more kind h0 h1 taken fault is =
-    let rest = taken.rest ++ octets in
-    framing_more (a ++ octets) more taken.elements rest
-    (framing_more a octets taken.elements taken.rest taken.framing (err_at (front rest) kind fault.here)) (err_at (front (rest ++ more)) kind (fault.stands more is))
-
-pub fails : (p q : Pending) (a octets more : List ℕ) (kind : ParseErrorKind) (h0 h1 h2 : Option (List ℕ)) → Taken p a h0 h1 → Advances p q (Fails kind) octets → IsText more
-    → Appends h1 h2 (fault_line kind) → TakenToFault ((a ++ octets) ++ more) h0 h2
-fails p q a octets more kind h0 h1 h2 taken step is line =
+pub fails : (p q : Pending) (a octets more made made' : List ℕ) (kind : ParseErrorKind) → Taken p a made → Advances p q (Fails kind) octets → IsText more
+    → made' ≡ made ++ fault_line kind → TakenToFault ((a ++ octets) ++ more) made'
+fails p q a octets more made made' kind taken step is line =
     let rest = taken.rest ++ octets in
     let fault : IsFault rest kind = step taken.rest taken.stands in
     let long : ¬ IsUnfinished (rest ++ more) = fault_more rest more kind fault is in
     record {
       elements = taken.elements;
       rest = rest ++ more;
-      framing = fault_framing p a octets more kind h0 h1 taken fault is;
+      framing = framing_more (a ++ octets) more taken.elements rest
+          (framing_more a octets taken.elements taken.rest taken.framing (err_at (front rest) kind fault.here)) (err_at (front (rest ++ more)) kind (fault.stands more is));
       long = long;
-      written = Appends-trans h0 h1 h2 (flat_map element_line taken.elements) (end_line (rest ++ more)) taken.written
-          (subst (Appends h1 h2) (sym (fault_end (rest ++ more) kind (fault.stands more is) long)) line);
-    }
-
-pub fails_in_part : (p q : Pending) (a octets more : List ℕ) (kind : ParseErrorKind) (h0 h1 h2 : Option (List ℕ)) → Taken p a h0 h1 → Advances p q (Fails kind) octets → IsText more
-    → AppendsInPart h1 h2 (fault_line kind) → TakenInPart ((a ++ octets) ++ more) h0 h2
-fails_in_part p q a octets more kind h0 h1 h2 taken step is line =
-    let rest = taken.rest ++ octets in
-    let fault : IsFault rest kind = step taken.rest taken.stands in
-    let long : ¬ IsUnfinished (rest ++ more) = fault_more rest more kind fault is in
-    record {
-      elements = taken.elements;
-      rest = rest ++ more;
-      framing = fault_framing p a octets more kind h0 h1 taken fault is;
-      written = in_part_behind h0 h1 h2 (flat_map element_line taken.elements) (end_line (rest ++ more)) taken.written
-          (subst (AppendsInPart h1 h2) (sym (fault_end (rest ++ more) kind (fault.stands more is) long)) line);
+      made_lines = line
+          ∙ ap (λ (l : List ℕ). l ++ fault_line kind) taken.made_lines
+          ∙ ap (λ (l : List ℕ). flat_map element_line taken.elements ++ l) (sym (fault_end (rest ++ more) kind (fault.stands more is) long));
     }
 
 -- ---- where the octets stand
@@ -210,9 +169,9 @@ framed_none p left held stands = record {
   written = Appends-nil held;
 }
 
-pub framed_more : (p q : Pending) (l0 l1 l2 h0 h1 h2 : Option (List ℕ)) (octets : List ℕ) → FramedTo p l0 l1 h0 h1 → Consumes l1 l2 octets
-    → ((text : List ℕ) → Stands p text → Taken q (text ++ octets) h1 h2) → FramedTo q l0 l2 h0 h2
-framed_more p q l0 l1 l2 h0 h1 h2 octets framed read takes =
+pub framed_more : (p q : Pending) (l0 l1 l2 h0 h1 h2 : Option (List ℕ)) (octets made : List ℕ) → FramedTo p l0 l1 h0 h1 → Consumes l1 l2 octets
+    → ((text : List ℕ) → Stands p text → Taken q (text ++ octets) made) → Appends h1 h2 made → FramedTo q l0 l2 h0 h2
+framed_more p q l0 l1 l2 h0 h1 h2 octets made framed read takes put =
     let taken = takes framed.rest framed.stands in
     record {
       text = framed.text ++ octets;
@@ -222,7 +181,7 @@ framed_more p q l0 l1 l2 h0 h1 h2 octets framed read takes =
       framing = framing_join framed.text octets framed.elements taken.elements framed.rest taken.rest framed.framing taken.framing;
       stands = taken.stands;
       written = subst (Appends h0 h2) (sym (flat_map-append element_line framed.elements taken.elements))
-          (Appends-trans h0 h1 h2 (flat_map element_line framed.elements) (flat_map element_line taken.elements) framed.written taken.written);
+          (Appends-trans h0 h1 h2 (flat_map element_line framed.elements) (flat_map element_line taken.elements) framed.written (subst (Appends h1 h2) taken.made_lines put));
     }
 
 pub framed_so_far : (p : Pending) (l0 l1 l2 h0 h1 : Option (List ℕ)) → FramedTo p l0 l1 h0 h1 → Keeps l1 l2 → FramedSoFar l0 l2 h0 h1
@@ -236,9 +195,9 @@ framed_so_far p l0 l1 l2 h0 h1 framed kept = record {
   written = framed.written;
 }
 
-pub framed_fault : (p : Pending) (l0 l1 l2 h0 h1 h2 : Option (List ℕ)) (octets : List ℕ) → FramedTo p l0 l1 h0 h1 → Consumes l1 l2 octets → length octets ≤ 256
-    → ((text : List ℕ) → Stands p text → TakenToFault (text ++ octets) h1 h2) → Framed l0 l2 h0 h2 false
-framed_fault p l0 l1 l2 h0 h1 h2 octets framed read few takes =
+pub framed_fault : (p : Pending) (l0 l1 l2 h0 h1 h2 : Option (List ℕ)) (octets made : List ℕ) → FramedTo p l0 l1 h0 h1 → Consumes l1 l2 octets → length octets ≤ 256
+    → ((text : List ℕ) → Stands p text → TakenToFault (text ++ octets) made) → Appends h1 h2 made → Framed l0 l2 h0 h2 false
+framed_fault p l0 l1 l2 h0 h1 h2 octets made framed read few takes put =
     let taken = takes framed.rest framed.stands in
     record {
       text = framed.text ++ octets;
@@ -248,23 +207,34 @@ framed_fault p l0 l1 l2 h0 h1 h2 octets framed read few takes =
       framing = framing_join framed.text octets framed.elements taken.elements framed.rest taken.rest framed.framing taken.framing;
       ends = inr (taken.long, (framed.text, octets, refl, few, (framed.elements, framed.rest, framed.framing, stands_unfinished p framed.rest framed.stands)));
       written = subst (Appends h0 h2) (sym (lines_join framed.elements taken.elements taken.rest))
-          (Appends-trans h0 h1 h2 (flat_map element_line framed.elements) (lines taken.elements taken.rest) framed.written taken.written);
+          (Appends-trans h0 h1 h2 (flat_map element_line framed.elements) (lines taken.elements taken.rest) framed.written (subst (Appends h1 h2) taken.made_lines put));
       answer = (λ (w : IsTrue false). absurd cc, λ (none : taken.rest ≡ []). absurd (taken.long (short_at (front taken.rest) 1 (ap front none ∙ front_nothing))));
     }
 
-pub framed_in_part : (p : Pending) (l0 l1 l2 h0 h1 h2 : Option (List ℕ)) (octets : List ℕ) → FramedTo p l0 l1 h0 h1 → Consumes l1 l2 octets
-    → ((text : List ℕ) → Stands p text → TakenInPart (text ++ octets) h1 h2) → FramedInPart l0 l2 h0 h2
-framed_in_part p l0 l1 l2 h0 h1 h2 octets framed read takes =
-    let taken = takes framed.rest framed.stands in
-    record {
-      text = framed.text ++ octets;
-      elements = framed.elements ++ taken.elements;
-      rest = taken.rest;
-      read = Consumes-trans l0 l1 l2 framed.text octets framed.read read;
-      framing = framing_join framed.text octets framed.elements taken.elements framed.rest taken.rest framed.framing taken.framing;
-      written = subst (AppendsInPart h0 h2) (sym (lines_join framed.elements taken.elements taken.rest))
-          (in_part_behind h0 h1 h2 (flat_map element_line framed.elements) (lines taken.elements taken.rest) framed.written taken.written);
-    }
+-- where the lines of a pull were cut
+in_part : (l0 l1 l2 h0 h1 h2 : Option (List ℕ)) (p : Pending) (octets : List ℕ) (framed : FramedTo p l0 l1 h0 h1) → Consumes l1 l2 octets
+    → (elements : List Element) (rest : List ℕ) → IsFraming (framed.rest ++ octets) elements rest → AppendsInPart h1 h2 (lines elements rest) → FramedInPart l0 l2 h0 h2
+in_part l0 l1 l2 h0 h1 h2 p octets framed read elements rest framing put = record {
+  text = framed.text ++ octets;
+  elements = framed.elements ++ elements;
+  rest = rest;
+  read = Consumes-trans l0 l1 l2 framed.text octets framed.read read;
+  framing = framing_join framed.text octets framed.elements elements framed.rest rest framed.framing framing;
+  written = subst (AppendsInPart h0 h2) (sym (lines_join framed.elements elements rest))
+      (in_part_behind h0 h1 h2 (flat_map element_line framed.elements) (lines elements rest) framed.written put);
+}
+
+pub framed_in_part : (p q : Pending) (l0 l1 l2 h0 h1 h2 : Option (List ℕ)) (octets made : List ℕ) (goes_on : Bool) → FramedTo p l0 l1 h0 h1 → Consumes l1 l2 octets
+    → (IsTrue goes_on → (text : List ℕ) → Stands p text → Taken q (text ++ octets) made)
+    → (goes_on ≡ false → (text : List ℕ) → Stands p text → TakenToFault (text ++ octets) made)
+    → AppendsInPart h1 h2 made → FramedInPart l0 l2 h0 h2
+framed_in_part p q l0 l1 l2 h0 h1 h2 octets made true framed read takes faults put =
+    let taken = takes refl framed.rest framed.stands in
+    in_part l0 l1 l2 h0 h1 h2 p octets framed read taken.elements taken.rest taken.framing
+    (in_part_of_more h1 h2 (flat_map element_line taken.elements) (end_line taken.rest) (subst (AppendsInPart h1 h2) taken.made_lines put))
+framed_in_part p q l0 l1 l2 h0 h1 h2 octets made false framed read takes faults put =
+    let taken = faults refl framed.rest framed.stands in
+    in_part l0 l1 l2 h0 h1 h2 p octets framed read taken.elements taken.rest taken.framing (subst (AppendsInPart h1 h2) taken.made_lines put)
 
 -- a pull of no octets
 read_none : (a b c : Option (List ℕ)) (text octets : List ℕ) → Consumes a b text → Consumes b c octets → length octets ≡ 0 → Consumes a c text

@@ -9,6 +9,7 @@ pub mod Streams
 pub mod InMemory
 pub mod System
 pub mod Frames
+pub mod FrameLines
 pub mod Pending
 pub mod Laws
 pub mod Code

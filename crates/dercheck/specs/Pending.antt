@@ -10,7 +10,6 @@ use Rattle.asn1.specs.Tag.{tag_text, tag_number, tag_front}
 use Rattle.asn1.specs.Length.{length_text}
 use Rattle.asn1.specs.Element.{Element, element_text, IsReadable, front}
 use Rattle.asn1.specs.Laws.{IsShort}
-use Rattle.dercheck.specs.Streams.{AppendsInPart}
 use Rattle.dercheck.specs.Frames.{IsFraming, IsUnfinished, element_line, lines}
 use Rattle.dercheck.specs.declared.pending.Pending.{Pending}
 use Rattle.dercheck.specs.declared.pending.Progress.{Progress}
@@ -109,28 +108,21 @@ Reaches p (Fails kind) text = IsFault text kind
 abbrev pub Advances : Pending → Pending → Progress → List ℕ → Type 0
 Advances old new progress octets = (text : List ℕ) → Stands old text → Reaches new progress (text ++ octets)
 
--- Octets behind those that were pending were taken, and the lines of their elements written.
-pub record Taken (p : Pending) (text : List ℕ) (held held' : Option (List ℕ)) : Type 0 where
+-- Octets behind those that were pending were taken, and the lines of their elements made.
+pub record Taken (p : Pending) (text made : List ℕ) : Type 0 where
   pub elements : List Element
   pub rest : List ℕ
   pub framing : IsFraming text elements rest
   pub stands : Stands p rest
-  pub written : Appends held held' (flat_map element_line elements)
+  pub made_lines : made ≡ flat_map element_line elements
 
--- They held a fault, and all the lines were written.
-pub record TakenToFault (text : List ℕ) (held held' : Option (List ℕ)) : Type 0 where
+-- They held a fault, and all the lines were made.
+pub record TakenToFault (text made : List ℕ) : Type 0 where
   pub elements : List Element
   pub rest : List ℕ
   pub framing : IsFraming text elements rest
   pub long : ¬ IsUnfinished rest
-  pub written : Appends held held' (lines elements rest)
-
--- A beginning of the lines was written.
-pub record TakenInPart (text : List ℕ) (held held' : Option (List ℕ)) : Type 0 where
-  pub elements : List Element
-  pub rest : List ℕ
-  pub framing : IsFraming text elements rest
-  pub written : AppendsInPart held held' (lines elements rest)
+  pub made_lines : made ≡ lines elements rest
 
 -- Octets were read, and all but those that are pending were taken.
 pub record FramedTo (p : Pending) (left left' held held' : Option (List ℕ)) : Type 0 where

@@ -1,14 +1,133 @@
-//! The lines of elements, of what is missing, and of faults.
+//! The lines of elements, of what is missing, and of faults. They are made in an array, and put together.
 
-ghost use Rattle.std.specs.Prelude.{◌≡◌, ◌≤◌, ◌*◌, ◌++◌, length, codes, decimal};
+ghost use Rattle.std.specs.Prelude.{◌≡◌, ◌+◌, ◌≤◌, ◌*◌, ◌++◌, [], length, codes, decimal};
 ghost use Rattle.hex.specs.Hex.{encode_lower};
+ghost use Rattle.dercheck.specs.declared.frame_lines.TheConstants.{MAX_LINES};
 ghost use Rattle.dercheck.specs.Streams.{Puts};
 ghost use Rattle.dercheck.specs.Frames.{line_of, fault_line};
 
 use crate::header::MAX_HEADER;
-use crate::stream::Sink;
+use crate::stream::{MAX_PULL, Sink};
 use asn1::ParseErrorKind;
 use itoa::Buffer;
+
+/// The digits of the longest number.
+const MAX_DIGITS: usize = 20;
+
+/// The octets of the longest line: a tag in hex, a space, a number and a line feed.
+pub const MAX_LINE: usize = 2 * MAX_HEADER + MAX_DIGITS + 2;
+
+/// The octets of the longest lines of a pull: each of its octets completes one element at most.
+pub const MAX_LINES: usize = MAX_PULL * MAX_LINE;
+
+/// Lines, one after another.
+#[derive(Drop)]
+pub struct Lines {
+    octets: [u8; MAX_LINES],
+    count: usize,
+    ghost within: { count ≤ MAX_LINES },
+}
+
+impl Lines {
+    ghost use Rattle.dercheck.specs.FrameLines.{line_octets};
+
+    /// No lines.
+    pub fn new() -> Self
+        ensures octets { line_octets result ≡ [] }
+        ensures count { result.count ≡ 0 }
+    {
+        Lines {
+            octets: [0; MAX_LINES],
+            count: 0,
+        }
+    }
+
+    /// Forgets the lines.
+    pub fn clear(&mut self)
+        ensures octets { line_octets self.new ≡ [] }
+        ensures count { self.new.count ≡ 0 }
+    {
+        self.count = 0;
+    }
+
+    /// Appends octets.
+    fn push(&mut self, octets: &[u8])
+        requires { self.old.count + length octets.now ≤ MAX_LINES }
+        ensures octets { line_octets self.new ≡ line_octets self.old ++ octets.now }
+        ensures count { self.new.count ≡ self.old.count + length octets.now }
+    {
+        let end = self.count + octets.len();
+        self.octets[self.count..end].copy_from_slice(octets);
+        self.count = end;
+    }
+
+    /// Appends octets in hex.
+    fn push_hex(&mut self, octets: &[u8])
+        requires few { length octets.now ≤ MAX_HEADER }
+        requires room { self.old.count + 2 * length octets.now ≤ MAX_LINES }
+        ensures octets { line_octets self.new ≡ line_octets self.old ++ encode_lower octets.now }
+        ensures count { self.new.count ≡ self.old.count + 2 * length octets.now }
+    {
+        let mut digits = [0u8; 2 * MAX_HEADER];
+        let digits = &mut digits[..2 * octets.len()];
+        if hex::encode_to_slice(octets, digits).is_err() {
+            unreachable!()
+        }
+        self.push(digits);
+    }
+
+    /// Appends a number in decimal.
+    fn push_number(&mut self, n: usize)
+        requires { self.old.count + MAX_DIGITS ≤ MAX_LINES }
+        ensures octets { line_octets self.new ≡ line_octets self.old ++ decimal n }
+        ensures count { self.new.count ≤ self.old.count + MAX_DIGITS }
+    {
+        let mut digits = Buffer::new();
+        self.push(digits.format(n).as_bytes());
+    }
+
+    /// Appends the line of an element with these octets of its tag and so many of content.
+    pub fn push_element(&mut self, tag: &[u8], count: usize)
+        requires tag { length tag.now ≤ MAX_HEADER }
+        requires room { self.old.count + MAX_LINE ≤ MAX_LINES }
+        ensures octets { line_octets self.new ≡ line_octets self.old ++ line_of tag.now count }
+        ensures count { self.new.count ≤ self.old.count + MAX_LINE }
+    {
+        self.push_hex(tag);
+        self.push(b" ");
+        self.push_number(count);
+        self.push(b"\n");
+    }
+
+    /// Appends the line of a rest that needs so many octets more.
+    fn push_short(&mut self, needed: usize)
+        requires { self.old.count + MAX_LINE ≤ MAX_LINES }
+        ensures { line_octets self.new ≡ line_octets self.old ++ (codes "short " ++ decimal needed ++ codes "\n") }
+    {
+        self.push(b"short ");
+        self.push_number(needed);
+        self.push(b"\n");
+    }
+
+    /// Appends the line of a fault. Framing answers no other kinds.
+    pub fn push_fault(&mut self, kind: ParseErrorKind)
+        requires { self.old.count + MAX_LINE ≤ MAX_LINES }
+        ensures { line_octets self.new ≡ line_octets self.old ++ fault_line kind }
+    {
+        match kind {
+            ParseErrorKind::InvalidTag => self.push(b"err InvalidTag\n"),
+            ParseErrorKind::InvalidLength => self.push(b"err InvalidLength\n"),
+            _ => {}
+        }
+    }
+
+    /// The octets of the lines.
+    pub fn octets(&self) -> &[u8]
+        ensures { result.now ≡ line_octets self.now }
+    {
+        &self.octets[..self.count]
+    }
+}
 
 /// Puts all the octets; false where the sink failed.
 pub fn put_all<W: Sink>(sink: &mut W, octets: &[u8]) -> bool
@@ -24,49 +143,11 @@ pub fn put_all<W: Sink>(sink: &mut W, octets: &[u8]) -> bool
     true
 }
 
-/// Puts a number in decimal.
-pub fn put_number<W: Sink>(sink: &mut W, n: usize) -> bool
-    ensures { Puts result (W.held sink.old) (W.held sink.new) (W.has_failed sink.old) (W.has_failed sink.new) (decimal n) }
-{
-    let mut digits = Buffer::new();
-    put_all(sink, digits.format(n).as_bytes())
-}
-
-/// Puts octets in hex.
-pub fn put_hex<W: Sink>(sink: &mut W, octets: &[u8]) -> bool
-    requires { length octets.now ≤ MAX_HEADER }
-    ensures { Puts result (W.held sink.old) (W.held sink.new) (W.has_failed sink.old) (W.has_failed sink.new) (encode_lower octets.now) }
-{
-    let mut digits = [0u8; 2 * MAX_HEADER];
-    let digits = &mut digits[..2 * octets.len()];
-    if hex::encode_to_slice(octets, digits).is_err() {
-        unreachable!()
-    }
-    put_all(sink, digits)
-}
-
-/// Puts the line of an element with these octets of its tag and so many of content.
-pub fn put_element<W: Sink>(sink: &mut W, tag: &[u8], count: usize) -> bool
-    requires { length tag.now ≤ MAX_HEADER }
-    ensures { Puts result (W.held sink.old) (W.held sink.new) (W.has_failed sink.old) (W.has_failed sink.new) (line_of tag.now count) }
-{
-    put_hex(sink, tag) && put_all(sink, b" ") && put_number(sink, count) && put_all(sink, b"\n")
-}
-
 /// Puts the line of a rest that needs so many octets more.
 pub fn put_short<W: Sink>(sink: &mut W, needed: usize) -> bool
     ensures { Puts result (W.held sink.old) (W.held sink.new) (W.has_failed sink.old) (W.has_failed sink.new) (codes "short " ++ decimal needed ++ codes "\n") }
 {
-    put_all(sink, b"short ") && put_number(sink, needed) && put_all(sink, b"\n")
-}
-
-/// The line of a fault. Framing answers no other kinds.
-pub fn fault_text(kind: ParseErrorKind) -> &'static [u8]
-    ensures { result.now ≡ fault_line kind }
-{
-    match kind {
-        ParseErrorKind::InvalidTag => b"err InvalidTag\n",
-        ParseErrorKind::InvalidLength => b"err InvalidLength\n",
-        _ => b"",
-    }
+    let mut lines = Lines::new();
+    lines.push_short(needed);
+    put_all(sink, lines.octets())
 }

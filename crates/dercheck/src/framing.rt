@@ -5,15 +5,13 @@ ghost use Rattle.std.specs.Io.KnownBytes.{IsAtEnd};
 ghost use Rattle.dercheck.specs.Frames.{Framed, FramedSoFar, FramedInPart};
 
 use crate::answers::Fault;
+use crate::frame_lines::{Lines, put_all};
 use crate::pending::Pending;
-use crate::stream::{Sink, Source};
-
-/// How many octets are asked for at a time.
-const MAX_PULL: usize = 256;
+use crate::stream::{MAX_PULL, Sink, Source};
 
 /// Writes a line for each element of the stream: its tag's octets in hex, and its content's length in decimal.
 ///
-/// Each line is written before the next octets are asked for. At the end a last line says how many octets the
+/// The lines of what a pull gave are put together, before the next octets are asked for. At the end a last line says how many octets the
 /// rest still needs, where there is one; at a fault a last line names it, and no more is read. Of what was read then,
 /// all but the last 256 octets hold no fault. The answer is whether the stream is a join of whole elements.
 ///
@@ -34,6 +32,7 @@ pub fn frames<R: Source, W: Sink>(r: &mut R, w: &mut W) -> Result<bool, Fault>
     ensures no_memory { result ≢ Err Fault.Memory }
 {
     let mut pending = Pending::new();
+    let mut lines = Lines::new();
     let mut buffer = [0u8; MAX_PULL];
     'pulls: loop {
         let Some(count) = r.pull(&mut buffer) else {
@@ -42,7 +41,12 @@ pub fn frames<R: Source, W: Sink>(r: &mut R, w: &mut W) -> Result<bool, Fault>
         if count == 0 {
             return pending.finish(w);
         }
-        if !pending.take_octets(&buffer[..count], w)? {
+        lines.clear();
+        let goes_on = pending.take_octets(&buffer[..count], &mut lines);
+        if !put_all(w, lines.octets()) {
+            return Err(Fault::Write);
+        }
+        if !goes_on {
             return Ok(false);
         }
     }

@@ -4,9 +4,9 @@ ghost use Rattle.std.specs.Prelude.{◌≡◌, ◌+◌, ◌<◌, ◌≤◌, ◌�
 ghost use Rattle.dercheck.specs.declared.header.TheConstants.{MAX_HEADER};
 
 use crate::answers::Fault;
-use crate::frame_lines::{fault_text, put_all, put_element, put_short};
+use crate::frame_lines::{Lines, put_short};
 use crate::header::{Header, MAX_HEADER, read_header};
-use crate::stream::Sink;
+use crate::stream::{MAX_PULL, Sink};
 use asn1::ParseErrorKind;
 
 /// What octets more made of an unfinished element.
@@ -37,7 +37,8 @@ impl Pending {
     ghost use Rattle.std.specs.Io.KnownBytes.{Appends};
     ghost use Rattle.dercheck.specs.Streams.{AppendsInPart};
     ghost use Rattle.dercheck.specs.Frames.{end_line};
-    ghost use Rattle.dercheck.specs.Pending.{Stands, Advances, Taken, TakenToFault, TakenInPart};
+    ghost use Rattle.dercheck.specs.FrameLines.{line_octets};
+    ghost use Rattle.dercheck.specs.Pending.{Stands, Advances, Taken, TakenToFault};
 
     /// No octets of an element.
     pub fn new() -> Self
@@ -111,14 +112,13 @@ impl Pending {
         }
     }
 
-    /// Takes the octets, and writes the lines of the elements that they complete. The answer is false where they
-    /// hold a fault, whose line is then written too.
-    pub fn take_octets<W: Sink>(&mut self, octets: &[u8], sink: &mut W) -> Result<bool, Fault>
-        ensures goes_on { result ≡ Ok true → (text : List ℕ) → Stands self.old text → Taken self.new (text ++ octets.now) (W.held sink.old) (W.held sink.new) }
-        ensures fault { result ≡ Ok false → (text : List ℕ) → Stands self.old text → TakenToFault (text ++ octets.now) (W.held sink.old) (W.held sink.new) }
-        ensures cut { OnErr result ((text : List ℕ) → Stands self.old text → TakenInPart (text ++ octets.now) (W.held sink.old) (W.held sink.new)) }
-        ensures kept { OnOk result (W.has_failed sink.new ≡ W.has_failed sink.old) }
-        ensures fails { IfErr result (λ e. (e ≡ Fault.Write) × (W.has_failed sink.new ≡ true)) }
+    /// Takes the octets of a pull, and makes the lines of the elements that they complete. The answer is false where
+    /// they hold a fault, whose line is then made too.
+    pub fn take_octets(&mut self, octets: &[u8], lines: &mut Lines) -> bool
+        requires few { length octets.now ≤ MAX_PULL }
+        requires room { lines.old.count ≡ 0 }
+        ensures goes_on { IsTrue result → (text : List ℕ) → Stands self.old text → Taken self.new (text ++ octets.now) (line_octets lines.new) }
+        ensures fault { result ≡ false → (text : List ℕ) → Stands self.old text → TakenToFault (text ++ octets.now) (line_octets lines.new) }
     {
         let mut rest = octets;
         while !rest.is_empty() {
@@ -127,20 +127,16 @@ impl Pending {
             match progress {
                 Progress::GoesOn => {}
                 Progress::Completes => {
-                    if !put_element(sink, &self.octets[..self.count], self.content_length) {
-                        return Err(Fault::Write);
-                    }
+                    lines.push_element(&self.octets[..self.count], self.content_length);
                     *self = Pending::new();
                 }
                 Progress::Fails(kind) => {
-                    if !put_all(sink, fault_text(kind)) {
-                        return Err(Fault::Write);
-                    }
-                    return Ok(false);
+                    lines.push_fault(kind);
+                    return false;
                 }
             }
         }
-        Ok(true)
+        true
     }
 
     /// Writes what is missing at the end of the input. The answer is true where nothing is pending.

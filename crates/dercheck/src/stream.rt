@@ -3,6 +3,9 @@
 ghost use Rattle.std.specs.Prelude.{◌≡◌, ◌+◌, ◌<◌, ◌≤◌, List, ℕ, Bool, Option, length, take, IfSome, MatchOption};
 ghost use Rattle.dercheck.specs.Streams.{PullTakes, PutAppends, FlagFollows};
 
+/// How many octets are asked for at a time.
+pub(crate) const MAX_PULL: usize = 256;
+
 /// A stream of octets to read.
 pub trait Source {
     // The octets left, where the source tells them.

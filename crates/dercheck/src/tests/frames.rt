@@ -1,5 +1,7 @@
 //! Streams that are cut into their elements.
 
+ghost use Rattle.std.specs.Prelude.{None, false};
+
 use crate::{Fault, Held, Input, Output, Pieces, Sink, Source, frames};
 use std::io;
 use std::io::{Error, ErrorKind, Read, Write};
@@ -32,6 +34,27 @@ impl Write for Full {
 
     fn flush(&mut self) -> io::Result<()> {
         Ok(())
+    }
+}
+
+/// A sink that counts its puts and takes all of each.
+#[derive(Drop)]
+struct Counted {
+    puts: u32,
+}
+
+impl Sink for Counted {
+    ghost held = { λ _. None };
+
+    ghost has_failed = { λ _. false };
+
+    fn put(&mut self, octets: &[u8]) -> Option<usize> {
+        self.puts = self.puts.saturating_add(1);
+        Some(octets.len())
+    }
+
+    fn failed(&self) -> bool {
+        false
     }
 }
 
@@ -175,6 +198,17 @@ fn reads_more_than_a_pull(rt: HostRuntime) {
     check(&rt, &mut source, lines, Ok(false));
     let mut source = Pieces::new(&octets[..518], &[], 600, false);
     check(&rt, &mut source, b"04 514\n", Ok(true));
+}
+
+#[test]
+fn puts_the_lines_of_a_pull_at_once(rt: HostRuntime) {
+    let octets = [0x05u8, 0x00, 0x9f, 0x81, 0x00, 0x01, 0x61, 0x04, 0x82];
+    for (piece, puts) in [(1, 3), (2, 3), (256, 2)] {
+        let mut source = Pieces::new(&octets, &[], piece, false);
+        let mut sink = Counted { puts: 0 };
+        assert_eq!(rt; frames(&mut source, &mut sink), Ok(false));
+        assert_eq!(rt; sink.puts, puts);
+    }
 }
 
 #[test]
