@@ -49,6 +49,13 @@ expected tag read f = cond (tag_eq f.0.tag tag) (read f.0.content >>= λ m. Ok (
 abbrev pub simple : {M : Type 0} → Tag → (List ℕ → Result M Fault) → List ℕ → Result (M × List ℕ) Fault
 simple tag read t = element_front t >>= expected tag read
 
+-- The contents octets of the element in front, where it has this tag, and the rest.
+abbrev pub content_of : Tag → Element × List ℕ → Result (List ℕ × List ℕ) ParseErrorKind
+content_of tag f = cond (tag_eq f.0.tag tag) (Ok (f.0.content, f.1)) (Err (UnexpectedTag f.0.tag))
+
+abbrev pub expected_front : Tag → List ℕ → Result (List ℕ × List ℕ) ParseErrorKind
+expected_front tag t = front t >>= content_of tag
+
 -- Memory may run out for a simple type where it may for its content.
 abbrev pub simple_out : Tag → (List ℕ → List Place → Type 0) → List ℕ → List Place → Type 0
 simple_out tag out t places = (f : Element × List ℕ) × (front t ≡ Ok f) × (f.0.tag ≡ tag) × out f.0.content places

@@ -11,7 +11,7 @@ ghost use Rattle.asn1_core.specs.Element.{Element, IsFront, front, element_text}
 ghost use Rattle.asn1_core.specs.Tlv.{element_of, full_octets, stripped};
 ghost use Rattle.asn1_core.specs.Fault.{fault, within, framed, AnswersError, AnswersKind, IsOfText};
 ghost use Rattle.asn1_core.specs.Places.{place_of};
-ghost use Rattle.asn1_core.specs.Reading.{Answers, EndsWith, IsHandedOn, Fits, whole, rest_refused, simple, simple_out, simple_stops};
+ghost use Rattle.asn1_core.specs.Reading.{Answers, EndsWith, IsHandedOn, Fits, whole, rest_refused, expected_front, simple, simple_out, simple_stops};
 ghost use Rattle.asn1_core.specs.Laws.{IsShort, with_more};
 ghost use Rattle.std.specs.Cmp.{decided, partial_equiv_from_equiv};
 ghost use Rattle.asn1_core.specs.Display.{error_text};
@@ -356,6 +356,22 @@ impl<'a> Parser<'a> {
         Ok(tlv)
     }
 
+    /// Reads the element in front, which has this tag, and answers its contents octets.
+    ///
+    /// A refusal is framing's, which leaves the parser as it was, or `UnexpectedTag`, behind the element.
+    #[inline]
+    pub(crate) fn read_expected(&mut self, tag: Tag) -> Result<&'a [u8], ParseErrorKind>
+        ensures answers { AnswersKind (λ content. (content.now, self.new)) result (expected_front tag self.old) }
+        ensures rest { EndsWith self.old self.new }
+        ensures stops { simple_stops self.old self.new }
+    {
+        let tlv = self.read_tlv()?;
+        if !tlv.tag.is(tag) {
+            return Err(ParseErrorKind::UnexpectedTag { actual: tlv.tag });
+        }
+        Ok(tlv.data)
+    }
+
     /// Reads a value of the type.
     ///
     /// A refusal is the type's first fault; the parser then stands where the type says, always before a suffix of what
@@ -381,15 +397,8 @@ impl<'a> Parser<'a> {
         ensures rest { EndsWith self.old self.new }
         ensures stops { OnErr result (simple_stops self.old self.new) }
     {
-        let expected = explicit_tag(tag);
-        let tlv = match self.read_tlv() {
-            Ok(tlv) => tlv,
-            Err(kind) => return Err(ParseError::new(kind)),
-        };
-        if !tlv.tag.is(expected) {
-            return Err(ParseError::new(ParseErrorKind::UnexpectedTag { actual: tlv.tag }));
-        }
-        parse_single::<T>(self.alloc, tlv.data)
+        let content = kind_as_error(self.read_expected(explicit_tag(tag)))?;
+        parse_single::<T>(self.alloc, content)
     }
 
     /// Reads a value whose own tag is replaced by this implicit one.
@@ -400,15 +409,8 @@ impl<'a> Parser<'a> {
         ensures rest { EndsWith self.old self.new }
         ensures stops { OnErr result (simple_stops self.old self.new) }
     {
-        let expected = implicit_tag(tag, T::tag());
-        let tlv = match self.read_tlv() {
-            Ok(tlv) => tlv,
-            Err(kind) => return Err(ParseError::new(kind)),
-        };
-        if !tlv.tag.is(expected) {
-            return Err(ParseError::new(ParseErrorKind::UnexpectedTag { actual: tlv.tag }));
-        }
-        T::parse_data(self.alloc, tlv.data)
+        let content = kind_as_error(self.read_expected(implicit_tag(tag, T::tag())))?;
+        T::parse_data(self.alloc, content)
     }
 }
 

@@ -161,15 +161,10 @@ pub trait SimpleAsn1Writable: Asn1Type + Sized {
 impl<'a, T: SimpleAsn1Readable<'a>> Asn1Readable<'a> for T {
     #[inline]
     fn parse(parser: &mut Parser<'a>) -> ParseResult<T> {
-        let expected = T::tag();
-        let tlv = match parser.read_tlv() {
-            Ok(tlv) => tlv,
-            Err(kind) => return Err(ParseError::new(kind)),
-        };
-        if !tlv.tag.is(expected) {
-            return Err(ParseError::new(ParseErrorKind::UnexpectedTag { actual: tlv.tag }));
+        match parser.read_expected(T::tag()) {
+            Ok(content) => T::parse_data(parser.alloc(), content),
+            Err(kind) => Err(ParseError::new(kind)),
         }
-        T::parse_data(parser.alloc(), tlv.data)
     }
 
     #[inline]
