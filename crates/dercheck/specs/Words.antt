@@ -9,6 +9,7 @@ use Rattle.asn1.specs.Sized.{sized_content, signed_der, unsigned_der}
 use Rattle.asn1.specs.OctetContents.{null_content, octets_content}
 use Rattle.asn1.specs.BigContents.{signed_content, unsigned_content}
 use Rattle.asn1.specs.BitContents.{bits_content}
+use Rattle.asn1.specs.TextContents.{utf8_content, printable_content, ia5_content, visible_content, utf16_content, utf32_content}
 use Rattle.asn1.specs.IdentifierContent.{identifier_basic}
 use Rattle.asn1.specs.TimeContents.{utc_content, x509_content, instant_content}
 use Rattle.asn1.specs.Sequences.{sequence_content}
@@ -35,6 +36,12 @@ word_text words.Enum = codes "enum"
 word_text words.Null = codes "null"
 word_text words.Octets = codes "octets"
 word_text words.Bits = codes "bits"
+word_text words.Utf8 = codes "utf8"
+word_text words.Printable = codes "printable"
+word_text words.Ia5 = codes "ia5"
+word_text words.Visible = codes "visible"
+word_text words.Bmp = codes "bmp"
+word_text words.Universal = codes "universal"
 word_text words.Oid = codes "oid"
 word_text words.UtcTime = codes "utctime"
 word_text words.X509Time = codes "x509time"
@@ -85,6 +92,12 @@ type_of words.Enum = simple_type (sized_content (universal 10) (pos 0) (pos (2 ^
 type_of words.Null = simple_type null_content
 type_of words.Octets = simple_type octets_content
 type_of words.Bits = simple_type bits_content
+type_of words.Utf8 = simple_type utf8_content
+type_of words.Printable = simple_type printable_content
+type_of words.Ia5 = simple_type ia5_content
+type_of words.Visible = simple_type visible_content
+type_of words.Bmp = simple_type utf16_content
+type_of words.Universal = simple_type utf32_content
 type_of words.Oid = simple_type identifier_basic
 type_of words.UtcTime = simple_type utc_content
 type_of words.X509Time = simple_type x509_content

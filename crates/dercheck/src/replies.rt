@@ -9,8 +9,9 @@ use crate::answers::Fault;
 use crate::kinds::push_kind;
 use crate::words::{Word, request};
 use asn1::{
-    Asn1Readable, Asn1Writable, BigInt, BigUint, BitString, Enumerated, GeneralizedTime, Null,
-    ObjectIdentifier, ParseErrorKind, Sequence, SequenceOf, Set, SetOf, Tlv, UtcTime, WriteError,
+    Asn1Readable, Asn1Writable, BMPString, BigInt, BigUint, BitString, Enumerated, GeneralizedTime,
+    IA5String, Null, ObjectIdentifier, ParseErrorKind, PrintableString, Sequence, SequenceOf, Set,
+    SetOf, Tlv, UniversalString, UtcTime, Utf8String, VisibleString, WriteError,
     X509GeneralizedTime, parse_single, write_single,
 };
 use std::alloc::{AllocError, Global};
@@ -67,6 +68,12 @@ fn reply_to_octets(alloc: Global, word: Word, octets: &[u8]) -> Result<Reply, Fa
         Word::Null => reply_as::<Null>(alloc, octets),
         Word::Octets => reply_as::<&[u8]>(alloc, octets),
         Word::Bits => reply_as::<BitString<'_>>(alloc, octets),
+        Word::Utf8 => reply_as::<Utf8String<'_>>(alloc, octets),
+        Word::Printable => reply_as::<PrintableString<'_>>(alloc, octets),
+        Word::Ia5 => reply_as::<IA5String<'_>>(alloc, octets),
+        Word::Visible => reply_as::<VisibleString<'_>>(alloc, octets),
+        Word::Bmp => reply_as::<BMPString<'_>>(alloc, octets),
+        Word::Universal => reply_as::<UniversalString<'_>>(alloc, octets),
         Word::Oid => reply_as::<ObjectIdentifier>(alloc, octets),
         Word::UtcTime => reply_as::<UtcTime>(alloc, octets),
         Word::X509Time => reply_as::<X509GeneralizedTime>(alloc, octets),

@@ -105,6 +105,27 @@ const STRINGS: &[(&str, &str)] = &[
     ),
 ];
 
+/// Lines with texts.
+const TEXTS: &[(&str, &str)] = &[
+    ("utf8 0c02c328", "err InvalidValue"),
+    ("utf8 0c05e282acc3a9", "ok 0c05e282acc3a9"),
+    ("printable 130125", "err InvalidValue"),
+    (
+        "printable 130b5465737420557365722031",
+        "ok 130b5465737420557365722031",
+    ),
+    ("ia5 16017f", "ok 16017f"),
+    ("ia5 160180", "err InvalidValue"),
+    ("visible 1a017f", "err InvalidValue"),
+    ("visible 1a02207e", "ok 1a02207e"),
+    ("bmp 1e02d800", "err InvalidValue"),
+    ("bmp 1e04d800dc00", "ok 1e04d800dc00"),
+    ("bmp 1e06006100620063", "ok 1e06006100620063"),
+    ("universal 1c040010ffff", "ok 1c040010ffff"),
+    ("universal 1c0400110000", "err InvalidValue"),
+    ("universal 1e00", "err UnexpectedTag universal 30 primitive"),
+];
+
 /// Lines with times.
 const TIMES: &[(&str, &str)] = &[
     (
@@ -269,6 +290,11 @@ fn integers(rt: HostRuntime) -> Result<(), Fail> {
 #[test]
 fn strings(rt: HostRuntime) -> Result<(), Fail> {
     check_lines(&rt, rt.alloc(), STRINGS)
+}
+
+#[test]
+fn texts(rt: HostRuntime) -> Result<(), Fail> {
+    check_lines(&rt, rt.alloc(), TEXTS)
 }
 
 #[test]

@@ -44,6 +44,18 @@ pub(crate) enum Word {
     Octets,
     /// `bits`: a bit string.
     Bits,
+    /// `utf8`: a text in UTF-8.
+    Utf8,
+    /// `printable`: a text of letters, digits and some signs.
+    Printable,
+    /// `ia5`: a text in ASCII.
+    Ia5,
+    /// `visible`: a text of visible characters and spaces in ASCII.
+    Visible,
+    /// `bmp`: a text in UTF-16.
+    Bmp,
+    /// `universal`: a text in UTF-32.
+    Universal,
     /// `oid`: an object identifier.
     Oid,
     /// `utctime`: a date and time from 1950 to 2049.
@@ -81,6 +93,12 @@ impl Word {
         Word::Null,
         Word::Octets,
         Word::Bits,
+        Word::Utf8,
+        Word::Printable,
+        Word::Ia5,
+        Word::Visible,
+        Word::Bmp,
+        Word::Universal,
         Word::Oid,
         Word::UtcTime,
         Word::X509Time,
@@ -112,6 +130,12 @@ impl Word {
             Word::Null => b"null",
             Word::Octets => b"octets",
             Word::Bits => b"bits",
+            Word::Utf8 => b"utf8",
+            Word::Printable => b"printable",
+            Word::Ia5 => b"ia5",
+            Word::Visible => b"visible",
+            Word::Bmp => b"bmp",
+            Word::Universal => b"universal",
             Word::Oid => b"oid",
             Word::UtcTime => b"utctime",
             Word::X509Time => b"x509time",

@@ -71,3 +71,21 @@ returns-in-SeqOfInt-clause-ok c = rw c.in-SeqOfInt.is c.reply_as-in-SeqOfInt.ens
 
 pub returns-in-SetOfInt-clause-ok : goal.returns-in-SetOfInt-clause-ok
 returns-in-SetOfInt-clause-ok c = rw c.in-SetOfInt.is c.reply_as-in-SetOfInt.ensures.ok
+
+pub returns-in-Utf8-clause-ok : goal.returns-in-Utf8-clause-ok
+returns-in-Utf8-clause-ok c = rw c.in-Utf8.is c.reply_as-in-Utf8.ensures.ok
+
+pub returns-in-Printable-clause-ok : goal.returns-in-Printable-clause-ok
+returns-in-Printable-clause-ok c = rw c.in-Printable.is c.reply_as-in-Printable.ensures.ok
+
+pub returns-in-Ia5-clause-ok : goal.returns-in-Ia5-clause-ok
+returns-in-Ia5-clause-ok c = rw c.in-Ia5.is c.reply_as-in-Ia5.ensures.ok
+
+pub returns-in-Visible-clause-ok : goal.returns-in-Visible-clause-ok
+returns-in-Visible-clause-ok c = rw c.in-Visible.is c.reply_as-in-Visible.ensures.ok
+
+pub returns-in-Bmp-clause-ok : goal.returns-in-Bmp-clause-ok
+returns-in-Bmp-clause-ok c = rw c.in-Bmp.is c.reply_as-in-Bmp.ensures.ok
+
+pub returns-in-Universal-clause-ok : goal.returns-in-Universal-clause-ok
+returns-in-Universal-clause-ok c = rw c.in-Universal.is c.reply_as-in-Universal.ensures.ok
