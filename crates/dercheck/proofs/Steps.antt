@@ -1,10 +1,10 @@
 -- Octets taken one after another, and the lines written for them.
-use Rattle.std.proofs.Common.{◌≡◌, ℕ, ◌<◌, ◌≤◌, ◌↔◌, Bool, true, false, IsTrue, IfOk, OnOk, OnErr, ◌-◌, codes, decimal, Option, List, [], ◌∷◌, ◌++◌, length, take, drop, Result, Ok, Err, refl, sym, ap, subst, ◌∙◌, inl, inr, ⊎_elim, append_assoc, arith}
+use Rattle.std.proofs.Common.{◌≡◌, ℕ, ◌<◌, ◌≤◌, ◌↔◌, Bool, true, false, IsTrue, IfOk, OnOk, OnErr, codes, decimal, Option, List, [], ◌∷◌, ◌++◌, length, take, drop, Result, Ok, Err, refl, sym, ap, subst, ◌∙◌, inl, inr, ⊎_elim, append_assoc, arith}
 use Rattle.std.specs.Prelude.{IsErr}
 use Rattle.std.specs.List.{flat_map}
 use Rattle.std.specs.Io.KnownBytes.{Appends, Consumes, IsAtEnd, Keeps}
 use Rattle.std.proofs.KnownBytes.{Appends-nil, Appends-trans, Consumes-nil, Consumes-trans, Consumes-kept}
-use Rattle.std.proofs.lemmas.List.{append-nil, length-append, length-take, take-append-drop, take_rest, nil_from_length}
+use Rattle.std.proofs.lemmas.List.{append-nil, length-append, length-take, take-append-drop, nil_from_length}
 use Rattle.std.proofs.lemmas.List.Concat.{flat_map-append}
 use Rattle.asn1.specs.declared.ParseErrorKind.{ParseErrorKind}
 use Rattle.asn1.specs.declared.ParseErrorKind.TheVariants.{ShortData}
@@ -123,10 +123,6 @@ fails p q a octets more made made' kind taken step is line =
     }
 
 -- ---- where the octets stand
-
-pub moves_front : (all done rest : List ℕ) (n : ℕ) → done ++ rest ≡ all → (done ++ take n rest) ++ take (length rest - n) (drop n rest) ≡ all
-moves_front all done rest n e =
-    ap (λ l. (done ++ take n rest) ++ l) (take_rest rest n) ∙ append_assoc done (take n rest) (drop n rest) ∙ ap (λ l. done ++ l) (take-append-drop n rest) ∙ e
 
 pub around : (text all done rest : List ℕ) (n : ℕ) → done ++ rest ≡ all → ((text ++ done) ++ take n rest) ++ drop n rest ≡ text ++ all
 around text all done rest n e =

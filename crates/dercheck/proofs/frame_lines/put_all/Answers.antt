@@ -1,11 +1,8 @@
-use Rattle.std.proofs.Common.{◌≡◌, ℕ, ◌-◌, List, ◌++◌, length, take, drop, refl, sym, ap, ◌∙◌, append_assoc, take-append-drop}
-use Rattle.std.proofs.lemmas.List.{take_rest, take_at}
+use Rattle.std.proofs.Common.{◌++◌, length, take, refl, sym, ◌∙◌}
+use Rattle.std.proofs.lemmas.List.{take_at}
 use Rattle.std.proofs.KnownBytes.{Appends-trans, Appends-kept}
+use Rattle.dercheck.proofs.Parts.{moves_front}
 use Rattle.dercheck.proofs.frame_lines.put_all.Goals as goal
-
-moves_front : (all done rest : List ℕ) (n : ℕ) → done ++ rest ≡ all → (done ++ take n rest) ++ take (length rest - n) (drop n rest) ≡ all
-moves_front all done rest n e =
-    ap (λ l. (done ++ take n rest) ++ l) (take_rest rest n) ∙ append_assoc done (take n rest) (drop n rest) ∙ ap (λ l. done ++ l) (take-append-drop n rest) ∙ e
 
 pub loop-rest-preserved : goal.loop-rest-preserved
 loop-rest-preserved g c =

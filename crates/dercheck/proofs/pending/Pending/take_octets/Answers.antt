@@ -6,7 +6,8 @@ use Rattle.dercheck.specs.declared.pending.Progress.{Progress}
 use Rattle.dercheck.specs.declared.pending.Progress.TheVariants.{GoesOn, Completes, Fails}
 use Rattle.dercheck.specs.FrameLines.{line_octets}
 use Rattle.dercheck.specs.Pending.{Advances, Taken, TakenToFault}
-use Rattle.dercheck.proofs.Steps.{taken_none, goes_on, completes, fails, moves_front, around, text_left}
+use Rattle.dercheck.proofs.Parts.{moves_front}
+use Rattle.dercheck.proofs.Steps.{taken_none, goes_on, completes, fails, around, text_left}
 use Rattle.dercheck.proofs.pending.Pending.take_octets.Goals as goal
 
 -- the lines of the rest still fit
