@@ -3,7 +3,7 @@ ghost use Rattle.asn1_core.specs.Buffer.{KeepsFront};
 
 use crate::tag::Tag;
 use crate::writer::{WriteBuf, WriteError, WriteResult, Writer, write, write_single};
-use std::alloc::Global;
+use std::alloc::{AllocError, Global};
 use std::test::Fail;
 
 #[test]
@@ -58,6 +58,15 @@ fn patched_element(alloc: Global, tag: Tag, octets: &[u8]) -> WriteResult<Vec<u8
     })
 }
 
+/// So many octets, of which each differs from those beside it.
+fn counted_octets(alloc: Global, count: usize) -> Result<Vec<u8>, AllocError> {
+    let mut octets = Vec::new(alloc);
+    for i in 0..count {
+        octets.push((i % 251) as u8)?;
+    }
+    Ok(octets)
+}
+
 #[test]
 fn headers_announced_and_patched(rt: HostRuntime) -> Result<(), Fail> {
     let cases: [(usize, &[u8]); 7] = [
@@ -70,10 +79,7 @@ fn headers_announced_and_patched(rt: HostRuntime) -> Result<(), Fail> {
         (65536, &[0x04, 0x83, 0x01, 0x00, 0x00]),
     ];
     for (n, header) in cases {
-        let mut content = Vec::new(rt.alloc());
-        for i in 0..n {
-            content.push((i % 251) as u8)?;
-        }
+        let content = counted_octets(rt.alloc(), n)?;
         let announced = announced_element(rt.alloc(), Tag::primitive(4), content.as_slice())?;
         let patched = patched_element(rt.alloc(), Tag::primitive(4), content.as_slice())?;
         assert_eq!(rt; announced.len(), header.len() + n);
