@@ -1,0 +1,8 @@
+use Rattle.asn1_values.proofs.SameIdentifiers.{same_fields, equal_identifiers}
+use Rattle.asn1_values.proofs.laws_identifiers.identifiers_compare.Goals as goal
+
+pub returns-clause-equality : goal.returns-clause-equality
+returns-clause-equality c = equal_identifiers
+
+pub returns-clause-hash : goal.returns-clause-hash
+returns-clause-hash c a b e = let same = same_fields a b e in let octets = same.0 in let count = same.1 in cc
