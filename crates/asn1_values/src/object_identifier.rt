@@ -1,4 +1,4 @@
-//! Identifiers: lists of numbers (X.690 8.19).
+//! Identifiers of objects: lists of numbers (X.690 8.19), and their texts in decimal.
 
 ghost use Rattle.std.specs.Prelude.{⊤, ◌≡◌, ◌+◌, ◌<◌, ◌≤◌, ◌^◌, ◌++◌, IfSome, drop, ◌∷◌, None, option_map, length, true, Some, take, is_some, Ok, Err, MatchOption};
 ghost use Rattle.asn1_core.specs.declared.parser.ParseErrorKind.{ParseErrorKind};
@@ -135,8 +135,9 @@ impl ObjectIdentifier {
         })
     }
 
-    /// The identifier that a text shows: numbers with dots between them, of which the first two stand for one. `None`
-    /// for any other text, and where the content would have more than 63 octets.
+    /// The identifier of a text: two numbers or more, in decimal, with dots between them, of which the first two stand for
+    /// one. A plus sign may stand in front of a number. `None` for any other text, where a number is 2^128 or more, and
+    /// where the content would have more than 63 octets.
     pub fn from_string(text: &str) -> Option<ObjectIdentifier>
         ensures { option_map identifier_of result ≡ read_text text.now }
     {
@@ -173,7 +174,7 @@ impl ObjectIdentifier {
         ObjectIdentifier { octets, count }
     }
 
-    /// The content.
+    /// The content: 1 to 63 octets.
     pub fn as_der(&self) -> &[u8]
         ensures octets { result.now ≡ identifier_octets self.now }
         ensures content { result.now ≡ identifier_content (identifier_of self.now) }

@@ -1,4 +1,4 @@
-//! Times with a fraction of a second.
+//! Times with a fraction of a second, or without (X.690 11.7).
 
 ghost use Rattle.std.specs.Prelude.{◌≡◌, ◌≤◌, Some, length, MatchResult};
 ghost use Rattle.std.proofs.Props.{props};
@@ -18,7 +18,9 @@ use asn1_core::{
 };
 use std::alloc::{AllocError, Global};
 
-/// A date and a time of day, in UTC, of a year to 9999, with a fraction of a second or without.
+/// The type `GeneralizedTime`: a date and a time of day, in UTC, of a year from 0 to 9999, with a fraction of a second in
+/// nanoseconds or without. It is ordered by date and time of day, then no fraction before any, then by nanoseconds. A
+/// content is refused with `InvalidValue`.
 #[derive(Debug, PartialEq, Eq, PartialOrd, Hash, Drop)]
 pub struct GeneralizedTime {
     datetime: DateTime,
@@ -50,7 +52,7 @@ impl GeneralizedTime {
         &self.datetime
     }
 
-    /// The fraction of a second in nanoseconds, where there is one.
+    /// The fraction of a second in nanoseconds, from 1 to 999999999, where there is one.
     pub fn nanoseconds(&self) -> Option<u32>
         ensures { result ≡ (instant_of self.now).nanoseconds }
     {

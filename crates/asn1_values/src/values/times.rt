@@ -1,4 +1,4 @@
-//! Times as DER has them.
+//! Times without a fraction of a second: years of two digits, and of four (X.690 11.7, 11.8; RFC 5280 4.1.2.5).
 
 ghost use Rattle.std.specs.Prelude.{◌≡◌, ◌≤◌, Some, MatchResult};
 ghost use Rattle.asn1_core.specs.declared.parser.ParseErrorKind.TheVariants.{InvalidValue};
@@ -15,7 +15,8 @@ use asn1_core::{
 };
 use std::alloc::{AllocError, Global};
 
-/// A date and a time of day, in UTC, of a year from 1950 to 2049.
+/// The type `UTCTime`: a date and a time of day to the second, in UTC, of a year from 1950 to 2049. A content is refused
+/// with `InvalidValue`.
 #[derive(Debug, PartialEq, Eq, Hash, Drop)]
 pub struct UtcTime {
     datetime: DateTime,
@@ -95,7 +96,8 @@ impl SimpleAsn1Writable for UtcTime {
     }
 }
 
-/// A date and a time of day, in UTC, of a year to 9999, whose content has no fraction.
+/// The type `GeneralizedTime` as certificates have it: a date and a time of day to the second, in UTC, of a year from 0 to
+/// 9999. A content is refused with `InvalidValue`, also one with a fraction of a second.
 #[derive(Debug, PartialEq, Eq, Hash, Drop)]
 pub struct X509GeneralizedTime {
     datetime: DateTime,
