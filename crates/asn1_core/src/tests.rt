@@ -5,6 +5,7 @@ mod errors;
 mod integers;
 mod octets;
 mod reading;
+mod sets;
 mod slow;
 mod tags;
 mod writing;
