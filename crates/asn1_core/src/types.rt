@@ -6,13 +6,13 @@ ghost use Rattle.asn1_core.specs.Tag.{tag_eq, tag_text};
 ghost use Rattle.asn1_core.specs.Element.{element, element_text};
 ghost use Rattle.asn1_core.specs.Reading.{Answers, EndsWith, Fits, element_front, whole};
 ghost use Rattle.asn1_core.specs.Writing.{KnowsLength, Refuses};
-ghost use Rattle.asn1_core.specs.Der.{Der, simple_der, tlv_der, seen, bool_content};
+ghost use Rattle.asn1_core.specs.Der.{Der, simple_der, tlv_der, bool_content};
 
-mod boxes;
 mod defined_by;
 mod integers;
 mod octets;
 mod options;
+mod references;
 
 use crate::parser::{ParseError, ParseErrorKind, ParseResult, Parser, kind_as_error, parse_single};
 use crate::tag::Tag;
@@ -238,35 +238,6 @@ impl Asn1Writable for Tlv<'_> {
         ensures known { result ≡ Some (length (element_text (element_of self.now))) }
     {
         full_length(self.tag, self.data().len())
-    }
-}
-
-/// A reference means what the value behind it means.
-impl<T: Asn1Type> Asn1Type for &T {
-    ghost der = { seen (λ r. r.now) T.der };
-
-    fn known(&self) {
-        (**self).known()
-    }
-}
-
-impl Asn1Writable for &Tlv<'_> {
-    ghost use Rattle.asn1_core.specs.Tlv.{element_of};
-
-    type Error = WriteError;
-
-    ghost write_errors = { λ _ _. ⊥ };
-
-    #[inline]
-    fn write(&self, dest: &mut Writer<'_>) -> WriteResult<()> {
-        (**self).write(dest)
-    }
-
-    fn encoded_length(&self) -> Option<usize>
-        ensures length { KnowsLength (λ t. t ≡ element_text (element_of self.now.now)) result }
-        ensures known { result ≡ Some (length (element_text (element_of self.now.now))) }
-    {
-        (**self).encoded_length()
     }
 }
 

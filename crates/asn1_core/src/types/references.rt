@@ -1,14 +1,17 @@
-//! Values behind a box or a reference.
+//! Values behind a box or a reference, which mean what they hold.
 
+ghost use Rattle.std.specs.Prelude.{◌≡◌, length, Some};
 ghost use Rattle.asn1_core.specs.Boxed.{boxed_der};
+ghost use Rattle.asn1_core.specs.Der.{seen};
+ghost use Rattle.asn1_core.specs.Element.{element_text};
+ghost use Rattle.asn1_core.specs.Writing.{KnowsLength};
 
 use crate::parser::{ParseError, ParseErrorKind, ParseResult};
 use crate::tag::Tag;
-use crate::types::{Asn1Type, SimpleAsn1Readable, SimpleAsn1Writable};
-use crate::writer::WriteBuf;
+use crate::types::{Asn1Type, Asn1Writable, SimpleAsn1Readable, SimpleAsn1Writable, Tlv};
+use crate::writer::{WriteBuf, WriteError, WriteResult, Writer};
 use std::alloc::Global;
 
-/// A box means what the value in it means.
 impl<T: Asn1Type> Asn1Type for Box<T> {
     ghost der = { boxed_der (λ b. b.value) T.der };
 
@@ -49,6 +52,14 @@ impl<T: SimpleAsn1Writable> SimpleAsn1Writable for Box<T> {
     }
 }
 
+impl<T: Asn1Type> Asn1Type for &T {
+    ghost der = { seen (λ r. r.now) T.der };
+
+    fn known(&self) {
+        (**self).known()
+    }
+}
+
 impl<T: SimpleAsn1Writable> SimpleAsn1Writable for &T {
     type Error = T::Error;
 
@@ -64,5 +75,25 @@ impl<T: SimpleAsn1Writable> SimpleAsn1Writable for &T {
 
     fn data_length(&self) -> Option<usize> {
         (**self).data_length()
+    }
+}
+
+impl Asn1Writable for &Tlv<'_> {
+    ghost use Rattle.asn1_core.specs.Tlv.{element_of};
+
+    type Error = WriteError;
+
+    ghost write_errors = { λ _ _. ⊥ };
+
+    #[inline]
+    fn write(&self, dest: &mut Writer<'_>) -> WriteResult<()> {
+        (**self).write(dest)
+    }
+
+    fn encoded_length(&self) -> Option<usize>
+        ensures length { KnowsLength (λ t. t ≡ element_text (element_of self.now.now)) result }
+        ensures known { result ≡ Some (length (element_text (element_of self.now.now))) }
+    {
+        (**self).encoded_length()
     }
 }
