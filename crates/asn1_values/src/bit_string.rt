@@ -1,8 +1,9 @@
-//! Bit strings.
+//! Bit strings, borrowed and owned.
 
-ghost use Rattle.std.specs.Prelude.{◌≡◌, true, Some, length, MatchOption};
+ghost use Rattle.std.specs.Prelude.{◌≡◌, true, ⊤, Some, length, MatchOption};
 ghost use Rattle.asn1_core.specs.Reading.{Answers};
 ghost use Rattle.asn1_core.specs.Der.{simple_der};
+ghost use Rattle.asn1_core.specs.Boxed.{boxed};
 ghost use Rattle.asn1_core.specs.Tag.{universal};
 ghost use Rattle.asn1_core.specs.Writing.{KnowsLength};
 ghost use Rattle.asn1_values.specs.Bits.{is_padded, IsBits, bits, bits_text, has_bit, read_bits};
@@ -12,7 +13,8 @@ use asn1_core::{
     Asn1Type, ParseError, ParseErrorKind, ParseResult, SimpleAsn1Readable, SimpleAsn1Writable, Tag,
     WriteBuf, WriteError, WriteResult,
 };
-use std::alloc::Global;
+use std::alloc::{AllocError, Global};
+use std::fmt;
 
 /// Whether the padding is right: at most 7 bits, none where there is no octet, and those bits of the last octet are zero.
 fn has_padding(octets: &[u8], padding: u8) -> bool
@@ -28,7 +30,7 @@ fn has_padding(octets: &[u8], padding: u8) -> bool
 }
 
 /// Bits, in octets that a read lends.
-#[derive(Debug, PartialEq, Eq, Hash, Drop)]
+#[derive(PartialEq, Eq, Hash, Drop)]
 pub struct BitString<'a> {
     octets: &'a [u8],
     padding: u8,
@@ -72,6 +74,31 @@ impl<'a> BitString<'a> {
             return false;
         }
         (self.octets[index] >> (7 - n % 8)) % 2 == 1
+    }
+}
+
+/// Takes no memory.
+impl<'a> Clone for BitString<'a> {
+    ghost use Rattle.asn1_values.specs.BitStrings.{bits_of};
+
+    ghost is_clone = { λ x y. bits_of y ≡ bits_of x };
+
+    ghost is_infallible = { λ _. ⊤ };
+
+    fn clone(&self) -> Result<BitString<'a>, AllocError> {
+        Ok(BitString {
+            octets: self.octets,
+            padding: self.padding,
+        })
+    }
+}
+
+impl fmt::Debug for BitString<'_> {
+    fn fmt<W: fmt::Write>(&self, f: &mut fmt::Formatter<W>) -> fmt::Result {
+        f.debug_struct("BitString")
+            .field("data", &self.octets)
+            .field("padding_bits", &self.padding)
+            .finish()
     }
 }
 
@@ -129,6 +156,114 @@ impl SimpleAsn1Writable for BitString<'_> {
     fn data_length(&self) -> Option<usize>
         ensures known { KnowsLength (bits_content.texts (bits_of self.now)) result }
         ensures exact { result ≡ Some (length (bits_text (bits_of self.now))) }
+    {
+        Some(1 + self.octets.len())
+    }
+}
+
+/// Bits, in octets of its own.
+#[derive(PartialEq, Eq, Hash, Drop)]
+pub struct OwnedBitString {
+    octets: Vec<u8>,
+    padding: u8,
+    pub ghost is_bits: { is_padded padding octets.items ≡ true },
+}
+
+impl OwnedBitString {
+    ghost use Rattle.asn1_values.specs.BitStrings.{bits_of, owned_bits_of};
+
+    /// The bits of these octets but for the padding, the low bits of the last. `None` where the padding is above 7 bits,
+    /// or not all zero, or there is some and no octet.
+    pub fn new(octets: Vec<u8>, padding: u8) -> Option<OwnedBitString>
+        ensures { MatchOption result (¬ IsBits (bits octets.items padding)) (λ b. owned_bits_of b ≡ bits octets.items padding) }
+    {
+        if !has_padding(octets.as_slice(), padding) {
+            return None;
+        }
+        Some(OwnedBitString { octets, padding })
+    }
+
+    /// The same bits, borrowed.
+    pub fn as_bitstring(&self) -> BitString<'_>
+        ensures { bits_of result ≡ owned_bits_of self.now }
+    {
+        BitString {
+            octets: self.octets.as_slice(),
+            padding: self.padding,
+        }
+    }
+}
+
+/// A copy wants memory, and answers so.
+impl Clone for OwnedBitString {
+    ghost use Rattle.asn1_values.specs.BitStrings.{owned_bits_of};
+
+    ghost is_clone = { λ x y. owned_bits_of y ≡ owned_bits_of x };
+
+    fn clone(&self) -> Result<OwnedBitString, AllocError> {
+        let octets = Vec::from_slice(*self.octets.allocator(), self.octets.as_slice())?;
+        Ok(OwnedBitString {
+            octets,
+            padding: self.padding,
+        })
+    }
+}
+
+impl fmt::Debug for OwnedBitString {
+    fn fmt<W: fmt::Write>(&self, f: &mut fmt::Formatter<W>) -> fmt::Result {
+        f.debug_struct("OwnedBitString")
+            .field("data", &self.octets)
+            .field("padding_bits", &self.padding)
+            .finish()
+    }
+}
+
+impl Asn1Type for OwnedBitString {
+    ghost use Rattle.asn1_values.specs.BitStrings.{owned_bits_of};
+
+    ghost der = { simple_der owned_bits_of (boxed bits_content) };
+
+    fn known(&self) {}
+}
+
+impl<'a> SimpleAsn1Readable<'a> for OwnedBitString {
+    fn tag() -> Tag {
+        Tag::primitive(0x03)
+    }
+
+    fn parse_data(alloc: Global, data: &'a [u8]) -> ParseResult<OwnedBitString> {
+        let [padding, octets @ ..] = data else {
+            return Err(ParseError::new(ParseErrorKind::InvalidValue));
+        };
+        let padding = *padding;
+        if !has_padding(octets, padding) {
+            return Err(ParseError::new(ParseErrorKind::InvalidValue));
+        }
+        match Vec::from_slice(alloc, octets) {
+            Ok(octets) => Ok(OwnedBitString { octets, padding }),
+            Err(_) => Err(ParseError::new(ParseErrorKind::AllocationError)),
+        }
+    }
+}
+
+impl SimpleAsn1Writable for OwnedBitString {
+    ghost use Rattle.asn1_values.specs.BitStrings.{owned_bits_of};
+
+    type Error = WriteError;
+
+    ghost write_errors = { λ _ _. ⊥ };
+
+    fn tag() -> Tag {
+        Tag::primitive(0x03)
+    }
+
+    fn write_data(&self, dest: &mut WriteBuf) -> WriteResult<()> {
+        dest.push_byte(self.padding)?;
+        dest.push_slice(self.octets.as_slice())
+    }
+
+    fn data_length(&self) -> Option<usize>
+        ensures { result ≡ Some (length (bits_text (owned_bits_of self.now))) }
     {
         Some(1 + self.octets.len())
     }
