@@ -163,7 +163,10 @@ fn choices(rt: HostRuntime) -> Result<(), Fail> {
     let null = other_tag(Tag::primitive(5));
     assert_eq!(rt; refused::<Choice1<bool>>(alloc, &[5, 0]), null);
     assert_eq!(rt; refused::<Choice2<bool, i64>>(alloc, &[5, 0]), null);
-    assert_eq!(rt; refused::<Three>(alloc, &[4, 0]), other_tag(Tag::primitive(4)));
+    assert_eq!(rt;
+        refused::<Three>(alloc, &[4, 0]),
+        other_tag(Tag::primitive(4))
+    );
     // The first alternative that accepts the tag is the one.
     both_ways(&rt, alloc, Choice2::<u8, u64>::ChoiceA(5), &[2, 1, 5])?;
     let overflow = refused::<Choice2<u8, u64>>(alloc, &[2, 2, 1, 0]);
