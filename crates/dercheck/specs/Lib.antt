@@ -13,3 +13,6 @@ pub mod FrameLines
 pub mod Pending
 pub mod Laws
 pub mod Code
+pub mod Reason
+pub mod Time
+pub mod SomeSequence

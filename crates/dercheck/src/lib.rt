@@ -11,6 +11,7 @@ pub mod laws;
 mod lines;
 pub mod memory;
 mod modes;
+pub mod own_types;
 mod pending;
 mod program;
 mod replies;

@@ -5,6 +5,7 @@ ghost use Rattle.asn1.specs.Der.{simple_der};
 ghost use Rattle.dercheck.specs.Code.{code_content};
 
 mod frames;
+mod own_types;
 
 use super::*;
 use asn1::{

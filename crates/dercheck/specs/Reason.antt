@@ -1,0 +1,58 @@
+-- A reason: an enumerated value (X.690 8.4) of one of two numbers.
+use Rattle.std.proofs.Common.{ℕ, ◌≡◌, List, [], ◌∷◌, nat_eq, cond, Result, Ok, Err, IfErr, refl, subst, inl, inr}
+use Rattle.std.proofs.lemmas.Bool.{eqb-true}
+use Rattle.asn1.specs.declared.ParseErrorKind.TheVariants.{InvalidValue}
+use Rattle.asn1.specs.Text.{IsText}
+use Rattle.asn1.specs.Tag.{universal}
+use Rattle.asn1.specs.Fault.{Fault, fault, IsOfText}
+use Rattle.asn1.specs.Der.{Content, basic}
+use Rattle.asn1.specs.Lemmas.Results.{ok_is, chosen, passed}
+use Rattle.asn1.specs.Lemmas.Faults.{cond_faults, passed_faults}
+use Rattle.dercheck.specs.declared.own_types.reason.Reason.{Reason}
+use Rattle.dercheck.specs.declared.own_types.reason.Reason.TheVariants.{Unspecified, Superseded}
+
+-- The contents octets.
+abbrev pub reason_text : Reason → List ℕ
+reason_text Unspecified = 0 ∷ []
+reason_text Superseded = 4 ∷ []
+
+-- What reading contents octets answers.
+abbrev pub read_reason : List ℕ → Result Reason Fault
+read_reason [] = Err (fault InvalidValue)
+read_reason (octet ∷ []) = cond (nat_eq octet 0) (Ok Unspecified) (cond (nat_eq octet 4) (Ok Superseded) (Err (fault InvalidValue)))
+read_reason (octet ∷ next ∷ octets) = Err (fault InvalidValue)
+
+-- What is read is the content of the value that is answered.
+pub reason_takes : (c : List ℕ) (m : Reason) → read_reason c ≡ Ok m → c ≡ reason_text m
+reason_takes [] m e = absurd cc
+reason_takes (octet ∷ []) m e =
+    let P : Reason → Type 0 = λ x. (octet ∷ []) ≡ reason_text x in
+    elim (chosen (nat_eq octet 0) _ _ (Ok m) e) [
+      | inl p ↦ subst P (ok_is _ _ p.1) (rw (eqb-true _ _ p.0) refl)
+      | inr p ↦
+          let q = passed (nat_eq octet 4) _ _ m p.1 in
+          subst P (ok_is _ _ q.1) (rw (eqb-true _ _ q.0) refl)
+    ]
+reason_takes (octet ∷ next ∷ octets) m e = absurd cc
+
+-- A value's content is read back.
+pub reason_again : (m : Reason) → read_reason (reason_text m) ≡ Ok m
+reason_again Unspecified = refl
+reason_again Superseded = refl
+
+-- A refusal is a fault of the text, never want of memory.
+pub reason_faults : (c : List ℕ) → IfErr (read_reason c) IsOfText
+reason_faults [] = λ e. cc
+reason_faults (octet ∷ []) = cond_faults (nat_eq octet 0) (Ok Unspecified) _ tt (passed_faults (nat_eq octet 4) (Ok Superseded) InvalidValue tt (λ e. cc))
+reason_faults (octet ∷ next ∷ octets) = λ e. cc
+
+abbrev pub reason_content : Content Reason
+reason_content = basic (record {
+  tag = universal 10;
+  text = reason_text;
+  valid = λ m. Unit {0};
+  read = read_reason;
+  takes = λ c m is e. (reason_takes c m e, tt);
+  again = λ m v. reason_again m;
+  faults = reason_faults;
+})

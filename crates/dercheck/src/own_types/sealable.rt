@@ -1,0 +1,80 @@
+//! A type with an error of its own, whose content is that of another type.
+
+ghost use Rattle.std.specs.Prelude.{◌≡◌, true};
+ghost use Rattle.asn1.specs.Der.{seen};
+ghost use Rattle.dercheck.specs.declared.own_types.sealable.SealError.TheVariants.{Write, Sealed};
+
+use asn1::{
+    Asn1Type, ParseResult, SimpleAsn1Readable, SimpleAsn1Writable, Tag, WriteBuf, WriteError,
+};
+use std::alloc::Global;
+
+/// A number that is written only while it isn't sealed. One that was read isn't.
+#[derive(Debug, PartialEq, Eq, Drop)]
+pub struct Sealable {
+    pub number: u64,
+    pub sealed: bool,
+}
+
+/// Why a number was not written.
+#[derive(Debug, PartialEq, Eq, Drop)]
+pub enum SealError {
+    /// The write found no memory.
+    Write(WriteError),
+    /// The number is sealed.
+    Sealed,
+}
+
+impl From<WriteError> for SealError {
+    ghost from_gives = { λ error result. result ≡ Write error };
+
+    fn from(error: WriteError) -> SealError {
+        SealError::Write(error)
+    }
+}
+
+impl Asn1Type for Sealable {
+    ghost der = { seen (λ v. v.number) ⟦<u64 as Asn1Type>⟧.der };
+
+    fn known(&self) {
+        self.number.known()
+    }
+}
+
+impl<'a> SimpleAsn1Readable<'a> for Sealable {
+    fn tag() -> Tag {
+        <u64 as SimpleAsn1Readable<'_>>::tag()
+    }
+
+    fn parse_data(alloc: Global, data: &'a [u8]) -> ParseResult<Sealable> {
+        match u64::parse_data(alloc, data) {
+            Ok(number) => Ok(Sealable {
+                number,
+                sealed: false,
+            }),
+            Err(error) => Err(error),
+        }
+    }
+}
+
+impl SimpleAsn1Writable for Sealable {
+    type Error = SealError;
+
+    ghost write_errors = { λ v error. (v.sealed ≡ true) × (error ≡ Sealed) };
+
+    fn tag() -> Tag {
+        <u64 as SimpleAsn1Writable>::tag()
+    }
+
+    fn write_data(&self, dest: &mut WriteBuf) -> Result<(), SealError> {
+        if self.sealed {
+            return Err(SealError::Sealed);
+        }
+        self.number.write_data(dest)?;
+        Ok(())
+    }
+
+    fn data_length(&self) -> Option<usize> {
+        self.number.data_length()
+    }
+}

@@ -1,0 +1,60 @@
+//! A choice: a time of either form.
+
+ghost use Rattle.asn1.specs.Choices.{choice_der, only, or};
+ghost use Rattle.dercheck.specs.Time.{time_meaning};
+
+use asn1::{
+    Asn1Readable, Asn1Type, Asn1Writable, Choice2, ParseResult, Parser, Tag, UtcTime, WriteError,
+    WriteResult, Writer, X509GeneralizedTime,
+};
+
+/// A time of either form, told by the tag.
+#[derive(Debug, PartialEq, Eq, Drop)]
+pub enum Time {
+    UTCTime(UtcTime),
+    X509GeneralizedTime(X509GeneralizedTime),
+}
+
+impl Asn1Type for Time {
+    ghost der = { choice_der time_meaning (or ⟦<UtcTime as Asn1Type>⟧.der (only ⟦<X509GeneralizedTime as Asn1Type>⟧.der)) };
+
+    fn known(&self) {
+        match self {
+            Time::UTCTime(time) => time.known(),
+            Time::X509GeneralizedTime(time) => time.known(),
+        }
+    }
+}
+
+impl<'a> Asn1Readable<'a> for Time {
+    fn parse(parser: &mut Parser<'a>) -> ParseResult<Time> {
+        match parser.read_element::<Choice2<UtcTime, X509GeneralizedTime>>()? {
+            Choice2::ChoiceA(time) => Ok(Time::UTCTime(time)),
+            Choice2::ChoiceB(time) => Ok(Time::X509GeneralizedTime(time)),
+        }
+    }
+
+    fn can_parse(tag: Tag) -> bool {
+        <Choice2<UtcTime, X509GeneralizedTime> as Asn1Readable<'_>>::can_parse(tag)
+    }
+}
+
+impl Asn1Writable for Time {
+    type Error = WriteError;
+
+    ghost write_errors = { λ _ _. ⊥ };
+
+    fn write(&self, dest: &mut Writer<'_>) -> WriteResult<()> {
+        match self {
+            Time::UTCTime(time) => dest.write_element(time),
+            Time::X509GeneralizedTime(time) => dest.write_element(time),
+        }
+    }
+
+    fn encoded_length(&self) -> Option<usize> {
+        match self {
+            Time::UTCTime(time) => time.encoded_length(),
+            Time::X509GeneralizedTime(time) => time.encoded_length(),
+        }
+    }
+}

@@ -1,0 +1,156 @@
+//! Types by hand, written and read.
+
+use crate::own_types::reason::Reason;
+use crate::own_types::round_trips::read_and_write_back;
+use crate::own_types::sealable::{SealError, Sealable};
+use crate::own_types::signature::Signature;
+use crate::own_types::some_sequence::SomeSequence;
+use crate::own_types::time::Time;
+use asn1::{
+    Asn1Readable, Asn1Writable, ParseError, ParseErrorKind, ParseLocation, ParseResult, Tag,
+    WriteError, parse_single, write_single,
+};
+use std::alloc::Global;
+use std::process::Abort;
+use std::test::Fail;
+
+/// Why a read was refused.
+fn refusal<T: Drop>(answer: ParseResult<T>) -> Option<ParseError> {
+    match answer {
+        Ok(_value) => None,
+        Err(error) => Some(error),
+    }
+}
+
+/// Why the octets are no value of the type.
+fn refused<'a, T: Asn1Readable<'a>>(alloc: Global, octets: &'a [u8]) -> Option<ParseError> {
+    refusal(parse_single::<T>(alloc, octets))
+}
+
+/// A refusal without a place.
+fn of(kind: ParseErrorKind) -> Option<ParseError> {
+    Some(ParseError::new(kind))
+}
+
+/// A refusal in the field with this name.
+fn at(name: &'static str, kind: ParseErrorKind) -> Option<ParseError> {
+    Some(ParseError::new(kind).add_location(ParseLocation::Field(name)))
+}
+
+/// The refusal of an element with this primitive universal tag.
+fn other_tag(number: u32) -> ParseErrorKind {
+    ParseErrorKind::UnexpectedTag {
+        actual: Tag::primitive(number),
+    }
+}
+
+/// The value is written so, with that length, and read back.
+fn both_ways<'a, A: Abort, T: Asn1Readable<'a> + Asn1Writable<Error = WriteError> + PartialEq>(
+    rt: &A,
+    alloc: Global,
+    value: T,
+    octets: &'a [u8],
+) -> Result<(), Fail>
+    requires { T.der.closures (T.der.meaning value) }
+{
+    let written = write_single(alloc, &value)?;
+    assert_eq!(rt; written.as_slice(), octets);
+    assert_eq!(rt; value.encoded_length(), Some(octets.len()));
+    let read = parse_single::<T>(alloc, octets)?;
+    assert!(rt; read == value);
+    Ok(())
+}
+
+#[test]
+fn reasons(rt: HostRuntime) -> Result<(), Fail> {
+    let alloc = rt.alloc();
+    both_ways(&rt, alloc, Reason::Unspecified, &[0x0a, 1, 0])?;
+    both_ways(&rt, alloc, Reason::Superseded, &[0x0a, 1, 4])?;
+    let other = refused::<Reason>(alloc, &[0x0a, 1, 1]);
+    assert_eq!(rt; other, of(ParseErrorKind::InvalidValue));
+    Ok(())
+}
+
+#[test]
+fn signatures(rt: HostRuntime) -> Result<(), Fail> {
+    let alloc = rt.alloc();
+    let octets: &[u8] = &[0x30, 6, 2, 1, 1, 2, 1, 2];
+    both_ways(&rt, alloc, Signature { r: 1, s: 2 }, octets)?;
+    let boolean = refused::<Signature>(alloc, &[0x30, 6, 2, 1, 1, 1, 1, 0xff]);
+    assert_eq!(rt; boolean, at("Signature::s", other_tag(1)));
+    let boolean = refused::<Signature>(alloc, &[0x30, 3, 1, 1, 0xff]);
+    assert_eq!(rt; boolean, at("Signature::r", other_tag(1)));
+    let rest = refused::<Signature>(alloc, &[0x30, 8, 2, 1, 1, 2, 1, 2, 5, 0]);
+    assert_eq!(rt; rest, of(ParseErrorKind::ExtraData));
+    let again = read_and_write_back::<Signature>(alloc, octets)??;
+    assert_eq!(rt; again.as_slice(), octets);
+    Ok(())
+}
+
+#[test]
+fn some_sequences(rt: HostRuntime) -> Result<(), Fail> {
+    let alloc = rt.alloc();
+    let both = SomeSequence {
+        a: Some(b"ab"),
+        b: Some(5),
+    };
+    both_ways(
+        &rt,
+        alloc,
+        both,
+        &[0x30, 9, 0x80, 2, 0x61, 0x62, 0xa1, 3, 2, 1, 5],
+    )?;
+    both_ways(&rt, alloc, SomeSequence { a: None, b: None }, &[0x30, 0])?;
+    let other = refused::<SomeSequence<'_>>(alloc, &[0x30, 3, 0x82, 1, 0]);
+    assert_eq!(rt; other, of(ParseErrorKind::ExtraData));
+    let short = refused::<SomeSequence<'_>>(alloc, &[0x30, 3, 0xa1, 1, 0xff]);
+    let kind = ParseErrorKind::ShortData { needed: 1 };
+    assert_eq!(rt; short, at("SomeSequence::b", kind));
+    Ok(())
+}
+
+#[test]
+fn times(rt: HostRuntime) -> Result<(), Fail> {
+    let alloc = rt.alloc();
+    for octets in [
+        b"\x17\x0d910506234540Z".as_slice(),
+        b"\x18\x0f20500506234540Z".as_slice(),
+    ] {
+        let time = parse_single::<Time>(alloc, octets)?;
+        assert_eq!(rt; matches!(time, Time::UTCTime(_)), octets[0] == 0x17);
+        assert_eq!(rt; time.encoded_length(), Some(octets.len()));
+        let again = write_single(alloc, &time)?;
+        assert_eq!(rt; again.as_slice(), octets);
+    }
+    assert_eq!(rt; refused::<Time>(alloc, &[5, 0]), of(other_tag(5)));
+    Ok(())
+}
+
+/// Writes it; want of memory is handed on, and any other error is in the value.
+fn sealed(alloc: Global, value: &Sealable) -> Result<Result<Vec<u8>, SealError>, Fail> {
+    match write_single(alloc, value) {
+        Ok(octets) => Ok(Ok(octets)),
+        Err(SealError::Sealed) => Ok(Err(SealError::Sealed)),
+        Err(SealError::Write(error)) => Err(error.into()),
+    }
+}
+
+#[test]
+fn errors_of_its_own(rt: HostRuntime) -> Result<(), Fail> {
+    let alloc = rt.alloc();
+    let closed = Sealable {
+        number: 7,
+        sealed: true,
+    };
+    assert!(rt; matches!(sealed(alloc, &closed)?, Err(SealError::Sealed)));
+    let octets: &[u8] = &[2, 1, 7];
+    let open = parse_single::<Sealable>(alloc, octets)?;
+    assert!(rt; !open.sealed);
+    match sealed(alloc, &open)? {
+        Ok(written) => assert_eq!(rt; written.as_slice(), octets),
+        Err(_) => assert!(rt; false),
+    }
+    let error = SealError::from(WriteError::AllocationError);
+    assert_eq!(rt; error, SealError::Write(WriteError::AllocationError));
+    Ok(())
+}
