@@ -17,7 +17,7 @@ abbrev pub Answers : {V M : Type 0} → (V → M) → (List Place → Type 0) �
 Answers view out (Ok v) read = read ≡ Ok (view v)
 Answers view out (Err e) read = IsRefusal out read e
 
--- The second text is a back of the first.
+-- The second text is a suffix of the first.
 abbrev pub EndsWith : List ℕ → List ℕ → Type 0
 EndsWith text back = (taken : List ℕ) × (text ≡ taken ++ back)
 

@@ -266,7 +266,7 @@ impl Eq for ParseError {
     ghost laws = { decided fault_eq fault_eq-decides };
 }
 
-/// Whether two kinds are equal.
+/// Whether two kinds are equal: the derived `==`, under a clause that names the definition.
 fn same_kind(a: ParseErrorKind, b: ParseErrorKind) -> bool
     ensures { result ≡ kind_eq a b }
 {
@@ -515,7 +515,7 @@ fn tlv_in(octets: &[u8]) -> Result<(Tlv<'_>, &[u8]), ParseErrorKind>
     ))
 }
 
-/// Runs `f` over the octets, and refuses with `ExtraData` what it leaves, as `E` takes that error. An error of `f` is
+/// Runs `f` over the octets, and refuses what it leaves with `ExtraData`, converted by `E::from`. An error of `f` is
 /// handed on.
 #[inline]
 pub fn parse<'a, T: Drop, E: From<ParseError> + Drop, F: FnOnce(&mut Parser<'a>) -> Result<T, E>>(

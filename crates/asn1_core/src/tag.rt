@@ -52,7 +52,7 @@ fn class_in(first: u8) -> TagClass
 }
 
 impl Tag {
-    /// Whether this is the other tag.
+    /// Whether this is the other tag: the derived `==`, under a clause that names the definition.
     pub(crate) fn is(self, other: Tag) -> bool
         ensures { result ≡ tag_eq self other }
     {

@@ -179,6 +179,7 @@ impl WriteBuf {
         ensures error { IsOkUnless result WriteError.AllocationError }
     {
         self.octets.try_reserve(1)?;
+        // There is room now, so the push succeeds.
         let _pushed = self.octets.push(octet);
         Ok(())
     }
@@ -193,6 +194,7 @@ impl WriteBuf {
         ensures error { IsOkUnless result WriteError.AllocationError }
     {
         self.octets.try_reserve(octets.len())?;
+        // There is room now, so all of them are pushed.
         let _pushed = self.octets.extend_from_slice(octets);
         Ok(())
     }
@@ -263,7 +265,7 @@ impl WriteBuf {
         self.octets.truncate(to + (len - from));
     }
 
-    /// Keeps the first octets alone.
+    /// Cuts to the first `len` octets.
     pub(crate) fn truncate(&mut self, len: usize)
         ensures { self.new.bytes ≡ take len self.old.bytes }
     {
