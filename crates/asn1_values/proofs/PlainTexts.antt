@@ -8,7 +8,7 @@ use Rattle.std.proofs.lemmas.Str.Parse.{digit_from_value, without_leading_plus_n
 use Rattle.std.proofs.lemmas.Bool.{cases_lt, lt-ltb, le-ltb}
 use Rattle.std.proofs.lemmas.List.{append-nil, append_assoc, append_cancel_left, length-append}
 use Rattle.asn1_values.specs.Dotted.{arcs, dotted_text}
-use Rattle.asn1_values.specs.IdentifierText.{parts_of, read_text, IsPart, IsDotted, IsIdentifierText, IsPlainPart, IsPlainText}
+use Rattle.asn1_values.specs.IdentifierText.{parts_of, read_dotted, IsPart, IsDotted, IsIdentifierText, IsPlainPart, IsPlainText}
 use Rattle.asn1_values.specs.Lemmas.IdentifierText.{own, read_on, parts_whole, parts_front}
 use Rattle.asn1_values.specs.Lemmas.DottedTexts.{part_no_dot, text_found}
 use Rattle.asn1_values.specs.Lemmas.Shown.{no_dot, no_plus}
@@ -133,7 +133,7 @@ text_is : (t numbers : List ℕ) (is : IsIdentifierText t numbers) → dotted_te
 unfolding dotted_text
 text_is t numbers is = ap (λ (l : List ℕ). joined (arcs l)) (sym is.are) ∙ ap joined (arcs_are is.first is.second is.others is.high is.low)
 
-pub shown_again : (t numbers : List ℕ) → read_text t ≡ Some numbers → (dotted_text numbers ≡ t) ↔ IsPlainText t
+pub shown_again : (t numbers : List ℕ) → read_dotted t ≡ Some numbers → (dotted_text numbers ≡ t) ↔ IsPlainText t
 shown_again t numbers e =
     let is = text_found t numbers e in
     let text = text_is t numbers is in (

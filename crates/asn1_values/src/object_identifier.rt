@@ -11,7 +11,7 @@ ghost use Rattle.asn1_values.specs.Identifier.{identifier_content, identifier_nu
 ghost use Rattle.asn1_values.specs.IdentifierContent.{identifier_basic};
 ghost use Rattle.asn1_values.specs.Dotted.{dotted_text, first_text};
 ghost use Rattle.std.specs.Fmt.{DisplaysOnOk};
-ghost use Rattle.asn1_values.specs.IdentifierText.{part_number, text_numbers, left_numbers, left_size, first_of, and_then, if_few, read_text};
+ghost use Rattle.asn1_values.specs.IdentifierText.{part_number, text_numbers, left_numbers, left_size, first_of, and_then, if_few, read_dotted};
 
 use asn1_core::{
     Asn1Type, ParseError, ParseErrorKind, ParseResult, SimpleAsn1Readable, SimpleAsn1Writable, Tag,
@@ -139,7 +139,7 @@ impl ObjectIdentifier {
     /// one. A plus sign may stand in front of a number. `None` for any other text, where a number is 2^128 or more, and
     /// where the content would have more than 63 octets.
     pub fn from_string(text: &str) -> Option<ObjectIdentifier>
-        ensures { option_map identifier_of result ≡ read_text text.now }
+        ensures { option_map identifier_of result ≡ read_dotted text.now }
     {
         let (first, rest) = next_part(text)?;
         let (second, rest) = next_part(rest?)?;

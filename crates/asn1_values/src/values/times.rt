@@ -14,10 +14,11 @@ use asn1_core::{
     WriteBuf, WriteError, WriteResult,
 };
 use std::alloc::{AllocError, Global};
+use std::fmt;
 
 /// The type `UTCTime`: a date and a time of day to the second, in UTC, of a year from 1950 to 2049. A content is refused
 /// with `InvalidValue`.
-#[derive(Debug, PartialEq, Eq, Hash, Drop)]
+#[derive(PartialEq, Eq, Hash, Drop)]
 pub struct UtcTime {
     datetime: DateTime,
     pub ghost in_range: { (1950 ≤ datetime.year) × (datetime.year ≤ 2049) },
@@ -52,6 +53,12 @@ impl Clone for UtcTime {
     fn clone(&self) -> Result<UtcTime, AllocError> {
         let datetime = self.datetime.clone()?;
         Ok(UtcTime { datetime })
+    }
+}
+
+impl fmt::Debug for UtcTime {
+    fn fmt<W: fmt::Write>(&self, f: &mut fmt::Formatter<W>) -> fmt::Result {
+        f.debug_tuple("UtcTime").field(&self.datetime).finish()
     }
 }
 
@@ -98,7 +105,7 @@ impl SimpleAsn1Writable for UtcTime {
 
 /// The type `GeneralizedTime` as certificates have it: a date and a time of day to the second, in UTC, of a year from 0 to
 /// 9999. A content is refused with `InvalidValue`, also one with a fraction of a second.
-#[derive(Debug, PartialEq, Eq, Hash, Drop)]
+#[derive(PartialEq, Eq, Hash, Drop)]
 pub struct X509GeneralizedTime {
     datetime: DateTime,
     pub ghost in_range: { datetime.year ≤ 9999 },
@@ -133,6 +140,14 @@ impl Clone for X509GeneralizedTime {
     fn clone(&self) -> Result<X509GeneralizedTime, AllocError> {
         let datetime = self.datetime.clone()?;
         Ok(X509GeneralizedTime { datetime })
+    }
+}
+
+impl fmt::Debug for X509GeneralizedTime {
+    fn fmt<W: fmt::Write>(&self, f: &mut fmt::Formatter<W>) -> fmt::Result {
+        f.debug_tuple("X509GeneralizedTime")
+            .field(&self.datetime)
+            .finish()
     }
 }
 

@@ -1,0 +1,32 @@
+-- Bit strings as lists of bits (X.690 8.6.2, 11.2.1).
+use Rattle.std.specs.Prelude.{ℕ, ◌-◌, ◌/◌, ◌%◌, ◌^◌, ◌<◌, ◌≡◌, Bool, false, nat_eq, List, [], ◌∷◌, ◌++◌, replicate, slice_index_or}
+use Rattle.asn1_core.specs.Text.{IsText}
+use Rattle.asn1_values.specs.Bits.{Bits, IsBits, has_bit}
+
+-- A bit of an octet, the most significant at place 0.
+abbrev pub bit_at : ℕ → ℕ → Bool
+bit_at octet place = nat_eq (octet / 2 ^ (7 - place) % 2) 1
+
+abbrev pub octet_bits : ℕ → List Bool
+octet_bits octet = bit_at octet 0 ∷ bit_at octet 1 ∷ bit_at octet 2 ∷ bit_at octet 3 ∷ bit_at octet 4 ∷ bit_at octet 5 ∷ bit_at octet 6 ∷ bit_at octet 7 ∷ []
+
+abbrev pub all_bits : List ℕ → List Bool
+all_bits [] = []
+all_bits (octet ∷ octets) = octet_bits octet ++ all_bits octets
+
+-- The octets are filled by the bits of the list and then the padding, fewer than 8 bits, which are zero.
+pub record IsBitsOf (list : List Bool) (b : Bits) : Type 0 where
+  pub filled : all_bits b.octets ≡ list ++ replicate b.padding false
+  pub few : b.padding < 8
+
+-- A bit string means a list of bits.
+abbrev pub BitsAreAList : Type 0
+BitsAreAList = (b : Bits) → IsBits b → (list : List Bool) × IsBitsOf list b
+
+-- A list of bits has one bit string.
+abbrev pub OneBitString : Type 0
+OneBitString = (list : List Bool) (b other : Bits) → IsText b.octets → IsText other.octets → IsBitsOf list b → IsBitsOf list other → b ≡ other
+
+-- A bit is set exactly where its place is in the list, and set there.
+abbrev pub SetBits : Type 0
+SetBits = (list : List Bool) (b : Bits) → IsBitsOf list b → (n : ℕ) → has_bit b n ≡ slice_index_or list n false

@@ -1,0 +1,200 @@
+-- Bit strings as lists of bits.
+use Rattle.std.proofs.lemmas.Bool.{and_parts, cases_Bool, cases_eq, lt-ltb, le-ltb, ltb-true, ltb-false, leb-true, eqb-true, ne_eqb}
+use Rattle.asn1_core.specs.Text.{IsText}
+use Rattle.asn1_values.specs.Bits.{Bits, IsBits, is_padded, bits, has_bit}
+use Rattle.asn1_values.specs.BitLists.{bit_at, octet_bits, all_bits, IsBitsOf, BitsAreAList, OneBitString, SetBits}
+use Rattle.std.proofs.Common.{◌≡◌, ◌∙◌, ℕ, zero, suc, ◌+◌, ◌-◌, ◌*◌, ◌/◌, ◌%◌, ◌^◌, ◌<◌, ◌≤◌, inl, inr, Bool, true, false, cond, ◌&&◌, eqb, nat_eq, nat_lt, nat_le, List, [], ◌∷◌, ◌++◌, length, replicate, take, get_or, slice_index, slice_index_or, refl, sym, ap, subst, arith}
+
+-- ---- which bit is set
+
+-- as `has_bit`, of octets alone
+abbrev is_set : List ℕ → ℕ → Bool
+is_set octets n = nat_lt (n / 8) (length octets) && nat_eq (slice_index octets (n / 8) / 2 ^ (7 - n % 8) % 2) 1
+
+set_first : (o : ℕ) (os : List ℕ) (n : ℕ) → n < 8 → is_set (o ∷ os) n ≡ bit_at o n
+set_first o os n h =
+    let q : n / 8 ≡ 0 = omega (arith, h) in
+    let r : n % 8 ≡ n = omega (arith, h) in
+    let inside : nat_lt 0 (length (o ∷ os)) ≡ true = lt-ltb 0 (length (o ∷ os)) (omega arith) in
+    ap (λ (k : ℕ). nat_lt k (length (o ∷ os)) && nat_eq (slice_index (o ∷ os) k / 2 ^ (7 - n % 8) % 2) 1) q
+    ∙ ap (λ (k : ℕ). nat_lt 0 (length (o ∷ os)) && nat_eq (o / 2 ^ (7 - k) % 2) 1) r
+    ∙ ap (λ (b : Bool). b && bit_at o n) inside
+
+lt_suc : (a b : ℕ) → nat_lt (suc a) (suc b) ≡ nat_lt a b
+lt_suc a b = elim (cases_Bool (nat_lt a b)) [
+  | inl t ↦ lt-ltb (suc a) (suc b) (omega (arith, ltb-true a b t)) ∙ sym t
+  | inr f ↦ le-ltb (suc a) (suc b) (omega (arith, ltb-false a b f)) ∙ sym f
+]
+
+set_next : (o : ℕ) (os : List ℕ) (m : ℕ) → is_set (o ∷ os) (suc (suc (suc (suc (suc (suc (suc (suc m)))))))) ≡ is_set os m
+set_next o os m =
+    let q : (suc (suc (suc (suc (suc (suc (suc (suc m)))))))) / 8 ≡ suc (m / 8) = omega arith in
+    let r : (suc (suc (suc (suc (suc (suc (suc (suc m)))))))) % 8 ≡ m % 8 = omega arith in
+    ap (λ (k : ℕ). nat_lt k (length (o ∷ os)) && nat_eq (slice_index (o ∷ os) k / 2 ^ (7 - (suc (suc (suc (suc (suc (suc (suc (suc m)))))))) % 8) % 2) 1) q
+    ∙ ap (λ (k : ℕ). nat_lt (suc (m / 8)) (length (o ∷ os)) && nat_eq (slice_index os (m / 8) / 2 ^ (7 - k) % 2) 1) r
+    ∙ ap (λ (b : Bool). b && nat_eq (slice_index os (m / 8) / 2 ^ (7 - m % 8) % 2) 1) (lt_suc (m / 8) (length os))
+
+set_at : (octets : List ℕ) (n : ℕ) → get_or (all_bits octets) n false ≡ is_set octets n
+set_at [] n = sym (ap (λ (b : Bool). b && nat_eq (slice_index [] (n / 8) / 2 ^ (7 - n % 8) % 2) 1) (le-ltb (n / 8) 0 (omega arith)))
+set_at (o ∷ os) zero = sym (set_first o os 0 (omega arith))
+set_at (o ∷ os) (suc zero) = sym (set_first o os 1 (omega arith))
+set_at (o ∷ os) (suc (suc zero)) = sym (set_first o os 2 (omega arith))
+set_at (o ∷ os) (suc (suc (suc zero))) = sym (set_first o os 3 (omega arith))
+set_at (o ∷ os) (suc (suc (suc (suc zero)))) = sym (set_first o os 4 (omega arith))
+set_at (o ∷ os) (suc (suc (suc (suc (suc zero))))) = sym (set_first o os 5 (omega arith))
+set_at (o ∷ os) (suc (suc (suc (suc (suc (suc zero)))))) = sym (set_first o os 6 (omega arith))
+set_at (o ∷ os) (suc (suc (suc (suc (suc (suc (suc zero))))))) = sym (set_first o os 7 (omega arith))
+set_at (o ∷ os) (suc (suc (suc (suc (suc (suc (suc (suc m)))))))) = set_at os m ∙ sym (set_next o os m)
+
+zeros : (p n : ℕ) → get_or (replicate p false) n false ≡ false
+zeros zero n = refl
+zeros (suc p) zero = refl
+zeros (suc p) (suc n) = zeros p n
+
+padded : (list : List Bool) (p n : ℕ) → get_or (list ++ replicate p false) n false ≡ get_or list n false
+padded [] p n = zeros p n
+padded (x ∷ list) p zero = refl
+padded (x ∷ list) p (suc n) = padded list p n
+
+pub set_bits : SetBits
+set_bits list b h n = sym (set_at b.octets n) ∙ ap (λ (t : List Bool). get_or t n false) h.filled ∙ padded list b.padding n
+
+-- ---- the list of a bit string
+
+abbrev Filled : List ℕ → ℕ → Type 0
+Filled octets p = (list : List Bool) × (all_bits octets ≡ list ++ replicate p false)
+
+-- the low bits of an octet, the most significant first
+abbrev low_bits : ℕ → ℕ → List Bool
+low_bits zero o = []
+low_bits (suc k) o = nat_eq (o / 2 ^ k % 2) 1 ∷ low_bits k o
+
+both : {b : Bool} {t u : List Bool} → b ≡ false → t ≡ u → (b ∷ t) ≡ (false ∷ u)
+both {b} {t} {u} p q = ap (λ (x : Bool). x ∷ t) p ∙ ap (λ (x : List Bool). false ∷ x) q
+
+-- an octet of which the low bits are zero
+clear_1 : (o : ℕ) → o % 2 ≡ 0 → low_bits 1 o ≡ replicate 1 false
+clear_1 o h = both (ne_eqb (o / 1 % 2) 1 (λ e. omega (arith, h, e))) refl
+
+clear_2 : (o : ℕ) → o % 4 ≡ 0 → low_bits 2 o ≡ replicate 2 false
+clear_2 o h = both (ne_eqb (o / 2 % 2) 1 (λ e. omega (arith, h, e))) (clear_1 o (omega (arith, h)))
+
+clear_3 : (o : ℕ) → o % 8 ≡ 0 → low_bits 3 o ≡ replicate 3 false
+clear_3 o h = both (ne_eqb (o / 4 % 2) 1 (λ e. omega (arith, h, e))) (clear_2 o (omega (arith, h)))
+
+clear_4 : (o : ℕ) → o % 16 ≡ 0 → low_bits 4 o ≡ replicate 4 false
+clear_4 o h = both (ne_eqb (o / 8 % 2) 1 (λ e. omega (arith, h, e))) (clear_3 o (omega (arith, h)))
+
+clear_5 : (o : ℕ) → o % 32 ≡ 0 → low_bits 5 o ≡ replicate 5 false
+clear_5 o h = both (ne_eqb (o / 16 % 2) 1 (λ e. omega (arith, h, e))) (clear_4 o (omega (arith, h)))
+
+clear_6 : (o : ℕ) → o % 64 ≡ 0 → low_bits 6 o ≡ replicate 6 false
+clear_6 o h = both (ne_eqb (o / 32 % 2) 1 (λ e. omega (arith, h, e))) (clear_5 o (omega (arith, h)))
+
+clear_7 : (o : ℕ) → o % 128 ≡ 0 → low_bits 7 o ≡ replicate 7 false
+clear_7 o h = both (ne_eqb (o / 64 % 2) 1 (λ e. omega (arith, h, e))) (clear_6 o (omega (arith, h)))
+
+clear : (p o : ℕ) → p ≤ 7 → o % 2 ^ p ≡ 0 → low_bits p o ≡ replicate p false
+clear zero o few h = refl
+clear (suc zero) o few h = clear_1 o h
+clear (suc (suc zero)) o few h = clear_2 o h
+clear (suc (suc (suc zero))) o few h = clear_3 o h
+clear (suc (suc (suc (suc zero)))) o few h = clear_4 o h
+clear (suc (suc (suc (suc (suc zero))))) o few h = clear_5 o h
+clear (suc (suc (suc (suc (suc (suc zero)))))) o few h = clear_6 o h
+clear (suc (suc (suc (suc (suc (suc (suc zero))))))) o few h = clear_7 o h
+clear (suc (suc (suc (suc (suc (suc (suc (suc p)))))))) o few h = absurd (omega (arith, few))
+
+split : (p o : ℕ) → p ≤ 7 → octet_bits o ≡ take (8 - p) (octet_bits o) ++ low_bits p o
+split zero o few = refl
+split (suc zero) o few = refl
+split (suc (suc zero)) o few = refl
+split (suc (suc (suc zero))) o few = refl
+split (suc (suc (suc (suc zero)))) o few = refl
+split (suc (suc (suc (suc (suc zero))))) o few = refl
+split (suc (suc (suc (suc (suc (suc zero)))))) o few = refl
+split (suc (suc (suc (suc (suc (suc (suc zero))))))) o few = refl
+split (suc (suc (suc (suc (suc (suc (suc (suc p)))))))) o few = absurd (omega (arith, few))
+
+one_octet : (o p : ℕ) → p ≤ 7 → o % 2 ^ p ≡ 0 → Filled (o ∷ []) p
+one_octet o p few h = (take (8 - p) (octet_bits o), split p o few ∙ ap (λ (t : List Bool). take (8 - p) (octet_bits o) ++ t) (clear p o few h))
+
+list_from : (octets : List ℕ) (p : ℕ) → p ≤ 7 → 0 < length octets → slice_index octets (length octets - 1) % 2 ^ p ≡ 0 → Filled octets p
+list_from [] p few some h = absurd (omega (arith, some))
+list_from (o ∷ []) p few some h = one_octet o p few h
+list_from (o ∷ a ∷ octets) p few some h =
+    let place : length (o ∷ a ∷ octets) - 1 ≡ suc (length (a ∷ octets) - 1) = omega arith in
+    let rest = list_from (a ∷ octets) p few (omega arith) (sym (ap (λ (k : ℕ). slice_index (o ∷ a ∷ octets) k % 2 ^ p) place) ∙ h) in
+    (octet_bits o ++ rest.0, ap (λ (t : List Bool). octet_bits o ++ t) rest.1)
+
+bits_filled : (octets : List ℕ) (p : ℕ) → is_padded p octets ≡ true → Filled octets p × (p < 8)
+bits_filled [] p h =
+    let parts = and_parts (nat_le p 7) _ h in
+    let none : p ≡ 0 = eqb-true p 0 parts.1 in
+    (([], ap (λ (k : ℕ). replicate k false) (sym none)), omega (arith, leb-true p 7 parts.0))
+bits_filled (o ∷ octets) p h =
+    let parts = and_parts (nat_le p 7) _ h in
+    let few = leb-true p 7 parts.0 in
+    let last = slice_index (o ∷ octets) (length (o ∷ octets) - 1) in
+    let some : nat_eq (length (o ∷ octets)) 0 ≡ false = ne_eqb (length (o ∷ octets)) 0 (λ e. omega (arith, e)) in
+    let clear : nat_eq (last % 2 ^ p) 0 ≡ true = sym (ap (λ (b : Bool). cond b (nat_eq p 0) (nat_eq (last % 2 ^ p) 0)) some) ∙ parts.1 in
+    (list_from (o ∷ octets) p few (omega arith) (eqb-true (last % 2 ^ p) 0 clear), omega (arith, few))
+
+pub bits_are_a_list : BitsAreAList
+bits_are_a_list b h =
+    let found = bits_filled b.octets b.padding h in
+    (found.0.0, record { filled = found.0.1; few = found.1 })
+
+-- ---- the bit string of a list
+
+abbrev weight : Bool → ℕ → ℕ
+weight b n = cond b n 0
+
+-- the octets of as many bits as fill them
+octets_from : List Bool → List ℕ
+octets_from (a ∷ b ∷ c ∷ d ∷ e ∷ f ∷ g ∷ h ∷ list) = (weight a 128 + weight b 64 + weight c 32 + weight d 16 + weight e 8 + weight f 4 + weight g 2 + weight h 1) ∷ octets_from list
+octets_from list = []
+
+abbrev octet_back : ℕ → ℕ
+octet_back o = weight (bit_at o 0) 128 + weight (bit_at o 1) 64 + weight (bit_at o 2) 32 + weight (bit_at o 3) 16 + weight (bit_at o 4) 8 + weight (bit_at o 5) 4 + weight (bit_at o 6) 2 + weight (bit_at o 7) 1
+
+below : (ℕ → Bool) → ℕ → Bool
+below p zero = true
+below p (suc n) = p n && below p n
+
+below_at : (p : ℕ → Bool) (n k : ℕ) → below p n ≡ true → k < n → p k ≡ true
+unfolding below
+below_at p zero k e h = absurd (omega (arith, h))
+below_at p (suc n) k e h = elim (cases_eq k n) [
+  | inl same ↦ subst (λ (x : ℕ). p x ≡ true) (sym same) (and_parts _ _ e).0
+  | inr apart ↦ below_at p n k (and_parts _ _ e).1 (omega (arith, h, apart))
+]
+
+all_back : below (λ o. eqb (octet_back o) o) 256 ≡ true
+unfolding below
+all_back = refl
+
+octets_back : (octets : List ℕ) → IsText octets → octets_from (all_bits octets) ≡ octets
+unfolding octets_from
+octets_back [] is = refl
+octets_back (o ∷ octets) is =
+    let one : octet_back o ≡ o = eqb-true (octet_back o) o (below_at (λ k. eqb (octet_back k) k) 256 o all_back is.0) in
+    ap (λ (x : ℕ). x ∷ octets_from (all_bits octets)) one ∙ ap (λ (t : List ℕ). o ∷ t) (octets_back octets is.1)
+
+bits_count : (octets : List ℕ) → length (all_bits octets) ≡ 8 * length octets
+bits_count [] = refl
+bits_count (o ∷ octets) = omega (arith, bits_count octets)
+
+joined_count : (list : List Bool) (p : ℕ) → length (list ++ replicate p false) ≡ length list + p
+joined_count [] zero = refl
+joined_count [] (suc p) = omega (arith, joined_count [] p)
+joined_count (x ∷ list) p = omega (arith, joined_count list p)
+
+pub one_bit_string : OneBitString
+one_bit_string list b other is are h g =
+    let n = ap length h.filled ∙ joined_count list b.padding in
+    let m = ap length g.filled ∙ joined_count list other.padding in
+    let same : b.padding ≡ other.padding = omega (arith, n, m, bits_count b.octets, bits_count other.octets, h.few, g.few) in
+    let full : all_bits b.octets ≡ all_bits other.octets = h.filled ∙ ap (λ (k : ℕ). list ++ replicate k false) same ∙ sym g.filled in
+    let octets : b.octets ≡ other.octets = sym (octets_back b.octets is) ∙ ap octets_from full ∙ octets_back other.octets are in
+    ap (λ (t : List ℕ). bits t b.padding) octets ∙ ap (bits other.octets) same

@@ -1,0 +1,18 @@
+//! Laws of bit strings, each the contract of a function that does nothing.
+
+ghost use Rattle.asn1_values.specs.BitLists.{BitsAreAList, OneBitString, SetBits};
+
+/// A bit string means a list of bits.
+pub fn bits_are_a_list()
+    ensures { BitsAreAList }
+{}
+
+/// A list of bits has one bit string.
+pub fn one_bit_string()
+    ensures { OneBitString }
+{}
+
+/// A bit is set exactly where its place is in the list, and set there.
+pub fn set_bits()
+    ensures { SetBits }
+{}
