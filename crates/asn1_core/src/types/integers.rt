@@ -12,7 +12,7 @@ mod nonzero;
 mod signed;
 mod unsigned;
 
-use crate::parser::{ParseError, ParseErrorKind, ParseResult};
+use crate::parser::{ParseError, ParseErrorKind, ParseResult, number_in};
 use crate::writer::{WriteBuf, WriteError, WriteResult};
 use std::marker::Model;
 
@@ -41,12 +41,16 @@ pub fn is_integer_content(octets: &[u8]) -> bool
     }
 }
 
-/// The number of at most nine octets.
+/// The number of at most nine octets; of up to eight it is summed in a machine's word.
+#[inline]
 fn number(octets: &[u8]) -> u128
     requires { length octets.now ≤ MAX_CONTENT_OCTETS }
     ensures value { result ≡ number octets.now }
     ensures small { result < 2 ^ 72 }
 {
+    if octets.len() <= 8 {
+        return number_in(octets) as u128;
+    }
     let mut number = 0u128;
     for octet in octets {
         number = number * 0x100 + u128::from(*octet);
@@ -55,6 +59,7 @@ fn number(octets: &[u8]) -> u128
 }
 
 /// The signed number of one to nine octets.
+#[inline]
 fn signed_number(octets: &[u8]) -> i128
     requires some { 0 < length octets.now }
     requires few { length octets.now ≤ MAX_CONTENT_OCTETS }
@@ -83,6 +88,7 @@ fn beyond(is_below: bool, low: i128) -> ParseError
 ///
 /// `InvalidValue` where the octets are no content, and for a negative number where the type is unsigned;
 /// `IntegerOverflow` for another number beyond the range.
+#[inline]
 pub(crate) fn read(octets: &[u8], low: i128, high: i128) -> ParseResult<i128>
     requires least { neg_ℤ (pos (2 ^ 71)) ≤ℤ low }
     requires greatest { high <ℤ pos (2 ^ 71) }
