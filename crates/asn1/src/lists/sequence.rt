@@ -21,7 +21,7 @@ use std::alloc::Global;
 /// Reading one refuses no content and takes no memory. Two are equal where their contents octets are.
 #[derive(Clone, Copy, Debug, PartialEq, Eq, Hash)]
 pub struct Sequence<'a> {
-    content: &'a [u8],
+    data: &'a [u8],
 }
 
 impl<'a> Sequence<'a> {
@@ -36,7 +36,7 @@ impl<'a> Sequence<'a> {
         requires { F.IsAlwaysCallable f }
         ensures { (rest : List ℕ) × (answer : Result T E) × FnOnceReturnsAtMut F.FnOnce f (sequence_octets self.entry) answer rest × IsHandedOn E.from_gives answer rest result }
     {
-        parse(alloc, self.content, f)
+        parse(alloc, self.data, f)
     }
 }
 
@@ -44,7 +44,7 @@ impl<'a> Asn1Type for Sequence<'a> {
     ghost der = { simple_der sequence_octets sequence_content };
 
     fn known(&self) {
-        are_octets(self.content)
+        are_octets(self.data)
     }
 }
 
@@ -60,7 +60,7 @@ impl<'a> SimpleAsn1Readable<'a> for Sequence<'a> {
     fn parse_data(_alloc: Global, data: &'a [u8]) -> ParseResult<Sequence<'a>>
         ensures { Answers sequence_octets (λ _. ⊥) result (Ok «data».entry.now) }
     {
-        Ok(Sequence { content: data })
+        Ok(Sequence { data })
     }
 }
 
@@ -77,13 +77,13 @@ impl<'a> SimpleAsn1Writable for Sequence<'a> {
     }
 
     fn write_data(&self, dest: &mut WriteBuf) -> WriteResult<()> {
-        dest.push_slice(self.content)
+        dest.push_slice(self.data)
     }
 
     fn data_length(&self) -> Option<usize>
         ensures length { KnowsLength (λ t. t ≡ sequence_octets self.now) result }
         ensures known { result ≡ Some (length (sequence_octets self.now)) }
     {
-        Some(self.content.len())
+        Some(self.data.len())
     }
 }

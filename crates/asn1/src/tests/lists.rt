@@ -1,7 +1,8 @@
-//! Lists and sets that are read and written back.
+//! Sequences, and lists of items of one type.
 
-ghost use Rattle.std.specs.Prelude.{◌≡◌, ◌∷◌, []};
+ghost use Rattle.std.specs.Prelude.{◌≡◌, []};
 ghost use Rattle.asn1.specs.Tag.{universal};
+ghost use Rattle.asn1.specs.Buffer.{KeepsFront};
 ghost use Rattle.asn1.specs.Der.{simple_der, seen};
 ghost use Rattle.asn1.specs.Items.{sequence_tag};
 ghost use Rattle.asn1.specs.Reading.{Answers};
@@ -9,16 +10,18 @@ ghost use Rattle.asn1.specs.Written.{written};
 ghost use Rattle.asn1.specs.declared.tests.lists.Custom.TheVariants.{Memory, Refused};
 
 use crate::{
-    Asn1Type, ParseError, ParseErrorKind, ParseLocation, ParseResult, Parser, SequenceOf,
-    SequenceOfWriter, SequenceWriter, Set, SetElementWriter, SetOf, SetOfWriter, SetWriter,
-    SimpleAsn1Readable, SimpleAsn1Writable, Tag, WriteBuf, WriteError, WriteResult, Writer,
-    parse_single, strip_tlv, write_single,
+    Asn1Type, Asn1Writable, Choice2, ParseError, ParseErrorKind, ParseLocation, ParseResult,
+    Parser, Sequence, SequenceOf, SequenceOfWriter, SequenceWriter, SimpleAsn1Readable,
+    SimpleAsn1Writable, Tag, WriteBuf, WriteError, WriteResult, Writer, parse_single, strip_tlv,
+    write, write_single,
 };
 use std::alloc::Global;
+use std::hash::{DefaultHasher, Hash, Hasher};
+use std::process::Abort;
 use std::test::Fail;
 
 /// Why a read was refused.
-fn refusal<T: Drop>(answer: ParseResult<T>) -> Option<ParseError> {
+pub fn refusal<T: Drop>(answer: ParseResult<T>) -> Option<ParseError> {
     match answer {
         Ok(_value) => None,
         Err(error) => Some(error),
@@ -26,68 +29,192 @@ fn refusal<T: Drop>(answer: ParseResult<T>) -> Option<ParseError> {
 }
 
 /// An error at the item of this index.
-fn at(index: usize, kind: ParseErrorKind) -> Option<ParseError> {
+pub fn at(index: usize, kind: ParseErrorKind) -> Option<ParseError> {
     Some(ParseError::new(kind).add_location(ParseLocation::Index(index)))
 }
 
+/// The value is written as these octets.
+pub fn is_written<A: Abort, T: Asn1Writable<Error = WriteError>>(
+    rt: &A,
+    alloc: Global,
+    value: &T,
+    octets: &[u8],
+) -> Result<(), Fail>
+    requires { T.der.closures (T.der.meaning value.now) }
+{
+    let written = write_single(alloc, value)?;
+    assert_eq!(rt; written.as_slice(), octets);
+    Ok(())
+}
+
+pub fn hash_of<T: Hash>(value: &T) -> u64 {
+    let mut state = DefaultHasher::new();
+    value.hash(&mut state);
+    state.finish()
+}
+
+/// A list of any count of items.
+type List<'a, T> = SequenceOf<'a, T, 0, { usize::MAX }>;
+
+const FIVE_AND_SEVEN: &[u8] = &[0x30, 0x06, 0x02, 0x01, 0x05, 0x02, 0x01, 0x07];
+
+const ONE_TO_THREE: &[u8] = &[
+    0x30, 0x09, 0x02, 0x01, 0x01, 0x02, 0x01, 0x02, 0x02, 0x01, 0x03,
+];
+
 #[test]
-fn lists(rt: HostRuntime) -> Result<(), Fail> {
-    let octets: &[u8] = &[0x30, 0x06, 0x02, 0x01, 0x05, 0x02, 0x01, 0x07];
-    let mut list = parse_single::<SequenceOf<'_, u64, 2, 3>>(rt.alloc(), octets)?;
-    assert_eq!(rt; list.len(), 2);
-    assert!(rt; !list.is_empty());
-    let whole = list.clone()?;
-    assert!(rt; whole == list);
-    assert!(rt; matches!(list.next(), Some(Ok(5))));
-    assert!(rt; whole != list);
-    let rest = write_single(rt.alloc(), &list)?;
-    assert_eq!(rt;
-        rest.as_slice(),
-        [0x30u8, 0x03, 0x02, 0x01, 0x07].as_slice()
+fn sequences_read_by_the_caller(rt: HostRuntime) -> Result<(), Fail> {
+    let alloc = rt.alloc();
+    let octets: &[u8] = &[0x30, 0x06, 0x01, 0x01, 0xff, 0x02, 0x01, 0x06];
+    let sequence = parse_single::<Sequence<'_>>(alloc, octets)?;
+    is_written(&rt, alloc, &sequence, octets)?;
+    let parts = sequence.parse(
+        alloc,
+        |parser: &mut Parser<'_>| -> ParseResult<(bool, u8)> {
+            Ok((parser.read_element::<bool>()?, parser.read_element::<u8>()?))
+        },
     );
-    assert!(rt; matches!(list.next(), Some(Ok(7))));
-    assert!(rt; list.next().is_none());
-    assert!(rt; list.is_empty());
-    let back = write_single(rt.alloc(), &whole)?;
-    assert_eq!(rt; back.as_slice(), octets);
-    let again = parse_single::<SequenceOf<'_, u64, 2, 3>>(rt.alloc(), rest.as_slice());
-    let bounds = ParseErrorKind::InvalidSize {
-        min: 2,
-        max: 3,
-        actual: 1,
-    };
-    assert_eq!(rt; refusal(again), Some(ParseError::new(bounds)));
+    assert_eq!(rt; parts, Ok((true, 6)));
+    let first = sequence.parse(
+        alloc,
+        |parser: &mut Parser<'_>| parser.read_element::<bool>(),
+    );
+    assert_eq!(rt; first, Err(ParseError::new(ParseErrorKind::ExtraData)));
+    let none = parse_single::<Sequence<'_>>(alloc, &[0x30, 0x00])?;
+    assert!(rt; none == none.clone()? && none != sequence);
+    assert!(rt; hash_of(&none) != hash_of(&sequence));
+    assert_eq!(rt;
+        format!(in alloc; "{none:?}")?.as_str(),
+        "Sequence { data: [] }"
+    );
     Ok(())
 }
 
 #[test]
+fn lists_have_the_items_left(rt: HostRuntime) -> Result<(), Fail> {
+    let alloc = rt.alloc();
+    let mut list = parse_single::<SequenceOf<'_, u64, 2, 3>>(alloc, FIVE_AND_SEVEN)?;
+    assert_eq!(rt; list.len(), 2);
+    assert!(rt; !list.is_empty());
+    let whole = list.clone()?;
+    assert!(rt; matches!(list.next(), Some(Ok(5))));
+    assert!(rt; whole != list);
+    let rest: &[u8] = &[0x30, 0x03, 0x02, 0x01, 0x07];
+    is_written(&rt, alloc, &list, rest)?;
+    assert!(rt; matches!(list.next(), Some(Ok(7))));
+    assert!(rt; list.next().is_none());
+    assert!(rt; list.is_empty());
+    is_written(&rt, alloc, &whole, FIVE_AND_SEVEN)?;
+    let again = parse_single::<SequenceOf<'_, u64, 2, 3>>(alloc, rest);
+    assert_eq!(rt; refusal(again), wrong_count(2, 3, 1));
+    Ok(())
+}
+
+/// The items that are left.
+fn items_left(list: &mut List<'_, u64>) -> [Option<ParseResult<u64>>; 3] {
+    [list.next(), list.next(), list.next()]
+}
+
+#[test]
+fn copies_of_lists(rt: HostRuntime) -> Result<(), Fail> {
+    let mut list = parse_single::<List<'_, u64>>(rt.alloc(), ONE_TO_THREE)?;
+    let whole = list.clone()?;
+    assert_eq!(rt; list.len(), 3);
+    assert!(rt; matches!(list.next(), Some(Ok(1))));
+    assert_eq!(rt; (list.len(), whole.len()), (2, 3));
+    let mut copy = list.clone()?;
+    assert_eq!(rt; items_left(&mut list), [Some(Ok(2)), Some(Ok(3)), None]);
+    assert_eq!(rt; items_left(&mut copy), [Some(Ok(2)), Some(Ok(3)), None]);
+    assert!(rt; list.len() == 0 && list.is_empty() && list.next().is_none());
+    assert!(rt; whole.len() == 3 && !whole.is_empty());
+    Ok(())
+}
+
+#[test]
+fn equal_lists(rt: HostRuntime) -> Result<(), Fail> {
+    let none = parse_single::<List<'_, bool>>(rt.alloc(), &[0x30, 0x00])?;
+    let other = parse_single::<List<'_, bool>>(rt.alloc(), &[0x30, 0x00])?;
+    let no = parse_single::<List<'_, bool>>(rt.alloc(), &[0x30, 0x03, 0x01, 0x01, 0x00])?;
+    let yes = parse_single::<List<'_, bool>>(rt.alloc(), &[0x30, 0x03, 0x01, 0x01, 0xff])?;
+    assert!(rt; none == other && other != no && no == no.clone()? && no != yes);
+    assert_eq!(rt; hash_of(&none), hash_of(&other));
+    assert!(rt; hash_of(&other) != hash_of(&no) && hash_of(&no) != hash_of(&yes));
+    Ok(())
+}
+
+/// The bounds of a list, and how many items it has.
+fn wrong_count(min: usize, max: usize, actual: usize) -> Option<ParseError> {
+    Some(ParseError::new(ParseErrorKind::InvalidSize { min, max, actual }))
+}
+
+#[test]
 fn faults_of_lists(rt: HostRuntime) {
-    let octets: &[u8] = &[0x30, 0x06, 0x02, 0x01, 0x05, 0x02, 0x01, 0x07];
-    let many = parse_single::<SequenceOf<'_, u64, 0, 1>>(rt.alloc(), octets);
-    let bounds = ParseErrorKind::InvalidSize {
-        min: 0,
-        max: 1,
-        actual: 2,
-    };
-    assert_eq!(rt; refusal(many), Some(ParseError::new(bounds)));
+    let alloc = rt.alloc();
+    let many = parse_single::<SequenceOf<'_, u64, 0, 1>>(alloc, FIVE_AND_SEVEN);
+    assert_eq!(rt; refusal(many), wrong_count(0, 1, 2));
+    let few = parse_single::<SequenceOf<'_, u64, 2, 3>>(alloc, &[0x30, 0x03, 0x02, 0x01, 0x05]);
+    assert_eq!(rt; refusal(few), wrong_count(2, 3, 1));
     let inner: &[u8] = &[0x30, 0x05, 0x30, 0x03, 0x02, 0x01, 0x05];
-    let few = parse_single::<SequenceOf<'_, SequenceOf<'_, u64, 2, 3>, 0, { usize::MAX }>>(
-        rt.alloc(),
-        inner,
-    );
-    let bounds = ParseErrorKind::InvalidSize {
+    let few = parse_single::<List<'_, SequenceOf<'_, u64, 2, 3>>>(alloc, inner);
+    let kind = ParseErrorKind::InvalidSize {
         min: 2,
         max: 3,
         actual: 1,
     };
-    assert_eq!(rt; refusal(few), at(0, bounds));
+    assert_eq!(rt; refusal(few), at(0, kind));
+    // A faulty item comes before a wrong count.
+    let faulty: &[u8] = &[0x30, 0x06, 0x02, 0x01, 0x05, 0x02, 0x01, 0xff];
+    let negative = parse_single::<SequenceOf<'_, u64, 0, 1>>(alloc, faulty);
+    assert_eq!(rt; refusal(negative), at(1, ParseErrorKind::InvalidValue));
 }
 
-type One<'a> = SequenceOf<'a, bool, 0, { usize::MAX }>;
+#[test]
+fn lists_of_options(rt: HostRuntime) -> Result<(), Fail> {
+    let alloc = rt.alloc();
+    let other: &[u8] = &[0x30, 0x03, 0x01, 0x01, 0xff];
+    let none = parse_single::<List<'_, Option<u8>>>(alloc, other);
+    assert_eq!(rt; refusal(none), at(0, ParseErrorKind::ExtraData));
+    let octets: &[u8] = &[0x30, 0x03, 0x02, 0x01, 0x05];
+    let mut list = parse_single::<List<'_, Option<u8>>>(alloc, octets)?;
+    is_written(&rt, alloc, &list, octets)?;
+    assert_eq!(rt; list.len(), 1);
+    assert!(rt; matches!(list.next(), Some(Ok(Some(5)))));
+    assert!(rt; list.next().is_none());
+    Ok(())
+}
 
-type Two<'a> = SequenceOf<'a, One<'a>, 0, { usize::MAX }>;
+#[test]
+fn lists_of_choices(rt: HostRuntime) -> Result<(), Fail> {
+    let octets: &[u8] = &[0x30, 0x06, 0x01, 0x01, 0xff, 0x02, 0x01, 0x05];
+    let mut list = parse_single::<List<'_, Choice2<bool, i64>>>(rt.alloc(), octets)?;
+    assert_eq!(rt; list.len(), 2);
+    assert!(rt; matches!(list.next(), Some(Ok(Choice2::ChoiceA(true)))));
+    assert!(rt; matches!(list.next(), Some(Ok(Choice2::ChoiceB(5)))));
+    assert!(rt; list.next().is_none());
+    Ok(())
+}
 
-type Three<'a> = SequenceOf<'a, Two<'a>, 0, { usize::MAX }>;
+/// The next item, and how many then are left.
+fn next_boxed(list: &mut List<'_, Box<u8>>) -> Result<(Option<u8>, usize), ParseError> {
+    match list.next() {
+        Some(item) => Ok((Some(*item?), list.len())),
+        None => Ok((None, list.len())),
+    }
+}
+
+#[test]
+fn lists_whose_items_take_memory(rt: HostRuntime) -> Result<(), Fail> {
+    let mut list = parse_single::<List<'_, Box<u8>>>(rt.alloc(), ONE_TO_THREE)?;
+    is_written(&rt, rt.alloc(), &list, ONE_TO_THREE)?;
+    assert_eq!(rt; list.data_length(), Some(9));
+    assert_eq!(rt; next_boxed(&mut list)?, (Some(1), 2));
+    assert_eq!(rt; next_boxed(&mut list)?, (Some(2), 1));
+    assert_eq!(rt; next_boxed(&mut list)?, (Some(3), 0));
+    assert_eq!(rt; next_boxed(&mut list)?, (None, 0));
+    Ok(())
+}
+
+type Three<'a> = List<'a, List<'a, List<'a, bool>>>;
 
 /// Three lists in one another, under a name of their own: a check of five at once takes too many steps.
 #[derive(Drop)]
@@ -120,16 +247,12 @@ impl<'a> SimpleAsn1Readable<'a> for Inner<'a> {
     }
 }
 
-type Four<'a> = SequenceOf<'a, Inner<'a>, 0, { usize::MAX }>;
-
-type Five<'a> = SequenceOf<'a, Four<'a>, 0, { usize::MAX }>;
-
 #[test]
 fn places_of_lists(rt: HostRuntime) {
     let octets: &[u8] = &[
         0x30, 0x0b, 0x30, 0x09, 0x30, 0x07, 0x30, 0x05, 0x30, 0x03, 0x01, 0x01, 0x01,
     ];
-    let read = parse_single::<Five<'_>>(rt.alloc(), octets);
+    let read = parse_single::<List<'_, List<'_, Inner<'_>>>>(rt.alloc(), octets);
     let error = ParseError::new(ParseErrorKind::InvalidValue)
         .add_location(ParseLocation::Index(0))
         .add_location(ParseLocation::Index(0))
@@ -139,176 +262,121 @@ fn places_of_lists(rt: HostRuntime) {
 }
 
 #[test]
-fn sets(rt: HostRuntime) -> Result<(), Fail> {
-    let octets: &[u8] = &[0x31, 0x06, 0x02, 0x01, 0x05, 0x02, 0x01, 0x05];
-    let mut set = parse_single::<SetOf<'_, u64>>(rt.alloc(), octets)?;
-    let whole = set.clone()?;
-    assert!(rt; whole == set);
-    assert!(rt; matches!(set.next(), Some(Ok(5))));
-    let rest = write_single(rt.alloc(), &set)?;
-    assert_eq!(rt;
-        rest.as_slice(),
-        [0x31u8, 0x03, 0x02, 0x01, 0x05].as_slice()
-    );
-    assert!(rt; matches!(set.next(), Some(Ok(5))));
-    assert!(rt; set.next().is_none());
-    let back = write_single(rt.alloc(), &whole)?;
-    assert_eq!(rt; back.as_slice(), octets);
-    let rows: [&[u8]; 2] = [
-        &[0x31, 0x06, 0x02, 0x01, 0x07, 0x02, 0x01, 0x05],
-        &[0x31, 0x06, 0x02, 0x01, 0x07, 0x01, 0x01, 0xff],
-    ];
-    for octets in rows {
-        let unordered = parse_single::<SetOf<'_, u64>>(rt.alloc(), octets);
-        assert_eq!(rt;
-            refusal(unordered),
-            at(1, ParseErrorKind::InvalidSetOrdering)
-        );
-    }
-    let other: &[u8] = &[0x31, 0x03, 0x01, 0x01, 0xff];
-    let unexpected = ParseErrorKind::UnexpectedTag {
-        actual: Tag::primitive(1),
-    };
-    let refused = parse_single::<SetOf<'_, u64>>(rt.alloc(), other);
-    assert_eq!(rt; refusal(refused), at(0, unexpected));
-    Ok(())
-}
-
-#[test]
-fn sets_of_any_elements(rt: HostRuntime) -> Result<(), Fail> {
-    let octets: &[u8] = &[0x31, 0x04, 0x81, 0x00, 0xa0, 0x00];
-    let set = parse_single::<Set<'_>>(rt.alloc(), octets)?;
-    let back = write_single(rt.alloc(), &set)?;
-    assert_eq!(rt; back.as_slice(), octets);
-    let rows: [&[u8]; 2] = [
-        &[0x31, 0x04, 0xa0, 0x00, 0x81, 0x00],
-        &[0x31, 0x06, 0x02, 0x01, 0x05, 0x01, 0x01, 0xff],
-    ];
-    for octets in rows {
-        let unordered = parse_single::<Set<'_>>(rt.alloc(), octets);
-        assert_eq!(rt;
-            refusal(unordered),
-            at(1, ParseErrorKind::InvalidSetOrdering)
-        );
-    }
-    let short = parse_single::<Set<'_>>(rt.alloc(), &[0x31, 0x03, 0x02, 0x02, 0x05]);
-    assert_eq!(rt;
-        refusal(short),
-        at(0, ParseErrorKind::ShortData { needed: 1 })
-    );
-    Ok(())
-}
-
-#[test]
-fn parts_of_a_set(rt: HostRuntime) -> Result<(), Fail> {
-    let octets: &[u8] = &[0x31, 0x06, 0x01, 0x01, 0xff, 0x02, 0x01, 0x05];
-    let set = parse_single::<Set<'_>>(rt.alloc(), octets)?;
-    let same = set.clone()?;
-    assert!(rt; set == same);
-    let parts = set.parse(
-        rt.alloc(),
-        |parser: &mut Parser<'_>| -> ParseResult<(bool, u8)> {
-            Ok((parser.read_element::<bool>()?, parser.read_element::<u8>()?))
-        },
-    );
-    assert_eq!(rt; parts, Ok((true, 5)));
-    let first = same.parse(
-        rt.alloc(),
-        |parser: &mut Parser<'_>| parser.read_element::<bool>(),
-    );
-    assert_eq!(rt; first, Err(ParseError::new(ParseErrorKind::ExtraData)));
-    Ok(())
-}
-
-#[test]
-fn lists_that_are_written(rt: HostRuntime) -> Result<(), Fail> {
-    let items = [1u8, 2];
+fn lists_of_a_slice(rt: HostRuntime) -> Result<(), Fail> {
+    let alloc = rt.alloc();
+    let items = [1u8, 2, 3];
+    is_written(&rt, alloc, &SequenceOfWriter::new(&items), ONE_TO_THREE)?;
+    is_written(
+        &rt,
+        alloc,
+        &SequenceOfWriter::new(&items[..0]),
+        &[0x30, 0x00],
+    )?;
+    assert_eq!(rt; SequenceOfWriter::new(&items[..2]).data_length(), Some(6));
     let list = SequenceOfWriter::new(&items);
-    assert_eq!(rt; list.data_length(), Some(6));
-    let octets = write_single(rt.alloc(), &list)?;
-    assert_eq!(rt; octets.as_slice(), [0x30u8, 6, 2, 1, 1, 2, 1, 2].as_slice());
-    let same = list.clone()?;
-    assert!(rt; same == list);
-    let closure = |writer: &mut Writer<'_>| -> WriteResult<()> { writer.write_element(&true) };
-    let writers = [SequenceWriter::new(&closure)];
-    assert_eq!(rt; SequenceOfWriter::new(&writers).data_length(), None);
-    let by_closure = write_single(
-        rt.alloc(),
-        &SequenceWriter::new(&|writer: &mut Writer<'_>| -> WriteResult<()> {
-            writer.write_element(&true)
-        }),
+    assert!(rt; list.clone()? == list && list != SequenceOfWriter::new(&items[1..]));
+    let nothing = |_writer: &mut Writer<'_>| -> WriteResult<()> { Ok(()) };
+    let sequences = [SequenceWriter::new(&nothing)];
+    is_written(
+        &rt,
+        alloc,
+        &SequenceOfWriter::new(&sequences[..0]),
+        &[0x30, 0],
     )?;
-    assert_eq!(rt; by_closure.as_slice(), [0x30u8, 3, 1, 1, 0xff].as_slice());
+    is_written(
+        &rt,
+        alloc,
+        &SequenceOfWriter::new(&sequences),
+        &[0x30, 2, 0x30, 0],
+    )?;
+    assert_eq!(rt; SequenceOfWriter::new(&sequences).data_length(), None);
+    let number = |writer: &mut Writer<'_>| -> WriteResult<()> { writer.write_element(&1u64) };
+    let sequences = [SequenceWriter::new(&number)];
+    let octets: &[u8] = &[0x30, 5, 0x30, 3, 2, 1, 1];
+    is_written(&rt, alloc, &SequenceOfWriter::new(&sequences), octets)
+}
+
+#[test]
+fn sequences_of_a_closure(rt: HostRuntime) -> Result<(), Fail> {
+    let alloc = rt.alloc();
+    let null = |writer: &mut Writer<'_>| -> WriteResult<()> { writer.write_element(&()) };
+    is_written(&rt, alloc, &SequenceWriter::new(&null), &[0x30, 2, 5, 0])?;
+    let truth = |writer: &mut Writer<'_>| -> WriteResult<()> { writer.write_element(&true) };
+    is_written(
+        &rt,
+        alloc,
+        &SequenceWriter::new(&truth),
+        &[0x30, 3, 1, 1, 0xff],
+    )?;
+    let nothing = |_writer: &mut Writer<'_>| -> WriteResult<()> { Ok(()) };
+    let octets = write(alloc, |writer: &mut Writer<'_>| {
+        writer.write_implicit_element(&SequenceWriter::new(&nothing), 2)
+    })?;
+    assert_eq!(rt; octets.as_slice(), [0xa2u8, 0].as_slice());
+    Ok(())
+}
+
+/// A sequence of one octet string, by a closure.
+fn sequence_around(alloc: Global, octets: &[u8]) -> WriteResult<Vec<u8>> {
+    let inner = |writer: &mut Writer<'_>| -> WriteResult<()> { writer.write_element(&octets) };
+    write_single(alloc, &SequenceWriter::new(&inner))
+}
+
+/// That sequence in another, by two closures.
+fn two_sequences_around(alloc: Global, octets: &[u8]) -> WriteResult<Vec<u8>> {
+    let inner = |writer: &mut Writer<'_>| -> WriteResult<()> { writer.write_element(&octets) };
+    let outer = |writer: &mut Writer<'_>| -> WriteResult<()> {
+        writer.write_element(&SequenceWriter::new(&inner))
+    };
+    write_single(alloc, &SequenceWriter::new(&outer))
+}
+
+const LETTERS: [u8; 65532] = [0x61; 65532];
+
+#[test]
+fn patched_lengths(rt: HostRuntime) -> Result<(), Fail> {
+    let cases: [(usize, &[u8]); 7] = [
+        (125, &[0x30, 0x7f]),
+        (126, &[0x30, 0x81, 0x80]),
+        (129, &[0x30, 0x81, 0x84, 0x04, 0x81, 0x81]),
+        (252, &[0x30, 0x81, 0xff]),
+        (253, &[0x30, 0x82, 0x01, 0x00]),
+        (65531, &[0x30, 0x82, 0xff, 0xff]),
+        (65532, &[0x30, 0x83, 0x01, 0x00, 0x00]),
+    ];
+    for (count, header) in cases {
+        let octets = &LETTERS[..count];
+        let patched = sequence_around(rt.alloc(), octets)?;
+        assert!(rt; patched.as_slice().starts_with(header), "{count}");
+        let announced = write_single(rt.alloc(), &SequenceOfWriter::new(&[octets]))?;
+        assert_eq!(rt; patched.as_slice(), announced.as_slice(), "{count}");
+        let (tlv, _rest) = strip_tlv(patched.as_slice())?;
+        let inner = parse_single::<&[u8]>(rt.alloc(), tlv.data())?;
+        assert_eq!(rt; inner, octets, "{count}");
+    }
     Ok(())
 }
 
 #[test]
-fn sets_that_are_written(rt: HostRuntime) -> Result<(), Fail> {
-    let octets = write_single(rt.alloc(), &SetOfWriter::new(&[3u8, 2, 1]))?;
-    assert_eq!(rt;
-        octets.as_slice(),
-        [0x31u8, 9, 2, 1, 1, 2, 1, 2, 2, 1, 3].as_slice()
-    );
-    let octets = write_single(rt.alloc(), &SetOfWriter::new(&[5u8, 5]))?;
-    assert_eq!(rt; octets.as_slice(), [0x31u8, 6, 2, 1, 5, 2, 1, 5].as_slice());
-    let none: [u8; 0] = [];
-    let octets = write_single(rt.alloc(), &SetOfWriter::new(&none))?;
-    assert_eq!(rt; octets.as_slice(), [0x31u8, 0].as_slice());
-    let octets = write_single(rt.alloc(), &SetOfWriter::new(&[256u16, 1, 255, 1]))?;
-    assert_eq!(rt;
-        octets.as_slice(),
-        [0x31u8, 0x0e, 2, 1, 1, 2, 1, 1, 2, 2, 0, 0xff, 2, 2, 1, 0].as_slice()
-    );
-    assert_eq!(rt; SetOfWriter::new(&[256u16, 1]).data_length(), Some(7));
-    let two = [2u8, 1];
-    let one = [1u8];
-    assert!(rt; SetOfWriter::new(&two).clone()? == SetOfWriter::new(&two));
-    let nested = [SetOfWriter::new(&two), SetOfWriter::new(&one)];
-    let octets = write_single(rt.alloc(), &SetOfWriter::new(&nested))?;
-    assert_eq!(rt;
-        octets.as_slice(),
-        [0x31u8, 0x0d, 0x31, 3, 2, 1, 1, 0x31, 6, 2, 1, 1, 2, 1, 2].as_slice()
-    );
+fn patched_lengths_in_one_another(rt: HostRuntime) -> Result<(), Fail> {
+    let cases: [(&[u8], &[u8]); 2] = [
+        (&LETTERS[..125], &[0x30, 0x81, 0x81, 0x30, 0x7f, 0x04, 0x7d]),
+        (
+            &LETTERS[..126],
+            &[0x30, 0x81, 0x83, 0x30, 0x81, 0x80, 0x04, 0x7e],
+        ),
+    ];
+    for (octets, header) in cases {
+        let outer = two_sequences_around(rt.alloc(), octets)?;
+        assert!(rt; outer.as_slice().starts_with(header));
+        let (tlv, _rest) = strip_tlv(outer.as_slice())?;
+        let inner = sequence_around(rt.alloc(), octets)?;
+        assert_eq!(rt; tlv.data(), inner.as_slice());
+    }
     Ok(())
 }
 
-#[test]
-fn sets_of_a_closure(rt: HostRuntime) -> Result<(), Fail> {
-    let ordered = write_single(
-        rt.alloc(),
-        &SetWriter::new(
-            &|set: &mut SetElementWriter<'_>| -> WriteResult<()>
-                ensures { set.new.front ≡ set.old.front }
-            {
-                set.write_element(&1i64)?;
-                let refused = set.write_element(&true);
-                if refused.is_ok() {
-                    return refused;
-                }
-                set.write_element(&2i64)
-            },
-        ),
-    )?;
-    assert_eq!(rt;
-        ordered.as_slice(),
-        [0x31u8, 6, 2, 1, 1, 2, 1, 2].as_slice()
-    );
-    let handed_on = write_single(
-        rt.alloc(),
-        &SetWriter::new(
-            &|set: &mut SetElementWriter<'_>| -> WriteResult<()>
-                ensures { set.new.front ≡ set.old.front }
-            {
-                set.write_element(&1i64)?;
-                set.write_element(&true)
-            },
-        ),
-    );
-    assert!(rt; matches!(handed_on, Err(WriteError::InvalidSetOrdering)));
-    Ok(())
-}
-
-/// Why a digit was refused.
+/// Why an item was refused.
 #[derive(Debug, PartialEq, Eq, Drop)]
 enum Custom {
     Memory,
@@ -323,16 +391,17 @@ impl From<WriteError> for Custom {
     }
 }
 
-/// A number that is written where it is below ten.
-struct Digit(u8);
+/// An item of that length, as it says, that puts one octet and then refuses.
+#[derive(Drop)]
+struct Unwritable(Option<usize>);
 
-impl Asn1Type for Digit {
-    ghost der = { simple_der (λ v. v.0) (written (record { tag = universal 2; text = λ m. m ∷ []; texts = λ m t. t ≡ m ∷ []; closures = λ m. Unit {0}; valid = λ m. Unit {0}; plain = Unit {0}; one_text = λ p m t e. e; no_closures = λ p m. tt })) };
+impl Asn1Type for Unwritable {
+    ghost der = { simple_der (λ v. tt {0}) (written (record { tag = universal 2; text = λ m. []; texts = λ m t. ⊥; closures = λ m. Unit {0}; valid = λ m. Unit {0}; plain = Unit {0}; one_text = λ p m t e. absurd e; no_closures = λ p m. tt })) };
 
     fn known(&self) {}
 }
 
-impl SimpleAsn1Writable for Digit {
+impl SimpleAsn1Writable for Unwritable {
     type Error = Custom;
 
     ghost write_errors = { λ _ e. e ≡ Refused };
@@ -342,62 +411,47 @@ impl SimpleAsn1Writable for Digit {
     }
 
     fn write_data(&self, dest: &mut WriteBuf) -> Result<(), Custom> {
-        if self.0 >= 10 {
-            return Err(Custom::Refused);
-        }
-        dest.push_byte(self.0)?;
-        Ok(())
+        dest.push_byte(1)?;
+        Err(Custom::Refused)
     }
 
     fn data_length(&self) -> Option<usize> {
-        Some(1)
+        Some(self.0?)
     }
 }
 
 #[test]
-fn items_with_errors_of_their_own(rt: HostRuntime) -> Result<(), Fail> {
-    let refused = write_single(rt.alloc(), &SetOfWriter::new(&[Digit(3), Digit(10)]));
-    assert!(rt; matches!(refused, Err(Custom::Refused)));
-    let refused = write_single(rt.alloc(), &SequenceOfWriter::new(&[Digit(3), Digit(10)]));
-    assert!(rt; matches!(refused, Err(Custom::Refused)));
-    Ok(())
-}
-
-const VALUES: [u32; 7] = [0, 1, 127, 128, 255, 256, 65535];
-
-/// How many slices of so many of the values there are.
-const COUNTS: [usize; 6] = [1, 7, 49, 343, 2401, 16807];
-
-/// The content of a set, by a second buffer for each text.
-fn slow_content(alloc: Global, items: &[u32]) -> Result<Vec<u8>, Fail> {
-    let mut texts: Vec<Vec<u8>> = Vec::new(alloc);
-    for item in items {
-        texts.push(write_single(alloc, item)?)?;
+fn refused_items(rt: HostRuntime) -> Result<(), Fail> {
+    let alloc = rt.alloc();
+    let items = [Unwritable(None), Unwritable(None)];
+    match write_single(alloc, &SequenceOfWriter::new(&items)) {
+        Err(Custom::Memory) => Err(WriteError::AllocationError)?,
+        answer => assert!(rt; matches!(answer, Err(Custom::Refused))),
     }
-    texts.sort()?;
-    let mut content = Vec::new(alloc);
-    for text in &texts {
-        content.extend_from_slice(text.as_slice())?;
-    }
-    Ok(content)
-}
-
-#[test]
-fn sets_by_two_ways(rt: HostRuntime) -> Result<(), Fail> {
-    for n in 0..6usize {
-        for index in 0..COUNTS[n] {
-            let mut items = [0u32; 5];
-            let mut rest = index;
-            for place in 0..n {
-                items[place] = VALUES[rest % 7];
-                rest /= 7;
-            }
-            let items = &items[..n];
-            let octets = write_single(rt.alloc(), &SetOfWriter::new(items))?;
-            let (tlv, _rest) = strip_tlv(octets.as_slice())?;
-            let slow = slow_content(rt.alloc(), items)?;
-            assert_eq!(rt; tlv.data(), slow.as_slice());
+    // A closure that goes on after a refusal: what the item put is gone.
+    let goes_on = |writer: &mut Writer<'_>| -> WriteResult<()>
+        ensures same_buffer { writer.new.buf.ghost_name ≡ writer.old.buf.ghost_name }
+        ensures front { KeepsFront writer.old.buf.now.bytes writer.new.buf.now.bytes }
+    {
+        if writer.write_element(&Unwritable(None)).is_ok() {
+            return Ok(());
         }
-    }
-    Ok(())
+        writer.write_element(&true)
+    };
+    is_written(
+        &rt,
+        alloc,
+        &SequenceWriter::new(&goes_on),
+        &[0x30, 3, 1, 1, 0xff],
+    )
+}
+
+#[test]
+fn lengths_that_pass_the_largest(rt: HostRuntime) {
+    let items = [
+        Unwritable(Some(usize::MAX - 10)),
+        Unwritable(Some(usize::MAX - 10)),
+    ];
+    assert_eq!(rt; items[0].encoded_length(), Some(usize::MAX));
+    assert_eq!(rt; SequenceOfWriter::new(&items).data_length(), None);
 }
