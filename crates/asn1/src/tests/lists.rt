@@ -206,7 +206,9 @@ fn next_boxed(list: &mut List<'_, Box<u8>>) -> Result<(Option<u8>, usize), Parse
 fn lists_whose_items_take_memory(rt: HostRuntime) -> Result<(), Fail> {
     let mut list = parse_single::<List<'_, Box<u8>>>(rt.alloc(), ONE_TO_THREE)?;
     is_written(&rt, rt.alloc(), &list, ONE_TO_THREE)?;
-    assert_eq!(rt; list.data_length(), Some(9));
+    // Without a length an item found no memory.
+    let length = list.data_length().ok_or(WriteError::AllocationError)?;
+    assert_eq!(rt; length, 9);
     assert_eq!(rt; next_boxed(&mut list)?, (Some(1), 2));
     assert_eq!(rt; next_boxed(&mut list)?, (Some(2), 1));
     assert_eq!(rt; next_boxed(&mut list)?, (Some(3), 0));
