@@ -7,3 +7,4 @@ pub mod Headers
 pub mod Framings
 pub mod States
 pub mod Steps
+mod KnownIdentifiers

@@ -16,3 +16,4 @@ pub mod Code
 pub mod Reason
 pub mod Time
 pub mod SomeSequence
+pub mod MySequence

@@ -1,5 +1,6 @@
 //! Types by hand, written and read.
 
+use crate::own_types::my_sequence::{Content, MySequence, some_oid};
 use crate::own_types::reason::Reason;
 use crate::own_types::round_trips::read_and_write_back;
 use crate::own_types::sealable::{SealError, Sealable};
@@ -7,8 +8,9 @@ use crate::own_types::signature::Signature;
 use crate::own_types::some_sequence::SomeSequence;
 use crate::own_types::time::Time;
 use asn1::{
-    Asn1Readable, Asn1Writable, ParseError, ParseErrorKind, ParseLocation, ParseResult, Tag,
-    WriteError, parse_single, write_single,
+    Asn1DefinedByReadable, Asn1DefinedByWritable, Asn1Readable, Asn1Writable, DefinedByMarker,
+    Explicit, ObjectIdentifier, ParseError, ParseErrorKind, ParseLocation, ParseResult, Parser,
+    Tag, WriteError, Writer, parse_single, write, write_single,
 };
 use std::alloc::Global;
 use std::process::Abort;
@@ -123,6 +125,66 @@ fn times(rt: HostRuntime) -> Result<(), Fail> {
         assert_eq!(rt; again.as_slice(), octets);
     }
     assert_eq!(rt; refused::<Time>(alloc, &[5, 0]), of(other_tag(5)));
+    Ok(())
+}
+
+/// A sequence with the one variant.
+fn sequence_of_seven() -> MySequence {
+    MySequence {
+        content_type: DefinedByMarker::marker(),
+        content: Content::SomeVariant(7),
+    }
+}
+
+#[test]
+fn my_sequences(rt: HostRuntime) -> Result<(), Fail> {
+    let alloc = rt.alloc();
+    both_ways(
+        &rt,
+        alloc,
+        sequence_of_seven(),
+        &[0x30, 7, 6, 2, 0x2a, 3, 2, 1, 7],
+    )?;
+    let unknown = refused::<MySequence>(alloc, &[0x30, 7, 6, 2, 0x2a, 4, 2, 1, 7]);
+    let kind = ParseErrorKind::UnknownDefinedBy;
+    assert_eq!(rt; unknown, at("MySequence::content", kind));
+    let boolean = refused::<MySequence>(alloc, &[0x30, 3, 1, 1, 0xff]);
+    assert_eq!(rt; boolean, at("MySequence::content_type", other_tag(1)));
+    Ok(())
+}
+
+/// Reads a content under the explicit tag 3, as the item defines it.
+fn read_defined(
+    alloc: Global,
+    item: ObjectIdentifier,
+    octets: &[u8],
+) -> ParseResult<Explicit<Content, 3>> {
+    let mut parser = Parser::new(alloc, octets);
+    <Explicit<Content, 3> as Asn1DefinedByReadable<'_, ObjectIdentifier>>::parse(item, &mut parser)
+}
+
+#[test]
+fn contents(rt: HostRuntime) -> Result<(), Fail> {
+    let alloc = rt.alloc();
+    let other = ObjectIdentifier::from_der(&[0x2a, 4])?;
+    let mut parser = Parser::new(alloc, &[2, 1, 7]);
+    let unknown = refusal(Content::parse(other.clone()?, &mut parser));
+    assert_eq!(rt; unknown, of(ParseErrorKind::UnknownDefinedBy));
+
+    let octets: &[u8] = &[0xa3, 3, 2, 1, 7];
+    let value = read_defined(alloc, some_oid(), octets)?;
+    assert_eq!(rt; value.as_inner(), &Content::SomeVariant(7));
+    assert!(rt; Asn1DefinedByWritable::<ObjectIdentifier>::item(&value) == some_oid());
+    let length = Asn1DefinedByWritable::<ObjectIdentifier>::encoded_length(&value);
+    assert_eq!(rt; length, Some(5));
+    let written = write(alloc, |writer: &mut Writer<'_>| {
+        Asn1DefinedByWritable::<ObjectIdentifier>::write(&value, writer)
+    })?;
+    assert_eq!(rt; written.as_slice(), octets);
+    let two = read_defined(alloc, some_oid(), &[0xa3, 6, 2, 1, 7, 2, 1, 7]);
+    assert_eq!(rt; refusal(two), of(ParseErrorKind::ExtraData));
+    let unknown = refusal(read_defined(alloc, other, octets));
+    assert_eq!(rt; unknown, of(ParseErrorKind::UnknownDefinedBy));
     Ok(())
 }
 
