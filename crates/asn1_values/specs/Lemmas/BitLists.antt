@@ -1,9 +1,9 @@
 -- Bit strings as lists of bits.
 use Rattle.std.proofs.lemmas.Bool.{and_parts, cases_Bool, cases_eq, lt-ltb, le-ltb, ltb-true, ltb-false, leb-true, eqb-true, ne_eqb}
 use Rattle.asn1_core.specs.Text.{IsText}
-use Rattle.asn1_values.specs.Bits.{Bits, IsBits, is_padded, bits, has_bit}
-use Rattle.asn1_values.specs.BitLists.{bit_at, octet_bits, all_bits, IsBitsOf, BitsAreAList, OneBitString, SetBits}
-use Rattle.std.proofs.Common.{◌≡◌, ◌∙◌, ℕ, zero, suc, ◌+◌, ◌-◌, ◌*◌, ◌/◌, ◌%◌, ◌^◌, ◌<◌, ◌≤◌, inl, inr, Bool, true, false, cond, ◌&&◌, eqb, nat_eq, nat_lt, nat_le, List, [], ◌∷◌, ◌++◌, length, replicate, take, get_or, slice_index, slice_index_or, refl, sym, ap, subst, arith}
+use Rattle.asn1_values.specs.Bits.{is_padded, bits}
+use Rattle.asn1_values.specs.BitLists.{bit_at, octet_bits, all_bits, BitsAreAList, OneBitString, SetBits}
+use Rattle.std.proofs.Common.{◌≡◌, ◌∙◌, ℕ, zero, suc, ◌+◌, ◌-◌, ◌*◌, ◌/◌, ◌%◌, ◌^◌, ◌<◌, ◌≤◌, inl, inr, Bool, true, false, cond, ◌&&◌, eqb, nat_eq, nat_lt, nat_le, List, [], ◌∷◌, ◌++◌, length, replicate, take, get_or, slice_index, refl, sym, ap, subst, arith}
 
 -- ---- which bit is set
 
