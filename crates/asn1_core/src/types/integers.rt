@@ -1,6 +1,6 @@
 //! Integers: their contents octets, and the types with a range (X.690 8.3).
 
-ghost use Rattle.std.specs.Prelude.{◌≡◌, ℕ, ◌+◌, ◌-◌, ◌^◌, ◌<◌, ◌≤◌, ◌||◌, ◌==◌, ◌++◌, cond, length, pos, neg_ℤ, ◌≤ℤ◌, ◌<ℤ◌, IfOk, OnOk, OnErr, IsOkUnless, Some};
+ghost use Rattle.std.specs.Prelude.{drop, ◌≡◌, ℕ, ◌+◌, ◌-◌, ◌^◌, ◌<◌, ◌≤◌, ◌||◌, ◌==◌, ◌++◌, cond, length, pos, neg_ℤ, ◌≤ℤ◌, ◌<ℤ◌, IfOk, OnOk, OnErr, IsOkUnless, Some};
 ghost use Rattle.asn1_core.specs.Text.{number, signed_number};
 ghost use Rattle.asn1_core.specs.Integer.{nine_bits, is_minimal, integer_content, below, read_sized};
 ghost use Rattle.asn1_core.specs.Fault.{fault};
@@ -126,13 +126,27 @@ impl Model for IntegerText {
     ghost invariant = { λ text. (text.start ≤ 16) × (length text.octets ≡ 16) };
 }
 
+/// How many octets in front of sixteen certainly say no more than the sign does: eight or none.
+#[inline]
+fn sign_octets(octets: &[u8]) -> usize
+    requires { length octets.now ≡ 16 }
+    ensures few { result ≤ 8 }
+    ensures same { signed_number (drop result octets.now) ≡ signed_number octets.now }
+{
+    let sign = if octets[8] < 0x80 { 0x00 } else { 0xff };
+    if octets[..8] == [sign; 8] {
+        return 8;
+    }
+    0
+}
+
 impl IntegerText {
     /// The content of the number.
     fn new(number: i128) -> IntegerText
         ensures { result ≡ integer_content number }
     {
         let octets = number.to_be_bytes();
-        let mut start = 0;
+        let mut start = sign_octets(&octets);
         while start < LAST && is_superfluous(octets[start], octets[start + 1]) {
             start += 1;
         }
