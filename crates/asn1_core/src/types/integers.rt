@@ -126,7 +126,7 @@ impl Model for IntegerText {
     ghost invariant = { λ text. (text.start ≤ 16) × (length text.octets ≡ 16) };
 }
 
-/// How many octets in front of sixteen certainly say no more than the sign does: eight or none.
+/// How many octets in front of sixteen only repeat the number's sign: eight where they surely do, else none.
 #[inline]
 fn sign_octets(octets: &[u8]) -> usize
     requires { length octets.now ≡ 16 }
