@@ -1,6 +1,6 @@
 //! Integers: their contents octets, and the types with a range (X.690 8.3).
 
-ghost use Rattle.std.specs.Prelude.{drop, ◌≡◌, ℕ, ◌+◌, ◌-◌, ◌^◌, ◌<◌, ◌≤◌, ◌||◌, ◌==◌, ◌++◌, cond, length, pos, neg_ℤ, ◌≤ℤ◌, ◌<ℤ◌, IfOk, OnOk, OnErr, IsOkUnless, Some};
+ghost use Rattle.std.specs.Prelude.{◌≡◌, ℕ, ◌+◌, ◌-◌, ◌^◌, ◌<◌, ◌≤◌, ◌||◌, ◌==◌, ◌++◌, cond, length, pos, neg_ℤ, ◌≤ℤ◌, ◌<ℤ◌, IfOk, OnOk, OnErr, IsOkUnless, Some};
 ghost use Rattle.asn1_core.specs.Text.{number, signed_number};
 ghost use Rattle.asn1_core.specs.Integer.{nine_bits, is_minimal, integer_content, below, read_sized};
 ghost use Rattle.asn1_core.specs.Fault.{fault};
@@ -12,7 +12,7 @@ mod nonzero;
 mod signed;
 mod unsigned;
 
-use crate::parser::{ParseError, ParseErrorKind, ParseResult, number_in};
+use crate::parser::{ParseError, ParseErrorKind, ParseResult};
 use crate::writer::{WriteBuf, WriteError, WriteResult};
 use std::marker::Model;
 
@@ -41,16 +41,12 @@ pub fn is_integer_content(octets: &[u8]) -> bool
     }
 }
 
-/// The number of at most nine octets; of up to eight it is summed in a machine's word.
-#[inline]
+/// The number of at most nine octets.
 fn number(octets: &[u8]) -> u128
     requires { length octets.now ≤ MAX_CONTENT_OCTETS }
     ensures value { result ≡ number octets.now }
     ensures small { result < 2 ^ 72 }
 {
-    if octets.len() <= 8 {
-        return number_in(octets) as u128;
-    }
     let mut number = 0u128;
     for octet in octets {
         number = number * 0x100 + u128::from(*octet);
@@ -59,7 +55,6 @@ fn number(octets: &[u8]) -> u128
 }
 
 /// The signed number of one to nine octets.
-#[inline]
 fn signed_number(octets: &[u8]) -> i128
     requires some { 0 < length octets.now }
     requires few { length octets.now ≤ MAX_CONTENT_OCTETS }
@@ -88,7 +83,6 @@ fn beyond(is_below: bool, low: i128) -> ParseError
 ///
 /// `InvalidValue` where the octets are no content, and for a negative number where the type is unsigned;
 /// `IntegerOverflow` for another number beyond the range.
-#[inline]
 pub(crate) fn read(octets: &[u8], low: i128, high: i128) -> ParseResult<i128>
     requires least { neg_ℤ (pos (2 ^ 71)) ≤ℤ low }
     requires greatest { high <ℤ pos (2 ^ 71) }
@@ -126,27 +120,13 @@ impl Model for IntegerText {
     ghost invariant = { λ text. (text.start ≤ 16) × (length text.octets ≡ 16) };
 }
 
-/// How many octets in front of sixteen only repeat the number's sign: eight where they surely do, else none.
-#[inline]
-fn sign_octets(octets: &[u8]) -> usize
-    requires { length octets.now ≡ 16 }
-    ensures few { result ≤ 8 }
-    ensures same { signed_number (drop result octets.now) ≡ signed_number octets.now }
-{
-    let sign = if octets[8] < 0x80 { 0x00 } else { 0xff };
-    if octets[..8] == [sign; 8] {
-        return 8;
-    }
-    0
-}
-
 impl IntegerText {
     /// The content of the number.
     fn new(number: i128) -> IntegerText
         ensures { result ≡ integer_content number }
     {
         let octets = number.to_be_bytes();
-        let mut start = sign_octets(&octets);
+        let mut start = 0;
         while start < LAST && is_superfluous(octets[start], octets[start + 1]) {
             start += 1;
         }

@@ -10,7 +10,7 @@ pub loop-start-init : goal.loop-start-init
 loop-start-init c =
     let is = sixteen_passed c.to_be_bytes-octets.result c.args.number c.ranges.number c.to_be_bytes-octets.ensures in
     let value = ap signed_number is ∙ sixteen c.args.number c.ranges.number in
-    record { within = omega (arith, c.sign_octets-start.ensures.few); value = c.sign_octets-start.ensures.same ∙ value ∙ sym (to_z-of_z w128 c.args.number c.ranges.number) }
+    record { within = omega arith; value = value ∙ sym (to_z-of_z w128 c.args.number c.ranges.number) }
 
 pub loop-start-preserved : goal.loop-start-preserved
 loop-start-preserved c =
