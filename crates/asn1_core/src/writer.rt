@@ -111,12 +111,25 @@ impl LengthText {
     }
 }
 
+/// How many octets the text of a length has.
+#[inline]
+fn length_octets(n: usize) -> usize
+    ensures value { result ≡ length (length_text n) }
+    ensures most { result ≤ MAX_LENGTH_OCTETS }
+{
+    if n < 0x80 {
+        return 1;
+    }
+    LengthText::new(n).octets().len()
+}
+
 /// How many octets an element has, by its tag and the length of its content. `None` where they pass `usize`.
+#[inline]
 pub fn full_length(tag: Tag, content_length: usize) -> Option<usize>
     ensures value { SomeIff result (full_count tag content_length < 2 ^ 64) (full_count tag content_length) }
     ensures fits { content_length < 2 ^ 63 → full_count tag content_length < 2 ^ 64 }
 {
-    let header = tag.encoded_length() + LengthText::new(content_length).octets().len();
+    let header = tag.encoded_length() + length_octets(content_length);
     content_length.checked_add(header)
 }
 
@@ -197,6 +210,19 @@ impl WriteBuf {
         // There is room now, so all of them are pushed.
         let _pushed = self.octets.extend_from_slice(octets);
         Ok(())
+    }
+
+    /// Appends the text of a length. One of one octet, as most are, takes no array.
+    #[inline]
+    fn push_length(&mut self, n: usize) -> WriteResult<()>
+        ensures ok { OnOk result (self.new.bytes ≡ self.old.bytes ++ length_text n) }
+        ensures err { OnErr result (self.new ≡ self.old) }
+        ensures error { IsOkUnless result WriteError.AllocationError }
+    {
+        if n > 0x7f {
+            return self.push_slice(LengthText::new(n).octets());
+        }
+        self.push_byte(n as u8)
     }
 
     /// Puts the length of what stands from `start` on in place of the octet before it. The buffer grows once, and what
@@ -413,7 +439,7 @@ impl<'a> Writer<'a> {
         tag.write_to(self.buf)?;
         match content_length {
             Some(len) => {
-                self.buf.push_slice(LengthText::new(len).octets())?;
+                self.buf.push_length(len)?;
                 body(self.buf)
             }
             None => {

@@ -3,7 +3,7 @@
 ghost use Rattle.std.specs.Prelude.{◌≡◌, ℕ, ◌+◌, ◌-◌, ◌^◌, ◌<◌, ◌≤◌, ◌||◌, ◌==◌, ◌++◌, cond, length, pos, neg_ℤ, ◌≤ℤ◌, ◌<ℤ◌, IfOk, OnOk, OnErr, IsOkUnless, Some};
 ghost use Rattle.asn1_core.specs.Text.{number, signed_number};
 ghost use Rattle.asn1_core.specs.Integer.{nine_bits, is_minimal, integer_content, below, read_sized};
-ghost use Rattle.asn1_core.specs.Fault.{fault};
+ghost use Rattle.asn1_core.specs.Fault.{framed};
 ghost use Rattle.asn1_core.specs.Reading.{Answers};
 ghost use Rattle.asn1_core.specs.declared.writer.WriteError.TheVariants.{AllocationError};
 ghost use Rattle.asn1_core.specs.declared.parser.ParseErrorKind.TheVariants.{IntegerOverflow};
@@ -12,7 +12,7 @@ mod nonzero;
 mod signed;
 mod unsigned;
 
-use crate::parser::{ParseError, ParseErrorKind, ParseResult};
+use crate::parser::ParseErrorKind;
 use crate::writer::{WriteBuf, WriteError, WriteResult};
 use std::marker::Model;
 
@@ -69,29 +69,29 @@ fn signed_number(octets: &[u8]) -> i128
 }
 
 /// Why a number beyond the range of a type is refused: below it, or above it.
-fn beyond(is_below: bool, low: i128) -> ParseError
-    ensures { result ≡ fault (cond is_below (below low) IntegerOverflow) }
+fn beyond(is_below: bool, low: i128) -> ParseErrorKind
+    ensures { result ≡ cond is_below (below low) IntegerOverflow }
 {
     if is_below && low >= 0 {
-        ParseError::new(ParseErrorKind::InvalidValue)
+        ParseErrorKind::InvalidValue
     } else {
-        ParseError::new(ParseErrorKind::IntegerOverflow)
+        ParseErrorKind::IntegerOverflow
     }
 }
 
-/// The number of a content, for a type that has those from `low` to `high`.
+/// The number of a content, for a type that has those from `low` to `high`, with no more than the kind of a refusal.
 ///
 /// `InvalidValue` where the octets are no content, and for a negative number where the type is unsigned;
 /// `IntegerOverflow` for another number beyond the range.
-pub(crate) fn read(octets: &[u8], low: i128, high: i128) -> ParseResult<i128>
+pub(crate) fn read(octets: &[u8], low: i128, high: i128) -> Result<i128, ParseErrorKind>
     requires least { neg_ℤ (pos (2 ^ 71)) ≤ℤ low }
     requires greatest { high <ℤ pos (2 ^ 71) }
     requires ordered { low ≤ℤ high }
-    ensures exact { Answers (λ z. z) (λ _. ⊥) result (read_sized low high octets.now) }
+    ensures exact { Answers (λ z. z) (λ _. ⊥) (framed result) (read_sized low high octets.now) }
     ensures within { IfOk result (λ z. (low ≤ℤ z) × (z ≤ℤ high)) }
 {
     if !is_integer_content(octets) {
-        return Err(ParseError::new(ParseErrorKind::InvalidValue));
+        return Err(ParseErrorKind::InvalidValue);
     }
     if octets.len() > MAX_CONTENT_OCTETS {
         return Err(beyond(octets[0] >= 0x80, low));

@@ -4,7 +4,7 @@ ghost use Rattle.std.specs.Prelude.{◌≡◌, length, Some};
 ghost use Rattle.asn1_core.specs.Integer.{integer_content};
 ghost use Rattle.asn1_core.specs.Sized.{signed_der};
 
-use crate::parser::ParseResult;
+use crate::parser::{ParseError, ParseResult};
 use crate::tag::Tag;
 use crate::types::integers::{length, read, write};
 use crate::types::{Asn1Type, SimpleAsn1Readable, SimpleAsn1Writable};
@@ -26,7 +26,10 @@ impl<'a> SimpleAsn1Readable<'a> for i8 {
     }
 
     fn parse_data(_alloc: Global, data: &'a [u8]) -> ParseResult<i8> {
-        Ok(read(data, i128::from(i8::MIN), i128::from(i8::MAX))? as i8)
+        match read(data, i128::from(i8::MIN), i128::from(i8::MAX)) {
+            Ok(number) => Ok(number as i8),
+            Err(kind) => Err(ParseError::new(kind)),
+        }
     }
 }
 
@@ -65,7 +68,10 @@ impl<'a> SimpleAsn1Readable<'a> for i16 {
     }
 
     fn parse_data(_alloc: Global, data: &'a [u8]) -> ParseResult<i16> {
-        Ok(read(data, i128::from(i16::MIN), i128::from(i16::MAX))? as i16)
+        match read(data, i128::from(i16::MIN), i128::from(i16::MAX)) {
+            Ok(number) => Ok(number as i16),
+            Err(kind) => Err(ParseError::new(kind)),
+        }
     }
 }
 
@@ -104,7 +110,10 @@ impl<'a> SimpleAsn1Readable<'a> for i32 {
     }
 
     fn parse_data(_alloc: Global, data: &'a [u8]) -> ParseResult<i32> {
-        Ok(read(data, i128::from(i32::MIN), i128::from(i32::MAX))? as i32)
+        match read(data, i128::from(i32::MIN), i128::from(i32::MAX)) {
+            Ok(number) => Ok(number as i32),
+            Err(kind) => Err(ParseError::new(kind)),
+        }
     }
 }
 
@@ -143,7 +152,10 @@ impl<'a> SimpleAsn1Readable<'a> for i64 {
     }
 
     fn parse_data(_alloc: Global, data: &'a [u8]) -> ParseResult<i64> {
-        Ok(read(data, i128::from(i64::MIN), i128::from(i64::MAX))? as i64)
+        match read(data, i128::from(i64::MIN), i128::from(i64::MAX)) {
+            Ok(number) => Ok(number as i64),
+            Err(kind) => Err(ParseError::new(kind)),
+        }
     }
 }
 

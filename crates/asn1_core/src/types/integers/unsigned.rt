@@ -4,7 +4,7 @@ ghost use Rattle.std.specs.Prelude.{◌≡◌, length, pos, Some};
 ghost use Rattle.asn1_core.specs.Integer.{integer_content};
 ghost use Rattle.asn1_core.specs.Sized.{unsigned_der};
 
-use crate::parser::ParseResult;
+use crate::parser::{ParseError, ParseResult};
 use crate::tag::Tag;
 use crate::types::integers::{length, read, write};
 use crate::types::{Asn1Type, SimpleAsn1Readable, SimpleAsn1Writable};
@@ -26,7 +26,10 @@ impl<'a> SimpleAsn1Readable<'a> for u8 {
     }
 
     fn parse_data(_alloc: Global, data: &'a [u8]) -> ParseResult<u8> {
-        Ok(read(data, 0, i128::from(u8::MAX))? as u8)
+        match read(data, 0, i128::from(u8::MAX)) {
+            Ok(number) => Ok(number as u8),
+            Err(kind) => Err(ParseError::new(kind)),
+        }
     }
 }
 
@@ -65,7 +68,10 @@ impl<'a> SimpleAsn1Readable<'a> for u16 {
     }
 
     fn parse_data(_alloc: Global, data: &'a [u8]) -> ParseResult<u16> {
-        Ok(read(data, 0, i128::from(u16::MAX))? as u16)
+        match read(data, 0, i128::from(u16::MAX)) {
+            Ok(number) => Ok(number as u16),
+            Err(kind) => Err(ParseError::new(kind)),
+        }
     }
 }
 
@@ -104,7 +110,10 @@ impl<'a> SimpleAsn1Readable<'a> for u32 {
     }
 
     fn parse_data(_alloc: Global, data: &'a [u8]) -> ParseResult<u32> {
-        Ok(read(data, 0, i128::from(u32::MAX))? as u32)
+        match read(data, 0, i128::from(u32::MAX)) {
+            Ok(number) => Ok(number as u32),
+            Err(kind) => Err(ParseError::new(kind)),
+        }
     }
 }
 
@@ -143,7 +152,10 @@ impl<'a> SimpleAsn1Readable<'a> for u64 {
     }
 
     fn parse_data(_alloc: Global, data: &'a [u8]) -> ParseResult<u64> {
-        Ok(read(data, 0, i128::from(u64::MAX))? as u64)
+        match read(data, 0, i128::from(u64::MAX)) {
+            Ok(number) => Ok(number as u64),
+            Err(kind) => Err(ParseError::new(kind)),
+        }
     }
 }
 

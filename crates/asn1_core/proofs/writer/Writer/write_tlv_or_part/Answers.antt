@@ -34,19 +34,19 @@ returns-in_err-patch_length-in-None-clause-err g c =
     let all : KeepsFront c.args.self.now.buf.now.bytes c.patch_length.new.self.bytes = rw e (keeps_front_on two k) in
     on_err_any _ all
 
-pub returns-in_ok-push_slice-in-Some-clause-ok : goal.returns-in_ok-push_slice-in-Some-clause-ok
-returns-in_ok-push_slice-in-Some-clause-ok g c =
-    let two : c.push_slice.new.self.bytes ≡ c.write_to.new.dest.bytes ++ length_text c.in-Some.len = c.in_ok-push_slice-in-Some.ensures.ok ∙ ap (λ xs. c.write_to.new.dest.bytes ++ xs) (c.octets.ensures ∙ c.new.ensures.text) in
-    announced_ok g.F.FnOnce c.args.body c.args.self.now.buf.now.bytes _ c.push_slice.new.self _ c.args.tag c.in-Some.len c.requires.front (rw c.in-Some.is at c.requires.announced) c.in_ok-write_to.ensures.ok two _ (call_at g.F.FnOnce c.args.body _ _ _ c.body.ensures)
+pub returns-in_ok-push_length-in-Some-clause-ok : goal.returns-in_ok-push_length-in-Some-clause-ok
+returns-in_ok-push_length-in-Some-clause-ok g c =
+    let two : c.push_length.new.self.bytes ≡ c.write_to.new.dest.bytes ++ length_text c.in-Some.len = c.in_ok-push_length-in-Some.ensures.ok in
+    announced_ok g.F.FnOnce c.args.body c.args.self.now.buf.now.bytes _ c.push_length.new.self _ c.args.tag c.in-Some.len c.requires.front (rw c.in-Some.is at c.requires.announced) c.in_ok-write_to.ensures.ok two _ (call_at g.F.FnOnce c.args.body _ _ _ c.body.ensures)
 
-pub returns-in_ok-push_slice-in-Some-clause-err : goal.returns-in_ok-push_slice-in-Some-clause-err
-returns-in_ok-push_slice-in-Some-clause-err g c =
-    let two : c.push_slice.new.self.bytes ≡ c.write_to.new.dest.bytes ++ length_text c.in-Some.len = c.in_ok-push_slice-in-Some.ensures.ok ∙ ap (λ xs. c.write_to.new.dest.bytes ++ xs) (c.octets.ensures ∙ c.new.ensures.text) in
-    announced_err g.F.FnOnce c.args.body c.args.self.now.buf.now.bytes _ c.push_slice.new.self _ c.args.tag c.in-Some.len c.requires.front (rw c.in-Some.is at c.requires.announced) c.in_ok-write_to.ensures.ok two _ (call_at g.F.FnOnce c.args.body _ _ _ c.body.ensures)
+pub returns-in_ok-push_length-in-Some-clause-err : goal.returns-in_ok-push_length-in-Some-clause-err
+returns-in_ok-push_length-in-Some-clause-err g c =
+    let two : c.push_length.new.self.bytes ≡ c.write_to.new.dest.bytes ++ length_text c.in-Some.len = c.in_ok-push_length-in-Some.ensures.ok in
+    announced_err g.F.FnOnce c.args.body c.args.self.now.buf.now.bytes _ c.push_length.new.self _ c.args.tag c.in-Some.len c.requires.front (rw c.in-Some.is at c.requires.announced) c.in_ok-write_to.ensures.ok two _ (call_at g.F.FnOnce c.args.body _ _ _ c.body.ensures)
 
-pub returns-in_ok-push_slice-in-Some-clause-error :
-    goal.returns-in_ok-push_slice-in-Some-clause-error
-returns-in_ok-push_slice-in-Some-clause-error g c = refused g.F.FnOnce c.args.body g.E.From.from_gives _ _ _ (call_at g.F.FnOnce c.args.body _ _ _ c.body.ensures)
+pub returns-in_ok-push_length-in-Some-clause-error :
+    goal.returns-in_ok-push_length-in-Some-clause-error
+returns-in_ok-push_length-in-Some-clause-error g c = refused g.F.FnOnce c.args.body g.E.From.from_gives _ _ _ (call_at g.F.FnOnce c.args.body _ _ _ c.body.ensures)
 
 pub returns-in_ok-patch_length-in-None-clause-ok :
     goal.returns-in_ok-patch_length-in-None-clause-ok
