@@ -1,5 +1,6 @@
 //! What no contract says: values from outside, and that calls succeed where there is memory.
 
+mod changed;
 mod elements;
 mod errors;
 mod integers;

@@ -4,6 +4,7 @@ ghost use Rattle.std.specs.Prelude.{◌≡◌, ℕ, Some, OnOk};
 ghost use Rattle.asn1.specs.Der.{simple_der};
 ghost use Rattle.dercheck.specs.Code.{code_content};
 
+mod changed;
 mod frames;
 mod own_types;
 
@@ -234,11 +235,17 @@ const LISTS: &[(&str, &str)] = &[
 ];
 
 /// What stands in the output before, the input, the output after, and whether each answer is `ok`.
-const INPUTS: [(&str, &str, &str, bool); 7] = [
+const INPUTS: [(&str, &str, &str, bool); 8] = [
     ("", "", "", true),
     ("before", "", "before", true),
     ("", "\n", "bad line\n", false),
     ("before\n", "bool 0101ff", "before\nok 0101ff\n", true),
+    (
+        "ab",
+        "int 020105\nnull 0500",
+        "abok 020105\nok 0500\n",
+        true,
+    ),
     (
         "",
         "bool 0101ff\nbool 010100\n",
@@ -259,11 +266,21 @@ const INPUTS: [(&str, &str, &str, bool); 7] = [
     ),
 ];
 
-/// The output behind what stood in it before, and whether each answer is `ok`.
-fn answered(alloc: Global, before: &str, input: &str) -> Result<(Vec<u8>, bool), Fail> {
+/// The output behind what stood in it before, and whether each answer is `ok`. After a refusal it is as it was.
+fn answered<A: Abort>(
+    rt: &A,
+    alloc: Global,
+    before: &str,
+    input: &str,
+) -> Result<(Vec<u8>, bool), Fail> {
     let mut out = Vec::from_slice(alloc, before.as_bytes())?;
-    let all_ok = check(alloc, input.as_bytes(), &mut out)?;
-    Ok((out, all_ok))
+    match check(alloc, input.as_bytes(), &mut out) {
+        Ok(all_ok) => Ok((out, all_ok)),
+        Err(fault) => {
+            assert_eq!(rt; out.as_slice(), before.as_bytes());
+            Err(fault.into())
+        }
+    }
 }
 
 /// Each line alone is answered so.
@@ -271,7 +288,7 @@ fn check_lines<A: Abort>(rt: &A, alloc: Global, lines: &[(&str, &str)]) -> Resul
     for (line, answer) in lines {
         let input = format!(in alloc; "{line}\n")?;
         let output = format!(in alloc; "{answer}\n")?;
-        let (out, all_ok) = answered(alloc, "", input.as_str())?;
+        let (out, all_ok) = answered(rt, alloc, "", input.as_str())?;
         assert_eq!(rt; out.as_slice(), output.as_bytes(), "at {line}");
         assert_eq!(rt; all_ok, answer.starts_with("ok "), "at {line}");
     }
@@ -308,10 +325,40 @@ fn lists(rt: HostRuntime) -> Result<(), Fail> {
     check_lines(&rt, rt.alloc(), LISTS)
 }
 
+/// Each proper front of an accepted element, whose tag and length have one octet each, is too short, and by so much.
+fn check_fronts<A: Abort>(rt: &A, alloc: Global, lines: &[(&str, &str)]) -> Result<(), Fail> {
+    for (line, answer) in lines {
+        let Some((word, digits)) = line.split_once(' ') else {
+            continue;
+        };
+        if !answer.starts_with("ok ") {
+            continue;
+        }
+        let count = digits.len() / 2;
+        for end in 0..count {
+            let needed = if end < 2 { 1 } else { count - end };
+            let input = format!(in alloc; "{word} {}\n", &digits[..2 * end])?;
+            let output = format!(in alloc; "err ShortData {needed}\n")?;
+            let (out, _all_ok) = answered(rt, alloc, "", input.as_str())?;
+            assert_eq!(rt; out.as_slice(), output.as_bytes(), "at {input}");
+        }
+    }
+    Ok(())
+}
+
+#[test]
+fn fronts_of_elements(rt: HostRuntime) -> Result<(), Fail> {
+    check_fronts(&rt, rt.alloc(), INTEGERS)?;
+    check_fronts(&rt, rt.alloc(), STRINGS)?;
+    check_fronts(&rt, rt.alloc(), TEXTS)?;
+    check_fronts(&rt, rt.alloc(), TIMES)?;
+    check_fronts(&rt, rt.alloc(), LISTS)
+}
+
 #[test]
 fn each_input(rt: HostRuntime) -> Result<(), Fail> {
     for (before, input, after, all_ok) in INPUTS {
-        let (out, was_ok) = answered(rt.alloc(), before, input)?;
+        let (out, was_ok) = answered(&rt, rt.alloc(), before, input)?;
         assert_eq!(rt; out.as_slice(), after.as_bytes(), "at {input}");
         assert_eq!(rt; was_ok, all_ok, "at {input}");
     }
