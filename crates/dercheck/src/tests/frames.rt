@@ -198,6 +198,8 @@ fn reads_more_than_a_pull(rt: HostRuntime) {
     check(&rt, &mut source, lines, Ok(false));
     let mut source = Pieces::new(&octets[..518], &[], 600, false);
     check(&rt, &mut source, b"04 514\n", Ok(true));
+    check_each(&rt, &octets, false, lines, Ok(false));
+    check_each(&rt, &octets[..518], false, b"04 514\n", Ok(true));
 }
 
 #[test]
