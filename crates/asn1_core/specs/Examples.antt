@@ -41,8 +41,8 @@ pub record Booleans : Type 0 where
   pub other_tag : whole ((simple_der (λ b. b) bool_content).read (0x02 ∷ 0x01 ∷ 0x05 ∷ [])) ≡ Err (fault (UnexpectedTag (universal 2)))
   pub rest : whole ((simple_der (λ b. b) bool_content).read (0x01 ∷ 0x01 ∷ 0xff ∷ 0x00 ∷ [])) ≡ Err (fault ExtraData)
 
--- Places are given from the innermost outward: of five, the innermost four are kept.
+-- Places are given from the innermost outward: of nine, the innermost eight are kept.
 pub record Places : Type 0 where
   pub three : (within (Index 3) (within (Index 2) (within (Index 1) (fault ExtraData)))).places ≡ Index 1 ∷ Index 2 ∷ Index 3 ∷ []
-  pub four : (within (Index 4) (within (Index 3) (within (Index 2) (within (Index 1) (fault ExtraData))))).places ≡ Index 1 ∷ Index 2 ∷ Index 3 ∷ Index 4 ∷ []
-  pub five : (within (Index 5) (within (Index 4) (within (Index 3) (within (Index 2) (within (Index 1) (fault ExtraData)))))).places ≡ Index 1 ∷ Index 2 ∷ Index 3 ∷ Index 4 ∷ []
+  pub eight : (within (Index 8) (within (Index 7) (within (Index 6) (within (Index 5) (within (Index 4) (within (Index 3) (within (Index 2) (within (Index 1) (fault ExtraData))))))))).places ≡ Index 1 ∷ Index 2 ∷ Index 3 ∷ Index 4 ∷ Index 5 ∷ Index 6 ∷ Index 7 ∷ Index 8 ∷ []
+  pub nine : (within (Index 9) (within (Index 8) (within (Index 7) (within (Index 6) (within (Index 5) (within (Index 4) (within (Index 3) (within (Index 2) (within (Index 1) (fault ExtraData)))))))))).places ≡ Index 1 ∷ Index 2 ∷ Index 3 ∷ Index 4 ∷ Index 5 ∷ Index 6 ∷ Index 7 ∷ Index 8 ∷ []

@@ -80,7 +80,7 @@ pub enum ParseLocation {
 }
 
 /// How many places an error keeps.
-pub const MAX_PLACES: usize = 4;
+pub const MAX_PLACES: usize = 8;
 
 /// A location as an error keeps it, with no reference.
 #[derive(Drop)]
@@ -152,7 +152,7 @@ impl ParseError {
     {
         ParseError {
             kind,
-            places: [None, None, None, None],
+            places: [None, None, None, None, None, None, None, None],
             depth: 0,
         }
     }
@@ -164,7 +164,7 @@ impl ParseError {
         self.kind
     }
 
-    /// Adds a place around those that are kept. The innermost four are kept, and later ones are dropped.
+    /// Adds a place around those that are kept. The innermost [`MAX_PLACES`] are kept, and later ones are dropped.
     pub fn add_location(mut self, location: ParseLocation) -> ParseError
         ensures { result ≡ within (place_of location) self }
     {

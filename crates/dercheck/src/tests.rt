@@ -6,6 +6,7 @@ ghost use Rattle.dercheck.specs.Code.{code_content};
 
 mod changed;
 mod frames;
+mod nested;
 mod own_types;
 
 use super::*;

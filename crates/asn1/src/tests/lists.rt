@@ -3,9 +3,7 @@
 ghost use Rattle.std.specs.Prelude.{◌≡◌, []};
 ghost use Rattle.asn1.specs.Tag.{universal};
 ghost use Rattle.asn1.specs.Buffer.{KeepsFront};
-ghost use Rattle.asn1.specs.Der.{simple_der, seen};
-ghost use Rattle.asn1.specs.Items.{sequence_tag};
-ghost use Rattle.asn1.specs.Reading.{Answers};
+ghost use Rattle.asn1.specs.Der.{simple_der};
 ghost use Rattle.asn1.specs.Written.{written};
 ghost use Rattle.asn1.specs.declared.tests.lists.Custom.TheVariants.{Memory, Refused};
 
@@ -54,7 +52,7 @@ pub fn hash_of<T: Hash>(value: &T) -> u64 {
 }
 
 /// A list of any count of items.
-type List<'a, T> = SequenceOf<'a, T, 0, { usize::MAX }>;
+pub type List<'a, T> = SequenceOf<'a, T, 0, { usize::MAX }>;
 
 const FIVE_AND_SEVEN: &[u8] = &[0x30, 0x06, 0x02, 0x01, 0x05, 0x02, 0x01, 0x07];
 
@@ -214,53 +212,6 @@ fn lists_whose_items_take_memory(rt: HostRuntime) -> Result<(), Fail> {
     assert_eq!(rt; next_boxed(&mut list)?, (Some(3), 0));
     assert_eq!(rt; next_boxed(&mut list)?, (None, 0));
     Ok(())
-}
-
-type Three<'a> = List<'a, List<'a, List<'a, bool>>>;
-
-/// Three lists in one another, under a name of their own: a check of five at once takes too many steps.
-#[derive(Drop)]
-struct Inner<'a>(Three<'a>);
-
-impl<'a> Asn1Type for Inner<'a> {
-    ghost der = { seen (λ v. v.0) ⟦<Three<'a> as Asn1Type>⟧.der };
-
-    fn known(&self) {
-        self.0.known()
-    }
-}
-
-impl<'a> SimpleAsn1Readable<'a> for Inner<'a> {
-    fn tag() -> Tag
-        ensures value { result ≡ sequence_tag }
-        ensures simple { Unit {0} }
-        ensures plain { Unit {0} }
-    {
-        Tag::constructed(0x10)
-    }
-
-    fn parse_data(alloc: Global, data: &'a [u8]) -> ParseResult<Inner<'a>>
-        ensures { Answers (λ v. ⟦<Three<'a> as Asn1Type>⟧.der.meaning v.0) (⟦<Three<'a> as Asn1Type>⟧.der.content.runs_out «data».entry.now) result (⟦<Three<'a> as Asn1Type>⟧.der.content.read «data».entry.now) }
-    {
-        match <Three<'a>>::parse_data(alloc, data) {
-            Ok(list) => Ok(Inner(list)),
-            Err(error) => Err(error),
-        }
-    }
-}
-
-#[test]
-fn places_of_lists(rt: HostRuntime) {
-    let octets: &[u8] = &[
-        0x30, 0x0b, 0x30, 0x09, 0x30, 0x07, 0x30, 0x05, 0x30, 0x03, 0x01, 0x01, 0x01,
-    ];
-    let read = parse_single::<List<'_, List<'_, Inner<'_>>>>(rt.alloc(), octets);
-    let error = ParseError::new(ParseErrorKind::InvalidValue)
-        .add_location(ParseLocation::Index(0))
-        .add_location(ParseLocation::Index(0))
-        .add_location(ParseLocation::Index(0))
-        .add_location(ParseLocation::Index(0));
-    assert_eq!(rt; refusal(read), Some(error));
 }
 
 #[test]

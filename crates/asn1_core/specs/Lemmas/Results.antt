@@ -1,10 +1,13 @@
 -- Results of readings, taken apart.
-use Rattle.std.proofs.Common.{◌≡◌, List, [], Bool, true, false, cond, Result, Ok, Err, refl, sym, ap, ◌⊎◌, inl, inr}
+use Rattle.std.proofs.Common.{◌≡◌, ℕ, List, [], Bool, true, false, cond, Result, Ok, Err, refl, sym, ap, ◌⊎◌, inl, inr}
 use Rattle.asn1_core.specs.declared.parser.ParseErrorKind.{ParseErrorKind}
+use Rattle.asn1_core.specs.declared.parser.ParseErrorKind.TheVariants.{UnexpectedTag}
 use Rattle.asn1_core.specs.declared.parser.Place.{Place}
-use Rattle.asn1_core.specs.Element.{◌>>=◌}
+use Rattle.asn1_core.specs.declared.tag.Tag.{Tag}
+use Rattle.asn1_core.specs.Tag.{tag_eq}
+use Rattle.asn1_core.specs.Element.{Element, front, ◌>>=◌}
 use Rattle.asn1_core.specs.Fault.{Fault, fault, framed, AnswersError}
-use Rattle.asn1_core.specs.Reading.{Answers}
+use Rattle.asn1_core.specs.Reading.{Answers, expected, simple, content_of, expected_front}
 
 -- a result at Ok
 abbrev pub done : {A : Type 0} → A → Result A Fault
@@ -38,3 +41,17 @@ no_place e none = ap (λ (places : List Place). record { kind = e.kind; places =
 pub given : {V A : Type 0} (view : V → A) (r : Result V Fault) (answer : Result A ParseErrorKind) → AnswersError view r answer → Answers view (λ places. ⊥) r (framed answer)
 given view (Ok v) answer e = rw e refl
 given view (Err f) answer e = inl (rw (e.0, no_place f e.1) refl)
+
+-- a refusal of the element with an expected tag is that of the simple type
+other_tag : {M : Type 0} (b : Bool) (tag : Tag) (found : List ℕ × List ℕ) (read : Result (M × List ℕ) Fault) (kind : ParseErrorKind) →
+    cond b (Ok found) (Err (UnexpectedTag tag)) ≡ Err kind → cond b read (Err (fault (UnexpectedTag tag))) ≡ Err (fault kind)
+other_tag true tag found read kind e = absurd cc
+other_tag false tag found read kind e = let same : UnexpectedTag tag ≡ kind = cc in rw same refl
+
+framed_refusal : {M : Type 0} (tag : Tag) (read : List ℕ → Result M Fault) (r : Result (Element × List ℕ) ParseErrorKind) (kind : ParseErrorKind) →
+    (r >>= content_of tag) ≡ Err kind → (framed r >>= expected tag read) ≡ Err (fault kind)
+framed_refusal tag read (Ok f) kind e = other_tag (tag_eq f.0.tag tag) f.0.tag (f.0.content, f.1) (read f.0.content >>= λ m. Ok (m, f.1)) kind e
+framed_refusal tag read (Err k) kind e = let same : k ≡ kind = cc in rw same refl
+
+pub simple_refusal : {M : Type 0} (tag : Tag) (read : List ℕ → Result M Fault) (t : List ℕ) (kind : ParseErrorKind) → expected_front tag t ≡ Err kind → simple tag read t ≡ Err (fault kind)
+simple_refusal tag read t kind e = framed_refusal tag read (front t) kind e

@@ -165,21 +165,30 @@ fn places_of_an_error(rt: HostRuntime) -> Result<(), Fail> {
     Ok(())
 }
 
-/// An error with the places `Index(0)`, `Index(1)` and so on, but for one.
+/// An error with the places `Index(1)` to `Index(count)`, but for another in the place of one of these numbers.
 fn deep(count: usize, other: usize) -> ParseError {
     let mut error = ParseError::new(ParseErrorKind::ExtraData);
     for i in 0..count {
-        let index = if i == other { 99 } else { i };
+        let index = if i + 1 == other { 99 } else { i + 1 };
         error = error.add_location(ParseLocation::Index(index));
     }
     error
 }
 
 #[test]
-fn four_places_are_kept(rt: HostRuntime) {
-    assert_eq!(rt; deep(4, 9), deep(6, 9));
-    assert_eq!(rt; deep(6, 9), deep(6, 4));
-    assert_ne!(rt; deep(6, 9), deep(6, 3));
-    assert_ne!(rt; deep(3, 9), deep(4, 9));
-    assert_eq!(rt; deep(6, 9).kind(), ParseErrorKind::ExtraData);
+fn innermost_places_are_kept(rt: HostRuntime) -> Result<(), Fail> {
+    let nine = deep(9, 0);
+    let shown = format!(in rt.alloc(); "{nine:?}")?;
+    let text = "ParseError { kind: ExtraData, location: [8, 7, 6, 5, 4, 3, 2, 1] }";
+    assert_eq!(rt; shown.as_str(), text);
+    assert_eq!(rt; deep(8, 0), nine);
+    assert_eq!(rt; deep(9, 9), nine);
+    for other in 1..9 {
+        assert_ne!(rt; deep(9, other), nine, "{other}");
+    }
+    assert_ne!(rt; deep(5, 0), deep(5, 5));
+    assert_ne!(rt; deep(7, 0), deep(8, 0));
+    assert_ne!(rt; deep(3, 0), deep(4, 0));
+    assert_eq!(rt; nine.kind(), ParseErrorKind::ExtraData);
+    Ok(())
 }

@@ -25,7 +25,7 @@ fn refusal<T: Drop>(answer: ParseResult<T>) -> Option<ParseError> {
 }
 
 /// Why the octets are no value of the type.
-fn refused<'a, T: Asn1Readable<'a>>(alloc: Global, octets: &'a [u8]) -> Option<ParseError> {
+pub fn refused<'a, T: Asn1Readable<'a>>(alloc: Global, octets: &'a [u8]) -> Option<ParseError> {
     refusal(parse_single::<T>(alloc, octets))
 }
 

@@ -55,7 +55,7 @@ unfolding front tag_front length_front element_text length_text
 booleans = record { text = refl; read = refl; other_octet = refl; other_tag = refl; rest = refl }
 
 places : Places
-places = record { three = refl; four = refl; five = refl }
+places = record { three = refl; eight = refl; nine = refl }
 
 pub returns : goal.returns
 returns c = record { fronts = fronts; tags = tags; lengths = lengths; booleans = booleans; places = places }

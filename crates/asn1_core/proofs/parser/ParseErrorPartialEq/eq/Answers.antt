@@ -2,6 +2,7 @@ use Rattle.std.proofs.Common.{◌≡◌, ◌≤◌, Bool, ◌&&◌, true, List, 
 use Rattle.std.specs.Option.{option_eq}
 use Rattle.std.specs.Cmp.Lexicographic.{pointwise}
 use Rattle.asn1_core.specs.declared.parser.Place.{Place}
+use Rattle.asn1_core.specs.declared.parser.TheConstants.{MAX_PLACES}
 use Rattle.asn1_core.specs.Places.{places_in, slots_of}
 use Rattle.asn1_core.specs.Same.{place_eq, fault_eq}
 use Rattle.asn1_core.specs.Lemmas.Same.{fault_eq-decides, slots_same}
@@ -11,7 +12,7 @@ and_true : (k p r : Bool) → k ≡ true → r ≡ p → r ≡ (k && p)
 and_true k p r e same = rw e same
 
 -- the slots of two errors are compared as their places
-slots : (xs ys : List (Option Place)) → xs ≡ slots_of (places_in xs) → ys ≡ slots_of (places_in ys) → length (places_in xs) ≤ 4 → length (places_in ys) ≤ 4 → pointwise (option_eq place_eq) xs ys ≡ pointwise place_eq (places_in xs) (places_in ys)
+slots : (xs ys : List (Option Place)) → xs ≡ slots_of (places_in xs) → ys ≡ slots_of (places_in ys) → length (places_in xs) ≤ MAX_PLACES → length (places_in ys) ≤ MAX_PLACES → pointwise (option_eq place_eq) xs ys ≡ pointwise place_eq (places_in xs) (places_in ys)
 slots xs ys e f l m =
     ap (λ (s : List (Option Place)). pointwise (option_eq place_eq) s ys) e
     ∙ ap (λ (s : List (Option Place)). pointwise (option_eq place_eq) (slots_of (places_in xs)) s) f
