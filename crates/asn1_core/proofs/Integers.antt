@@ -1,21 +1,23 @@
--- Integers as the code reads and writes them: octet by octet, of nine octets at most, and of sixteen.
-use Rattle.std.proofs.Common.{◌≡◌, ℕ, zero, suc, ◌+◌, ◌-◌, ◌*◌, ◌/◌, ◌%◌, ◌^◌, ◌<◌, ◌≤◌, ◌⊎◌, Bool, true, false, cond, ◌||◌, eqb, leb, Ok, Err, List, [], ◌∷◌, ◌++◌, length, get_or, take, drop, refl, sym, ap, subst, ◌∙◌, inl, inr, arith, lit<}
-use Rattle.std.specs.Prelude.{ℤ, pos, negsuc, neg_ℤ, ◌-ℤ◌, ◌≤ℤ◌, ◌<ℤ◌, int_lt, FitsSigned}
+-- Integers as the code reads and writes them: octet by octet, of nine octets at most; the last of sixteen octets.
+use Rattle.std.proofs.Common.{◌≡◌, ℕ, zero, suc, ◌+◌, ◌-◌, ◌*◌, ◌/◌, ◌%◌, ◌^◌, ◌<◌, ◌≤◌, ◌⊎◌, Bool, true, false, cond, leb, Ok, Err, List, [], ◌∷◌, ◌++◌, length, get_or, take, drop, refl, sym, ap, subst, ◌∙◌, inl, inr, arith, lit<}
+use Rattle.std.specs.Prelude.{ℤ, pos, negsuc, neg_ℤ, ◌-ℤ◌, ◌≤ℤ◌, ◌<ℤ◌, int_lt, unsigned_abs, FitsSigned}
+use Rattle.std.specs.Int.Digits.{digits_of}
 use Rattle.std.specs.Int.{w128, to_be_bytes, bytes_high_first, cast_unsigned, cast_signed}
 use Rattle.std.proofs.lemmas.Int.{ints, to_z-of_z}
 use Rattle.std.proofs.lemmas.Int.Digits.{number_push}
-use Rattle.std.proofs.lemmas.Bool.{not_from_true, not_from_false, le-leb, leb-true, leb-false}
-use Rattle.std.proofs.lemmas.List.{take_more, length-take-le, drop_more, drop_all}
-use Rattle.std.proofs.lemmas.Nat.{pow-add, one_shl, div-add-mod', mod-mul-add, mul-add-lt, mod_below}
+use Rattle.std.proofs.lemmas.Bool.{le-leb, leb-true, leb-false, cases_lt, cases_Bool}
+use Rattle.std.proofs.lemmas.List.{take_more, length-take-le}
+use Rattle.std.specs.Int.Count.{count_leading_zeros}
+use Rattle.std.proofs.lemmas.Nat.{pow-add, one_shl, div-add-mod', mod-mul-add, mul-add-lt, mod_below, leading_length}
 use Rattle.std.proofs.Math.Nat.{pow-suc, pow-le-pow_right, mul-le-mul_right}
 use Rattle.asn1_core.specs.Text.{IsText, number, signed_number}
 use Rattle.asn1_core.specs.declared.parser.ParseErrorKind.TheVariants.{InvalidValue, IntegerOverflow}
 use Rattle.asn1_core.specs.Fault.{Fault, fault}
-use Rattle.asn1_core.specs.Integer.{nine_bits, is_minimal, turned, integer_content, below, within_range, read_sized}
+use Rattle.asn1_core.specs.Integer.{nine_bits, is_minimal, with_sign, turned, integer_content, below, within_range, read_sized}
 use Rattle.asn1_core.specs.Lemmas.Digits.{number_by_digits}
 use Rattle.asn1_core.specs.Lemmas.Lengths.{number_lt}
 use Rattle.asn1_core.specs.Lemmas.Texts.{IsText-from_reads}
-use Rattle.asn1_core.specs.Lemmas.Integers.{signed_low, signed_high, turned_length, turned_number, turned_shortest, shortest_nine, fewer_same, content_only, range_ok, range_below, range_above, sized_ok, sized_refused}
+use Rattle.asn1_core.specs.Lemmas.Integers.{signed_low, signed_high, turned_length, turned_text, turned_low, turned_number, turned_shortest, shortest_nine, fewer_same, content_only, content_text, content_shortest, content_value, range_ok, range_below, range_above, sized_ok, sized_refused}
 
 -- ---- octet by octet
 
@@ -104,36 +106,34 @@ pub sixteen : (z : ℤ) → FitsSigned w128 z → signed_number (to_be_bytes w12
 sixteen (pos m) fits = sixteen_low m fits.sfits
 sixteen (negsuc m) fits = sixteen_high m _ fits.sfits refl
 
--- ---- the octets that are kept
+-- ---- the content at the end of a text
 
-text_drop : (i : ℕ) (t : List ℕ) → IsText t → IsText (drop i t)
-text_drop zero t is = is
-text_drop (suc i) [] is = tt
-text_drop (suc i) (x ∷ xs) is = text_drop i xs is.1
+-- behind superfluous octets stands the content
+pub record EndsWithContent (t c : List ℕ) : Type 0 where
+  pub fewer : length c ≤ length t
+  pub content : drop (length t - length c) t ≡ c
 
-two_left : (t : List ℕ) (i : ℕ) → i + 1 < length t → drop i t ≡ get_or t i 0 ∷ get_or t (i + 1) 0 ∷ drop (i + 1 + 1) t
-two_left t i h = drop_more t i 0 (omega arith) ∙ ap (λ (u : List ℕ). get_or t i 0 ∷ u) (drop_more t (i + 1) 0 h)
+none_in_front : (t c : List ℕ) → t ≡ c → EndsWithContent t c
+none_in_front t c e =
+    let size = ap length e in
+    let none : length t - length c ≡ 0 = omega (arith, size) in
+    record { fewer = omega (arith, size); content = ap (λ (k : ℕ). drop k t) none ∙ e }
 
-pub next_kept : (t : List ℕ) (i : ℕ) → ((k : ℕ) → get_or t k 0 < 256) → i + 1 < length t →
-    (eqb (nine_bits (get_or t i 0) (get_or t (i + 1) 0)) 0 || eqb (nine_bits (get_or t i 0) (get_or t (i + 1) 0)) 511) ≡ true →
-    signed_number (drop (i + 1) t) ≡ signed_number (drop i t)
-next_kept t i each h e =
-    let octets = drop (i + 1 + 1) t in
-    let split = two_left t i h in
-    let is : IsText (get_or t i 0 ∷ get_or t (i + 1) 0 ∷ octets) = subst IsText split (text_drop i t (IsText-from_reads t each)) in
-    let same = fewer_same (get_or t i 0) (get_or t (i + 1) 0) octets is (not_from_true _ e) in
-    ap signed_number (drop_more t (i + 1) 0 h) ∙ sym same ∙ ap signed_number (sym split)
+one_in_front : (x : ℕ) (xs c : List ℕ) → EndsWithContent xs c → EndsWithContent (x ∷ xs) c
+one_in_front x xs c behind =
+    let more : length (x ∷ xs) - length c ≡ suc (length xs - length c) = omega (arith, behind.fewer) in
+    record { fewer = omega (arith, behind.fewer); content = ap (λ (k : ℕ). drop k (x ∷ xs)) more ∙ behind.content }
 
-pub kept_one : (t : List ℕ) (i : ℕ) → i + 1 ≡ length t → is_minimal (drop i t) ≡ true
-kept_one t i h = ap is_minimal (drop_more t i 0 (omega arith) ∙ ap (λ (u : List ℕ). get_or t i 0 ∷ u) (drop_all (i + 1) t (omega arith)))
-
-pub kept_shortest : (t : List ℕ) (i : ℕ) → i + 1 < length t →
-    (eqb (nine_bits (get_or t i 0) (get_or t (i + 1) 0)) 0 || eqb (nine_bits (get_or t i 0) (get_or t (i + 1) 0)) 511) ≡ false →
-    is_minimal (drop i t) ≡ true
-kept_shortest t i h e = ap is_minimal (two_left t i h) ∙ not_from_false _ e
-
-pub kept_is : (t : List ℕ) (i : ℕ) (z : ℤ) → ((k : ℕ) → get_or t k 0 < 256) → is_minimal (drop i t) ≡ true → signed_number (drop i t) ≡ z → drop i t ≡ integer_content z
-kept_is t i z each e value = content_only (drop i t) (text_drop i t (IsText-from_reads t each)) e ∙ ap integer_content value
+content_behind : (t : List ℕ) → IsText t → 0 < length t → EndsWithContent t (integer_content (signed_number t))
+content_behind [] is l = absurd (omega arith)
+content_behind (x ∷ []) is l = none_in_front (x ∷ []) _ (content_only (x ∷ []) is refl)
+content_behind (x ∷ y ∷ ys) is l =
+    elim (cases_Bool (is_minimal (x ∷ y ∷ ys))) [
+      | inl e ↦ none_in_front (x ∷ y ∷ ys) _ (content_only (x ∷ y ∷ ys) is e)
+      | inr e ↦
+          let behind = one_in_front x (y ∷ ys) (integer_content (signed_number (y ∷ ys))) (content_behind (y ∷ ys) is.1 (omega arith)) in
+          subst (λ (z : ℤ). EndsWithContent (x ∷ y ∷ ys) (integer_content z)) (sym (fewer_same x y ys is e)) behind
+    ]
 
 -- ---- the weight of the octet in front
 
@@ -142,6 +142,109 @@ weight_power zero = refl
 weight_power (suc k) =
     let more : 8 * suc k ≡ 8 * k + 8 = omega arith in
     ap (λ (n : ℕ). 2 ^ n) more ∙ pow-add 2 (8 * k) 8 ∙ ap (λ (n : ℕ). n * 256) (weight_power k) ∙ sym (pow-suc 256 k)
+
+-- ---- how many octets a content has, from its bits
+
+bits_below : (k b n : ℕ) → 2 ^ k ≤ 2 * n + 1 → n < 2 ^ b → k ≤ b
+bits_below k b n most small =
+    elim (cases_lt b k) [
+      | inl h ↦
+          let more : 2 ^ suc b ≤ 2 ^ k = pow-le-pow_right {n = 2} (lit< tt) {i = suc b} {j = k} (omega arith) in
+          let twice : 2 ^ suc b ≡ 2 ^ b * 2 = pow-suc 2 b in
+          absurd (omega (arith, twice, more))
+      | inr h ↦ h
+    ]
+
+bits_above : (k a n : ℕ) → n < 2 ^ k → 2 ^ a ≤ n → a < k
+bits_above k a n small most =
+    elim (cases_lt a k) [
+      | inl h ↦ h
+      | inr h ↦
+          let less : 2 ^ k ≤ 2 ^ a = pow-le-pow_right {n = 2} (lit< tt) {i = k} {j = a} h in
+          absurd (omega (arith, less))
+    ]
+
+bits_between : (k j n p : ℕ) → 2 ^ (8 * j) ≡ p → p * 128 ≤ n → n < p * 32768 → n < 2 ^ k → 2 ^ k ≤ 2 * n + 1 → k / 8 ≡ j + 1
+bits_between k j n p weight least under small most =
+    let low : 2 ^ (8 * j + 7) ≡ p * 128 = pow-add 2 (8 * j) 7 ∙ ap (λ (m : ℕ). m * 128) weight in
+    let high : 2 ^ (8 * j + 15) ≡ p * 32768 = pow-add 2 (8 * j) 15 ∙ ap (λ (m : ℕ). m * 32768) weight in
+    let above : 8 * j + 7 < k = bits_above k (8 * j + 7) n small (omega (arith, low, least)) in
+    let below : k ≤ 8 * j + 15 = bits_below k (8 * j + 15) n most (omega (arith, high, under)) in
+    omega (arith, above, below)
+
+number_least : (x y r p q : ℕ) → 0 < nine_bits x y → q ≡ p * 256 → p * 128 ≤ x * q + (y * p + r)
+number_least zero y r p q some e = omega (arith, mul-le-mul_right {m = 128} {n = y} p (omega arith))
+number_least (suc x) y r p q some e = omega (arith, mul-le-mul_right {m = 1} {n = suc x} q (omega arith))
+
+number_under : (x y r p q : ℕ) → x < 128 → y < 256 → r < p → q ≡ p * 256 → x * q + (y * p + r) < p * 32768
+number_under x y r p q hx hy hr e =
+    omega (arith, mul-le-mul_right {m = x} {n = 127} q (omega arith), mul-le-mul_right {m = y} {n = 255} p (omega arith))
+
+low_bits : (s : List ℕ) (k : ℕ) → IsText s → is_minimal s ≡ true → get_or s 0 0 < 128 → number s < 2 ^ k → 2 ^ k ≤ 2 * number s + 1 → k / 8 + 1 ≡ length s
+low_bits [] k is e h small most = absurd cc
+low_bits (x ∷ []) k is e h small most =
+    let low : x < 128 = h in
+    let few : k ≤ 7 = bits_below k 7 x (omega (arith, most)) (omega (arith, low)) in
+    omega (arith, few)
+low_bits (x ∷ y ∷ ys) k is e h small most =
+    let some : 0 < nine_bits x y = omega (arith, (shortest_nine x y ys e).0) in
+    let times : 256 ^ suc (length ys) ≡ 256 ^ length ys * 256 = pow-suc 256 (length ys) in
+    let least : 256 ^ length ys * 128 ≤ number (x ∷ y ∷ ys) = number_least x y (number ys) (256 ^ length ys) (256 ^ suc (length ys)) some times in
+    let under : number (x ∷ y ∷ ys) < 256 ^ length ys * 32768 = number_under x y (number ys) (256 ^ length ys) (256 ^ suc (length ys)) h is.1.0 (number_lt ys is.1.1) times in
+    let bits : k / 8 ≡ length ys + 1 = bits_between k (length ys) (number (x ∷ y ∷ ys)) (256 ^ length ys) (weight_power (length ys)) least under small most in
+    omega (arith, bits)
+
+-- n, of n and of -n - 1
+abbrev pub size_of : ℤ → ℕ
+size_of (pos n) = n
+size_of (negsuc n) = n
+
+pub length_by_bits : (z : ℤ) (k n : ℕ) → size_of z ≡ n → n < 2 ^ k → 2 ^ k ≤ 2 * n + 1 → k / 8 + 1 ≡ length (integer_content z)
+unfolding integer_content
+length_by_bits z k n same small most =
+    let c : List ℕ = integer_content z in
+    let is : IsText c = content_text z in
+    let e : is_minimal c ≡ true = content_shortest z in
+    elim (cases_lt (get_or c 0 0) 128) [
+      | inl h ↦
+          let value : number c ≡ n = sym (ap size_of (signed_low c h)) ∙ ap size_of (content_value z) ∙ same in
+          low_bits c k is e h (omega (arith, value, small)) (omega (arith, value, most))
+      | inr h ↦
+          let value : number (turned c) ≡ n = sym (ap size_of (signed_high c is h)) ∙ ap size_of (content_value z) ∙ same in
+          low_bits (turned c) k (turned_text c) (turned_shortest c is e) (turned_low c is h) (omega (arith, value, small)) (omega (arith, value, most)) ∙ turned_length c
+    ]
+
+pub length_counted : (z : ℤ) (m n : ℕ) → size_of z ≡ n → n < 2 ^ 128 → m ≡ count_leading_zeros 128 n → (128 - m) / 8 + 1 ≡ length (integer_content z)
+length_counted z m n same small e =
+    let top = leading_length 128 n small in
+    let bits : 128 - m ≡ top.0 = omega (arith, top.1, e) in
+    ap (λ (k : ℕ). k / 8 + 1) bits ∙ length_by_bits z top.0 n same top.2 top.3
+
+length_both : (m : ℕ) → length (integer_content (pos m)) ≡ length (integer_content (negsuc m))
+unfolding integer_content
+length_both m = sym (turned_length (with_sign (digits_of 256 m)))
+
+pub length_low : (z : ℤ) (n : ℕ) → FitsSigned w128 z → n ≡ unsigned_abs (cast_signed w128 (cast_unsigned w128 z)) → pos 0 ≤ℤ z → length (integer_content (pos n)) ≡ length (integer_content z)
+length_low (pos m) n fits e h = ap (λ (k : ℕ). length (integer_content (pos k))) (e ∙ ap unsigned_abs (to_z-of_z w128 (pos m) fits))
+length_low (negsuc m) n fits e h = absurd (omega (arith, ints))
+
+pub size_some : (z : ℤ) (n : ℕ) → FitsSigned w128 z → n ≡ unsigned_abs (cast_signed w128 (cast_unsigned w128 z)) → z <ℤ pos 0 → 0 < n
+size_some (pos m) n fits e h = absurd (omega (arith, ints))
+size_some (negsuc m) n fits e h =
+    let same : n ≡ suc m = e ∙ ap unsigned_abs (to_z-of_z w128 (negsuc m) fits) in
+    omega (arith, same)
+
+pub length_high : (z : ℤ) (n : ℕ) → FitsSigned w128 z → n ≡ unsigned_abs (cast_signed w128 (cast_unsigned w128 z)) → z <ℤ pos 0 → length (integer_content (pos (n - 1))) ≡ length (integer_content z)
+length_high (pos m) n fits e h = absurd (omega (arith, ints))
+length_high (negsuc m) n fits e h =
+    let same : n ≡ suc m = e ∙ ap unsigned_abs (to_z-of_z w128 (negsuc m) fits) in
+    let less : n - 1 ≡ m = omega (arith, same) in
+    ap (λ (k : ℕ). length (integer_content (pos k))) less ∙ length_both m
+
+pub length_passed : (z : ℤ) (r : ℕ) → FitsSigned w128 z → r ≡ length (integer_content (cast_signed w128 (cast_unsigned w128 z))) → r ≡ length (integer_content z)
+length_passed z r fits e = e ∙ ap (λ (x : ℤ). length (integer_content x)) (to_z-of_z w128 z fits)
+
+-- ---- the sign
 
 pub weight_is : (k : ℕ) → k ≤ 9 → 1 * 2 ^ (8 * k) % 2 ^ 128 ≡ 256 ^ k
 weight_is k h = one_shl (8 * k) 128 (omega arith) ∙ weight_power k
@@ -195,3 +298,14 @@ sixteen_octets t z e = reads t (subst IsText (sym e) (high_text 16 (cast_unsigne
 
 pub sixteen_passed : (t : List ℕ) (z : ℤ) → FitsSigned w128 z → t ≡ to_be_bytes w128 (cast_unsigned w128 (cast_signed w128 (cast_unsigned w128 z))) → t ≡ to_be_bytes w128 (cast_unsigned w128 z)
 sixteen_passed t z fits e = e ∙ ap (λ (x : ℤ). to_be_bytes w128 (cast_unsigned w128 x)) (to_z-of_z w128 z fits)
+
+pub sixteen_end : (t : List ℕ) (z : ℤ) → FitsSigned w128 z → t ≡ to_be_bytes w128 (cast_unsigned w128 z) → EndsWithContent t (integer_content z)
+sixteen_end t z fits e =
+    let is : IsText t = IsText-from_reads t (sixteen_octets t z e) in
+    let some : 0 < length t = omega (arith, sixteen_length t z e) in
+    subst (λ (x : ℤ). EndsWithContent t (integer_content x)) (ap signed_number e ∙ sixteen z fits) (content_behind t is some)
+
+pub sixteen_end_of : (t : List ℕ) (z : ℤ) (count start : ℕ) → FitsSigned w128 z → t ≡ to_be_bytes w128 (cast_unsigned w128 z) → count ≡ length (integer_content z) → start ≡ 16 - count → drop start t ≡ integer_content z
+sixteen_end_of t z count start fits e size at =
+    let place : start ≡ length t - length (integer_content z) = omega (arith, size, at, sixteen_length t z e) in
+    ap (λ (k : ℕ). drop k t) place ∙ (sixteen_end t z fits e).content

@@ -19,8 +19,8 @@ use std::marker::Model;
 /// A content with more octets is no number of a type here.
 const MAX_CONTENT_OCTETS: usize = 9;
 
-/// The place of the last octet of an `i128`.
-const LAST: usize = 15;
+/// How many octets an `i128` has.
+const OCTETS: usize = 16;
 
 /// Whether the octet is superfluous in front of the next: its bits and the top bit of the next are all zero or all one.
 fn is_superfluous(octet: u8, next: u8) -> bool
@@ -122,17 +122,17 @@ impl Model for IntegerText {
 
 impl IntegerText {
     /// The content of the number.
+    #[inline]
     fn new(number: i128) -> IntegerText
         ensures { result ≡ integer_content number }
     {
         let octets = number.to_be_bytes();
-        let mut start = 0;
-        while start < LAST && is_superfluous(octets[start], octets[start + 1]) {
-            start += 1;
-        }
+        let count = length(number);
+        let start = OCTETS - count;
         IntegerText { octets, start }
     }
 
+    #[inline]
     fn octets(&self) -> &[u8]
         ensures { result.now ≡ self.now }
     {
@@ -141,6 +141,7 @@ impl IntegerText {
 }
 
 /// Appends the content of the number. `AllocationError` where memory runs out, with nothing appended.
+#[inline]
 pub(crate) fn write(number: i128, dest: &mut WriteBuf) -> WriteResult<()>
     ensures ok { OnOk result (dest.new.bytes ≡ dest.old.bytes ++ integer_content number) }
     ensures err { OnErr result (dest.new ≡ dest.old) }
@@ -149,9 +150,25 @@ pub(crate) fn write(number: i128, dest: &mut WriteBuf) -> WriteResult<()>
     dest.push_slice(IntegerText::new(number).octets())
 }
 
-/// How many octets the content of the number has.
+/// How many octets the content of the number has: its bits and one for the sign.
+#[inline]
 pub(crate) fn length(number: i128) -> usize
     ensures { result ≡ length (integer_content number) }
 {
-    IntegerText::new(number).octets().len()
+    let size = without_sign(number);
+    let zeros = size.leading_zeros();
+    let bits = 128 - zeros;
+    (bits / 8) as usize + 1
+}
+
+/// The number, or of a negative one -n - 1, whose content is as long.
+#[inline]
+fn without_sign(number: i128) -> u128
+    ensures { length (integer_content (pos result)) ≡ length (integer_content number) }
+{
+    let size = number.unsigned_abs();
+    if number < 0 {
+        return size - 1;
+    }
+    size
 }
