@@ -1,5 +1,8 @@
 //! Sequences and sets (X.680 25 to 28): as they stand, as lists of items, and written by a closure.
 
+ghost use Rattle.std.specs.Prelude.{◌≡◌};
+ghost use Rattle.asn1_core.specs.declared.parser.Place.TheVariants.{Index};
+ghost use Rattle.asn1_core.specs.Fault.{within};
 ghost use Rattle.asn1_core.specs.Text.{IsText};
 
 mod sequence;
@@ -7,6 +10,7 @@ mod sequence_of;
 mod sets;
 mod writers;
 
+use asn1_core::{ParseError, ParseLocation};
 pub use sequence::Sequence;
 pub use sequence_of::SequenceOf;
 pub use sets::{Set, SetOf};
@@ -17,4 +21,12 @@ pub(crate) fn are_octets(octets: &[u8])
     ensures { IsText octets.now }
 {
     let _count = octets.len();
+}
+
+/// The error with the place of the item at an index. It stands apart from the readers, since few reads come here.
+#[cold]
+pub(crate) fn at_item(error: ParseError, index: usize) -> ParseError
+    ensures { result ≡ within (Index index) error }
+{
+    error.add_location(ParseLocation::Index(index))
 }

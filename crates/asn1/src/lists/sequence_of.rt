@@ -16,10 +16,10 @@ ghost use Rattle.asn1_core.specs.Writing.{KnowsLength, Refuses};
 ghost use Rattle.asn1.specs.Lists.{AreItems, left, item, counted, item_out, items_out, sequence_read, NextItem};
 ghost use Rattle.asn1.specs.ListTypes.{items_inside};
 
-use crate::lists::are_octets;
+use crate::lists::{are_octets, at_item};
 use asn1_core::{
-    Asn1Readable, Asn1Type, Asn1Writable, ParseError, ParseErrorKind, ParseLocation, ParseResult,
-    Parser, SimpleAsn1Readable, SimpleAsn1Writable, Tag, Tlv, WriteBuf, WriteError, Writer,
+    Asn1Readable, Asn1Type, Asn1Writable, ParseError, ParseErrorKind, ParseResult, Parser,
+    SimpleAsn1Readable, SimpleAsn1Writable, Tag, Tlv, WriteBuf, WriteError, Writer,
 };
 use std::alloc::{AllocError, Global};
 use std::hash::{Hash, Hasher};
@@ -158,6 +158,7 @@ impl<
 }
 
 /// Reads the item at an index. One that takes no octet is refused.
+#[inline]
 fn read_item<'a, T: Asn1Readable<'a>>(parser: &mut Parser<'a>, index: usize) -> ParseResult<T>
     ensures answers { Answers (λ v. (T.der.meaning v, parser.new)) (item_out T.der.runs_out index parser.old) result (item T.der.read index parser.old) }
     ensures rest { EndsWith parser.old parser.new }
@@ -166,13 +167,11 @@ fn read_item<'a, T: Asn1Readable<'a>>(parser: &mut Parser<'a>, index: usize) -> 
     match parser.read_element::<T>() {
         Ok(value) => {
             if parser.rest().len() == before {
-                return Err(ParseError::new(ParseErrorKind::ExtraData).add_location(
-                    ParseLocation::Index(index),
-                ));
+                return Err(at_item(ParseError::new(ParseErrorKind::ExtraData), index));
             }
             Ok(value)
         }
-        Err(error) => Err(error.add_location(ParseLocation::Index(index))),
+        Err(error) => Err(at_item(error, index)),
     }
 }
 

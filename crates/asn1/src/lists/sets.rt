@@ -18,11 +18,11 @@ ghost use Rattle.asn1.specs.Lists.{NextItem};
 ghost use Rattle.asn1.specs.Sets.{AreOrdered, set_left, set_item, checked, set_item_out, set_out, first_out, set_read, set_octets};
 ghost use Rattle.asn1.specs.SetTypes.{set_inside, set_content};
 
-use crate::lists::are_octets;
+use crate::lists::{are_octets, at_item};
 use asn1_core::{
-    Asn1Readable, Asn1Type, Asn1Writable, ParseError, ParseErrorKind, ParseLocation, ParseResult,
-    Parser, SimpleAsn1Readable, SimpleAsn1Writable, Tag, Tlv, WriteBuf, WriteError, WriteResult,
-    Writer, parse,
+    Asn1Readable, Asn1Type, Asn1Writable, ParseError, ParseErrorKind, ParseResult, Parser,
+    SimpleAsn1Readable, SimpleAsn1Writable, Tag, Tlv, WriteBuf, WriteError, WriteResult, Writer,
+    parse,
 };
 use std::alloc::{AllocError, Global};
 use std::hash::{Hash, Hasher};
@@ -30,6 +30,7 @@ use std::marker::PhantomData;
 
 /// Reads the element at an index, which stands behind one with the text `before`: framing, then its place in the order,
 /// then the item, which its whole text is. Answers the item and that text.
+#[inline]
 fn read_in_order<'a, T: Asn1Readable<'a>>(
     parser: &mut Parser<'a>,
     before: &'a [u8],
@@ -40,17 +41,15 @@ fn read_in_order<'a, T: Asn1Readable<'a>>(
 {
     let tlv = match parser.read_element::<Tlv<'a>>() {
         Ok(tlv) => tlv,
-        Err(error) => return Err(error.add_location(ParseLocation::Index(index))),
+        Err(error) => return Err(at_item(error, index)),
     };
     let text = tlv.full_data();
     if text.cmp(before).is_lt() {
-        return Err(ParseError::new(ParseErrorKind::InvalidSetOrdering).add_location(
-            ParseLocation::Index(index),
-        ));
+        return Err(at_item(ParseError::new(ParseErrorKind::InvalidSetOrdering), index));
     }
     match tlv.parse::<T>(parser.alloc()) {
         Ok(value) => Ok((value, text)),
-        Err(error) => Err(error.add_location(ParseLocation::Index(index))),
+        Err(error) => Err(at_item(error, index)),
     }
 }
 
