@@ -189,6 +189,7 @@ fn count_items<'a, T: Asn1Readable<'a>>(alloc: Global, content: &'a [u8]) -> Par
 }
 
 /// What follows the element in front, where one stands there.
+#[cold]
 fn behind_element<'a>(alloc: Global, content: &'a [u8]) -> &'a [u8]
     ensures { (f : Element × List ℕ) → front content.entry.now ≡ Ok f → result.now ≡ f.1 }
 {
@@ -197,22 +198,24 @@ fn behind_element<'a>(alloc: Global, content: &'a [u8]) -> &'a [u8]
     parser.rest()
 }
 
-/// Reads the first of the items, and says what follows it, also where memory ran out for it.
-fn first_of<'a, T: Asn1Readable<'a>>(
-    alloc: Global,
-    content: &'a [u8],
-    count: usize,
-) -> (ParseResult<T>, &'a [u8])
-    requires some { 0 < length content.now }
-    requires are_items { AreItems T.der.read content.now count }
-    ensures item { NextItem (T.der.runs_out content.entry.now) T.der.meaning (left T.der.read content.entry.now) (Some result.0) (left T.der.read result.1.now) }
-    ensures after { AreItems T.der.read result.1.now (count - 1) }
+/// Reads the first of the items. The parser then stands behind it, also where memory ran out for it.
+#[inline]
+fn read_first<'a, T: Asn1Readable<'a>>(parser: &mut Parser<'a>, count: usize) -> ParseResult<T>
+    requires some { 0 < length parser.now }
+    requires are_items { AreItems T.der.read parser.now count }
+    ensures item { NextItem (T.der.runs_out parser.old) T.der.meaning (left T.der.read parser.old) (Some result) (left T.der.read parser.new) }
+    ensures after { AreItems T.der.read parser.new (count - 1) }
     ensures counted { 0 < count }
 {
-    let mut parser = Parser::new(alloc, content);
+    let items = parser.rest();
+    are_octets(items);
     match parser.read_element::<T>() {
-        Ok(value) => (Ok(value), parser.rest()),
-        Err(error) => (Err(error), behind_element(alloc, content)),
+        Ok(value) => Ok(value),
+        Err(error) => {
+            let alloc = parser.alloc();
+            *parser = Parser::new(alloc, behind_element(alloc, items));
+            Err(error)
+        }
     }
 }
 
@@ -224,14 +227,20 @@ impl<'a, T: Asn1Readable<'a>, const MINIMUM_LEN: usize, const MAXIMUM_LEN: usize
 
     ghost remaining = { λ s. at_most s.count };
 
+    #[inline]
     fn next(&mut self) -> Option<ParseResult<T>> {
         if self.content.is_empty() {
             return None;
         }
-        let (answer, rest) = first_of::<T>(self.alloc, self.content, self.count);
-        self.content = rest;
+        let mut parser = Parser::new(self.alloc, self.content);
+        let answer = read_first::<T>(&mut parser, self.count);
+        self.content = parser.rest();
         self.count -= 1;
-        Some(answer)
+        // An error is large. Where an item was read, the item alone is moved.
+        match answer {
+            Ok(value) => Some(Ok(value)),
+            Err(error) => Some(Err(error)),
+        }
     }
 }
 
@@ -249,15 +258,13 @@ fn write_items<'a, T: Asn1Readable<'a> + Asn1Writable>(
     ensures err { OnErr result (KeepsFront writer.old.buf.now.bytes writer.new.buf.now.bytes) }
     ensures error { IfErr result (Refuses T.Error.from_gives (OneNames T.write_errors)) }
 {
-    let mut content = items;
+    let mut parser = Parser::new(alloc, items);
     let mut count = number;
-    'items: while !content.is_empty() {
-        let (answer, rest) = first_of::<T>(alloc, content, count);
-        match answer {
+    'items: while !parser.is_empty() {
+        match read_first::<T>(&mut parser, count) {
             Ok(value) => writer.write_element(&value)?,
             Err(_) => return Err(T::Error::from(WriteError::AllocationError)),
         }
-        content = rest;
         count -= 1;
     }
     Ok(())
@@ -272,16 +279,14 @@ fn items_length<'a, T: Asn1Readable<'a> + Asn1Writable>(
     requires { AreItems T.der.read items.now number }
     ensures { KnowsLength (Joins T.der.texts (left T.der.read items.entry.now)) result }
 {
-    let mut content = items;
+    let mut parser = Parser::new(alloc, items);
     let mut count = number;
     let mut total = 0usize;
-    'items: while !content.is_empty() {
-        let (answer, rest) = first_of::<T>(alloc, content, count);
-        match answer {
+    'items: while !parser.is_empty() {
+        match read_first::<T>(&mut parser, count) {
             Ok(value) => total = total.checked_add(value.encoded_length()?)?,
             Err(_) => return None,
         }
-        content = rest;
         count -= 1;
     }
     Some(total)
