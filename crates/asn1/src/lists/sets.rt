@@ -245,22 +245,20 @@ impl<'a, T: Asn1Readable<'a>> SimpleAsn1Readable<'a> for SetOf<'a, T> {
     }
 }
 
-/// Reads the first of the items, and says what follows it, also where memory ran out for it.
-fn first_in_set<'a, T: Asn1Readable<'a>>(
-    alloc: Global,
-    content: &'a [u8],
-) -> (ParseResult<T>, &'a [u8])
-    requires some { 0 < length content.now }
-    requires are_ordered { AreOrdered text_less T.der.read content.now }
-    ensures item { NextItem (first_out T.der.runs_out content.entry.now) T.der.meaning (set_left text_less T.der.read content.entry.now) (Some result.0) (set_left text_less T.der.read result.1.now) }
-    ensures after { AreOrdered text_less T.der.read result.1.now }
-    ensures shorter { length result.1.now < length content.entry.now }
+/// Reads the first of the items. The parser then stands behind it, also where memory ran out for it.
+#[inline]
+fn read_first<'a, T: Asn1Readable<'a>>(parser: &mut Parser<'a>) -> ParseResult<T>
+    requires some { 0 < length parser.now }
+    requires are_ordered { AreOrdered text_less T.der.read parser.now }
+    ensures item { NextItem (first_out T.der.runs_out parser.old) T.der.meaning (set_left text_less T.der.read parser.old) (Some result) (set_left text_less T.der.read parser.new) }
+    ensures after { AreOrdered text_less T.der.read parser.new }
+    ensures shorter { length parser.new < length parser.old }
 {
-    let mut parser = Parser::new(alloc, content);
+    are_octets(parser.rest());
     let Ok(tlv) = parser.read_element::<Tlv<'a>>() else {
         unreachable!()
     };
-    (tlv.parse::<T>(alloc), parser.rest())
+    tlv.parse::<T>(parser.alloc())
 }
 
 impl<'a, T: Asn1Readable<'a>> Iterator for SetOf<'a, T> {
@@ -270,13 +268,19 @@ impl<'a, T: Asn1Readable<'a>> Iterator for SetOf<'a, T> {
 
     ghost remaining = { λ s. at_most (length s.content.now) };
 
+    #[inline]
     fn next(&mut self) -> Option<ParseResult<T>> {
         if self.content.is_empty() {
             return None;
         }
-        let (answer, rest) = first_in_set::<T>(self.alloc, self.content);
-        self.content = rest;
-        Some(answer)
+        let mut parser = Parser::new(self.alloc, self.content);
+        let answer = read_first::<T>(&mut parser);
+        self.content = parser.rest();
+        // An error is large. Where an item was read, the item alone is moved.
+        match answer {
+            Ok(value) => Some(Ok(value)),
+            Err(error) => Some(Err(error)),
+        }
     }
 }
 
@@ -293,14 +297,12 @@ fn write_set_items<'a, T: Asn1Readable<'a> + Asn1Writable>(
     ensures err { OnErr result (KeepsFront writer.old.buf.now.bytes writer.new.buf.now.bytes) }
     ensures error { IfErr result (Refuses T.Error.from_gives (OneNames T.write_errors)) }
 {
-    let mut content = items;
-    'items: while !content.is_empty() {
-        let (answer, rest) = first_in_set::<T>(alloc, content);
-        match answer {
+    let mut parser = Parser::new(alloc, items);
+    'items: while !parser.is_empty() {
+        match read_first::<T>(&mut parser) {
             Ok(value) => writer.write_element(&value)?,
             Err(_) => return Err(T::Error::from(WriteError::AllocationError)),
         }
-        content = rest;
     }
     Ok(())
 }
@@ -313,15 +315,13 @@ fn set_items_length<'a, T: Asn1Readable<'a> + Asn1Writable>(
     requires { AreOrdered text_less T.der.read items.now }
     ensures { KnowsLength (Joins T.der.texts (set_left text_less T.der.read items.entry.now)) result }
 {
-    let mut content = items;
+    let mut parser = Parser::new(alloc, items);
     let mut total = 0usize;
-    'items: while !content.is_empty() {
-        let (answer, rest) = first_in_set::<T>(alloc, content);
-        match answer {
+    'items: while !parser.is_empty() {
+        match read_first::<T>(&mut parser) {
             Ok(value) => total = total.checked_add(value.encoded_length()?)?,
             Err(_) => return None,
         }
-        content = rest;
     }
     Some(total)
 }
