@@ -10,7 +10,7 @@ ghost use Rattle.asn1.specs.FieldLists.{FieldList, last_field, first_field};
 
 use asn1_core::{
     Asn1Readable, Asn1Type, Asn1Writable, ParseError, ParseErrorKind, ParseLocation, ParseResult,
-    Parser, WriteError, Writer,
+    Parser, WriteBuf, WriteError, Writer,
 };
 use std::marker::PhantomData;
 
@@ -127,6 +127,16 @@ pub fn sum(a: Option<usize>, b: Option<usize>) -> Option<usize>
     ensures { IsSum a b result }
 {
     a?.checked_add(b?)
+}
+
+/// Appends the fields as the contents octets of a structure. At Err what stood before still stands in front.
+pub fn write_fields<R: RowWritable>(fields: &R, dest: &mut WriteBuf) -> Result<(), R::Error>
+    requires { R.list.fields.closures (R.list.meaning fields.now) }
+    ensures ok { OnOk result (Appends (R.list.fields.texts (R.list.meaning fields.now)) dest.old.bytes dest.new.bytes) }
+    ensures err { OnErr result (KeepsFront dest.old.bytes dest.new.bytes) }
+    ensures error { IfErr result (Refuses R.Error.from_gives (R.write_errors fields.now)) }
+{
+    fields.write(&mut Writer::new(dest))
 }
 
 impl<N: FieldNames, const I: usize, A: Asn1Type> Row for Last<N, I, A> {

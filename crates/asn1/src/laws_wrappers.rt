@@ -3,7 +3,10 @@
 ghost use Rattle.std.specs.Prelude.{◌≡◌, true, false};
 ghost use Rattle.asn1.specs.Alternatives.{Disjoint};
 
-use crate::{Choice1, Choice2, Choice3, Explicit, Implicit, OctetStringEncoded};
+use crate::{
+    Choice1, Choice2, Choice3, DefaultValue, Defaulted, Explicit, Implicit, MeaningEq,
+    OctetStringEncoded,
+};
 use asn1_core::Asn1Type;
 
 /// Each wrapper of a lawful part is lawful: what it is written as is read back, and means the same. An option's part is
@@ -14,6 +17,11 @@ pub fn wrappers_are_lawful<T: Asn1Type, const TAG: u32>()
     ensures explicit { T.der.lawful → ⟦<Explicit<T, TAG> as Asn1Type>⟧.der.lawful }
     ensures implicit { T.der.lawful → T.der.is_simple → ⟦<Implicit<T, TAG> as Asn1Type>⟧.der.lawful }
     ensures octet_string { T.der.lawful → ⟦<OctetStringEncoded<T> as Asn1Type>⟧.der.lawful }
+{}
+
+/// A field with a default is lawful where its part is, and where that is an element, as for an option.
+pub fn defaults_are_lawful<T: MeaningEq, D: DefaultValue<T>>()
+    ensures { T.der.lawful → T.der.is_element → ⟦<Defaulted<T, D> as Asn1Type>⟧.der.lawful }
 {}
 
 /// A choice of lawful elements is lawful where no tag is accepted by two alternatives.

@@ -1,10 +1,12 @@
 //! Options, wrappers, choices and defaults.
 
+ghost use Rattle.std.specs.Prelude.{false};
+
 use crate::{
-    Asn1Readable, Asn1Writable, Choice1, Choice2, Choice3, DefinedByMarker, Explicit, Implicit,
-    ObjectIdentifier, OctetStringEncoded, ParseErrorKind, ParseResult, Parser, SequenceWriter, Tag,
-    WriteError, WriteResult, Writer, from_optional_default, parse_single, to_optional_default,
-    write, write_single,
+    Asn1Readable, Asn1Writable, Choice1, Choice2, Choice3, DefaultValue, Defaulted,
+    DefinedByMarker, Explicit, Implicit, ObjectIdentifier, OctetStringEncoded, ParseErrorKind,
+    ParseResult, Parser, SequenceWriter, Tag, WriteError, WriteResult, Writer,
+    from_optional_default, parse_single, to_optional_default, write, write_single,
 };
 use std::alloc::Global;
 use std::process::Abort;
@@ -166,6 +168,62 @@ fn choices(rt: HostRuntime) -> Result<(), Fail> {
     both_ways(&rt, alloc, Choice2::<u8, u64>::ChoiceA(5), &[2, 1, 5])?;
     let overflow = refused::<Choice2<u8, u64>>(alloc, &[2, 2, 1, 0]);
     assert_eq!(rt; overflow, Some(ParseErrorKind::IntegerOverflow));
+    Ok(())
+}
+
+/// A truth value is false where it isn't there.
+#[derive(Debug, PartialEq, Eq)]
+struct False;
+
+impl DefaultValue<bool> for False {
+    ghost default = { false };
+
+    fn value() -> bool {
+        false
+    }
+}
+
+/// A number is 1 where it isn't there.
+#[derive(Debug, PartialEq, Eq)]
+struct One;
+
+impl DefaultValue<Explicit<u8, 0>> for One {
+    ghost default = { record { inner = 1 } };
+
+    fn value() -> Explicit<u8, 0> {
+        Explicit::new(1)
+    }
+}
+
+#[test]
+fn fields_with_a_default(rt: HostRuntime) -> Result<(), Fail> {
+    let alloc = rt.alloc();
+    type Critical = Defaulted<bool, False>;
+    both_ways(&rt, alloc, Critical::new(true), &[1, 1, 0xff])?;
+    both_ways(&rt, alloc, Critical::new(false), &[])?;
+    let default = refused::<Critical>(alloc, &[1, 1, 0]);
+    assert_eq!(rt; default, Some(ParseErrorKind::EncodedDefault));
+    let faulty = refused::<Critical>(alloc, &[1, 1, 1]);
+    assert_eq!(rt; faulty, Some(ParseErrorKind::InvalidValue));
+    let short = refused::<Critical>(alloc, &[1, 1]);
+    assert_eq!(rt; short, Some(ParseErrorKind::ShortData { needed: 1 }));
+    let mut parser = Parser::new(alloc, &[5, 0]);
+    let value = parser.read_element::<Critical>()?;
+    assert!(rt; !value.into_inner());
+    assert_eq!(rt; parser.rest(), [5u8, 0].as_slice());
+
+    type Version = Defaulted<Explicit<u8, 0>, One>;
+    both_ways(
+        &rt,
+        alloc,
+        Version::new(Explicit::new(2)),
+        &[0xa0, 3, 2, 1, 2],
+    )?;
+    both_ways(&rt, alloc, Version::new(Explicit::new(1)), &[])?;
+    let default = refused::<Version>(alloc, &[0xa0, 3, 2, 1, 1]);
+    assert_eq!(rt; default, Some(ParseErrorKind::EncodedDefault));
+    let value: Version = Explicit::new(3).into();
+    assert_eq!(rt; value.as_inner().as_inner(), &3);
     Ok(())
 }
 

@@ -1,0 +1,12 @@
+use Rattle.asn1.specs.DefaultSteps.{answers_default, stops_default}
+use Rattle.asn1.proofs.wrappers.defaulted.DefaultedAsn1Readable.parse.Goals as goal
+
+pub returns-clause-answers : goal.returns-clause-answers
+returns-clause-answers g c =
+    let d = g.T.Asn1Type.der in
+    answers_default d.meaning d.text g.T.PartialEq.eq _ _ c.value.ensures (λ a. g.met.T.MeaningEq.tells a _) (λ w. w.inner) d.accepts d.read _ _ _ _ _ c.read_element-read.ensures.answers c.or_default.ensures
+
+pub returns-clause-stops : goal.returns-clause-stops
+returns-clause-stops g c =
+    let d = g.T.Asn1Type.der in
+    stops_default d.meaning d.text g.T.PartialEq.eq (λ w. w.inner) _ d.accepts d.read _ _ _ _ _ _ c.read_element-read.ensures.answers c.read_element-read.ensures.stops c.or_default.ensures

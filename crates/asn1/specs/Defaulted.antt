@@ -1,0 +1,54 @@
+-- What a field with a default means (X.690 11.5), and what is asked of the equality of its type.
+use Rattle.std.specs.Prelude.{◌≡◌, ◌⊎◌, ℕ, Bool, true, false, List, Ok}
+use Rattle.asn1_core.specs.Options.{option_out}
+use Rattle.asn1_core.specs.Der.{Der, no_content}
+use Rattle.asn1.specs.Defaults.{same_text, unless, default_text, default_read}
+use Rattle.asn1.specs.DefaultLaws.{default_takes, default_shape, default_accepted, default_again, default_faults, default_one, default_both}
+
+-- Values that are equal mean the same, and values with the same text are equal.
+pub record EqualityTells {V M : Type 0} (meaning : V → M) (text : M → List ℕ) (same : V → V → Bool) (a b : V) : Type 0 where
+  pub means : same a b ≡ true → meaning a ≡ meaning b
+  pub equal : text (meaning a) ≡ text (meaning b) → same a b ≡ true
+
+-- A value of the type that has no text where that would be the text of the default.
+abbrev pub default_der : {V W : Type 0} → (W → V) → (d : Der V) → d.Meaning → Der W
+default_der view d default = record {
+  Meaning = d.Meaning;
+  meaning = λ w. d.meaning (view w);
+  text = default_text d.text default;
+  texts = λ m. unless (same_text d.text m default) (d.texts m);
+  closures = d.closures;
+  valid = λ m. (m ≡ default) ⊎ (d.valid m × (same_text d.text m default ≡ false));
+  allowed = λ m. (m ≡ default) ⊎ d.allowed m;
+  plain = d.plain;
+  lawful = d.lawful × d.is_element;
+  is_element = ⊥;
+  takes_memory = d.takes_memory;
+  runs_out = option_out d.accepts d.runs_out;
+  accepts = d.accepts;
+  read = default_read d.accepts d.text d.read default;
+  stops = λ t rest. d.stops t rest ⊎ ((m : d.Meaning) × (d.read t ≡ Ok (m, rest)));
+  one_text = λ p m. default_one (same_text d.text m default) (d.text m) (d.texts m) (d.one_text p m);
+  no_closures = d.no_closures;
+  takes = λ t rest m is e.
+      let got = default_takes d.text default d.accepts d.read (λ x. d.valid x × d.allowed x) d.takes t rest m is e in
+      (got.0, default_both default d.valid d.allowed (λ x. same_text d.text x default ≡ false) m got.1);
+  shape = λ m l v. default_shape d.text default d.accepts d.read d.valid (λ x w. d.shape x l.0 w) m v;
+  accepted = default_accepted d.text default d.accepts d.read d.valid d.accepted;
+  solid = λ m l i v e. i;
+  again = λ m rest l v a fits none. default_again d.text default d.accepts d.read d.valid d.allowed (λ x w. d.shape x l.0 w) d.accepted (λ x w e. d.solid x l.0 l.1 w e) (λ x r w b o n. d.again x r l.0 w b o n) m rest v a fits none;
+  memory = λ t places out. d.memory t places out.1;
+  in_front = λ t places out. d.in_front t places out.1;
+  faults = default_faults d.text default d.accepts d.read d.faults;
+  is_simple = ⊥;
+  content = no_content;
+  as_closures = λ m h. tt;
+  as_valid = λ m v. tt;
+  as_plain = λ i. absurd i;
+  as_lawful = λ i. absurd i;
+  as_texts = λ i. absurd i;
+  as_accepts = λ i. absurd i;
+  as_read = λ i. absurd i;
+  as_out = λ i. absurd i;
+  as_stops = λ i. absurd i;
+}

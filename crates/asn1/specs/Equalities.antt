@@ -1,0 +1,99 @@
+-- That the equality of a type tells its values by their texts: what is said once for each kind of type.
+use Rattle.std.proofs.Common.{◌≡◌, ℕ, ◌+◌, ◌-◌, ◌<◌, ◌≤◌, ◌⊎◌, ℤ, pos, Bool, true, false, List, [], ◌∷◌, ◌++◌, length, take, drop, refl, sym, ap, ◌∙◌, inl, inr, append_assoc, arith}
+use Rattle.std.specs.Prelude.{nat_eq}
+use Rattle.std.specs.Ordering.{int_eq}
+use Rattle.std.proofs.lemmas.Bool.{cases_lt}
+use Rattle.std.proofs.lemmas.Bool.Decides.{Decides-int_eq, Decides-eqb}
+use Rattle.std.proofs.lemmas.List.{append_cancel_left, length-append}
+use Rattle.std.proofs.Math.Seq.{drop-append_seam}
+use Rattle.std.specs.Int.Digits.{digits_of}
+use Rattle.asn1_core.specs.declared.tag.Tag.{Tag}
+use Rattle.asn1_core.specs.Text.{signed_number}
+use Rattle.asn1_core.specs.Tag.{tag_text}
+use Rattle.asn1_core.specs.Length.{length_text}
+use Rattle.asn1_core.specs.Element.{element, element_text}
+use Rattle.asn1_core.specs.Integer.{integer_content}
+use Rattle.asn1_core.specs.Reading.{bool_content_text}
+use Rattle.asn1_core.specs.Lemmas.Lengths.{length_text_low, length_text_high}
+use Rattle.asn1_core.specs.Lemmas.Integers.{content_value}
+use Rattle.asn1.specs.Defaulted.{EqualityTells}
+
+-- ---- elements with the same tag and the same text have the same content
+
+heads : (x y : ℕ) (xs ys : List ℕ) → x ∷ xs ≡ y ∷ ys → (x ≡ y) × (xs ≡ ys)
+heads x y xs ys e = (cc, cc)
+
+behind_same : (a b c d : List ℕ) → length a ≡ length b → a ++ c ≡ b ++ d → c ≡ d
+behind_same a b c d same e = sym (drop-append_seam a c) ∙ (ap (λ (n : ℕ). drop n (a ++ c)) same ∙ (ap (λ (t : List ℕ). drop (length b) t) e ∙ drop-append_seam b d))
+
+lengths_apart : (c d : List ℕ) → length_text (length c) ++ c ≡ length_text (length d) ++ d → c ≡ d
+lengths_apart c d e =
+    elim (cases_lt (length c) 128) [
+      | inl low ↦ elim (cases_lt (length d) 128) [
+        | inl low2 ↦ (heads _ _ _ _ (rw (length_text_low (length c) low, length_text_low (length d) low2) at e)).1
+        | inr high2 ↦
+            let h = heads _ _ _ _ (rw (length_text_low (length c) low, length_text_high (length d) high2) at e) in
+            absurd (omega (arith, h.0))
+      ]
+      | inr high ↦ elim (cases_lt (length d) 128) [
+        | inl low2 ↦
+            let h = heads _ _ _ _ (rw (length_text_high (length c) high, length_text_low (length d) low2) at e) in
+            absurd (omega (arith, h.0))
+        | inr high2 ↦
+            let h = heads _ _ _ _ (rw (length_text_high (length c) high, length_text_high (length d) high2) at e) in
+            behind_same (digits_of 256 (length c)) (digits_of 256 (length d)) c d (omega (arith, h.0)) h.1
+      ]
+    ]
+
+pub content_alone : (tag : Tag) (c d : List ℕ) → element_text (element tag c) ≡ element_text (element tag d) → c ≡ d
+unfolding element_text
+content_alone tag c d e = lengths_apart c d (append_cancel_left (tag_text tag) _ _ e)
+
+-- ---- the types
+
+-- a simple type, by its content
+pub simple_tells : {V M : Type 0} (view : V → M) (tag : Tag) (text : M → List ℕ) (same : V → V → Bool) (a b : V) → (same a b ≡ true → view a ≡ view b) → (text (view a) ≡ text (view b) → same a b ≡ true) → EqualityTells view (λ m. element_text (element tag (text m))) same a b
+simple_tells view tag text same a b means equal = record { means = means; equal = λ e. equal (content_alone tag (text (view a)) (text (view b)) e) }
+
+bools_alone : (a b : Bool) → bool_content_text a ≡ bool_content_text b → a ≡ b
+bools_alone true true e = refl
+bools_alone false false e = refl
+bools_alone true false e = absurd cc
+bools_alone false true e = absurd cc
+
+bools_equal : (same : Bool → Bool → Bool) → same true true ≡ true → same false false ≡ true → (a b : Bool) → a ≡ b → same a b ≡ true
+bools_equal same both none true b e = rw (← e) both
+bools_equal same both none false b e = rw (← e) none
+
+bools_mean : (same : Bool → Bool → Bool) → same true false ≡ false → same false true ≡ false → (a b : Bool) → same a b ≡ true → a ≡ b
+bools_mean same first second true true e = refl
+bools_mean same first second false false e = refl
+bools_mean same first second true false e = absurd cc
+bools_mean same first second false true e = absurd cc
+
+pub bools_tell : (tag : Tag) (same : Bool → Bool → Bool) → same true true ≡ true → same false false ≡ true → same true false ≡ false → same false true ≡ false → (a b : Bool) → EqualityTells (λ x. x) (λ m. element_text (element tag (bool_content_text m))) same a b
+bools_tell tag same both none first second a b = simple_tells (λ x. x) tag bool_content_text same a b (bools_mean same first second a b) (λ e. bools_equal same both none a b (bools_alone a b e))
+
+numbers_alone : (y z : ℤ) → integer_content y ≡ integer_content z → y ≡ z
+numbers_alone y z e = sym (content_value y) ∙ (ap signed_number e ∙ content_value z)
+
+natural_of : (a b : ℕ) → pos a ≡ pos b → a ≡ b
+natural_of a b e = cc
+
+abbrev pub number_text : Tag → ℤ → List ℕ
+number_text tag z = element_text (element tag (integer_content z))
+
+-- integers, by the number that a value stands for
+pub integers_tell : (tag : Tag) (a b : ℤ) → EqualityTells (λ z. z) (number_text tag) int_eq a b
+integers_tell tag a b = simple_tells (λ z. z) tag integer_content int_eq a b (Decides-int_eq a b).0 (λ e. (Decides-int_eq a b).1 (numbers_alone a b e))
+
+pub naturals_tell : (tag : Tag) (a b : ℕ) → EqualityTells (λ n. pos n) (number_text tag) nat_eq a b
+naturals_tell tag a b = simple_tells (λ n. pos n) tag integer_content nat_eq a b (λ e. ap (λ (n : ℕ). pos n) ((Decides-eqb a b).0 e)) (λ e. (Decides-eqb a b).1 (natural_of a b (numbers_alone (pos a) (pos b) e)))
+
+-- values that are seen through something, as the inner value of a wrapper
+pub seen_tells : {V W M : Type 0} (view : W → V) (meaning : V → M) (text : M → List ℕ) (same : V → V → Bool) (a b : W) → EqualityTells meaning text same (view a) (view b) → EqualityTells (λ w. meaning (view w)) text (λ x y. same (view x) (view y)) a b
+seen_tells view meaning text same a b tells = record { means = tells.means; equal = tells.equal }
+
+-- the same, in an element of its own
+pub inside_tells : {V W M : Type 0} (view : W → V) (meaning : V → M) (tag : Tag) (text : M → List ℕ) (same : V → V → Bool) (a b : W) → EqualityTells meaning text same (view a) (view b) → EqualityTells (λ w. meaning (view w)) (λ m. element_text (element tag (text m))) (λ x y. same (view x) (view y)) a b
+inside_tells view meaning tag text same a b tells = record { means = tells.means; equal = λ e. tells.equal (content_alone tag (text (meaning (view a))) (text (meaning (view b))) e) }

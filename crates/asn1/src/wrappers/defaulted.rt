@@ -1,0 +1,131 @@
+//! Fields with a default, which are left out where they equal it (X.690 11.5).
+
+ghost use Rattle.std.specs.Prelude.{◌≡◌};
+ghost use Rattle.asn1.specs.Defaults.{or_read_default, same_text, seen_ok};
+ghost use Rattle.asn1.specs.Defaulted.{EqualityTells, default_der};
+
+use crate::wrappers::defaults::from_optional_default;
+use asn1_core::{
+    Asn1Readable, Asn1Type, Asn1Writable, ParseResult, Parser, Tag, WriteError, Writer,
+};
+use std::marker::PhantomData;
+
+/// A type whose equality tells its values by what they mean and by their texts.
+pub trait MeaningEq: Asn1Type + PartialEq {
+    // Values that are equal mean the same, and values with the same text are equal.
+    ghost tells: { (a b : Self) → EqualityTells Self.der.meaning Self.der.text Self.eq a b };
+}
+
+/// A default of the type `T`, said once.
+pub trait DefaultValue<T: Asn1Type> {
+    ghost default: { T };
+
+    /// The default.
+    fn value() -> T
+        ensures { T.der.meaning result ≡ T.der.meaning default };
+}
+
+/// A field with a default: its value, which has no text where it equals the default (X.690 11.5). A default that is
+/// encoded nevertheless is `EncodedDefault`.
+#[derive(Debug, PartialEq, Eq, Drop)]
+pub struct Defaulted<T, D> {
+    inner: T,
+    default: PhantomData<D>,
+}
+
+impl<T, D> Defaulted<T, D> {
+    /// The value.
+    pub fn new(inner: T) -> Self
+        ensures { result.inner ≡ inner }
+    {
+        Defaulted {
+            inner,
+            default: PhantomData,
+        }
+    }
+
+    /// The value.
+    pub fn as_inner(&self) -> &T
+        ensures { result.now ≡ self.now.inner }
+    {
+        &self.inner
+    }
+
+    /// The value.
+    pub fn into_inner(self) -> T
+        ensures { result ≡ self.inner }
+    {
+        self.inner
+    }
+}
+
+impl<T, D> From<T> for Defaulted<T, D> {
+    ghost from_gives = { λ inner result. result.inner ≡ inner };
+
+    fn from(inner: T) -> Self {
+        Defaulted::new(inner)
+    }
+}
+
+impl<T: MeaningEq, D: DefaultValue<T>> Asn1Type for Defaulted<T, D> {
+    ghost der = { default_der (λ x. x.inner) T.der (T.der.meaning D.default) };
+
+    fn known(&self) {
+        self.inner.known()
+    }
+}
+
+/// What was read, or the default; a value that equals the default is `EncodedDefault`.
+fn or_default<T: MeaningEq + Drop, D>(
+    read: ParseResult<Option<T>>,
+    default: T,
+) -> ParseResult<Defaulted<T, D>>
+    ensures { seen_ok (λ x. x.inner) result ≡ or_read_default T.eq read default }
+{
+    match read {
+        Ok(value) => match from_optional_default(value, default) {
+            Ok(value) => Ok(Defaulted::new(value)),
+            Err(error) => Err(error),
+        },
+        Err(error) => Err(error),
+    }
+}
+
+/// Whether the value equals the default, and so has no text.
+fn is_default<T: MeaningEq + Drop, D: DefaultValue<T>>(inner: &T) -> bool
+    ensures { result ≡ same_text T.der.text (T.der.meaning inner.now) (T.der.meaning D.default) }
+{
+    let default = D::value();
+    *inner == default
+}
+
+impl<'a, T: Asn1Readable<'a> + MeaningEq, D: DefaultValue<T>> Asn1Readable<'a> for Defaulted<T, D> {
+    fn parse(parser: &mut Parser<'a>) -> ParseResult<Self> {
+        let read = parser.read_element::<Option<T>>();
+        or_default(read, D::value())
+    }
+
+    fn can_parse(tag: Tag) -> bool {
+        T::can_parse(tag)
+    }
+}
+
+impl<T: Asn1Writable + MeaningEq + Drop, D: DefaultValue<T>> Asn1Writable for Defaulted<T, D> {
+    type Error = T::Error;
+
+    ghost write_errors = { λ x. T.write_errors x.inner };
+
+    fn write(&self, dest: &mut Writer<'_>) -> Result<(), T::Error> {
+        if is_default::<T, D>(&self.inner) {
+            return Ok(());
+        }
+        dest.write_element(&self.inner)
+    }
+
+    fn encoded_length(&self) -> Option<usize> {
+        if is_default::<T, D>(&self.inner) {
+            return Some(0);
+        }
+        self.inner.encoded_length()
+    }
+}
