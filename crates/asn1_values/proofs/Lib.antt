@@ -2,4 +2,3 @@ mod Bits
 mod PlainTexts
 mod FractionDigits
 mod SameIdentifiers
-mod KnownContents

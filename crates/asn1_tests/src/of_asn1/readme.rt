@@ -1,0 +1,57 @@
+//! The examples of the README, as they are printed there.
+
+use asn1::*;
+use std::test::Fail;
+
+#[test]
+fn reading(rt: HostRuntime) -> Result<(), Fail> {
+    let alloc = rt.alloc();
+    let octets = [5u8, 0, 1].as_slice();
+
+    // One value, and nothing behind it.
+    let value = parse_single::<bool>(alloc, &[0x01, 0x01, 0xff])?;
+
+    // Several, one after another.
+    let pair = parse(
+        alloc,
+        &[1, 1, 0xff, 1, 1, 0],
+        |parser| -> ParseResult<(bool, bool)> {
+            Ok((
+                parser.read_element::<bool>()?,
+                parser.read_element::<bool>()?,
+            ))
+        },
+    )?;
+
+    // Any element, and what follows it.
+    let (tlv, rest) = strip_tlv(octets)?;
+
+    assert!(rt; value);
+    assert!(rt; pair.0 && !pair.1);
+    assert_eq!(rt; tlv.full_data(), [5u8, 0].as_slice());
+    assert_eq!(rt; rest, [1u8].as_slice());
+    Ok(())
+}
+
+#[test]
+fn writing(rt: HostRuntime) -> Result<(), Fail> {
+    let alloc = rt.alloc();
+
+    let octets = write_single(alloc, &true)?;
+
+    // Under the explicit tag 2.
+    let tagged = write(
+        alloc,
+        |writer: &mut Writer<'_>| writer.write_explicit_element(&true, 2),
+    )?;
+
+    // An octet string, whose length is patched once its content is there.
+    let patched = write(alloc, |writer: &mut Writer<'_>| {
+        writer.write_tlv(Tag::primitive(4), None, |dest| dest.push_slice(b"abc"))
+    })?;
+
+    assert_eq!(rt; octets.as_slice(), [1u8, 1, 0xff].as_slice());
+    assert_eq!(rt; tagged.as_slice(), [0xa2u8, 3, 1, 1, 0xff].as_slice());
+    assert_eq!(rt; patched.as_slice(), [4u8, 3, 0x61, 0x62, 0x63].as_slice());
+    Ok(())
+}

@@ -1,0 +1,106 @@
+//! What `Debug` shows: the names and fields of the original.
+
+use asn1_core::parser::{ParseError, ParseErrorKind, ParseLocation, strip_tlv};
+use asn1_core::tag::{Tag, TagClass, explicit_tag};
+use asn1_core::writer::WriteError;
+use std::alloc::Global;
+use std::fmt::Debug;
+use std::process::Abort;
+use std::test::Fail;
+
+fn compare_shown<T: Debug>(
+    rt: &impl Abort,
+    alloc: Global,
+    value: &T,
+    text: &str,
+) -> Result<(), Fail> {
+    let shown = format!(in alloc; "{value:?}")?;
+    assert_eq!(rt; shown.as_str(), text);
+    Ok(())
+}
+
+#[test]
+fn kinds_of_errors_are_shown(rt: HostRuntime) -> Result<(), Fail> {
+    let texts = [
+        (ParseErrorKind::InvalidValue, "InvalidValue"),
+        (ParseErrorKind::InvalidTag, "InvalidTag"),
+        (ParseErrorKind::InvalidLength, "InvalidLength"),
+        (
+            ParseErrorKind::InvalidSize {
+                min: 1,
+                max: 5,
+                actual: 0,
+            },
+            "InvalidSize { min: 1, max: 5, actual: 0 }",
+        ),
+        (
+            ParseErrorKind::UnexpectedTag {
+                actual: Tag::primitive(12),
+            },
+            "UnexpectedTag { actual: Tag { value: 12, constructed: false, class: Universal } }",
+        ),
+        (
+            ParseErrorKind::ShortData { needed: 7 },
+            "ShortData { needed: 7 }",
+        ),
+        (ParseErrorKind::IntegerOverflow, "IntegerOverflow"),
+        (ParseErrorKind::ExtraData, "ExtraData"),
+        (ParseErrorKind::InvalidSetOrdering, "InvalidSetOrdering"),
+        (ParseErrorKind::EncodedDefault, "EncodedDefault"),
+        (ParseErrorKind::OidTooLong, "OidTooLong"),
+        (ParseErrorKind::UnknownDefinedBy, "UnknownDefinedBy"),
+        (ParseErrorKind::AllocationError, "AllocationError"),
+    ];
+    for (kind, text) in texts {
+        compare_shown(&rt, rt.alloc(), &kind, text)?;
+    }
+    Ok(())
+}
+
+#[test]
+fn errors_and_places_are_shown(rt: HostRuntime) -> Result<(), Fail> {
+    let alloc = rt.alloc();
+    let field = ParseLocation::Field("Abc::123");
+    compare_shown(&rt, alloc, &field, "Field(\"Abc::123\")")?;
+    compare_shown(&rt, alloc, &ParseLocation::Index(12), "Index(12)")?;
+    let error = ParseError::new(ParseErrorKind::ShortData { needed: 7 })
+        .add_location(field)
+        .add_location(ParseLocation::Index(12));
+    compare_shown(
+        &rt,
+        alloc,
+        &error,
+        "ParseError { kind: ShortData { needed: 7 }, location: [12, \"Abc::123\"] }",
+    )?;
+    let memory = WriteError::AllocationError;
+    compare_shown(&rt, alloc, &memory, "AllocationError")?;
+    let order = WriteError::InvalidSetOrdering;
+    compare_shown(&rt, alloc, &order, "InvalidSetOrdering")
+}
+
+#[test]
+fn tags_and_elements_are_shown(rt: HostRuntime) -> Result<(), Fail> {
+    let classes = [
+        (TagClass::Universal, "Universal"),
+        (TagClass::Application, "Application"),
+        (TagClass::ContextSpecific, "ContextSpecific"),
+        (TagClass::Private, "Private"),
+    ];
+    for (class, text) in classes {
+        compare_shown(&rt, rt.alloc(), &class, text)?;
+    }
+    compare_shown(
+        &rt,
+        rt.alloc(),
+        &explicit_tag(3),
+        "Tag { value: 3, constructed: true, class: ContextSpecific }",
+    )?;
+    let octets = [0x01, 0x01, 0xff];
+    let (tlv, _rest) = strip_tlv(&octets)?;
+    compare_shown(
+        &rt,
+        rt.alloc(),
+        &tlv,
+        "Tlv { tag: Tag { value: 1, constructed: false, class: Universal }, data: [255], full_data: [1, 1, 255] }",
+    )
+}

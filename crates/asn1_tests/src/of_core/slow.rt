@@ -1,0 +1,156 @@
+//! A plain, slow reader, written from the definitions alone, beside the real one.
+
+use asn1_core::parser::{ParseErrorKind, strip_tlv};
+use asn1_core::tag::TagClass;
+use std::process::Abort;
+
+/// The class's two bits, whether it is constructed, the number, and how many octets the content and the rest have.
+type Seen = Result<(u8, bool, u128, usize, usize), ParseErrorKind>;
+
+const SHORT: ParseErrorKind = ParseErrorKind::ShortData { needed: 1 };
+
+/// A number in base 128, where each of its octets is a digit.
+fn slow_number(text: &[u8]) -> Result<(u128, &[u8]), ParseErrorKind> {
+    let open = text.iter().take_while(|octet| **octet >= 0x80).count();
+    if text.first() == Some(&0x80) || open >= 19 {
+        return Err(ParseErrorKind::InvalidTag);
+    }
+    if open >= text.len() {
+        return Err(SHORT);
+    }
+    let (octets, rest) = text.split_at(open + 1);
+    let mut number = 0u128;
+    for octet in octets {
+        let Some(more) = number.checked_mul(128) else {
+            return Err(ParseErrorKind::InvalidTag);
+        };
+        number = more | u128::from(octet % 128);
+    }
+    Ok((number, rest))
+}
+
+fn slow_tag(text: &[u8]) -> Result<(u8, bool, u128, &[u8]), ParseErrorKind> {
+    let [first, after @ ..] = text else {
+        return Err(SHORT);
+    };
+    let (number, rest) = if first % 32 < 31 {
+        (u128::from(first % 32), after)
+    } else {
+        let (number, rest) = slow_number(after)?;
+        if number < 31 || number >= 1 << 32 {
+            return Err(ParseErrorKind::InvalidTag);
+        }
+        (number, rest)
+    };
+    Ok((first / 64, first / 32 % 2 == 1, number, rest))
+}
+
+/// The length whose text is in front: the first octet counts those behind it, and the first of these isn't zero.
+fn slow_length(text: &[u8]) -> Result<(usize, &[u8]), ParseErrorKind> {
+    let [first, after @ ..] = text else {
+        return Err(SHORT);
+    };
+    match first {
+        0x00..=0x7f => Ok((usize::from(*first), after)),
+        0x81..=0x84 => {
+            let count = usize::from(first % 16);
+            if after.len() < count {
+                return Err(ParseErrorKind::ShortData {
+                    needed: count - after.len(),
+                });
+            }
+            let (octets, rest) = after.split_at(count);
+            let mut n = 0u32;
+            for octet in octets {
+                n = n.wrapping_mul(256) | u32::from(*octet);
+            }
+            if octets.first() == Some(&0) || n < 128 {
+                return Err(ParseErrorKind::InvalidLength);
+            }
+            Ok((n as usize, rest))
+        }
+        _ => Err(ParseErrorKind::InvalidLength),
+    }
+}
+
+fn slow_element(text: &[u8]) -> Seen {
+    let (class, constructed, number, after) = slow_tag(text)?;
+    let (n, after) = slow_length(after)?;
+    if after.len() < n {
+        return Err(ParseErrorKind::ShortData {
+            needed: n - after.len(),
+        });
+    }
+    Ok((class, constructed, number, n, after.len() - n))
+}
+
+fn real_element(text: &[u8]) -> Seen {
+    match strip_tlv(text) {
+        Ok((tlv, rest)) => {
+            let tag = tlv.tag();
+            let class = match tag.class() {
+                TagClass::Universal => 0,
+                TagClass::Application => 1,
+                TagClass::ContextSpecific => 2,
+                TagClass::Private => 3,
+            };
+            Ok((
+                class,
+                tag.is_constructed(),
+                u128::from(tag.value()),
+                tlv.data().len(),
+                rest.len(),
+            ))
+        }
+        Err(error) => Err(error.kind()),
+    }
+}
+
+fn compare(rt: &impl Abort, text: &[u8]) {
+    assert_eq!(rt; real_element(text), slow_element(text), "{text:?}");
+}
+
+#[test]
+fn all_texts_of_up_to_three_octets(rt: HostRuntime) {
+    compare(&rt, &[]);
+    for first in 0..=255 {
+        compare(&rt, &[first]);
+        for second in 0..=255 {
+            compare(&rt, &[first, second]);
+            for third in 0..=255 {
+                compare(&rt, &[first, second, third]);
+            }
+        }
+    }
+}
+
+/// Compares on the text with each octet replaced by each other, and on each front of these.
+fn compare_damaged<const N: usize>(rt: &impl Abort, text: [u8; N]) {
+    for place in 0..N {
+        for octet in 0..=255 {
+            let mut damaged = text;
+            damaged[place] = octet;
+            for end in 0..N {
+                compare(rt, &damaged[..end + 1]);
+            }
+        }
+    }
+}
+
+#[test]
+fn damaged_texts(rt: HostRuntime) {
+    compare_damaged(&rt, [0x04, 0x03, 0x61, 0x62, 0x63, 0x00]);
+    compare_damaged(
+        &rt,
+        [
+            0x30, 0x09, 0x02, 0x01, 0x01, 0x02, 0x01, 0x02, 0x02, 0x01, 0x03,
+        ],
+    );
+    compare_damaged(&rt, [0x1f, 0x81, 0x80, 0x01, 0x00]);
+    compare_damaged(&rt, [0x1f, 0x8f, 0xff, 0xff, 0xff, 0x7f, 0x01, 0x05]);
+    compare_damaged(&rt, [0x04, 0x84, 0x00, 0xff, 0xff, 0xff]);
+    compare_damaged(&rt, [0x04, 0x83, 0x01, 0x00, 0x00, 0x07]);
+    let mut long = [0xff; 21];
+    long[0] = 0x1f;
+    compare_damaged(&rt, long);
+}

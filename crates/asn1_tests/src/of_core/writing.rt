@@ -1,0 +1,116 @@
+ghost use Rattle.std.specs.Prelude.{◌≡◌, ◌++◌, OnOk, OnErr};
+ghost use Rattle.asn1_core.specs.Buffer.{KeepsFront};
+
+use asn1_core::tag::Tag;
+use asn1_core::writer::{WriteBuf, WriteError, WriteResult, Writer, write, write_single};
+use std::alloc::{AllocError, Global};
+use std::test::Fail;
+
+#[test]
+fn truth_values_are_written(rt: HostRuntime) -> Result<(), Fail> {
+    let octets = write_single(rt.alloc(), &true)?;
+    assert_eq!(rt; octets.as_slice(), [0x01, 0x01, 0xff].as_slice());
+    let octets = write_single(rt.alloc(), &false)?;
+    assert_eq!(rt; octets.as_slice(), [0x01, 0x01, 0x00].as_slice());
+    let octets = write(rt.alloc(), |writer: &mut Writer<'_>| {
+        writer.write_element(&true)?;
+        writer.write_element(&false)
+    })?;
+    assert_eq!(rt;
+        octets.as_slice(),
+        [0x01, 0x01, 0xff, 0x01, 0x01, 0x00].as_slice()
+    );
+    Ok(())
+}
+
+/// Pushes octets: one, and then the others.
+fn push_all(dest: &mut WriteBuf, octets: &[u8]) -> WriteResult<()>
+    ensures ok { OnOk result (dest.new.bytes ≡ dest.old.bytes ++ octets.now) }
+    ensures err { OnErr result (KeepsFront dest.old.bytes dest.new.bytes) }
+{
+    dest.reserve_additional(octets.len())?;
+    match octets {
+        [] => Ok(()),
+        [first, others @ ..] => {
+            dest.push_byte(*first)?;
+            dest.push_slice(others)
+        }
+    }
+}
+
+/// An element whose length is announced.
+pub fn announced_element(alloc: Global, tag: Tag, octets: &[u8]) -> WriteResult<Vec<u8>> {
+    write(alloc, |writer: &mut Writer<'_>| -> WriteResult<()> {
+        writer.write_tlv(
+            tag,
+            Some(octets.len()),
+            |dest: &mut WriteBuf| -> WriteResult<()> { push_all(dest, octets) },
+        )
+    })
+}
+
+/// An element whose length is patched.
+fn patched_element(alloc: Global, tag: Tag, octets: &[u8]) -> WriteResult<Vec<u8>> {
+    write(alloc, |writer: &mut Writer<'_>| -> WriteResult<()> {
+        writer.write_tlv(tag, None, |dest: &mut WriteBuf| -> WriteResult<()> {
+            push_all(dest, octets)
+        })
+    })
+}
+
+/// So many octets, of which each differs from those beside it.
+fn counted_octets(alloc: Global, count: usize) -> Result<Vec<u8>, AllocError> {
+    let mut octets = Vec::new(alloc);
+    for i in 0..count {
+        octets.push((i % 251) as u8)?;
+    }
+    Ok(octets)
+}
+
+#[test]
+fn headers_announced_and_patched(rt: HostRuntime) -> Result<(), Fail> {
+    let cases: [(usize, &[u8]); 7] = [
+        (0, &[0x04, 0x00]),
+        (127, &[0x04, 0x7f]),
+        (128, &[0x04, 0x81, 0x80]),
+        (255, &[0x04, 0x81, 0xff]),
+        (256, &[0x04, 0x82, 0x01, 0x00]),
+        (65535, &[0x04, 0x82, 0xff, 0xff]),
+        (65536, &[0x04, 0x83, 0x01, 0x00, 0x00]),
+    ];
+    for (n, header) in cases {
+        let content = counted_octets(rt.alloc(), n)?;
+        let announced = announced_element(rt.alloc(), Tag::primitive(4), content.as_slice())?;
+        let patched = patched_element(rt.alloc(), Tag::primitive(4), content.as_slice())?;
+        assert_eq!(rt; announced.len(), header.len() + n);
+        assert!(rt; announced.as_slice().starts_with(header), "{n}");
+        assert!(rt; announced.as_slice().ends_with(content.as_slice()), "{n}");
+        assert_eq!(rt; announced.as_slice(), patched.as_slice(), "{n}");
+    }
+    Ok(())
+}
+
+/// A length goes in place of one octet, and what stands behind moves.
+#[test]
+fn a_length_is_put_between(rt: HostRuntime) -> Result<(), Fail> {
+    let octets = patched_element(rt.alloc(), Tag::primitive(1), &[3, 4])?;
+    assert_eq!(rt; octets.as_slice(), [1, 2, 3, 4].as_slice());
+    let mut content = [5; 129];
+    content[0] = 3;
+    content[128] = 4;
+    let octets = patched_element(rt.alloc(), Tag::primitive(1), &content)?;
+    assert_eq!(rt; octets.len(), 132);
+    assert_eq!(rt; &octets.as_slice()[..5], [1, 0x81, 0x81, 3, 5].as_slice());
+    assert_eq!(rt; &octets.as_slice()[130..], [5, 4].as_slice());
+    Ok(())
+}
+
+#[test]
+fn errors_of_writes_compare(rt: HostRuntime) {
+    assert_eq!(rt; WriteError::AllocationError, WriteError::AllocationError);
+    assert_eq!(rt;
+        WriteError::InvalidSetOrdering,
+        WriteError::InvalidSetOrdering
+    );
+    assert_ne!(rt; WriteError::AllocationError, WriteError::InvalidSetOrdering);
+}
