@@ -1,14 +1,16 @@
--- Integers as the code reads and writes them: octet by octet, of nine octets at most; the last of sixteen octets.
-use Rattle.std.proofs.Common.{◌≡◌, ℕ, zero, suc, ◌+◌, ◌-◌, ◌*◌, ◌/◌, ◌%◌, ◌^◌, ◌<◌, ◌≤◌, ◌⊎◌, Bool, true, false, cond, leb, Ok, Err, List, [], ◌∷◌, ◌++◌, length, get_or, take, drop, refl, sym, ap, subst, ◌∙◌, inl, inr, arith, lit<}
-use Rattle.std.specs.Prelude.{ℤ, pos, negsuc, neg_ℤ, ◌-ℤ◌, ◌≤ℤ◌, ◌<ℤ◌, int_lt, unsigned_abs, FitsSigned}
+-- Integers as the code reads and writes them: sixteen octets, of which a content is the last.
+use Rattle.std.proofs.Common.{◌≡◌, ℕ, zero, suc, ◌+◌, ◌-◌, ◌*◌, ◌/◌, ◌%◌, ◌^◌, ◌<◌, ◌≤◌, ◌⊎◌, Bool, true, false, cond, leb, Ok, Err, List, [], ◌∷◌, ◌++◌, length, get_or, take, drop, replicate, refl, sym, ap, subst, ◌∙◌, inl, inr, arith, lit<, lit≤}
+use Rattle.std.specs.Prelude.{ℤ, pos, negsuc, neg_ℤ, ◌≤ℤ◌, ◌<ℤ◌, int_lt, unsigned_abs, FitsSigned}
 use Rattle.std.specs.Int.Digits.{digits_of}
-use Rattle.std.specs.Int.{w128, to_be_bytes, bytes_high_first, cast_unsigned, cast_signed}
-use Rattle.std.proofs.lemmas.Int.{ints, to_z-of_z}
+use Rattle.std.specs.Int.{w128, to_be_bytes, from_be_bytes, bytes_high_first, byte_worth, sum_through, cast_unsigned, cast_signed}
+use Rattle.std.proofs.lemmas.Int.{ints, to_z-of_z, to_z_pos}
 use Rattle.std.proofs.lemmas.Int.Digits.{number_push}
-use Rattle.std.proofs.lemmas.Bool.{le-leb, leb-true, leb-false, cases_lt, cases_Bool}
-use Rattle.std.proofs.lemmas.List.{take_more, length-take-le}
+use Rattle.std.proofs.lemmas.Bool.{le-leb, lt-leb, leb-true, leb-false, cases_lt, cases_Bool}
+use Rattle.std.proofs.lemmas.List.{append-nil, take_more, take_all, take-replicate, drop_all, drop-replicate, length-append, length-replicate}
 use Rattle.std.specs.Int.Count.{count_leading_zeros}
-use Rattle.std.proofs.lemmas.Nat.{pow-add, one_shl, div-add-mod', mod-mul-add, mul-add-lt, mod_below, leading_length}
+use Rattle.std.proofs.lemmas.Nat.{pow-add, div-add-mod', mod-mul-add, mul-add-lt, mod_below, leading_length}
+use Rattle.std.proofs.Math.Facts.{to_z-neg}
+use borrow.Rule.Slice.PartMut.{put_mid}
 use Rattle.std.proofs.Math.Nat.{pow-suc, pow-le-pow_right, mul-le-mul_right}
 use Rattle.asn1_core.specs.Text.{IsText, number, signed_number}
 use Rattle.asn1_core.specs.declared.parser.ParseErrorKind.TheVariants.{InvalidValue, IntegerOverflow}
@@ -17,28 +19,15 @@ use Rattle.asn1_core.specs.Integer.{nine_bits, is_minimal, with_sign, turned, in
 use Rattle.asn1_core.specs.Lemmas.Digits.{number_by_digits}
 use Rattle.asn1_core.specs.Lemmas.Lengths.{number_lt}
 use Rattle.asn1_core.specs.Lemmas.Texts.{IsText-from_reads}
-use Rattle.asn1_core.specs.Lemmas.Integers.{signed_low, signed_high, turned_length, turned_text, turned_low, turned_number, turned_shortest, shortest_nine, fewer_same, content_only, content_text, content_shortest, content_value, range_ok, range_below, range_above, sized_ok, sized_refused}
+use Rattle.asn1_core.specs.Lemmas.Integers.{zero_front, signed_low, signed_high, turned_length, turned_text, turned_low, turned_number, turned_shortest, shortest_nine, fewer_same, content_only, content_text, content_shortest, content_value, range_ok, range_below, range_above, sized_ok, sized_refused}
 
--- ---- octet by octet
+-- ---- an octet more
 
 number_more : (t : List ℕ) (x : ℕ) → number (t ++ x ∷ []) ≡ number t * 256 + x
 number_more t x = sym (number_by_digits (t ++ x ∷ [])) ∙ number_push 256 t x ∙ ap (λ (n : ℕ). n * 256 + x) (number_by_digits t)
 
-pub number_next : (t : List ℕ) (i : ℕ) → i < length t → number (take i t) * 256 + get_or t i 0 ≡ number (take (i + 1) t)
+number_next : (t : List ℕ) (i : ℕ) → i < length t → number (take i t) * 256 + get_or t i 0 ≡ number (take (i + 1) t)
 number_next t i h = sym (number_more (take i t) (get_or t i 0)) ∙ ap number (sym (take_more t i 0 h))
-
-text_take : (i : ℕ) (t : List ℕ) → IsText t → IsText (take i t)
-text_take zero t is = tt
-text_take (suc i) [] is = tt
-text_take (suc i) (x ∷ xs) is = (is.0, text_take i xs is.1)
-
-pub number_small : (t : List ℕ) (k : ℕ) → IsText t → length t ≤ k → number t < 256 ^ k
-number_small t k is h =
-    let most : 256 ^ length t ≤ 256 ^ k = pow-le-pow_right {n = 256} (lit< tt) {i = length t} {j = k} h in
-    omega (arith, number_lt t is)
-
-pub front_small : (t : List ℕ) (i : ℕ) → ((k : ℕ) → get_or t k 0 < 256) → i < length t → length t ≤ 9 → number (take i t) < 2 ^ 64
-front_small t i each h few = number_small (take i t) 8 (text_take i t (IsText-from_reads t each)) (omega (arith, length-take-le i t (omega arith)))
 
 -- ---- contents of more than nine octets
 
@@ -244,16 +233,113 @@ length_high (negsuc m) n fits e h =
 pub length_passed : (z : ℤ) (r : ℕ) → FitsSigned w128 z → r ≡ length (integer_content (cast_signed w128 (cast_unsigned w128 z))) → r ≡ length (integer_content z)
 length_passed z r fits e = e ∙ ap (λ (x : ℤ). length (integer_content x)) (to_z-of_z w128 z fits)
 
--- ---- the sign
+-- ---- the sign in front
 
-pub weight_is : (k : ℕ) → k ≤ 9 → 1 * 2 ^ (8 * k) % 2 ^ 128 ≡ 256 ^ k
-weight_is k h = one_shl (8 * k) 128 (omega arith) ∙ weight_power k
+zeros_number : (k : ℕ) (c : List ℕ) → number (replicate k 0 ++ c) ≡ number c
+zeros_number zero c = refl
+zeros_number (suc k) c = zero_front (replicate k 0 ++ c) ∙ zeros_number k c
 
-pub weight_small : (k : ℕ) → k ≤ 9 → 256 ^ k ≤ 2 ^ 72
-weight_small k h = pow-le-pow_right {n = 256} (lit< tt) {i = k} {j = 9} h
+zeros_low : (k : ℕ) (c : List ℕ) → get_or c 0 0 < 128 → get_or (replicate k 0 ++ c) 0 0 < 128
+zeros_low zero c h = h
+zeros_low (suc k) c h = lit< tt
 
-pub signed_difference : (c : List ℕ) → 128 ≤ get_or c 0 0 → signed_number c ≡ pos (number c) -ℤ pos (256 ^ length c)
-signed_difference c h = rw (le-leb 128 (get_or c 0 0) h) refl
+zeros_same : (k : ℕ) (c : List ℕ) → get_or c 0 0 < 128 → signed_number (replicate k 0 ++ c) ≡ signed_number c
+zeros_same k c h = signed_low (replicate k 0 ++ c) (zeros_low k c h) ∙ ap pos (zeros_number k c) ∙ sym (signed_low c h)
+
+ones_turned : (k : ℕ) (c : List ℕ) → turned (replicate k 255 ++ c) ≡ replicate k 0 ++ turned c
+ones_turned zero c = refl
+ones_turned (suc k) c = ap (λ (t : List ℕ). 0 ∷ t) (ones_turned k c)
+
+ones_high : (k : ℕ) (c : List ℕ) → 128 ≤ get_or c 0 0 → 128 ≤ get_or (replicate k 255 ++ c) 0 0
+ones_high zero c h = h
+ones_high (suc k) c h = lit≤ tt
+
+sign_text : (k s : ℕ) (c : List ℕ) → s < 256 → IsText c → IsText (replicate k s ++ c)
+sign_text zero s c small is = is
+sign_text (suc k) s c small is = (small, sign_text k s c small is)
+
+ones_same : (k : ℕ) (c : List ℕ) → IsText c → 128 ≤ get_or c 0 0 → signed_number (replicate k 255 ++ c) ≡ signed_number c
+ones_same k c is h =
+    let same : number (turned (replicate k 255 ++ c)) ≡ number (turned c) = ap number (ones_turned k c) ∙ zeros_number k (turned c) in
+    signed_high (replicate k 255 ++ c) (sign_text k 255 c (lit< tt) is) (ones_high k c h) ∙ ap negsuc same ∙ sym (signed_high c is h)
+
+-- ---- sixteen octets as a number
+
+worth : (m x : ℕ) → byte_worth m x ≡ x * 256 ^ m
+worth zero x = omega arith
+worth (suc m) x = refl
+
+joined : (a x p : ℕ) → a * (p * 256) + x * p ≡ (a * 256 + x) * p
+joined a x p = grind arith
+
+sum_front : (t : List ℕ) (n k : ℕ) → k < length t → k ≤ n → sum_through (λ i. byte_worth (n - i) (get_or t i 0)) k ≡ number (take (k + 1) t) * 256 ^ (n - k)
+sum_front t n zero h le =
+    let none : number (take 0 t) ≡ 0 = refl in
+    let first : get_or t 0 0 ≡ number (take (0 + 1) t) = omega (arith, none, number_next t 0 h) in
+    worth (n - 0) (get_or t 0 0) ∙ ap (λ (m : ℕ). m * 256 ^ (n - 0)) first
+sum_front t n (suc k) h le =
+    let last : k + 1 ≡ suc k = omega arith in
+    let front : sum_through (λ i. byte_worth (n - i) (get_or t i 0)) k ≡ number (take (suc k) t) * 256 ^ (n - k) =
+    sum_front t n k (omega (arith, h)) (omega (arith, le)) ∙ ap (λ (m : ℕ). number (take m t) * 256 ^ (n - k)) last in
+    let less : n - k ≡ suc (n - suc k) = omega (arith, le) in
+    let power : 256 ^ (n - k) ≡ 256 ^ (n - suc k) * 256 = ap (λ (m : ℕ). 256 ^ m) less ∙ pow-suc 256 (n - suc k) in
+    let a : ℕ = number (take (suc k) t) in
+    let x : ℕ = get_or t (suc k) 0 in
+    let sum : sum_through (λ i. byte_worth (n - i) (get_or t i 0)) k ≡ a * (256 ^ (n - suc k) * 256) = front ∙ ap (λ (p : ℕ). a * p) power in
+    ap (λ (m : ℕ). m + byte_worth (n - suc k) x) sum ∙ ap (λ (m : ℕ). a * (256 ^ (n - suc k) * 256) + m) (worth (n - suc k) x)
+    ∙ joined a x (256 ^ (n - suc k)) ∙ ap (λ (m : ℕ). m * 256 ^ (n - suc k)) (number_next t (suc k) h)
+
+from_sixteen : (t : List ℕ) → length t ≡ 16 → from_be_bytes w128 t ≡ number t
+from_sixteen t l =
+    let all : number (take 16 t) ≡ number t = ap number (take_all 16 t (omega (arith, l))) in
+    let one : number (take 16 t) * 256 ^ 0 ≡ number (take 16 t) = omega arith in
+    sum_front t 15 15 (omega (arith, l)) (omega arith) ∙ one ∙ all
+
+low_half : (x r p : ℕ) → x < 128 → r < p → x * p + r < 128 * p
+low_half x r p hx hr = omega (arith, mul-le-mul_right {m = x} {n = 127} p (omega arith))
+
+sixteen_small : (t : List ℕ) → IsText t → length t ≡ 16 → get_or t 0 0 < 128 → number t < 2 ^ 127
+sixteen_small [] is l h = absurd (omega (arith, l))
+sixteen_small (x ∷ xs) is l h =
+    let rest : length xs ≡ 15 = omega (arith, l) in
+    let power : 256 ^ length xs ≡ 256 ^ 15 = ap (λ (k : ℕ). 256 ^ k) rest in
+    let below : number (x ∷ xs) < 128 * 256 ^ length xs = low_half x (number xs) (256 ^ length xs) h (number_lt xs is.1) in
+    omega (arith, below, power)
+
+signed_sixteen : (t : List ℕ) → IsText t → length t ≡ 16 → cast_signed w128 (from_be_bytes w128 t) ≡ signed_number t
+signed_sixteen t is l =
+    elim (cases_lt (get_or t 0 0) 128) [
+      | inl h ↦ ap (cast_signed w128) (from_sixteen t l) ∙ to_z_pos w128 (number t) (sixteen_small t is l h) ∙ sym (signed_low t h)
+      | inr h ↦
+          let low : number (turned t) < 2 ^ 127 = sixteen_small (turned t) (turned_text t) (turned_length t ∙ l) (turned_low t is h) in
+          let power : 256 ^ length t ≡ 2 ^ 128 = ap (λ (k : ℕ). 256 ^ k) l in
+          let value : number t ≡ 2 ^ 128 - suc (number (turned t)) = omega (arith, turned_number t is, power) in
+          ap (cast_signed w128) (from_sixteen t l ∙ value) ∙ to_z-neg w128 (number (turned t)) low ∙ sym (signed_high t is h)
+    ]
+
+-- ---- a content at the end of an array of its sign
+
+put_at_end : (s n : ℕ) (ys : List ℕ) → n ≤ 16 → put_mid (16 - n) (16 - (16 - n)) (replicate 16 s) ys ≡ replicate (16 - n) s ++ ys
+put_at_end s n ys h =
+    rw (take-replicate {X = ℕ} (16 - n) 16 s (omega arith), drop-replicate {X = ℕ} (16 - n) 16 s, drop_all {X = ℕ} (16 - (16 - n)) (replicate (16 - (16 - n)) s) (omega (arith, length-replicate {A = ℕ} (16 - (16 - n)) s)), append-nil) refl
+
+sign_same : (k s : ℕ) (c : List ℕ) → IsText c → s ≡ cond (leb 128 (get_or c 0 0)) 255 0 → (s < 256) × (signed_number (replicate k s ++ c) ≡ signed_number c)
+sign_same k s c is e =
+    let P : ℕ → Type 0 = λ x. (x < 256) × (signed_number (replicate k x ++ c) ≡ signed_number c) in
+    elim (cases_lt (get_or c 0 0) 128) [
+      | inl h ↦ subst P (sym (e ∙ ap (λ (b : Bool). cond b 255 0) (lt-leb 128 (get_or c 0 0) h))) (lit< tt, zeros_same k c h)
+      | inr h ↦ subst P (sym (e ∙ ap (λ (b : Bool). cond b 255 0) (le-leb 128 (get_or c 0 0) h))) (lit< tt, ones_same k c is h)
+    ]
+
+pub extended : (s : ℕ) (c ys : List ℕ) (z : ℤ) → IsText c → length c ≤ 9 → s ≡ cond (leb 128 (get_or c 0 0)) 255 0 → ys ≡ c →
+    z ≡ cast_signed w128 (from_be_bytes w128 (put_mid (16 - length c) (16 - (16 - length c)) (replicate 16 s) ys)) → z ≡ signed_number c
+extended s c ys z is few sign same value =
+    let k : ℕ = 16 - length c in
+    let filled = sign_same k s c is sign in
+    let whole : put_mid (16 - length c) (16 - (16 - length c)) (replicate 16 s) ys ≡ replicate k s ++ c =
+    put_at_end s (length c) ys (omega (arith, few)) ∙ ap (λ (t : List ℕ). replicate k s ++ t) same in
+    let size : length (replicate k s ++ c) ≡ 16 = omega (arith, few, length-append (replicate k s) c, length-replicate {A = ℕ} k s) in
+    value ∙ ap (λ (t : List ℕ). cast_signed w128 (from_be_bytes w128 t)) whole ∙ signed_sixteen (replicate k s ++ c) (sign_text k s c filled.0 is) size ∙ filled.1
 
 -- ---- what reading refuses
 

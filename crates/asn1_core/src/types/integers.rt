@@ -1,7 +1,7 @@
 //! Integers: their contents octets, and the types with a range (X.690 8.3).
 
 ghost use Rattle.std.specs.Prelude.{◌≡◌, ℕ, ◌+◌, ◌-◌, ◌^◌, ◌<◌, ◌≤◌, ◌||◌, ◌==◌, ◌++◌, cond, length, pos, neg_ℤ, ◌≤ℤ◌, ◌<ℤ◌, IfOk, OnOk, OnErr, IsOkUnless, Some};
-ghost use Rattle.asn1_core.specs.Text.{number, signed_number};
+ghost use Rattle.asn1_core.specs.Text.{signed_number};
 ghost use Rattle.asn1_core.specs.Integer.{nine_bits, is_minimal, integer_content, below, read_sized};
 ghost use Rattle.asn1_core.specs.Fault.{framed};
 ghost use Rattle.asn1_core.specs.Reading.{Answers};
@@ -41,31 +41,23 @@ pub fn is_integer_content(octets: &[u8]) -> bool
     }
 }
 
-/// The number of at most nine octets.
-fn number(octets: &[u8]) -> u128
-    requires { length octets.now ≤ MAX_CONTENT_OCTETS }
-    ensures value { result ≡ number octets.now }
-    ensures small { result < 2 ^ 72 }
+/// The octet that repeats a sign in front of a content.
+fn sign_octet(is_negative: bool) -> u8
+    ensures { result ≡ cond is_negative 0xff 0x00 }
 {
-    let mut number = 0u128;
-    for octet in octets {
-        number = number * 0x100 + u128::from(*octet);
-    }
-    number
+    if is_negative { 0xff } else { 0x00 }
 }
 
-/// The signed number of one to nine octets.
+/// The signed number of one to nine octets: that of sixteen, of which the first repeat the sign.
 fn signed_number(octets: &[u8]) -> i128
     requires some { 0 < length octets.now }
     requires few { length octets.now ≤ MAX_CONTENT_OCTETS }
     ensures { result ≡ signed_number octets.now }
 {
-    let number = number(octets) as i128;
-    if octets[0] < 0x80 {
-        return number;
-    }
-    let weight = 1u128 << (8 * octets.len());
-    number - weight as i128
+    let sign = sign_octet(octets[0] >= 0x80);
+    let mut extended = [sign; OCTETS];
+    extended[OCTETS - octets.len()..].copy_from_slice(octets);
+    i128::from_be_bytes(extended)
 }
 
 /// Why a number beyond the range of a type is refused: below it, or above it.

@@ -1,20 +1,14 @@
-use Rattle.std.proofs.Common.{length, arith}
-use Rattle.std.proofs.lemmas.Int.{ints}
-use Rattle.asn1_core.proofs.Integers.{weight_is, weight_small, signed_difference}
+use Rattle.std.proofs.Common.{◌∙◌, arith}
+use Rattle.std.specs.Prelude.{FitsSigned}
+use Rattle.std.specs.Int.{w128}
+use Rattle.std.proofs.lemmas.Int.{to_z-of_z}
+use Rattle.asn1_core.specs.Lemmas.Texts.{IsText-from_reads}
+use Rattle.asn1_core.proofs.Integers.{extended}
 use Rattle.asn1_core.proofs.types.integers.signed_number.Goals as goal
-
-pub overflow_cast-result : goal.overflow_cast-result
-overflow_cast-result c =
-    rw (weight_is (length c.args.octets.now) c.requires.few) (let small = weight_small (length c.args.octets.now) c.requires.few in omega (arith, ints))
-
-pub overflow_sub-result : goal.overflow_sub-result
-overflow_sub-result c =
-    rw (weight_is (length c.args.octets.now) c.requires.few) (let small = weight_small (length c.args.octets.now) c.requires.few in omega (arith, ints, c.number-number.ensures.small))
 
 pub returns : goal.returns
 returns c =
     let text = c.args.octets.now in
-    rw (weight_is (length text) c.requires.few, signed_difference text c.if-octets-lt128.false) (
-    let small = weight_small (length text) c.requires.few in
-    omega (arith, ints, c.number-number.ensures.small, c.number-number.ensures.value)
-    )
+    let number = c.from_be_bytes.result in
+    let fits : FitsSigned w128 number = record { sfits = c.from_be_bytes.type_inv } in
+    to_z-of_z w128 number fits ∙ extended c.sign_octet-sign.result text c.copy_from_slice.new.self number (IsText-from_reads text (λ k. omega (arith, c.type_inv.octets k))) c.requires.few c.sign_octet-sign.ensures c.copy_from_slice.ensures.after c.from_be_bytes.ensures
