@@ -3,6 +3,7 @@
 ghost use Rattle.std.specs.Prelude.{◌≡◌, ℕ, ◌+◌, ◌*◌, ◌/◌, ◌%◌, ◌<◌, ◌≤◌, ◌++◌, ◌↔◌, IsTrue, List, length, SomeIff, OnOk, OnErr, IsOkUnless, Bool, true, false};
 ghost use Rattle.asn1_core.specs.declared.tag.TagClass.TheVariants.{Universal};
 ghost use Rattle.asn1_core.specs.Fault.{AnswersError, AnswersKind};
+ghost use Rattle.asn1_core.specs.TagOrder.{tag_before};
 ghost use Rattle.asn1_core.specs.Tag.{tag_class, tag_constructed, tag_number, tag_with, universal, universal_constructed, implicit_tag_of, explicit_tag_of, class_number, class_of, tag_of, tag_front, tag_text, first_octet, tag_eq};
 
 use crate::base128;
@@ -57,6 +58,16 @@ impl Tag {
         ensures { result ≡ tag_eq self other }
     {
         self == other
+    }
+
+    /// Whether this tag comes before the other: by class, from universal to private, and within a class by number
+    /// (X.680 8.6). Whether an element is constructed plays no part.
+    #[inline]
+    pub fn comes_before(self, other: Tag) -> bool
+        ensures { result ≡ tag_before self other }
+    {
+        let (class, other_class) = (self.class.bits(), other.class.bits());
+        class < other_class || (class == other_class && self.value < other.value)
     }
 
     /// The tag in front of the octets, and what follows it.

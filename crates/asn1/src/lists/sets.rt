@@ -1,4 +1,5 @@
-//! Sets: elements in ascending order of their texts (X.690 8.11, 8.12, 10.3, 11.6).
+//! Sets: elements in the order of their tags, and items of one type in ascending order of their texts (X.690 8.11, 8.12,
+//! 10.3, 11.6).
 
 ghost use Rattle.std.specs.Prelude.{◌≡◌, ◌<◌, List, ℕ, [], length, Result, Some, OnOk, OnErr, IfErr, nat_eq};
 ghost use Rattle.std.specs.Fn.{FnOnceReturnsAtMut};
@@ -10,12 +11,14 @@ ghost use Rattle.std.specs.Cmp.Rules.{hashing};
 ghost use Rattle.std.proofs.Common.{rules};
 ghost use Rattle.asn1_core.specs.Buffer.{Appends, KeepsFront};
 ghost use Rattle.asn1_core.specs.Order.{text_less};
+ghost use Rattle.asn1_core.specs.TagOrder.{tag_less};
+ghost use Rattle.asn1_core.specs.Tlv.{element_of};
 ghost use Rattle.asn1_core.specs.Reading.{Answers, EndsWith, IsHandedOn, element_front};
 ghost use Rattle.asn1_core.specs.Der.{simple_der};
 ghost use Rattle.asn1_core.specs.Items.{Each, Joins, OneNames, set_tag};
 ghost use Rattle.asn1_core.specs.Writing.{KnowsLength, Refuses};
 ghost use Rattle.asn1.specs.Lists.{NextItem};
-ghost use Rattle.asn1.specs.Sets.{AreOrdered, set_left, set_item, checked, set_item_out, set_out, first_out, set_read, set_octets};
+ghost use Rattle.asn1.specs.Sets.{AreOrdered, set_left, set_item, checked, set_item_out, set_out, first_out, set_read, set_octets, element_behind};
 ghost use Rattle.asn1.specs.SetTypes.{set_inside, set_content};
 
 use crate::lists::{are_octets, at_item};
@@ -68,16 +71,51 @@ fn check_items<'a, T: Asn1Readable<'a>>(alloc: Global, content: &'a [u8]) -> Par
     Ok(())
 }
 
-/// A `SET` as it stands: the octets of any elements in ascending order of their texts, equal neighbours allowed. They are
-/// read by [`Set::parse`], and written as they were read.
+/// Reads the element at an index, which stands behind one with the tag `last`: framing, then its place in the order of
+/// tags.
+fn read_behind<'a>(parser: &mut Parser<'a>, last: Option<Tag>, index: usize) -> ParseResult<Tlv<'a>>
+    ensures answers { Answers (λ t. (element_of t, parser.new)) (λ places. ⊥) result (element_behind last index parser.old) }
+    ensures rest { EndsWith parser.old parser.new }
+{
+    let tlv = match parser.read_element::<Tlv<'a>>() {
+        Ok(tlv) => tlv,
+        Err(error) => return Err(at_item(error, index)),
+    };
+    match last {
+        Some(last) if tlv.tag().comes_before(last) => Err(at_item(
+            ParseError::new(ParseErrorKind::InvalidSetOrdering),
+            index,
+        )),
+        _ => Ok(tlv),
+    }
+}
+
+/// Reads the elements of a content, and refuses them where their tags don't stand in order.
+fn check_elements(alloc: Global, content: &[u8]) -> ParseResult<()>
+    ensures { Answers (λ x. x) (λ places. ⊥) result (checked tag_less element_front [] 0 content.entry.now) }
+{
+    let mut parser = Parser::new(alloc, content);
+    let mut last = None;
+    let mut index = 0;
+    'elements: while !parser.is_empty() {
+        let tlv = read_behind(&mut parser, last, index)?;
+        last = Some(tlv.tag());
+        index += 1;
+    }
+    Ok(())
+}
+
+/// A `SET` as it stands: the octets of any elements in the order of their tags, equal neighbours allowed. They are read by
+/// [`Set::parse`], and written as they were read.
 ///
-/// Texts are compared at the first octet that differs. Reading a set looks at each element in turn: the first fault of
-/// framing decides, or `InvalidSetOrdering` where an element's text is less than that of the one before it, with the place
+/// Tags are compared by class, from universal to private, and within a class by number; whether an element is
+/// constructed plays no part, nor do its contents. Reading a set looks at each element in turn: the first fault of framing
+/// decides, or `InvalidSetOrdering` where an element's tag comes before that of the one in front of it, with the place
 /// `Index(i)`, i being counted from 0. It takes no memory. Two sets are equal where their contents octets are.
 #[derive(Debug, PartialEq, Eq, Hash, Drop)]
 pub struct Set<'a> {
     data: &'a [u8],
-    pub ghost is_ordered: { AreOrdered text_less element_front «data».now },
+    pub ghost is_ordered: { AreOrdered tag_less element_front «data».now },
 }
 
 impl<'a> Set<'a> {
@@ -124,9 +162,9 @@ impl<'a> SimpleAsn1Readable<'a> for Set<'a> {
     }
 
     fn parse_data(alloc: Global, data: &'a [u8]) -> ParseResult<Self>
-        ensures { Answers (λ s. s.«data».now) (λ _. ⊥) result (set_octets text_less «data».entry.now) }
+        ensures { Answers (λ s. s.«data».now) (λ _. ⊥) result (set_octets tag_less «data».entry.now) }
     {
-        check_items::<Tlv<'a>>(alloc, data)?;
+        check_elements(alloc, data)?;
         Ok(Set { data })
     }
 }

@@ -1,13 +1,14 @@
-//! Sets that are written in ascending order of their elements' texts.
+//! Sets that are written in order: those of a slice by their elements' texts, those of a closure by their tags.
 
-ghost use Rattle.std.specs.Prelude.{◌≡◌, ◌++◌, [], length, map, All, IsPermutation, OnOk, OnErr, IfErr, IsOkUnless, ◌⊎◌};
+ghost use Rattle.std.specs.Prelude.{◌≡◌, ◌++◌, [], length, map, All, IsPermutation, None, true, IfSome, OnOk, OnErr, IfErr, IsOkUnless, ◌⊎◌};
 ghost use Rattle.std.specs.List.Sorted.{IsSortedBy};
 ghost use Rattle.asn1_core.specs.Buffer.{Appends, KeepsFront};
 ghost use Rattle.asn1_core.specs.Writing.{Refuses};
 ghost use Rattle.asn1_core.specs.Der.{simple_der};
 ghost use Rattle.asn1_core.specs.Items.{Each, AnyNames, set_tag};
 ghost use Rattle.asn1_core.specs.Listing.{join, ListingOf};
-ghost use Rattle.asn1_core.specs.SetWriting.{AddsTo, IsLessThanLast, SetContent, MayRefuseSet, set_closure_written};
+ghost use Rattle.asn1_core.specs.SetWriting.{StandsBehind, AddsTo, IsOutOfOrder, SetContent, MayRefuseSet, set_closure_written};
+ghost use Rattle.asn1_core.specs.TagOrder.{tag_in_front, before_tag};
 ghost use Rattle.asn1_core.specs.Spans.{part_of, IsBefore, IsWithin, NotesTexts};
 ghost use Rattle.asn1_core.specs.Written.{listing_written};
 ghost use Rattle.asn1_core.specs.declared.writer.WriteError.TheVariants.{AllocationError, InvalidSetOrdering};
@@ -161,7 +162,7 @@ impl<T: Asn1Writable> SimpleAsn1Writable for SetOfWriter<'_, T> {
 pub struct SetElementWriter<'a> {
     buf: WriteBuf,
     start: usize,
-    last: usize,
+    last: Option<Tag>,
     lifetime: PhantomData<&'a ()>,
 }
 
@@ -171,7 +172,7 @@ impl<'a> Model for SetElementWriter<'a> {
 
     ghost Value = { SetState };
 
-    ghost view = { λ s. record { front = take s.start s.buf.bytes; done = drop s.start s.buf.bytes; last = drop s.last s.buf.bytes } };
+    ghost view = { λ s. record { front = take s.start s.buf.bytes; done = drop s.start s.buf.bytes; last = s.last } };
 
     ghost invariant = { λ s. IsSetWithin s.buf.bytes s.start s.last };
 }
@@ -180,13 +181,13 @@ impl<'a> SetElementWriter<'a> {
     pub(crate) fn new(buf: WriteBuf) -> SetElementWriter<'a>
         ensures front { result.front ≡ buf.bytes }
         ensures done { result.done ≡ [] }
-        ensures last { result.last ≡ [] }
+        ensures last { result.last ≡ None }
     {
         let start = buf.len();
         SetElementWriter {
             buf,
             start,
-            last: start,
+            last: None,
             lifetime: PhantomData,
         }
     }
@@ -204,26 +205,41 @@ impl<'a> SetElementWriter<'a> {
         buf
     }
 
-    /// Writes an element that is not less than the one before it.
+    /// Writes an element whose tag doesn't come before that of the element in front of it. An element that has no octets
+    /// isn't compared.
     pub fn write_element<T: Asn1Writable>(&mut self, val: &T) -> Result<(), T::Error>
         requires { T.der.closures (T.der.meaning val.now) }
         ensures front { self.new.front ≡ self.old.front }
         ensures ok { OnOk result (AddsTo (T.der.texts (T.der.meaning val.now)) self.old self.new) }
         ensures err { OnErr result (self.new ≡ self.old) }
-        ensures error { IfErr result (λ e. Refuses T.Error.from_gives (T.write_errors val.now) e ⊎ (IsLessThanLast (T.der.texts (T.der.meaning val.now)) self.old × T.Error.from_gives InvalidSetOrdering e)) }
+        ensures error { IfErr result (λ e. Refuses T.Error.from_gives (T.write_errors val.now) e ⊎ (IsOutOfOrder (T.der.texts (T.der.meaning val.now)) self.old × T.Error.from_gives InvalidSetOrdering e)) }
     {
         let before = self.buf.len();
         Writer::new(&mut self.buf).write_element(val)?;
-        let octets = self.buf.as_slice();
-        if octets.len() == before {
+        let octets = &self.buf.as_slice()[before..];
+        if octets.is_empty() {
             return Ok(());
         }
-        if octets[before..].cmp(&octets[self.last..before]).is_lt() {
+        let Some(tag) = tag_behind(self.last, octets) else {
             self.buf.truncate(before);
             return Err(T::Error::from(WriteError::InvalidSetOrdering));
-        }
-        self.last = before;
+        };
+        self.last = Some(tag);
         Ok(())
+    }
+}
+
+/// The tag in front of the octets, where it doesn't come before the last one.
+fn tag_behind(last: Option<Tag>, octets: &[u8]) -> Option<Tag>
+    ensures some { IfSome result (StandsBehind last octets.now) }
+    ensures none { result ≡ None → (tag_in_front octets.now ≡ None) ⊎ (before_tag (tag_in_front octets.now) last ≡ true) }
+{
+    let Ok((tag, _rest)) = Tag::in_front(octets) else {
+        return None;
+    };
+    match last {
+        Some(last) if tag.comes_before(last) => None,
+        _ => Some(tag),
     }
 }
 

@@ -1,9 +1,11 @@
 //! Sets of any elements, and sets of items of one type.
 
+ghost use Rattle.std.specs.Prelude.{◌≡◌};
+
 use crate::of_asn1::lists::{at, hash_of, is_written, refusal};
 use asn1::{
-    Explicit, ParseError, ParseErrorKind, ParseResult, Parser, Set, SetOf, SetOfWriter, Tag,
-    parse_single,
+    Explicit, Implicit, ParseError, ParseErrorKind, ParseResult, Parser, Set, SetElementWriter,
+    SetOf, SetOfWriter, SetWriter, Tag, WriteResult, parse_single,
 };
 use std::test::Fail;
 
@@ -90,20 +92,27 @@ fn sets_in_a_tag(rt: HostRuntime) -> Result<(), Fail> {
 #[test]
 fn sets_of_any_elements(rt: HostRuntime) -> Result<(), Fail> {
     let alloc = rt.alloc();
-    let ordered: [&[u8]; 2] = [
-        &[0x31, 0x04, 0x81, 0x00, 0xa0, 0x00],
+    let ordered: [&[u8]; 5] = [
         &[0x31, 0x06, 0x01, 0x01, 0xff, 0x02, 0x01, 0x06],
+        // A constructed element in front of a primitive one: the bit plays no part.
+        &[0x31, 0x04, 0xa0, 0x00, 0x81, 0x00],
+        // Equal tags, their contents in any order, constructed or not.
+        &[0x31, 0x06, 0x02, 0x01, 0x07, 0x02, 0x01, 0x05],
+        &[0x31, 0x04, 0xa0, 0x00, 0x80, 0x00],
+        // The numbers 16383 and 16384.
+        &[
+            0x31, 0x09, 0x9f, 0xff, 0x7f, 0x00, 0x9f, 0x81, 0x80, 0x00, 0x00,
+        ],
     ];
     for octets in ordered {
         let set = parse_single::<Set<'_>>(alloc, octets)?;
         is_written(&rt, alloc, &set, octets)?;
     }
     let unordered: [&[u8]; 3] = [
-        &[0x31, 0x04, 0xa0, 0x00, 0x81, 0x00],
+        &[0x31, 0x04, 0x81, 0x00, 0xa0, 0x00],
         &[0x31, 0x06, 0x02, 0x01, 0x05, 0x01, 0x01, 0xff],
-        &[
-            0x31, 0x09, 0x9f, 0xff, 0x7f, 0x00, 0x9f, 0x81, 0x80, 0x00, 0x00,
-        ],
+        // A private tag in front of one of the universal class.
+        &[0x31, 0x05, 0xc0, 0x00, 0x01, 0x01, 0xff],
     ];
     for octets in unordered {
         let read = parse_single::<Set<'_>>(alloc, octets);
@@ -141,4 +150,20 @@ fn parts_of_a_set(rt: HostRuntime) -> Result<(), Fail> {
         "Set { data: [] }"
     );
     Ok(())
+}
+
+#[test]
+fn sets_of_a_closure_by_tag(rt: HostRuntime) -> Result<(), Fail> {
+    let tagged = |set: &mut SetElementWriter<'_>| -> WriteResult<()>
+        ensures { set.new.front ≡ set.old.front }
+    {
+        set.write_element(&Explicit::<bool, 0>::new(true))?;
+        set.write_element(&Implicit::<bool, 1>::new(true))
+    };
+    is_written(
+        &rt,
+        rt.alloc(),
+        &SetWriter::new(&tagged),
+        &[0x31, 8, 0xa0, 3, 1, 1, 0xff, 0x81, 1, 0xff],
+    )
 }

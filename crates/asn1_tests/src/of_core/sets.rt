@@ -149,6 +149,22 @@ fn elements_of_a_set_out_of_order(rt: HostRuntime) -> Result<(), Fail> {
     Ok(())
 }
 
+#[test]
+fn equal_tags_in_any_order(rt: HostRuntime) -> Result<(), Fail> {
+    let numbers = |set: &mut SetElementWriter<'_>| -> WriteResult<()>
+        ensures { set.new.front ≡ set.old.front }
+    {
+        set.write_element(&7u8)?;
+        set.write_element(&5u8)
+    };
+    is_written(
+        &rt,
+        rt.alloc(),
+        &SetWriter::new(&numbers),
+        &[0x31, 6, 2, 1, 7, 2, 1, 5],
+    )
+}
+
 /// Why a digit was refused.
 #[derive(Debug, PartialEq, Eq, Drop)]
 enum Custom {

@@ -126,3 +126,28 @@ fn tags_are_read_back(rt: HostRuntime) -> Result<(), Fail> {
     }
     Ok(())
 }
+
+#[test]
+fn order_of_tags(rt: HostRuntime) -> Result<(), Fail> {
+    // In ascending order: by class, and within a class by number.
+    let texts: [&[u8]; 7] = [
+        &[0x01],
+        &[0x02],
+        &[0x30],
+        &[0x40],
+        &[0x9f, 0xff, 0x7f],
+        &[0x9f, 0x81, 0x80, 0x00],
+        &[0xc0],
+    ];
+    for i in 0..texts.len() {
+        for k in 0..texts.len() {
+            let (first, _rest) = Tag::from_bytes(texts[i])?;
+            let (second, _rest) = Tag::from_bytes(texts[k])?;
+            assert_eq!(rt; first.comes_before(second), i < k, "{i} {k}");
+        }
+    }
+    let (constructed, _rest) = Tag::from_bytes(&[0xa0])?;
+    let (primitive, _rest) = Tag::from_bytes(&[0x80])?;
+    assert!(rt; !constructed.comes_before(primitive) && !primitive.comes_before(constructed));
+    Ok(())
+}

@@ -1,0 +1,67 @@
+use Rattle.std.proofs.Common.{◌≡◌, ◌<◌, List, [], ℕ, length, Option, Result, Ok, Some, rules, sym, ap, ◌∙◌, arith}
+use Rattle.std.proofs.lemmas.Bool.{eqb-false}
+use Rattle.asn1_core.specs.declared.tag.Tag.{Tag}
+use Rattle.asn1_core.specs.Element.{Element, element_text, IsReadable, ◌>>=◌}
+use Rattle.asn1_core.specs.Fault.{Fault}
+use Rattle.asn1_core.specs.Reading.{element_front}
+use Rattle.asn1_core.specs.TagOrder.{tag_less}
+use Rattle.asn1_core.specs.Tlv.{element_of}
+use Rattle.asn1_core.specs.Lemmas.Texts.{IsText-from_reads}
+use Rattle.asn1_core.specs.Lemmas.TagOrder.{element_tag_in_front}
+use Rattle.asn1.specs.Sets.{set_item, element_behind, with_text}
+use Rattle.asn1.specs.ListLaws.{refused_exit}
+use Rattle.asn1.specs.SetLaws.{element_law, set_item_is, set_item_behind, checked_step, nothing_in_front, behind_refusal}
+use Rattle.asn1.proofs.lists.sets.check_elements.Goals as goal
+
+pub elements-init : goal.elements-init
+elements-init c = record {
+  before = [];
+  tag = nothing_in_front;
+  same = search rules;
+  octets = rw c.new-parser.ensures (IsText-from_reads c.args.content.now (λ i. omega (arith, c.shared_slice_known-1.given i)));
+  room = search rules;
+}
+
+pub elements-smaller : goal.elements-smaller
+elements-smaller c =
+    let i = c.elements.index in
+    let rest = c.elements.parser in
+    let inv = c.elements.invariant in
+    let e = element_of c.in_ok-tlv.tlv in
+    let after = c.read_behind.new.parser in
+    let read : element_behind c.elements.last i rest ≡ Ok (e, after) = c.in_ok-tlv.ensures.answers in
+    let found : set_item tag_less element_front inv.before i rest ≡ Ok (e, element_text e, after) =
+    set_item_behind inv.before i rest inv.octets
+    ∙ ap (λ (last : Option Tag). element_behind last i rest >>= with_text) inv.tag
+    ∙ ap (λ (r : Result (Element × List ℕ) Fault). r >>= with_text) read in
+    (set_item_is tag_less element_front element_text IsReadable element_law inv.before i rest (e, element_text e, after) inv.octets found).shorter
+
+pub elements-preserved : goal.elements-preserved
+elements-preserved c =
+    let i = c.elements.index in
+    let rest = c.elements.parser in
+    let inv = c.elements.invariant in
+    let e = element_of c.in_ok-tlv.tlv in
+    let after = c.read_behind.new.parser in
+    let read : element_behind c.elements.last i rest ≡ Ok (e, after) = c.in_ok-tlv.ensures.answers in
+    let found : set_item tag_less element_front inv.before i rest ≡ Ok (e, element_text e, after) =
+    set_item_behind inv.before i rest inv.octets
+    ∙ ap (λ (last : Option Tag). element_behind last i rest >>= with_text) inv.tag
+    ∙ ap (λ (r : Result (Element × List ℕ) Fault). r >>= with_text) read in
+    let some : rest ≡ [] → ⊥ = λ z. eqb-false _ _ (sym c.is_empty.ensures ∙ c.elements-test.true) (ap length z) in
+    let is = set_item_is tag_less element_front element_text IsReadable element_law inv.before i rest (e, element_text e, after) inv.octets found in
+    let shorter : length after < length rest = is.shorter in
+    record {
+      before = element_text e;
+      tag = element_tag_in_front e is.good.tag ∙ ap Some (sym c.tag.ensures);
+      same = sym (checked_step tag_less element_front element_text IsReadable element_law inv.before i rest (e, element_text e, after) some inv.octets found) ∙ inv.same;
+      octets = is.octets;
+      room = omega (arith, inv.room);
+    }
+
+pub returns-in_err-tlv : goal.returns-in_err-tlv
+returns-in_err-tlv c =
+    let rest = c.elements.parser in
+    let inv = c.elements.invariant in
+    let some : rest ≡ [] → ⊥ = λ z. eqb-false _ _ (sym c.is_empty.ensures ∙ c.elements-test.true) (ap length z) in
+    refused_exit _ (λ places. ⊥) _ _ _ c.from_residual.ensures.1 (behind_refusal inv.before c.elements.last c.elements.index rest _ _ some inv.octets inv.tag inv.same c.in_err-tlv.ensures.answers)

@@ -1,0 +1,19 @@
+use Rattle.std.proofs.Common.{◌≡◌, ◌+◌, ◌≤◌, List, [], ℕ, length}
+use Rattle.asn1_core.specs.Text.{IsText}
+use Rattle.asn1_core.specs.TagOrder.{tag_in_front, tag_less}
+use Rattle.asn1_core.specs.Reading.{element_front}
+use Rattle.asn1.specs.Sets.{checked}
+use Rattle.asn1.proofs.lists.sets.check_elements.Given as goal
+
+-- what is left stands behind an element with this text
+abbrev pub invariant-elements : goal.invariant-elements
+invariant-elements l = record {
+  before : List ℕ;
+  tag : tag_in_front before ≡ l.last;
+  same : checked tag_less element_front before l.index l.parser ≡ checked tag_less element_front [] 0 l.fn.content;
+  octets : IsText l.parser;
+  room : l.index + length l.parser ≤ length l.fn.content;
+}
+
+abbrev pub decreases-elements : goal.decreases-elements
+decreases-elements l = length l.parser

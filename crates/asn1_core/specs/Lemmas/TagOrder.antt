@@ -1,0 +1,47 @@
+-- The order of tags, and of the elements that have them.
+use Rattle.std.proofs.Common.{◌≡◌, ℕ, ◌+◌, ◌<◌, ◌^◌, ◌⊎◌, Bool, true, false, ◌&&◌, ◌||◌, eqb, ltb, List, [], ◌∷◌, ◌++◌, length, Option, Some, None, Result, Ok, Err, refl, sym, ap, ◌∙◌, inl, inr, arith}
+use Rattle.std.proofs.lemmas.Bool.{and_parts, ltb-true, lt-ltb, eqb-true, eq-eqb}
+use Rattle.asn1_core.specs.declared.tag.Tag.{Tag}
+use Rattle.asn1_core.specs.Tag.{tag_class, tag_number, class_number, tag_text, tag_front, found_tag}
+use Rattle.asn1_core.specs.TagOrder.{IsTagBefore, tag_before, TagOrderIsAnswered, tag_in_front, before_tag, tag_less}
+use Rattle.asn1_core.specs.Length.{length_text}
+use Rattle.asn1_core.specs.Element.{Element, element_text}
+use Rattle.asn1_core.specs.Lemmas.Tags.{tag_ok}
+
+either : (a b : Bool) → (a || b) ≡ true → (a ≡ true) ⊎ (b ≡ true)
+either true b e = inl refl
+either false b e = inr e
+
+first_holds : (a b : Bool) → a ≡ true → (a || b) ≡ true
+first_holds a b e = rw e refl
+
+second_holds : (a b : Bool) → b ≡ true → (a || b) ≡ true
+second_holds true b e = refl
+second_holds false b e = e
+
+both_hold : (a b : Bool) → a ≡ true → b ≡ true → (a && b) ≡ true
+both_hold a b e f = rw (e, f) refl
+
+-- by classes and numbers
+before_by : (k m x y : ℕ) → (ltb k m ≡ true) ⊎ ((eqb k m && ltb x y) ≡ true) → (k < m) ⊎ ((k ≡ m) × (x < y))
+before_by k m x y (inl t) = inl (ltb-true k m t)
+before_by k m x y (inr t) = let p = and_parts (eqb k m) (ltb x y) t in inr (eqb-true k m p.0, ltb-true x y p.1)
+
+before_is : (k m x y : ℕ) → (ltb k m || (eqb k m && ltb x y)) ≡ true → (k < m) ⊎ ((k ≡ m) × (x < y))
+before_is k m x y e = before_by k m x y (either (ltb k m) (eqb k m && ltb x y) e)
+
+is_before : (k m x y : ℕ) → (k < m) ⊎ ((k ≡ m) × (x < y)) → (ltb k m || (eqb k m && ltb x y)) ≡ true
+is_before k m x y (inl l) = first_holds (ltb k m) _ (lt-ltb k m l)
+is_before k m x y (inr p) = second_holds (ltb k m) _ (both_hold (eqb k m) (ltb x y) (eq-eqb k m p.0) (lt-ltb x y p.1))
+
+pub tag_order_is_answered : TagOrderIsAnswered
+tag_order_is_answered a b = (before_is (class_number (tag_class a)) (class_number (tag_class b)) (tag_number a) (tag_number b), is_before (class_number (tag_class a)) (class_number (tag_class b)) (tag_number a) (tag_number b))
+
+-- the tag in front of an element
+pub element_tag_in_front : (e : Element) → e.tag.value < 2 ^ 32 → tag_in_front (element_text e) ≡ Some e.tag
+unfolding element_text
+element_tag_in_front e small = rw (tag_ok e.tag (length_text (length e.content) ++ e.content) small) refl
+
+-- the texts of elements stand as their tags do
+pub element_tag_less : (e f : Element) → e.tag.value < 2 ^ 32 → f.tag.value < 2 ^ 32 → tag_less (element_text e) (element_text f) ≡ tag_before e.tag f.tag
+element_tag_less e f small little = rw (element_tag_in_front e small, element_tag_in_front f little) refl
