@@ -4,6 +4,7 @@ ghost use Rattle.std.specs.Prelude.{◌≡◌, ℕ, Some, OnOk};
 ghost use Rattle.asn1.specs.Der.{simple_der};
 ghost use Rattle.dercheck.specs.Code.{code_content};
 
+mod certificate;
 mod changed;
 mod frames;
 mod nested;
