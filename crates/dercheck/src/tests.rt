@@ -328,6 +328,16 @@ fn lists(rt: HostRuntime) -> Result<(), Fail> {
     check_lines(&rt, rt.alloc(), LISTS)
 }
 
+/// A line of the word and the first digits.
+fn cut_line(alloc: Global, word: &str, digits: &str, count: usize) -> Result<String, Fail> {
+    let mut line = format!(in alloc; "{word} ")?;
+    for digit in digits.chars().take(count) {
+        line.push(digit)?;
+    }
+    line.push('\n')?;
+    Ok(line)
+}
+
 /// Each proper front of an accepted element, whose tag and length have one octet each, is too short, and by so much.
 fn check_fronts<A: Abort>(rt: &A, alloc: Global, lines: &[(&str, &str)]) -> Result<(), Fail> {
     for (line, answer) in lines {
@@ -340,7 +350,7 @@ fn check_fronts<A: Abort>(rt: &A, alloc: Global, lines: &[(&str, &str)]) -> Resu
         let count = digits.len() / 2;
         for end in 0..count {
             let needed = if end < 2 { 1 } else { count - end };
-            let input = format!(in alloc; "{word} {}\n", &digits[..2 * end])?;
+            let input = cut_line(alloc, word, digits, 2 * end)?;
             let output = format!(in alloc; "err ShortData {needed}\n")?;
             let (out, _all_ok) = answered(rt, alloc, "", input.as_str())?;
             assert_eq!(rt; out.as_slice(), output.as_bytes(), "at {input}");

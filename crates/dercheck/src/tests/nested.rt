@@ -34,9 +34,9 @@ impl<'a> SimpleAsn1Readable<'a> for Inner<'a> {
     fn tag() -> Tag
         ensures value { result ≡ sequence_tag }
         ensures simple { Unit {0} }
-        ensures plain { Unit {0} }
+        ensures plain { ⟦<Three<'a> as Asn1Type>⟧.der.plain }
     {
-        Tag::constructed(0x10)
+        <Three<'a> as SimpleAsn1Readable<'a>>::tag()
     }
 
     fn parse_data(alloc: Global, data: &'a [u8]) -> ParseResult<Inner<'a>>
