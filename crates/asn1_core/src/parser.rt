@@ -18,9 +18,11 @@ ghost use Rattle.asn1_core.specs.Display.{error_text};
 ghost use Rattle.asn1_core.specs.Same.{kind_eq, place_eq, fault_eq};
 ghost use Rattle.asn1_core.specs.Lemmas.Same.{place_eq-decides, fault_eq-decides};
 
+mod name;
+
 use crate::tag::{Tag, explicit_tag, implicit_tag};
 use crate::types::{Asn1Readable, SimpleAsn1Readable, Tlv};
-use bytes::ByteStr;
+use name::Name;
 use std::alloc::Global;
 use std::error::Error;
 use std::fmt;
@@ -85,8 +87,9 @@ pub const MAX_PLACES: usize = 8;
 /// A location as an error keeps it, with no reference.
 #[derive(Drop)]
 enum Place {
-    Field(ByteStr),
+    // First, so that the slots of a new error are zeros.
     Index(usize),
+    Field(Name),
 }
 
 impl PartialEq for Place {
@@ -96,7 +99,7 @@ impl PartialEq for Place {
 
     fn eq(&self, other: &Place) -> bool {
         match (self, other) {
-            (Place::Field(a), Place::Field(b)) => a == b,
+            (Place::Field(a), Place::Field(b)) => a.as_str() == b.as_str(),
             (Place::Index(a), Place::Index(b)) => a == b,
             _ => false,
         }
@@ -112,7 +115,7 @@ impl From<ParseLocation> for Place {
 
     fn from(location: ParseLocation) -> Place {
         match location {
-            ParseLocation::Field(name) => Place::Field(ByteStr::from_static(name)),
+            ParseLocation::Field(name) => Place::Field(Name::new(name)),
             ParseLocation::Index(index) => Place::Index(index),
         }
     }
@@ -122,23 +125,22 @@ impl From<ParseLocation> for Place {
 #[derive(Drop)]
 pub struct ParseError {
     kind: ParseErrorKind,
-    // The places, innermost first, and behind them empty slots.
-    places: [Option<Place>; MAX_PLACES],
+    // The places, innermost first, and behind them slots of which nothing is said.
+    places: [Place; MAX_PLACES],
+    // How many places there are.
     depth: usize,
 }
 
 impl Model for ParseError {
-    ghost use Rattle.std.specs.Prelude.{◌≡◌, ◌≤◌, length};
+    ghost use Rattle.std.specs.Prelude.{◌≡◌, ◌≤◌, length, take};
     ghost use Rattle.asn1_core.specs.declared.parser.TheConstants.{MAX_PLACES};
     ghost use Rattle.asn1_core.specs.Fault.{Fault};
 
     ghost Value = { Fault };
 
-    ghost use Rattle.asn1_core.specs.Places.{places_in, slots_of};
+    ghost view = { λ e. record { kind = e.kind; places = take e.depth e.places } };
 
-    ghost view = { λ e. record { kind = e.kind; places = places_in e.places } };
-
-    ghost invariant = { λ e. (e.depth ≤ MAX_PLACES) × (length (places_in e.places) ≡ e.depth) × (e.places ≡ slots_of (places_in e.places)) };
+    ghost invariant = { λ e. (e.depth ≤ MAX_PLACES) × (length e.places ≡ MAX_PLACES) };
 }
 
 /// A value, or why it could not be read.
@@ -146,13 +148,22 @@ pub type ParseResult<T> = Result<T, ParseError>;
 
 impl ParseError {
     /// An error of this kind, with no place.
-    #[inline]
+    #[inline(always)]
     pub fn new(kind: ParseErrorKind) -> ParseError
         ensures { result ≡ fault kind }
     {
         ParseError {
             kind,
-            places: [None, None, None, None, None, None, None, None],
+            places: [
+                Place::Index(0),
+                Place::Index(0),
+                Place::Index(0),
+                Place::Index(0),
+                Place::Index(0),
+                Place::Index(0),
+                Place::Index(0),
+                Place::Index(0),
+            ],
             depth: 0,
         }
     }
@@ -171,7 +182,7 @@ impl ParseError {
         if self.depth == MAX_PLACES {
             return self;
         }
-        self.places[self.depth] = Some(Place::from(location));
+        self.places[self.depth] = Place::from(location);
         self.depth += 1;
         self
     }
@@ -180,8 +191,8 @@ impl ParseError {
 impl fmt::Debug for Place {
     fn fmt<W: fmt::Write>(&self, f: &mut fmt::Formatter<W>) -> fmt::Result {
         match self {
-            Place::Field(name) => write!(f, "{name:?}"),
-            Place::Index(index) => write!(f, "{index:?}"),
+            Place::Field(name) => fmt::Debug::fmt(name.as_str(), f),
+            Place::Index(index) => fmt::Debug::fmt(index, f),
         }
     }
 }
@@ -228,17 +239,10 @@ impl fmt::Debug for ParseError {
         let kind = self.kind;
         write!(f, "ParseError {{ kind: {kind:?}")?;
         let mut is_first = true;
-        for slot in self.places.iter().rev() {
-            let Some(place) = slot else {
-                continue;
-            };
-            if is_first {
-                write!(f, ", location: [")?;
-                is_first = false;
-            } else {
-                write!(f, ", ")?;
-            }
-            write!(f, "{place:?}")?;
+        for place in self.places[..self.depth].iter().rev() {
+            let mark = if is_first { ", location: [" } else { ", " };
+            write!(f, "{mark}{place:?}")?;
+            is_first = false;
         }
         if is_first {
             write!(f, " }}")
@@ -258,7 +262,7 @@ impl PartialEq for ParseError {
         ensures value { result ≡ fault_eq self.now other.now }
         ensures same { IsTrue result ↔ (self.now ≡ other.now) }
     {
-        same_kind(self.kind, other.kind) && self.places == other.places
+        same_kind(self.kind, other.kind) && self.places[..self.depth] == other.places[..other.depth]
     }
 }
 
@@ -376,7 +380,7 @@ impl<'a> Parser<'a> {
     ///
     /// A refusal is the type's first fault; the parser then stands where the type says, always before a suffix of what
     /// was left.
-    #[inline]
+    #[inline(always)]
     pub fn read_element<T: Asn1Readable<'a>>(&mut self) -> ParseResult<T>
         ensures answers { Answers (λ v. (T.der.meaning v, self.new)) (T.der.runs_out self.old) result (T.der.read self.old) }
         ensures rest { EndsWith self.old self.new }
@@ -417,7 +421,7 @@ impl<'a> Parser<'a> {
 /// The answer as a reader gives it: a refusal has no place yet.
 ///
 /// Framing answers kinds alone, which are small, and takes no time to carry places that it never has.
-#[inline]
+#[inline(always)]
 pub(crate) fn kind_as_error<T: Drop>(answer: Result<T, ParseErrorKind>) -> ParseResult<T>
     ensures { result ≡ framed answer }
 {

@@ -159,7 +159,7 @@ pub trait SimpleAsn1Writable: Asn1Type + Sized {
 }
 
 impl<'a, T: SimpleAsn1Readable<'a>> Asn1Readable<'a> for T {
-    #[inline]
+    #[inline(always)]
     fn parse(parser: &mut Parser<'a>) -> ParseResult<T> {
         match parser.read_expected(T::tag()) {
             Ok(content) => T::parse_data(parser.alloc(), content),
@@ -202,7 +202,7 @@ impl<'a> Asn1Type for Tlv<'a> {
 impl<'a> Asn1Readable<'a> for Tlv<'a> {
     ghost use Rattle.asn1_core.specs.Tlv.{element_of};
 
-    #[inline]
+    #[inline(always)]
     fn parse(parser: &mut Parser<'a>) -> ParseResult<Tlv<'a>>
         ensures answers { Answers (λ v. (element_of v, parser.new)) (λ _. ⊥) result (element_front parser.old) }
         ensures rest { EndsWith parser.old parser.new }
@@ -252,6 +252,7 @@ impl<'a> SimpleAsn1Readable<'a> for bool {
         Tag::primitive(0x01)
     }
 
+    #[inline]
     fn parse_data(_alloc: Global, data: &'a [u8]) -> ParseResult<bool> {
         match data {
             [0x00] => Ok(false),

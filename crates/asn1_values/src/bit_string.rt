@@ -121,6 +121,7 @@ impl<'a> SimpleAsn1Readable<'a> for BitString<'a> {
         Tag::primitive(0x03)
     }
 
+    #[inline]
     fn parse_data(_alloc: Global, data: &'a [u8]) -> ParseResult<BitString<'a>>
         ensures { Answers bits_of (λ _. ⊥) result (read_bits «data».entry.now) }
     {
@@ -231,6 +232,7 @@ impl<'a> SimpleAsn1Readable<'a> for OwnedBitString {
         Tag::primitive(0x03)
     }
 
+    #[inline]
     fn parse_data(alloc: Global, data: &'a [u8]) -> ParseResult<OwnedBitString> {
         let [padding, octets @ ..] = data else {
             return Err(ParseError::new(ParseErrorKind::InvalidValue));

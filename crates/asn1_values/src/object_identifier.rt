@@ -249,6 +249,7 @@ impl<'a> SimpleAsn1Readable<'a> for ObjectIdentifier {
         Tag::primitive(0x06)
     }
 
+    #[inline]
     fn parse_data(_alloc: Global, data: &'a [u8]) -> ParseResult<ObjectIdentifier> {
         ObjectIdentifier::from_der(data)
     }

@@ -1,7 +1,6 @@
 -- Tests of equal kinds, places and errors decide that they are equal.
 use Rattle.std.proofs.Common.{◌≡◌, ℕ, zero, suc, ◌+◌, ◌-◌, ◌≤◌, Bool, true, ◌&&◌, eqb, List, [], ◌∷◌, ◌++◌, length, map, replicate, Some, None, refl, sym, ap, ◌∙◌, arith}
 use Rattle.std.specs.Bool.{Decides}
-use Rattle.std.specs.Option.{option_eq}
 use Rattle.std.specs.Cmp.Lexicographic.{pointwise}
 use Rattle.std.proofs.lemmas.Bool.{eqb-true, eq-eqb}
 use Rattle.std.proofs.lemmas.Slice.Eq.{bytes_eq-Decides, slice_eq-Decides}
@@ -11,9 +10,7 @@ use Rattle.asn1_core.specs.declared.parser.Place.{Place}
 use Rattle.asn1_core.specs.declared.parser.Place.TheVariants.{Field, Index}
 use Rattle.asn1_core.specs.declared.tag.Tag.{Tag}
 use Rattle.asn1_core.specs.Tag.{tag_eq}
-use Rattle.asn1_core.specs.declared.parser.TheConstants.{MAX_PLACES}
 use Rattle.asn1_core.specs.Fault.{Fault}
-use Rattle.asn1_core.specs.Places.{slots_of}
 use Rattle.asn1_core.specs.Same.{kind_eq, place_eq, fault_eq}
 use Rattle.asn1_core.specs.Lemmas.Tags.{and_parts, tag_eq-is, tag_eq-refl, bool_same}
 
@@ -78,20 +75,3 @@ pub kind_eq-decided : (a b : ParseErrorKind) (r : Bool) → (r ≡ true → a �
 kind_eq-decided a b r same so =
     let d = kind_eq-decides a b in
     bool_same r (kind_eq a b) (λ e. d.1 (same e)) (λ e. so (d.0 e))
-
-none_same : (m : ℕ) → pointwise (option_eq place_eq) (replicate m None) (replicate m None) ≡ true
-none_same zero = refl
-none_same (suc m) = none_same m
-
--- slots that hold places in front and nothing behind them are compared as their places
-packed_same : (xs ys : List Place) (m k : ℕ) → length xs + m ≡ length ys + k →
-    pointwise (option_eq place_eq) (map (λ place. Some place) xs ++ replicate m None) (map (λ place. Some place) ys ++ replicate k None) ≡ pointwise place_eq xs ys
-packed_same [] [] m k e = let same : m ≡ k = omega arith in rw same (none_same k)
-packed_same [] (y ∷ ys) zero k e = absurd (omega arith)
-packed_same [] (y ∷ ys) (suc m) k e = refl
-packed_same (x ∷ xs) [] m zero e = absurd (omega arith)
-packed_same (x ∷ xs) [] m (suc k) e = refl
-packed_same (x ∷ xs) (y ∷ ys) m k e = ap (λ (b : Bool). place_eq x y && b) (packed_same xs ys m k (omega arith))
-
-pub slots_same : (xs ys : List Place) → length xs ≤ MAX_PLACES → length ys ≤ MAX_PLACES → pointwise (option_eq place_eq) (slots_of xs) (slots_of ys) ≡ pointwise place_eq xs ys
-slots_same xs ys l m = packed_same xs ys (MAX_PLACES - length xs) (MAX_PLACES - length ys) (omega arith)

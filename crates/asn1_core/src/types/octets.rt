@@ -29,6 +29,7 @@ impl<'a> SimpleAsn1Readable<'a> for () {
         Tag::primitive(0x05)
     }
 
+    #[inline]
     fn parse_data(_alloc: Global, data: &'a [u8]) -> ParseResult<()> {
         if !data.is_empty() {
             return Err(ParseError::new(ParseErrorKind::InvalidValue));
@@ -82,6 +83,7 @@ impl<'a> SimpleAsn1Readable<'a> for &'a [u8] {
         Tag::primitive(0x04)
     }
 
+    #[inline]
     fn parse_data(_alloc: Global, data: &'a [u8]) -> ParseResult<&'a [u8]>
         ensures { Answers (λ octets. octets.now) (λ _. ⊥) result (read_octets «data».entry.now) }
     {

@@ -25,6 +25,7 @@ impl<'a, T: SimpleAsn1Readable<'a>> SimpleAsn1Readable<'a> for Box<T> {
         T::tag()
     }
 
+    #[inline]
     fn parse_data(alloc: Global, data: &'a [u8]) -> ParseResult<Box<T>> {
         let value = T::parse_data(alloc, data)?;
         match Box::new(alloc, value) {

@@ -72,6 +72,7 @@ impl<'a> SimpleAsn1Readable<'a> for BigUint<'a> {
         Tag::primitive(0x02)
     }
 
+    #[inline]
     fn parse_data(_alloc: Global, data: &'a [u8]) -> ParseResult<BigUint<'a>>
         ensures { Answers big_uint_number (λ _. ⊥) result (read_unsigned «data».entry.now) }
     {
@@ -178,6 +179,7 @@ impl<'a> SimpleAsn1Readable<'a> for BigInt<'a> {
         Tag::primitive(0x02)
     }
 
+    #[inline]
     fn parse_data(_alloc: Global, data: &'a [u8]) -> ParseResult<BigInt<'a>>
         ensures { Answers big_int_number (λ _. ⊥) result (read_integer «data».entry.now) }
     {

@@ -50,6 +50,7 @@ impl<'a> SimpleAsn1Readable<'a> for Enumerated {
         Tag::primitive(0x0a)
     }
 
+    #[inline]
     fn parse_data(alloc: Global, data: &'a [u8]) -> ParseResult<Enumerated> {
         let value = u32::parse_data(alloc, data)?;
         Ok(Enumerated(value))

@@ -87,6 +87,7 @@ impl<'a> SimpleAsn1Readable<'a> for GeneralizedTime {
         Tag::primitive(0x18)
     }
 
+    #[inline]
     fn parse_data(_alloc: Global, data: &'a [u8]) -> ParseResult<GeneralizedTime> {
         match general(data) {
             Some((datetime, nanoseconds)) => Ok(GeneralizedTime {

@@ -75,6 +75,7 @@ impl<'a> SimpleAsn1Readable<'a> for OwnedBigUint {
         Tag::primitive(0x02)
     }
 
+    #[inline]
     fn parse_data(alloc: Global, data: &'a [u8]) -> ParseResult<OwnedBigUint> {
         if !is_unsigned_content(data) {
             return Err(ParseError::new(ParseErrorKind::InvalidValue));
@@ -183,6 +184,7 @@ impl<'a> SimpleAsn1Readable<'a> for OwnedBigInt {
         Tag::primitive(0x02)
     }
 
+    #[inline]
     fn parse_data(alloc: Global, data: &'a [u8]) -> ParseResult<OwnedBigInt> {
         if !is_signed_content(data) {
             return Err(ParseError::new(ParseErrorKind::InvalidValue));

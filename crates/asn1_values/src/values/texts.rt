@@ -128,6 +128,7 @@ impl<'a> SimpleAsn1Readable<'a> for PrintableString<'a> {
         Tag::primitive(0x13)
     }
 
+    #[inline]
     fn parse_data(_alloc: Global, data: &'a [u8]) -> ParseResult<PrintableString<'a>>
         ensures { Answers printable_octets (λ _. ⊥) result (read_text is_printable_text «data».entry.now) }
     {
@@ -230,6 +231,7 @@ impl<'a> SimpleAsn1Readable<'a> for IA5String<'a> {
         Tag::primitive(0x16)
     }
 
+    #[inline]
     fn parse_data(_alloc: Global, data: &'a [u8]) -> ParseResult<IA5String<'a>>
         ensures { Answers ia5_octets (λ _. ⊥) result (read_text is_ia5_text «data».entry.now) }
     {
@@ -332,6 +334,7 @@ impl<'a> SimpleAsn1Readable<'a> for VisibleString<'a> {
         Tag::primitive(0x1a)
     }
 
+    #[inline]
     fn parse_data(_alloc: Global, data: &'a [u8]) -> ParseResult<VisibleString<'a>>
         ensures { Answers visible_octets (λ _. ⊥) result (read_text is_visible_text «data».entry.now) }
     {
@@ -431,6 +434,7 @@ impl<'a> SimpleAsn1Readable<'a> for Utf8String<'a> {
         Tag::primitive(0x0c)
     }
 
+    #[inline]
     fn parse_data(_alloc: Global, data: &'a [u8]) -> ParseResult<Utf8String<'a>>
         ensures { Answers utf8_octets (λ _. ⊥) result (read_text is_utf8_text «data».entry.now) }
     {

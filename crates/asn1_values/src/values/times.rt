@@ -75,6 +75,7 @@ impl<'a> SimpleAsn1Readable<'a> for UtcTime {
         Tag::primitive(0x17)
     }
 
+    #[inline]
     fn parse_data(_alloc: Global, data: &'a [u8]) -> ParseResult<UtcTime> {
         match utc(data) {
             Some(datetime) => Ok(UtcTime { datetime }),
@@ -164,6 +165,7 @@ impl<'a> SimpleAsn1Readable<'a> for X509GeneralizedTime {
         Tag::primitive(0x18)
     }
 
+    #[inline]
     fn parse_data(_alloc: Global, data: &'a [u8]) -> ParseResult<X509GeneralizedTime> {
         match x509(data) {
             Some(datetime) => Ok(X509GeneralizedTime { datetime }),

@@ -150,6 +150,7 @@ impl<'a> SimpleAsn1Readable<'a> for BMPString<'a> {
         Tag::primitive(0x1e)
     }
 
+    #[inline]
     fn parse_data(_alloc: Global, data: &'a [u8]) -> ParseResult<BMPString<'a>>
         ensures { Answers bmp_octets (λ _. ⊥) result (read_text is_utf16_text «data».entry.now) }
     {
@@ -257,6 +258,7 @@ impl<'a> SimpleAsn1Readable<'a> for UniversalString<'a> {
         Tag::primitive(0x1c)
     }
 
+    #[inline]
     fn parse_data(_alloc: Global, data: &'a [u8]) -> ParseResult<UniversalString<'a>>
         ensures { Answers universal_octets (λ _. ⊥) result (read_text is_utf32_text «data».entry.now) }
     {

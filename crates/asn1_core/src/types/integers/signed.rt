@@ -25,6 +25,7 @@ impl<'a> SimpleAsn1Readable<'a> for i8 {
         Tag::primitive(0x02)
     }
 
+    #[inline]
     fn parse_data(_alloc: Global, data: &'a [u8]) -> ParseResult<i8> {
         match read(data, i128::from(i8::MIN), i128::from(i8::MAX)) {
             Ok(number) => Ok(number as i8),
@@ -67,6 +68,7 @@ impl<'a> SimpleAsn1Readable<'a> for i16 {
         Tag::primitive(0x02)
     }
 
+    #[inline]
     fn parse_data(_alloc: Global, data: &'a [u8]) -> ParseResult<i16> {
         match read(data, i128::from(i16::MIN), i128::from(i16::MAX)) {
             Ok(number) => Ok(number as i16),
@@ -109,6 +111,7 @@ impl<'a> SimpleAsn1Readable<'a> for i32 {
         Tag::primitive(0x02)
     }
 
+    #[inline]
     fn parse_data(_alloc: Global, data: &'a [u8]) -> ParseResult<i32> {
         match read(data, i128::from(i32::MIN), i128::from(i32::MAX)) {
             Ok(number) => Ok(number as i32),
@@ -151,6 +154,7 @@ impl<'a> SimpleAsn1Readable<'a> for i64 {
         Tag::primitive(0x02)
     }
 
+    #[inline]
     fn parse_data(_alloc: Global, data: &'a [u8]) -> ParseResult<i64> {
         match read(data, i128::from(i64::MIN), i128::from(i64::MAX)) {
             Ok(number) => Ok(number as i64),

@@ -25,6 +25,7 @@ impl<'a> SimpleAsn1Readable<'a> for u8 {
         Tag::primitive(0x02)
     }
 
+    #[inline]
     fn parse_data(_alloc: Global, data: &'a [u8]) -> ParseResult<u8> {
         match read(data, 0, i128::from(u8::MAX)) {
             Ok(number) => Ok(number as u8),
@@ -67,6 +68,7 @@ impl<'a> SimpleAsn1Readable<'a> for u16 {
         Tag::primitive(0x02)
     }
 
+    #[inline]
     fn parse_data(_alloc: Global, data: &'a [u8]) -> ParseResult<u16> {
         match read(data, 0, i128::from(u16::MAX)) {
             Ok(number) => Ok(number as u16),
@@ -109,6 +111,7 @@ impl<'a> SimpleAsn1Readable<'a> for u32 {
         Tag::primitive(0x02)
     }
 
+    #[inline]
     fn parse_data(_alloc: Global, data: &'a [u8]) -> ParseResult<u32> {
         match read(data, 0, i128::from(u32::MAX)) {
             Ok(number) => Ok(number as u32),
@@ -151,6 +154,7 @@ impl<'a> SimpleAsn1Readable<'a> for u64 {
         Tag::primitive(0x02)
     }
 
+    #[inline]
     fn parse_data(_alloc: Global, data: &'a [u8]) -> ParseResult<u64> {
         match read(data, 0, i128::from(u64::MAX)) {
             Ok(number) => Ok(number as u64),
