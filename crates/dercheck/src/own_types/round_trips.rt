@@ -7,6 +7,7 @@ use super::my_sequence::MySequence;
 use super::reason::Reason;
 use super::sealable::Sealable;
 use super::signature::Signature;
+use super::some_sequence::SomeSequence;
 use super::time::Time;
 use asn1::{Asn1Readable, Asn1Type, Asn1Writable, ParseResult, parse_single, write_single};
 use std::alloc::Global;
@@ -42,10 +43,12 @@ pub fn write_and_read_back<'a, T: Asn1Readable<'a> + Asn1Writable>(
 }
 
 /// The types here are lawful, and a write appends their one text: both round trips hold of them.
+#[tactic(auto, using(asn1::specs::FieldLaws::tags_differ))]
 pub fn own_types_are_lawful()
     ensures my_sequence { ⟦<MySequence as Asn1Type>⟧.der.lawful × ⟦<MySequence as Asn1Type>⟧.der.plain }
     ensures reason { ⟦<Reason as Asn1Type>⟧.der.lawful × ⟦<Reason as Asn1Type>⟧.der.plain }
     ensures sealable { ⟦<Sealable as Asn1Type>⟧.der.lawful × ⟦<Sealable as Asn1Type>⟧.der.plain }
     ensures signature { ⟦<Signature as Asn1Type>⟧.der.lawful × ⟦<Signature as Asn1Type>⟧.der.plain }
+    ensures some_sequence { ⟦<SomeSequence<'static> as Asn1Type>⟧.der.lawful × ⟦<SomeSequence<'static> as Asn1Type>⟧.der.plain }
     ensures time { ⟦<Time as Asn1Type>⟧.der.lawful × ⟦<Time as Asn1Type>⟧.der.plain }
 {}
