@@ -14,6 +14,10 @@ use asn1_core::{
 };
 use std::marker::PhantomData;
 
+mod defined;
+
+pub use defined::{Borrowed, Defined, DefinedField, DefinedLast};
+
 /// The names of a structure's fields, as places have them.
 pub trait FieldNames {
     ghost label: { ℕ → List ℕ };

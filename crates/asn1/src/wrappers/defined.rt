@@ -1,9 +1,11 @@
 //! Values that an item beside them defines.
 
 ghost use Rattle.asn1_core.specs.Tag.{explicit_tag_of};
-ghost use Rattle.asn1.specs.Defined.{by_inside};
+ghost use Rattle.asn1.specs.Defined.{by_inside, defined_inside};
+ghost use Rattle.asn1.specs.ItemsAndValues.{agrees_inside};
 
 use super::Explicit;
+use crate::fields::DefinedField;
 use asn1_core::writer::full_length;
 use asn1_core::{
     Asn1DefinedBy, Asn1DefinedByReadable, Asn1DefinedByWritable, Asn1Readable, Asn1Type,
@@ -61,4 +63,14 @@ impl<T: Asn1Writable, U: Asn1DefinedByWritable<T>, const TAG: u32> Asn1DefinedBy
     fn encoded_length(&self) -> Option<usize> {
         full_length(explicit_tag(TAG), self.as_inner().encoded_length()?)
     }
+}
+
+impl<T: Asn1Type, U: DefinedField<T>, const TAG: u32> DefinedField<T> for Explicit<U, TAG> {
+    ghost both = { record { item = U.both.item; value = defined_inside (explicit_tag_of TAG) (λ x. x.inner) U.both.value } };
+
+    fn known_item(&self) {
+        self.as_inner().known_item()
+    }
+
+    ghost agrees = { agrees_inside (explicit_tag_of TAG) (λ x. x.inner) _ _ _ U.agrees };
 }

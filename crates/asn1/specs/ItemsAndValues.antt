@@ -1,0 +1,172 @@
+-- An item and a value that it defines, said together: for fields, which need what both mean, where each type says its
+-- own part alone.
+use Rattle.std.specs.Prelude.{ℕ, ◌≡◌, ◌↔◌, List, [], ◌∷◌, Option, Some, None, Result, Ok, Err, OnOk, Bool, true, false, cond}
+use Rattle.std.proofs.Common.{refl, ap, ◌∙◌, inl, inr}
+use Rattle.asn1_core.specs.declared.tag.Tag.{Tag}
+use Rattle.asn1_core.specs.declared.parser.Place.{Place}
+use Rattle.asn1_core.specs.Tag.{tag_eq}
+use Rattle.asn1_core.specs.Element.{Element, element_text, ◌>>=◌}
+use Rattle.asn1_core.specs.Fault.{Fault}
+use Rattle.asn1_core.specs.Buffer.{Appends}
+use Rattle.asn1_core.specs.Writing.{KnowsLength, IsElementOf}
+use Rattle.asn1_core.specs.Reading.{Answers, expected, element_front, whole}
+use Rattle.asn1_core.specs.Der.{Der}
+use Rattle.asn1_core.specs.DefinedBy.{DefinedBy, ByItem}
+use Rattle.asn1.specs.DefinedLaws.{element_read}
+use Rattle.asn1.specs.Defined.{by_inside, by_seen, defined_inside, defined_seen}
+
+-- What an item means, and what a value means that it defines.
+pub record ItemAndValue (T V : Type 0) : Type 1 where
+  pub item : Der T
+  pub value : DefinedBy item.Meaning V
+
+-- the value's part of it
+abbrev pub by_item : {T V : Type 0} → ItemAndValue T V → ByItem T V
+by_item both = record { Item = both.item.Meaning; seen = both.item.meaning; means = both.value }
+
+-- What was read, with another meaning.
+abbrev pub seen_front : {M N : Type 0} → (M → N) → Result (M × List ℕ) Fault → Result (N × List ℕ) Fault
+seen_front f (Ok x) = Ok (f x.0, x.1)
+seen_front f (Err e) = Err e
+
+abbrev pub seen_whole : {M N : Type 0} → (M → N) → Result M Fault → Result N Fault
+seen_whole f (Ok m) = Ok (f m)
+seen_whole f (Err e) = Err e
+
+-- Two sayings of what a type means agree: a meaning of the one stands for one of the other.
+pub record ItemAgrees {T : Type 0} (a b : Der T) : Type 0 where
+  pub stands_for : a.Meaning → b.Meaning
+  pub meaning : (v : T) → stands_for (a.meaning v) ≡ b.meaning v
+  pub read : (t : List ℕ) → b.read t ≡ seen_front stands_for (a.read t)
+  pub runs_out : (t : List ℕ) (places : List Place) → a.runs_out t places → b.runs_out t places
+  pub texts : (m : a.Meaning) (t : List ℕ) → a.texts m t ↔ b.texts (stands_for m) t
+  pub closures : (m : a.Meaning) → b.closures (stands_for m) → a.closures m
+
+-- The same of a value that an item defines.
+pub record ValueAgrees {T V : Type 0} (by : ByItem T V) (both : ItemAndValue T V) : Type 0 where
+  pub stands_for : by.means.Meaning → both.value.Meaning
+  pub meaning : (v : V) → stands_for (by.means.meaning v) ≡ both.value.meaning v
+  pub item : (i : T) (m : by.means.Meaning) → by.seen i ≡ by.means.item m → both.item.meaning i ≡ both.value.item (stands_for m)
+  pub read : (i : T) (t : List ℕ) → both.value.read (both.item.meaning i) t ≡ seen_front stands_for (by.means.read (by.seen i) t)
+  pub runs_out : (i : T) (t : List ℕ) (places : List Place) → by.means.runs_out (by.seen i) t places → both.value.runs_out (both.item.meaning i) t places
+  pub texts : (m : by.means.Meaning) (t : List ℕ) → by.means.texts m t ↔ both.value.texts (stands_for m) t
+  pub closures : (m : by.means.Meaning) → both.value.closures (stands_for m) → by.means.closures m
+  pub valid : (m : by.means.Meaning) → by.means.valid m → both.value.valid (stands_for m)
+
+-- What a type and one that it defines say of themselves is what is said of both.
+abbrev pub Agrees : {T V : Type 0} → Der T → ByItem T V → ItemAndValue T V → Type 0
+Agrees d by both = ItemAgrees d both.item × ValueAgrees by both
+
+same_front : {M : Type 0} (r : Result (M × List ℕ) Fault) → r ≡ seen_front (λ m. m) r
+same_front (Ok x) = refl
+same_front (Err e) = refl
+
+-- It is so where they say it word for word.
+pub word_for_word : {T V : Type 0} (both : ItemAndValue T V) → Agrees both.item (by_item both) both
+word_for_word both = (
+  record {
+    stands_for = λ m. m;
+    meaning = λ v. refl;
+    read = λ t. same_front (both.item.read t);
+    runs_out = λ t places out. out;
+    texts = λ m t. (λ h. h, λ h. h);
+    closures = λ m h. h;
+  },
+  record {
+    stands_for = λ m. m;
+    meaning = λ v. refl;
+    item = λ i m e. e;
+    read = λ i t. same_front (both.value.read (both.item.meaning i) t);
+    runs_out = λ i t places out. out;
+    texts = λ m t. (λ h. h, λ h. h);
+    closures = λ m h. h;
+    valid = λ m h. h;
+  },
+)
+
+-- ---- what follows for calls
+
+abbrev done_at : {M : Type 0} → List ℕ → M → Result (M × List ℕ) Fault
+done_at rest m = Ok (m, rest)
+
+module _ {T M N : Type 0} (view : T → M) (view2 : T → N) (f : M → N) (is : (v : T) → f (view v) ≡ view2 v) (out out2 : List Place → Type 0) (law : (places : List Place) → out places → out2 places) (read : Result (M × List ℕ) Fault) (read2 : Result (N × List ℕ) Fault) (same : read2 ≡ seen_front f read) (rest : List ℕ) where
+  pub answers_seen : (r : Result T Fault) → Answers (λ v. (view v, rest)) out r read → Answers (λ v. (view2 v, rest)) out2 r read2
+  answers_seen (Ok v) h = same ∙ (ap (seen_front f) h ∙ ap (done_at rest) (is v))
+  answers_seen (Err e) (inl h) = inl (same ∙ ap (seen_front f) h)
+  answers_seen (Err e) (inr h) = inr (h.0, law e.places h.1)
+
+pub appends_seen : {E : Type 0} (r : Result (Unit {0}) E) (texts texts2 : List ℕ → Type 0) → ((t : List ℕ) → texts t → texts2 t) → (a b : List ℕ) → OnOk r (Appends texts a b) → OnOk r (Appends texts2 a b)
+appends_seen (Ok u) texts texts2 law a b h = record { text = h.text; is_one = law h.text h.is_one; joined = h.joined }
+appends_seen (Err e) texts texts2 law a b h = tt
+
+pub knows_seen : (texts texts2 : List ℕ → Type 0) → ((t : List ℕ) → texts2 t → texts t) → (n : Option ℕ) → KnowsLength texts n → KnowsLength texts2 n
+knows_seen texts texts2 law (Some n) h = λ t is. h t (law t is)
+knows_seen texts texts2 law None h = tt
+
+-- ---- under an explicit tag
+
+module _ {M N : Type 0} (f : M → N) (read : List ℕ → Result (M × List ℕ) Fault) (read2 : List ℕ → Result (N × List ℕ) Fault) (same : (t : List ℕ) → read2 t ≡ seen_front f (read t)) where
+  whole_seen : (r : Result (M × List ℕ) Fault) → whole (seen_front f r) ≡ seen_whole f (whole r)
+  whole_seen (Ok (m, [])) = refl
+  whole_seen (Ok (m, octet ∷ octets)) = refl
+  whole_seen (Err e) = refl
+
+  element_seen : (c : Result Element Fault) → (c >>= λ e. whole (read2 (element_text e))) ≡ seen_whole f (c >>= λ e. whole (read (element_text e)))
+  element_seen (Ok e) = ap whole (same (element_text e)) ∙ whole_seen (read (element_text e))
+  element_seen (Err e) = refl
+
+  behind_seen : (r : Result M Fault) (rest : List ℕ) → (seen_whole f r >>= λ m. Ok (m, rest)) ≡ seen_front f (r >>= λ m. Ok (m, rest))
+  behind_seen (Ok m) rest = refl
+  behind_seen (Err e) rest = refl
+
+  chosen_seen : (b : Bool) (x : Result (M × List ℕ) Fault) (e : Fault) → cond b (seen_front f x) (Err e) ≡ seen_front f (cond b x (Err e))
+  chosen_seen true x e = refl
+  chosen_seen false x e = refl
+
+  expected_seen : (tag : Tag) (x : Element × List ℕ) → expected tag (element_read read2) x ≡ seen_front f (expected tag (element_read read) x)
+  expected_seen tag x =
+      let inner : element_read read2 x.0.content ≡ seen_whole f (element_read read x.0.content) = element_seen (whole (element_front x.0.content)) in
+      rw (inner, behind_seen (element_read read x.0.content) x.1) (chosen_seen (tag_eq x.0.tag tag) _ _)
+
+  tagged_seen : (tag : Tag) (r : Result (Element × List ℕ) Fault) → (r >>= expected tag (element_read read2)) ≡ seen_front f (r >>= expected tag (element_read read))
+  tagged_seen tag (Ok x) = expected_seen tag x
+  tagged_seen tag (Err e) = refl
+
+element_texts : (tag : Tag) (texts texts2 : List ℕ → Type 0) → ((t : List ℕ) → texts t → texts2 t) → (t : List ℕ) → IsElementOf tag texts t → IsElementOf tag texts2 t
+element_texts tag texts texts2 law t h = record { content = h.content; is_content = law h.content h.is_content; is = h.is }
+
+pub agrees_inside : {T V W : Type 0} (tag : Tag) (view : W → V) (d : Der T) (by : ByItem T V) (both : ItemAndValue T V) → Agrees d by both →
+    Agrees d (by_inside tag view by) (record { item = both.item; value = defined_inside tag view both.value })
+agrees_inside tag view d by both h =
+    let k = h.1 in (
+      h.0,
+      record {
+        stands_for = k.stands_for;
+        meaning = λ w. k.meaning (view w);
+        item = k.item;
+        read = λ i t. tagged_seen k.stands_for (by.means.read (by.seen i)) (both.value.read (both.item.meaning i)) (k.read i) tag (element_front t);
+        runs_out = λ i t places out. (out.0, out.1, out.2, (out.3.0, out.3.1, k.runs_out i (element_text out.3.0) places out.3.2));
+        texts = λ m t. (element_texts tag _ _ (λ x. (k.texts m x).0) t, element_texts tag _ _ (λ x. (k.texts m x).1) t);
+        closures = k.closures;
+        valid = k.valid;
+      },
+    )
+
+-- ---- seen in another type
+
+pub agrees_seen : {T V W : Type 0} (view : W → V) (d : Der T) (by : ByItem T V) (both : ItemAndValue T V) → Agrees d by both →
+    Agrees d (by_seen view by) (record { item = both.item; value = defined_seen view both.value })
+agrees_seen view d by both h =
+    let k = h.1 in (
+      h.0,
+      record {
+        stands_for = k.stands_for;
+        meaning = λ w. k.meaning (view w);
+        item = k.item;
+        read = k.read;
+        runs_out = k.runs_out;
+        texts = k.texts;
+        closures = k.closures;
+        valid = k.valid;
+      },
+    )
