@@ -17,3 +17,4 @@ pub mod Reason
 pub mod Time
 pub mod SomeSequence
 pub mod MySequence
+pub mod Entry

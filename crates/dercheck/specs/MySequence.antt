@@ -1,15 +1,17 @@
 -- A structure whose content is defined by the identifier in front of it.
-use Rattle.std.specs.Prelude.{ℕ, ℤ, ◌≡◌, List, [], ◌∷◌, Bool, true, codes}
+use Rattle.std.specs.Prelude.{ℕ, ℤ, ◌≡◌, List, [], ◌∷◌, Bool, true}
 use Rattle.std.specs.Str.{bytes_eq}
 use Rattle.std.proofs.Common.{refl, sym}
 use Rattle.std.proofs.lemmas.Slice.Eq.{bytes_eq-Decides}
+use Rattle.asn1.specs.declared.ObjectIdentifier.{ObjectIdentifier}
 use Rattle.asn1.specs.Der.{simple_der}
 use Rattle.asn1.specs.DefinedBy.{DefinedBy}
 use Rattle.asn1.specs.IdentifierContent.{identifier_basic}
+use Rattle.asn1.specs.IdentifierValues.{identifier_of}
 use Rattle.asn1.specs.Sized.{signed_der}
 use Rattle.asn1.specs.VariantLaws.{Known}
 use Rattle.asn1.specs.Variants.{variant}
-use Rattle.asn1.specs.Fields.{Fields, defined_last}
+use Rattle.asn1.specs.ItemsAndValues.{ItemAndValue}
 use Rattle.dercheck.specs.declared.own_types.my_sequence.Content.{Content}
 use Rattle.dercheck.specs.declared.own_types.my_sequence.Content.TheVariants.{SomeVariant}
 
@@ -33,5 +35,6 @@ content_meaning (SomeVariant number) = number
 abbrev pub content_by : DefinedBy (List ℕ) Content
 content_by = variant some_known (signed_der 32 (λ n. n)) content_meaning
 
-abbrev pub my_fields : Fields ℤ
-my_fields = defined_last (codes "MySequence::content_type") (simple_der (λ numbers. numbers) identifier_basic) (codes "MySequence::content") content_by
+-- what the identifier and the content mean, together
+abbrev pub content_both : ItemAndValue ObjectIdentifier Content
+content_both = record { item = simple_der identifier_of identifier_basic; value = content_by }

@@ -1,5 +1,6 @@
 //! Types by hand, above the public calls of `asn1` alone: the examples of docs/OWN_TYPES.md.
 
+pub mod entry;
 pub mod my_sequence;
 pub mod reason;
 pub mod round_trips;

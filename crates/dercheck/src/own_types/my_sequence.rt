@@ -1,12 +1,16 @@
 //! A structure whose content is defined by the identifier in front of it.
 
-ghost use Rattle.std.specs.Prelude.{◌≡◌};
+ghost use Rattle.std.specs.Prelude.{◌≡◌, ◌∷◌, [], codes};
 ghost use Rattle.asn1.specs.Der.{simple_der};
 ghost use Rattle.asn1.specs.Fields.{sequence};
 ghost use Rattle.asn1.specs.IdentifierValues.{identifier_of};
-ghost use Rattle.dercheck.specs.MySequence.{are_some, some_numbers, content_by, content_meaning, my_fields};
+ghost use Rattle.asn1.specs.ItemsAndValues.{by_item, word_for_word};
+ghost use Rattle.asn1.specs.FieldLists.{name_from};
+ghost use Rattle.dercheck.specs.MySequence.{are_some, some_numbers, content_both, content_meaning};
 
-use asn1::fields::{finish, placed};
+use asn1::fields::{
+    Borrowed, DefinedField, DefinedLast, FieldNames, Row, RowReadable, RowWritable,
+};
 use asn1::laws::identifiers_compare;
 use asn1::{
     Asn1DefinedBy, Asn1DefinedByReadable, Asn1DefinedByWritable, Asn1Type, Asn1Writable,
@@ -41,13 +45,23 @@ pub enum Content {
 }
 
 impl Asn1DefinedBy<ObjectIdentifier> for Content {
-    ghost by = { record { Item = _; seen = λ o. identifier_of o; means = content_by } };
+    ghost by = { by_item content_both };
 
     fn known_by(&self) {
         match self {
             Content::SomeVariant(number) => number.known(),
         }
     }
+}
+
+impl DefinedField<ObjectIdentifier> for Content {
+    ghost both = { content_both };
+
+    fn known_item(&self) {
+        self.item().known()
+    }
+
+    ghost agrees = { word_for_word _ };
 }
 
 impl<'a> Asn1DefinedByReadable<'a, ObjectIdentifier> for Content {
@@ -90,12 +104,35 @@ pub struct MySequence {
     pub content: Content,
 }
 
+/// The fields, and their names. The content is read as it is, and written where it stands.
+type Fields<C> = DefinedLast<Names, 0, 1, ObjectIdentifier, C>;
+
+struct Names;
+
+impl FieldNames for Names {
+    ghost label = { name_from 0 (codes "MySequence::content_type" ∷ codes "MySequence::content" ∷ []) };
+
+    fn name(index: usize) -> &'static str {
+        match index {
+            0 => "MySequence::content_type",
+            _ => "MySequence::content",
+        }
+    }
+}
+
+impl MySequence {
+    fn fields(&self) -> Fields<Borrowed<'_, Content>>
+        ensures { ⟦<Fields<Borrowed<'static, Content>> as Row>⟧.list.meaning result ≡ content_meaning self.now.content }
+    {
+        DefinedLast::new(Borrowed::new(&self.content))
+    }
+}
+
 impl Asn1Type for MySequence {
-    ghost der = { simple_der (λ v. content_meaning v.content) (sequence my_fields) };
+    ghost der = { simple_der (λ v. content_meaning v.content) (sequence ⟦<Fields<Content> as Row>⟧.list.fields) };
 
     fn known(&self) {
-        self.content.item().known();
-        self.content.known_by();
+        self.fields().known_row()
     }
 }
 
@@ -105,20 +142,13 @@ impl<'a> SimpleAsn1Readable<'a> for MySequence {
     }
 
     fn parse_data(alloc: Global, data: &'a [u8]) -> ParseResult<MySequence> {
-        let mut parser = Parser::new(alloc, data);
-        let content_type = placed(
-            parser.read_element::<ObjectIdentifier>(),
-            "MySequence::content_type",
-        )?;
-        let content = placed(
-            Content::parse(content_type, &mut parser),
-            "MySequence::content",
-        )?;
-        finish(parser)?;
-        Ok(MySequence {
-            content_type: DefinedByMarker::marker(),
-            content,
-        })
+        match <Fields<Content>>::read(Parser::new(alloc, data)) {
+            Ok(row) => Ok(MySequence {
+                content_type: DefinedByMarker::marker(),
+                content: row.value,
+            }),
+            Err(error) => Err(error),
+        }
     }
 }
 
@@ -132,14 +162,10 @@ impl SimpleAsn1Writable for MySequence {
     }
 
     fn write_data(&self, dest: &mut WriteBuf) -> WriteResult<()> {
-        let mut writer = Writer::new(dest);
-        writer.write_element(&self.content.item())?;
-        self.content.write(&mut writer)
+        self.fields().write(&mut Writer::new(dest))
     }
 
     fn data_length(&self) -> Option<usize> {
-        let item = self.content.item();
-        item.encoded_length()?
-            .checked_add(self.content.encoded_length()?)
+        self.fields().length()
     }
 }

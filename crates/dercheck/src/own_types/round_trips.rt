@@ -3,6 +3,7 @@
 ghost use Rattle.std.specs.Prelude.{◌≡◌, Ok, IfOk, IfErr};
 ghost use Rattle.asn1.specs.Reading.{Answers, Fits, IsRefusal, whole};
 
+use super::entry::Entry;
 use super::my_sequence::MySequence;
 use super::reason::Reason;
 use super::sealable::Sealable;
@@ -45,6 +46,7 @@ pub fn write_and_read_back<'a, T: Asn1Readable<'a> + Asn1Writable>(
 /// The types here are lawful, and a write appends their one text: both round trips hold of them.
 #[tactic(auto, using(asn1::specs::FieldLaws::tags_differ))]
 pub fn own_types_are_lawful()
+    ensures entry { ⟦<Entry as Asn1Type>⟧.der.lawful × ⟦<Entry as Asn1Type>⟧.der.plain }
     ensures my_sequence { ⟦<MySequence as Asn1Type>⟧.der.lawful × ⟦<MySequence as Asn1Type>⟧.der.plain }
     ensures reason { ⟦<Reason as Asn1Type>⟧.der.lawful × ⟦<Reason as Asn1Type>⟧.der.plain }
     ensures sealable { ⟦<Sealable as Asn1Type>⟧.der.lawful × ⟦<Sealable as Asn1Type>⟧.der.plain }

@@ -1,5 +1,6 @@
 //! Types by hand, written and read.
 
+use crate::own_types::entry::Entry;
 use crate::own_types::my_sequence::{Content, MySequence, some_oid};
 use crate::own_types::reason::Reason;
 use crate::own_types::round_trips::read_and_write_back;
@@ -150,6 +151,56 @@ fn my_sequences(rt: HostRuntime) -> Result<(), Fail> {
     assert_eq!(rt; unknown, at("MySequence::content", kind));
     let boolean = refused::<MySequence>(alloc, &[0x30, 3, 1, 1, 0xff]);
     assert_eq!(rt; boolean, at("MySequence::content_type", other_tag(1)));
+    Ok(())
+}
+
+/// An entry with the one variant.
+fn entry(note: Option<bool>, version: u8) -> Entry {
+    Entry {
+        content_type: DefinedByMarker::marker(),
+        content: Content::SomeVariant(7),
+        note,
+        version,
+    }
+}
+
+#[test]
+fn entries(rt: HostRuntime) -> Result<(), Fail> {
+    let alloc = rt.alloc();
+    let octets: &[u8] = &[
+        0x30, 15, 6, 2, 0x2a, 3, 2, 1, 7, 1, 1, 0xff, 0xa0, 3, 2, 1, 2,
+    ];
+    both_ways(&rt, alloc, entry(Some(true), 2), octets)?;
+    both_ways(
+        &rt,
+        alloc,
+        entry(None, 1),
+        &[0x30, 7, 6, 2, 0x2a, 3, 2, 1, 7],
+    )?;
+    let again = read_and_write_back::<Entry>(alloc, octets)??;
+    assert_eq!(rt; again.as_slice(), octets);
+    let boolean = refused::<Entry>(alloc, &[0x30, 3, 1, 1, 0xff]);
+    assert_eq!(rt; boolean, at("Entry::content_type", other_tag(1)));
+    let unknown = refused::<Entry>(alloc, &[0x30, 7, 6, 2, 0x2a, 4, 2, 1, 7]);
+    let kind = ParseErrorKind::UnknownDefinedBy;
+    assert_eq!(rt; unknown, at("Entry::content", kind));
+    let other = refused::<Entry>(alloc, &[0x30, 7, 6, 2, 0x2a, 3, 1, 1, 0xff]);
+    assert_eq!(rt; other, at("Entry::content", other_tag(1)));
+    Ok(())
+}
+
+#[test]
+fn entries_with_faults_behind(rt: HostRuntime) -> Result<(), Fail> {
+    let alloc = rt.alloc();
+    let note = refused::<Entry>(alloc, &[0x30, 10, 6, 2, 0x2a, 3, 2, 1, 7, 1, 1, 1]);
+    assert_eq!(rt; note, at("Entry::note", ParseErrorKind::InvalidValue));
+    let default = refused::<Entry>(alloc, &[0x30, 12, 6, 2, 0x2a, 3, 2, 1, 7, 0xa0, 3, 2, 1, 1]);
+    assert_eq!(rt;
+        default,
+        at("Entry::version", ParseErrorKind::EncodedDefault)
+    );
+    let rest = refused::<Entry>(alloc, &[0x30, 9, 6, 2, 0x2a, 3, 2, 1, 7, 5, 0]);
+    assert_eq!(rt; rest, of(ParseErrorKind::ExtraData));
     Ok(())
 }
 
