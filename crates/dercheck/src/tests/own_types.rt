@@ -1,5 +1,8 @@
 //! Types by hand, written and read.
 
+ghost use Rattle.std.specs.Prelude.{◌≡◌, ◌∷◌, [], codes};
+ghost use Rattle.asn1.specs.FieldLists.{name_from};
+
 use crate::own_types::entry::Entry;
 use crate::own_types::my_sequence::{Content, MySequence, some_oid};
 use crate::own_types::reason::Reason;
@@ -8,6 +11,7 @@ use crate::own_types::sealable::{SealError, Sealable};
 use crate::own_types::signature::Signature;
 use crate::own_types::some_sequence::SomeSequence;
 use crate::own_types::time::Time;
+use asn1::fields::{DefinedLast, FieldNames, RowReadable, RowWritable};
 use asn1::{
     Asn1DefinedByReadable, Asn1DefinedByWritable, Asn1Readable, Asn1Writable, DefinedByMarker,
     Explicit, ObjectIdentifier, ParseError, ParseErrorKind, ParseLocation, ParseResult, Parser,
@@ -236,6 +240,38 @@ fn contents(rt: HostRuntime) -> Result<(), Fail> {
     assert_eq!(rt; refusal(two), of(ParseErrorKind::ExtraData));
     let unknown = refusal(read_defined(alloc, other, octets));
     assert_eq!(rt; unknown, of(ParseErrorKind::UnknownDefinedBy));
+    Ok(())
+}
+
+/// The names of an identifier and its content in a row.
+struct TaggedNames;
+
+impl FieldNames for TaggedNames {
+    ghost label = { name_from 0 (codes "identifier" ∷ codes "content" ∷ []) };
+
+    fn name(index: usize) -> &'static str {
+        match index {
+            0 => "identifier",
+            _ => "content",
+        }
+    }
+}
+
+/// An identifier, and the content that it defines, under the explicit tag 3.
+type Tagged = DefinedLast<TaggedNames, 0, 1, ObjectIdentifier, Explicit<Content, 3>>;
+
+#[test]
+fn contents_under_a_tag(rt: HostRuntime) -> Result<(), Fail> {
+    let alloc = rt.alloc();
+    let octets: &[u8] = &[6, 2, 0x2a, 3, 0xa3, 3, 2, 1, 7];
+    let row = Tagged::read(Parser::new(alloc, octets))?;
+    assert_eq!(rt; row.value.as_inner(), &Content::SomeVariant(7));
+    assert_eq!(rt; row.length(), Some(octets.len()));
+    let written = write(alloc, |writer: &mut Writer<'_>| row.write(writer))?;
+    assert_eq!(rt; written.as_slice(), octets);
+    let two: &[u8] = &[6, 2, 0x2a, 3, 0xa3, 6, 2, 1, 7, 2, 1, 7];
+    let two = refusal(Tagged::read(Parser::new(alloc, two)));
+    assert_eq!(rt; two, at("content", ParseErrorKind::ExtraData));
     Ok(())
 }
 
