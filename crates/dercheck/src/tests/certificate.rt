@@ -1,11 +1,12 @@
-//! Parts of certificates (RFC 5280, 4.1): those of real ones are read, looked at, and written back.
+//! Certificates (RFC 5280, 4.1): real ones are read, looked at, and written back.
 
 mod parts;
+mod whole;
 
 use crate::own_types::time::Time;
 use asn1::{
-    Asn1Readable, Asn1Type, Asn1Writable, BigInt, DateTime, Explicit, ParseResult, Parser, SetOf,
-    Tag, Tlv, WriteError, from_optional_default, parse_single, write_single,
+    Asn1Readable, Asn1Type, Asn1Writable, DateTime, Explicit, SetOf, Tag, WriteError,
+    from_optional_default, parse_single, write_single,
 };
 use parts::{
     AlgorithmIdentifier, Attribute, Extension, Extensions, Name, SubjectPublicKeyInfo, Validity,
@@ -13,6 +14,7 @@ use parts::{
 use std::alloc::Global;
 use std::process::Abort;
 use std::test::Fail;
+use whole::{Certificate, TbsCertificate};
 
 /// A certificate with a key of RSA, signed by itself.
 const RSA: &str = "\
@@ -66,82 +68,46 @@ const CURVE_EXTENSIONS: &str = "2.5.29.19 critical 3000;\
 2.5.29.17 3014820c6c6561662e6578616d706c658704c0000201;\
 2.5.29.14 04146f4fec44e0ec0c16602e2e8650438c38b9f20595;";
 
-/// What a certificate holds, from the serial number to the extensions.
-#[derive(Drop)]
-struct Signed<'a> {
-    version: Option<Explicit<u8, 0>>,
-    serial: BigInt<'a>,
-    algorithm: AlgorithmIdentifier<'a>,
-    issuer: Name<'a>,
-    validity: Validity,
-    subject: Name<'a>,
-    key: SubjectPublicKeyInfo<'a>,
-    extensions: Explicit<Extensions<'a>, 3>,
-}
-
-/// Reads the next element.
-fn next<'a, T: Asn1Readable<'a>>(parser: &mut Parser<'a>) -> ParseResult<T> {
-    parser.read_element::<T>()
-}
-
-/// Reads what is signed, field by field.
-fn read_signed<'a>(alloc: Global, octets: &'a [u8]) -> ParseResult<Signed<'a>> {
-    let certificate = parse_single::<Tlv<'a>>(alloc, octets)?;
-    let mut outer = Parser::new(alloc, certificate.data());
-    let tbs = next::<Tlv<'a>>(&mut outer)?;
-    let mut parser = Parser::new(alloc, tbs.data());
-    Ok(Signed {
-        version: next(&mut parser)?,
-        serial: next(&mut parser)?,
-        algorithm: next(&mut parser)?,
-        issuer: next(&mut parser)?,
-        validity: next(&mut parser)?,
-        subject: next(&mut parser)?,
-        key: next(&mut parser)?,
-        extensions: next(&mut parser)?,
-    })
-}
-
-/// Appends the value's text.
-fn append<'a, T: Asn1Readable<'a> + Asn1Writable<Error = WriteError>>(
+/// Reads a value and writes it again.
+fn again<'a, T: Asn1Readable<'a> + Asn1Writable<Error = WriteError>>(
     alloc: Global,
-    written: &mut Vec<u8>,
-    value: &T,
-) -> Result<(), Fail> {
+    octets: &'a [u8],
+) -> Result<Vec<u8>, Fail> {
     // The type says by this call that each value has one text.
     let _accepted = T::can_parse(Tag::primitive(0));
-    let text = write_single(alloc, value)?;
-    written.extend_from_slice(text.as_slice())?;
-    Ok(())
+    let value = parse_single::<T>(alloc, octets)?;
+    let text = write_single(alloc, &value)?;
+    Ok(text)
 }
 
-/// The texts of the parts, one behind the other.
-fn texts(alloc: Global, read: &Signed<'_>) -> Result<Vec<u8>, Fail> {
-    let mut written = Vec::new(alloc);
-    append(alloc, &mut written, &read.issuer)?;
-    append(alloc, &mut written, &read.validity)?;
-    append(alloc, &mut written, &read.subject)?;
-    append(alloc, &mut written, &read.key)?;
-    append(alloc, &mut written, &read.extensions)?;
-    Ok(written)
+/// Whether the octets are one value of the type.
+fn is_read<'a, T: Asn1Readable<'a>>(alloc: Global, octets: &'a [u8]) -> bool {
+    match parse_single::<T>(alloc, octets) {
+        Ok(_) => true,
+        Err(_) => false,
+    }
 }
 
-/// The parts are written back, one behind the other, as octets of the certificate.
-fn again<A: Abort>(rt: &A, alloc: Global, octets: &[u8]) -> Result<(), Fail> {
-    let read = read_signed(alloc, octets)?;
-    let written = texts(alloc, &read)?;
-    let text = hex::encode(alloc, octets)?;
-    let part = hex::encode(alloc, written.as_slice())?;
-    assert!(rt; text.as_str().contains(part.as_str()));
+#[test]
+fn certificates_are_written_back(rt: HostRuntime) -> Result<(), Fail> {
+    let alloc = rt.alloc();
+    for text in [RSA, CURVE] {
+        let octets = hex::decode(alloc, text)?;
+        let written = again::<Certificate<'_>>(alloc, octets.as_slice())?;
+        assert_eq!(rt; written.as_slice(), octets.as_slice());
+    }
     Ok(())
 }
 
 #[test]
-fn parts_are_written_back(rt: HostRuntime) -> Result<(), Fail> {
+fn each_front_of_a_certificate_is_refused(rt: HostRuntime) -> Result<(), Fail> {
     let alloc = rt.alloc();
     for text in [RSA, CURVE] {
         let octets = hex::decode(alloc, text)?;
-        again(&rt, alloc, octets.as_slice())?;
+        let octets = octets.as_slice();
+        for end in 0..octets.len() {
+            assert!(rt; !is_read::<Certificate<'_>>(alloc, &octets[..end]));
+        }
     }
     Ok(())
 }
@@ -161,7 +127,7 @@ fn set_text<'a>(alloc: Global, set: SetOf<'a, Attribute<'a>>) -> Result<String, 
 /// The sets of a name.
 fn name_text(alloc: Global, name: &Name<'_>) -> Result<String, Fail> {
     let mut text = String::new(alloc);
-    for set in name.clone()? {
+    for set in name.0.clone()? {
         text.push_str(set_text(alloc, set?)?.as_str())?;
         text.push(';')?;
     }
@@ -169,9 +135,15 @@ fn name_text(alloc: Global, name: &Name<'_>) -> Result<String, Fail> {
 }
 
 /// The extensions, each with its type, whether it is critical, and its value.
-fn extensions_text(alloc: Global, extensions: Explicit<Extensions<'_>, 3>) -> Result<String, Fail> {
+fn extensions_text(
+    alloc: Global,
+    extensions: &Option<Explicit<Extensions<'_>, 3>>,
+) -> Result<String, Fail> {
     let mut text = String::new(alloc);
-    for extension in extensions.into_inner() {
+    let Some(extensions) = extensions else {
+        return Ok(text);
+    };
+    for extension in extensions.as_inner().0.clone()? {
         let extension = extension?;
         let critical = from_optional_default(extension.critical, false)?;
         let mark = if critical { " critical" } else { "" };
@@ -211,44 +183,54 @@ fn is_algorithm<A: Abort>(
 fn a_key_of_rsa(rt: HostRuntime) -> Result<(), Fail> {
     let alloc = rt.alloc();
     let octets = hex::decode(alloc, RSA)?;
-    let read = read_signed(alloc, octets.as_slice())?;
-    let version = from_optional_default(read.version, Explicit::new(0))?;
-    assert_eq!(rt; version.into_inner(), 2);
+    let certificate = parse_single::<Certificate<'_>>(alloc, octets.as_slice())?;
+    let read = certificate.tbs();
+    assert_eq!(rt; read.version(), 2);
     assert_eq!(rt;
-        read.serial.as_bytes(),
+        read.serial().as_bytes(),
         b"\x00\xc0\xff\xee\x00\x11\x22\x33".as_slice()
     );
-    let name = name_text(alloc, &read.issuer)?;
+    let name = name_text(alloc, read.issuer())?;
     assert_eq!(rt;
         name.as_str(),
         " 2.5.4.6=AT; 2.5.4.10=Example Works; 2.5.4.3=root.example;"
     );
-    assert!(rt; read.subject == read.issuer);
+    assert!(rt; read.subject().0 == read.issuer().0);
     assert_eq!(rt;
-        date(&read.validity.not_before),
+        date(&read.validity().not_before),
         &DateTime::new(2026, 11, 23, 0, 57, 56)?
     );
     assert_eq!(rt;
-        date(&read.validity.not_after),
+        date(&read.validity().not_after),
         &DateTime::new(2036, 11, 20, 0, 57, 56)?
     );
     is_algorithm(
         &rt,
         alloc,
-        &read.algorithm,
+        read.algorithm(),
         "1.2.840.113549.1.1.11",
         Some(&[5, 0]),
     )?;
     is_algorithm(
         &rt,
         alloc,
-        &read.key.algorithm,
+        &read.key().algorithm,
         "1.2.840.113549.1.1.1",
         Some(&[5, 0]),
     )?;
-    assert_eq!(rt; read.key.key.as_bytes().len(), 270);
-    let extensions = extensions_text(alloc, read.extensions)?;
+    assert_eq!(rt; read.key().key.as_bytes().len(), 270);
+    assert!(rt; read.issuer_id().is_none());
+    assert!(rt; read.subject_id().is_none());
+    let extensions = extensions_text(alloc, read.extensions())?;
     assert_eq!(rt; extensions.as_str(), RSA_EXTENSIONS);
+    is_algorithm(
+        &rt,
+        alloc,
+        certificate.algorithm(),
+        "1.2.840.113549.1.1.11",
+        Some(&[5, 0]),
+    )?;
+    assert_eq!(rt; certificate.signature().as_bytes().len(), 256);
     Ok(())
 }
 
@@ -256,33 +238,42 @@ fn a_key_of_rsa(rt: HostRuntime) -> Result<(), Fail> {
 fn a_key_on_a_curve(rt: HostRuntime) -> Result<(), Fail> {
     let alloc = rt.alloc();
     let octets = hex::decode(alloc, CURVE)?;
-    let read = read_signed(alloc, octets.as_slice())?;
-    assert_eq!(rt; read.serial.as_bytes(), b"\x07".as_slice());
-    let name = name_text(alloc, &read.issuer)?;
+    let certificate = parse_single::<Certificate<'_>>(alloc, octets.as_slice())?;
+    let read = certificate.tbs();
+    assert_eq!(rt; read.serial().as_bytes(), b"\x07".as_slice());
+    let name = name_text(alloc, read.issuer())?;
     assert_eq!(rt;
         name.as_str(),
         " 2.5.4.6=AT; 2.5.4.10=Example Works; 2.5.4.5=7 2.5.4.3=leaf.example;"
     );
     assert_eq!(rt;
-        date(&read.validity.not_before),
+        date(&read.validity().not_before),
         &DateTime::new(2026, 11, 23, 0, 57, 56)?
     );
     assert_eq!(rt;
-        date(&read.validity.not_after),
+        date(&read.validity().not_after),
         &DateTime::new(2076, 11, 10, 0, 57, 56)?
     );
-    assert!(rt; matches!(read.validity.not_after, Time::X509GeneralizedTime(_)));
-    is_algorithm(&rt, alloc, &read.algorithm, "1.2.840.10045.4.3.2", None)?;
+    assert!(rt; matches!(read.validity().not_after, Time::X509GeneralizedTime(_)));
+    is_algorithm(&rt, alloc, read.algorithm(), "1.2.840.10045.4.3.2", None)?;
     is_algorithm(
         &rt,
         alloc,
-        &read.key.algorithm,
+        &read.key().algorithm,
         "1.2.840.10045.2.1",
         Some(b"\x06\x08\x2a\x86\x48\xce\x3d\x03\x01\x07"),
     )?;
-    assert_eq!(rt; read.key.key.as_bytes().len(), 65);
-    let extensions = extensions_text(alloc, read.extensions)?;
+    assert_eq!(rt; read.key().key.as_bytes().len(), 65);
+    let extensions = extensions_text(alloc, read.extensions())?;
     assert_eq!(rt; extensions.as_str(), CURVE_EXTENSIONS);
+    is_algorithm(
+        &rt,
+        alloc,
+        certificate.algorithm(),
+        "1.2.840.10045.4.3.2",
+        None,
+    )?;
+    assert_eq!(rt; certificate.signature().as_bytes().len(), 70);
     Ok(())
 }
 
@@ -294,4 +285,6 @@ pub fn parts_are_lawful()
     ensures validity { ⟦<Validity as Asn1Type>⟧.der.lawful × ⟦<Validity as Asn1Type>⟧.der.plain }
     ensures key { ⟦<SubjectPublicKeyInfo<'static> as Asn1Type>⟧.der.lawful × ⟦<SubjectPublicKeyInfo<'static> as Asn1Type>⟧.der.plain }
     ensures extension { ⟦<Extension<'static> as Asn1Type>⟧.der.lawful × ⟦<Extension<'static> as Asn1Type>⟧.der.plain }
+    ensures tbs { ⟦<TbsCertificate<'static> as Asn1Type>⟧.der.lawful × ⟦<TbsCertificate<'static> as Asn1Type>⟧.der.plain }
+    ensures certificate { ⟦<Certificate<'static> as Asn1Type>⟧.der.lawful × ⟦<Certificate<'static> as Asn1Type>⟧.der.plain }
 {}

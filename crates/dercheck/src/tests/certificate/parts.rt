@@ -3,7 +3,7 @@
 ghost use Rattle.std.specs.Prelude.{◌≡◌, ◌∷◌, [], codes};
 ghost use Rattle.asn1.specs.BitStrings.{bits_of};
 ghost use Rattle.asn1.specs.Reading.{Answers};
-ghost use Rattle.asn1.specs.Der.{simple_der};
+ghost use Rattle.asn1.specs.Der.{seen, simple_der};
 ghost use Rattle.asn1.specs.Items.{sequence_tag};
 ghost use Rattle.asn1.specs.Fields.{sequence};
 ghost use Rattle.asn1.specs.FieldLists.{name_from};
@@ -208,8 +208,59 @@ impl<'a> SimpleAsn1Writable for Attribute<'a> {
     }
 }
 
-/// A list of sets of attributes.
-pub type Name<'a> = SequenceOf<'a, SetOf<'a, Attribute<'a>>, 0, { usize::MAX }>;
+type Sets<'a> = SequenceOf<'a, SetOf<'a, Attribute<'a>>, 0, { usize::MAX }>;
+
+/// A list of sets of attributes. A type of its own around the lists keeps the checks of what holds a name short.
+#[derive(Drop)]
+pub struct Name<'a>(pub Sets<'a>);
+
+impl<'a> Asn1Type for Name<'a> {
+    ghost der = { seen (λ v. v.0) ⟦<Sets<'a> as Asn1Type>⟧.der };
+
+    fn known(&self) {
+        self.0.known()
+    }
+}
+
+impl<'a> SimpleAsn1Readable<'a> for Name<'a> {
+    fn tag() -> Tag
+        ensures value { result ≡ sequence_tag }
+        ensures simple { Unit {0} }
+        ensures plain { ⟦<Name<'a> as Asn1Type>⟧.der.plain }
+    {
+        Tag::constructed(0x10)
+    }
+
+    fn parse_data(alloc: Global, data: &'a [u8]) -> ParseResult<Name<'a>>
+        ensures { Answers ⟦<Name<'a> as Asn1Type>⟧.der.meaning (⟦<Name<'a> as Asn1Type>⟧.der.content.runs_out «data».entry.now) result (⟦<Name<'a> as Asn1Type>⟧.der.content.read «data».entry.now) }
+    {
+        match <Sets<'a> as SimpleAsn1Readable<'a>>::parse_data(alloc, data) {
+            Ok(sets) => Ok(Name(sets)),
+            Err(error) => Err(error),
+        }
+    }
+}
+
+impl<'a> SimpleAsn1Writable for Name<'a> {
+    type Error = WriteError;
+
+    ghost write_errors = { λ _ _. ⊥ };
+
+    fn tag() -> Tag
+        ensures value { result ≡ sequence_tag }
+        ensures simple { Unit {0} }
+    {
+        Tag::constructed(0x10)
+    }
+
+    fn write_data(&self, dest: &mut WriteBuf) -> WriteResult<()> {
+        self.0.write_data(dest)
+    }
+
+    fn data_length(&self) -> Option<usize> {
+        self.0.data_length()
+    }
+}
 
 impl Asn1Writable for &Time {
     type Error = WriteError;
@@ -498,5 +549,56 @@ impl<'a> SimpleAsn1Writable for Extension<'a> {
     }
 }
 
-/// At least one extension.
-pub type Extensions<'a> = SequenceOf<'a, Extension<'a>, 1, { usize::MAX }>;
+type ExtensionList<'a> = SequenceOf<'a, Extension<'a>, 1, { usize::MAX }>;
+
+/// At least one extension, behind a name of its own as names are.
+#[derive(Drop)]
+pub struct Extensions<'a>(pub ExtensionList<'a>);
+
+impl<'a> Asn1Type for Extensions<'a> {
+    ghost der = { seen (λ v. v.0) ⟦<ExtensionList<'a> as Asn1Type>⟧.der };
+
+    fn known(&self) {
+        self.0.known()
+    }
+}
+
+impl<'a> SimpleAsn1Readable<'a> for Extensions<'a> {
+    fn tag() -> Tag
+        ensures value { result ≡ sequence_tag }
+        ensures simple { Unit {0} }
+        ensures plain { ⟦<Extensions<'a> as Asn1Type>⟧.der.plain }
+    {
+        Tag::constructed(0x10)
+    }
+
+    fn parse_data(alloc: Global, data: &'a [u8]) -> ParseResult<Extensions<'a>>
+        ensures { Answers ⟦<Extensions<'a> as Asn1Type>⟧.der.meaning (⟦<Extensions<'a> as Asn1Type>⟧.der.content.runs_out «data».entry.now) result (⟦<Extensions<'a> as Asn1Type>⟧.der.content.read «data».entry.now) }
+    {
+        match <ExtensionList<'a> as SimpleAsn1Readable<'a>>::parse_data(alloc, data) {
+            Ok(extensions) => Ok(Extensions(extensions)),
+            Err(error) => Err(error),
+        }
+    }
+}
+
+impl<'a> SimpleAsn1Writable for Extensions<'a> {
+    type Error = WriteError;
+
+    ghost write_errors = { λ _ _. ⊥ };
+
+    fn tag() -> Tag
+        ensures value { result ≡ sequence_tag }
+        ensures simple { Unit {0} }
+    {
+        Tag::constructed(0x10)
+    }
+
+    fn write_data(&self, dest: &mut WriteBuf) -> WriteResult<()> {
+        self.0.write_data(dest)
+    }
+
+    fn data_length(&self) -> Option<usize> {
+        self.0.data_length()
+    }
+}
