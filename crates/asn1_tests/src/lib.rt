@@ -1,11 +1,17 @@
-//! What no contract says of the libraries: values from outside, and that calls succeed where there is memory.
+//! What no contract says of `asn1`: values from outside, and that calls succeed where there is memory.
 #![tactic(auto)]
 
 #[cfg(test)]
-mod changed;
+mod lists;
 #[cfg(test)]
-mod of_asn1;
+mod memory;
 #[cfg(test)]
-mod of_core;
+mod nested;
 #[cfg(test)]
-mod of_values;
+mod page;
+#[cfg(test)]
+mod readme;
+#[cfg(test)]
+mod sets;
+#[cfg(test)]
+mod wrappers;

@@ -1,0 +1,364 @@
+use asn1_core::parser::{
+    ParseError, ParseErrorKind, ParseLocation, Parser, parse_single, strip_tlv,
+};
+use asn1_core::tag::{Tag, TagClass, explicit_tag, implicit_tag};
+use asn1_core::types::{Asn1Readable, Tlv};
+use asn1_core::writer::{WriteError, Writer, write, write_single};
+use std::alloc::Global;
+use std::process::Abort;
+use std::test::Fail;
+
+fn fault(octets: &[u8]) -> Option<ParseErrorKind> {
+    match strip_tlv(octets) {
+        Ok(_) => None,
+        Err(error) => Some(error.kind()),
+    }
+}
+
+/// The kind of the refusal, where the octets are no one value of the type.
+fn refusal<'a, T: Asn1Readable<'a>>(alloc: Global, octets: &'a [u8]) -> Option<ParseErrorKind> {
+    match parse_single::<T>(alloc, octets) {
+        Ok(_) => None,
+        Err(error) => Some(error.kind()),
+    }
+}
+
+fn short(needed: usize) -> Option<ParseErrorKind> {
+    Some(ParseErrorKind::ShortData { needed })
+}
+
+#[test]
+fn elements_in_front(rt: HostRuntime) -> Result<(), Fail> {
+    let octets = [0x04, 0x03, 0x61, 0x62, 0x63, 0x00, 0x00, 0x00];
+    let (tlv, rest) = strip_tlv(&octets)?;
+    assert_eq!(rt; tlv.tag(), Tag::primitive(4));
+    assert_eq!(rt; tlv.tag_bytes(), [0x04].as_slice());
+    assert_eq!(rt; tlv.data(), [0x61, 0x62, 0x63].as_slice());
+    assert_eq!(rt; tlv.full_data(), [0x04, 0x03, 0x61, 0x62, 0x63].as_slice());
+    assert_eq!(rt; rest, [0x00, 0x00, 0x00].as_slice());
+    Ok(())
+}
+
+#[test]
+fn an_element_alone(rt: HostRuntime) -> Result<(), Fail> {
+    let octets = [0x04, 0x03, 0x61, 0x62, 0x63, 0x00, 0x00, 0x00];
+    let (tlv, _rest) = strip_tlv(&octets)?;
+    let (same, rest) = strip_tlv(&octets[..5])?;
+    assert_eq!(rt; same, tlv);
+    assert!(rt; rest.is_empty());
+    Ok(())
+}
+
+#[test]
+fn faults_of_framing(rt: HostRuntime) {
+    let length = Some(ParseErrorKind::InvalidLength);
+    let tag = Some(ParseErrorKind::InvalidTag);
+    let faults: [(&[u8], Option<ParseErrorKind>); 18] = [
+        (&[], short(1)),
+        (&[0x04, 0x03], short(3)),
+        (&[0x04, 0x03, 0x61, 0x62], short(1)),
+        (&[0x04, 0x82], short(2)),
+        (&[0x04, 0x82, 0x00], short(1)),
+        (&[0x04, 0x82, 0x00, 0x10], length),
+        (&[0x04, 0x80], length),
+        (&[0x04, 0x85], length),
+        (&[0x04, 0xff], length),
+        (&[0x04, 0x81, 0x7f], length),
+        (&[0x04, 0x83, 0x00, 0xff, 0xff], length),
+        (&[0x04, 0x84, 0x00, 0xff, 0xff, 0xff], length),
+        (&[0x04, 0x84, 0x00], short(3)),
+        (&[0x1f, 0x85], short(1)),
+        (&[0x1f, 0x90, 0x80, 0x80, 0x80, 0x80], short(1)),
+        (&[0x1f, 0x90, 0x80, 0x80, 0x80, 0x80, 0x00], tag),
+        (&[0x1f, 0x88, 0x80, 0x80, 0x80, 0x80, 0x00], tag),
+        (&[0xff, 0x80, 0x84, 0x01, 0x01, 0xa9], tag),
+    ];
+    for (octets, kind) in faults {
+        assert_eq!(rt; fault(octets), kind, "{octets:?}");
+    }
+}
+
+fn compare_fronts(rt: &impl Abort, octets: &[u8], needed: &[usize]) {
+    for (end, needed) in needed.iter().enumerate() {
+        assert!(rt; end <= octets.len());
+        assert_eq!(rt; fault(&octets[..end]), short(*needed));
+    }
+}
+
+#[test]
+fn what_fronts_need(rt: HostRuntime) {
+    let sequence = [
+        0x30, 0x09, 0x02, 0x01, 0x01, 0x02, 0x01, 0x02, 0x02, 0x01, 0x03,
+    ];
+    compare_fronts(&rt, &sequence, &[1, 1, 9, 8, 7, 6, 5, 4, 3, 2, 1]);
+    compare_fronts(&rt, &[0x04, 0x82, 0x01, 0x00], &[1, 1, 2, 1, 256]);
+    compare_fronts(&rt, &[0x1f, 0x81, 0x80, 0x01, 0x00], &[1, 1, 1, 1, 1]);
+}
+
+/// So many letters are the content behind the header, and one more is the rest.
+fn compare_long(rt: &impl Abort, alloc: Global, header: &[u8], count: usize) -> Result<(), Fail> {
+    let content = vec![in alloc; b'a'; count]?;
+    let mut octets = Vec::from_slice(alloc, header)?;
+    octets.extend_from_slice(content.as_slice())?;
+    octets.push(0x61)?;
+    let (tlv, rest) = strip_tlv(octets.as_slice())?;
+    assert_eq!(rt; tlv.tag(), Tag::primitive(4), "{count}");
+    assert!(rt; tlv.data() == content.as_slice(), "{count}");
+    assert_eq!(rt; octets.len().checked_sub(1), Some(tlv.full_data().len()));
+    assert_eq!(rt; rest, [0x61].as_slice(), "{count}");
+    Ok(())
+}
+
+#[test]
+fn elements_with_long_lengths(rt: HostRuntime) -> Result<(), Fail> {
+    let headers: [(&[u8], usize); 3] = [
+        (&[0x04, 0x82, 0x01, 0x00], 256),
+        (&[0x04, 0x83, 0x01, 0x00, 0x00], 65536),
+        (&[0x04, 0x84, 0x01, 0x00, 0x00, 0x00], 16777216),
+    ];
+    for (header, count) in headers {
+        compare_long(&rt, rt.alloc(), header, count)?;
+    }
+    Ok(())
+}
+
+#[test]
+fn parts_of_an_element(rt: HostRuntime) -> Result<(), Fail> {
+    let octets = [0x01, 0x03, 0x61, 0x62, 0x63];
+    let tlv = parse_single::<Tlv<'_>>(rt.alloc(), &octets)?;
+    assert_eq!(rt; tlv.tag_bytes(), [0x01].as_slice());
+    assert_eq!(rt; tlv.data(), [0x61, 0x62, 0x63].as_slice());
+    assert_eq!(rt; tlv.full_data(), octets.as_slice());
+    Ok(())
+}
+
+#[test]
+fn a_tag_of_two_octets(rt: HostRuntime) -> Result<(), Fail> {
+    let octets = [0x1f, 0x1f, 0x03, 0x61, 0x62, 0x63];
+    let tlv = parse_single::<Tlv<'_>>(rt.alloc(), &octets)?;
+    assert_eq!(rt; tlv.tag_bytes(), [0x1f, 0x1f].as_slice());
+    Ok(())
+}
+
+/// Any element is written as it was read, behind a reference too.
+fn compare_written(rt: &impl Abort, alloc: Global, octets: &[u8]) -> Result<(), Fail> {
+    let tlv = parse_single::<Tlv<'_>>(alloc, octets)?;
+    assert_eq!(rt; tlv.full_data(), octets);
+    assert_eq!(rt; write_single(alloc, &tlv)?.as_slice(), octets);
+    assert_eq!(rt; write_single(alloc, &&tlv)?.as_slice(), octets);
+    Ok(())
+}
+
+#[test]
+fn any_element_is_read_and_written(rt: HostRuntime) -> Result<(), Fail> {
+    let elements: [(&[u8], TagClass, u32, &[u8]); 6] = [
+        (
+            &[0x04, 0x03, 0x61, 0x62, 0x63],
+            TagClass::Universal,
+            4,
+            b"abc",
+        ),
+        (&[0x01, 0x01, 0x00], TagClass::Universal, 1, &[0x00]),
+        (&[0x1f, 0x1f, 0x00], TagClass::Universal, 31, &[]),
+        (&[0x1f, 0x81, 0x00, 0x00], TagClass::Universal, 128, &[]),
+        (
+            &[0x1f, 0x81, 0x80, 0x01, 0x00],
+            TagClass::Universal,
+            16385,
+            &[],
+        ),
+        (&[0x41, 0x00], TagClass::Application, 1, &[]),
+    ];
+    for (octets, class, number, content) in elements {
+        let tlv = parse_single::<Tlv<'_>>(rt.alloc(), octets)?;
+        assert_eq!(rt; tlv.tag().class(), class);
+        assert_eq!(rt; tlv.tag().value(), number);
+        assert!(rt; !tlv.tag().is_constructed());
+        assert_eq!(rt; tlv.data(), content);
+        compare_written(&rt, rt.alloc(), octets)?;
+    }
+    Ok(())
+}
+
+#[test]
+fn faults_of_any_element(rt: HostRuntime) {
+    let faults: [(&[u8], Option<ParseErrorKind>); 9] = [
+        (&[0x04, 0x03, 0x61], short(2)),
+        (&[0x04], short(1)),
+        (&[], short(1)),
+        (&[0x1f], short(1)),
+        (&[0xff], short(1)),
+        (&[0x1f, 0x85], short(1)),
+        (
+            &[0x1f, 0x88, 0x80, 0x80, 0x80, 0x80, 0x00],
+            Some(ParseErrorKind::InvalidTag),
+        ),
+        (&[0x1f, 0x1e, 0x00], Some(ParseErrorKind::InvalidTag)),
+        (
+            &[0xff, 0x80, 0x84, 0x01, 0x01, 0xa9],
+            Some(ParseErrorKind::InvalidTag),
+        ),
+    ];
+    for (octets, kind) in faults {
+        assert_eq!(rt; refusal::<Tlv<'_>>(rt.alloc(), octets), kind, "{octets:?}");
+    }
+}
+
+#[test]
+fn an_element_is_read_as_a_value(rt: HostRuntime) -> Result<(), Fail> {
+    let octets = [0x02, 0x01, 0x03];
+    let (tlv, _rest) = strip_tlv(&octets)?;
+    assert_eq!(rt; tlv.parse::<u64>(rt.alloc())?, 3);
+    let octets = [0x01, 0x01, 0xff];
+    let (tlv, _rest) = strip_tlv(&octets)?;
+    assert!(rt; tlv.parse::<bool>(rt.alloc())?);
+    Ok(())
+}
+
+#[test]
+fn an_element_is_no_value_of_another_type(rt: HostRuntime) -> Result<(), Fail> {
+    let octets = [0x02, 0x01, 0x03];
+    let (tlv, _rest) = strip_tlv(&octets)?;
+    let unexpected = ParseErrorKind::UnexpectedTag {
+        actual: Tag::primitive(2),
+    };
+    match tlv.parse::<bool>(rt.alloc()) {
+        Ok(_value) => assert!(rt; false),
+        Err(error) => assert_eq!(rt; error, ParseError::new(unexpected)),
+    }
+    Ok(())
+}
+
+#[test]
+fn implicit_tags_known_at_run_time(rt: HostRuntime) -> Result<(), Fail> {
+    let implicit = write(rt.alloc(), |writer: &mut Writer<'_>| {
+        writer.write_implicit_element(&true, 2)
+    })?;
+    assert_eq!(rt; implicit.as_slice(), [0x82, 0x01, 0xff].as_slice());
+    let mut parser = Parser::new(rt.alloc(), implicit.as_slice());
+    assert!(rt; parser.read_implicit_element::<bool>(2)?);
+    assert!(rt; parser.is_empty());
+    Ok(())
+}
+
+#[test]
+fn implicit_tags_keep_the_form(rt: HostRuntime) {
+    assert_eq!(rt; implicit_tag(3, Tag::primitive(2)).as_u8(), Some(0x83));
+    assert_eq!(rt; implicit_tag(3, explicit_tag(2)).as_u8(), Some(0xa3));
+}
+
+#[test]
+fn explicit_tags_known_at_run_time(rt: HostRuntime) -> Result<(), Fail> {
+    let explicit = write(rt.alloc(), |writer: &mut Writer<'_>| {
+        writer.write_explicit_element(&true, 2)
+    })?;
+    assert_eq!(rt;
+        explicit.as_slice(),
+        [0xa2, 0x03, 0x01, 0x01, 0xff].as_slice()
+    );
+    let mut parser = Parser::new(rt.alloc(), explicit.as_slice());
+    assert!(rt; parser.read_explicit_element::<bool>(2)?);
+    assert!(rt; parser.is_empty());
+    Ok(())
+}
+
+#[test]
+fn another_tag_is_passed_over(rt: HostRuntime) {
+    let octets = [0x81, 0x01, 0xff, 0x05, 0x00];
+    let actual = implicit_tag(1, Tag::primitive(1));
+    let unexpected = ParseErrorKind::UnexpectedTag { actual };
+    let mut parser = Parser::new(rt.alloc(), &octets);
+    assert_eq!(rt;
+        parser.read_implicit_element::<bool>(2),
+        Err(ParseError::new(unexpected))
+    );
+    assert_eq!(rt; parser.peek_tag(), Some(Tag::primitive(5)));
+    assert_eq!(rt; parser.rest(), &octets[3..]);
+}
+
+#[test]
+fn no_tag_is_seen(rt: HostRuntime) {
+    assert_eq!(rt; Parser::new(rt.alloc(), &[0x1f]).peek_tag(), None);
+    assert_eq!(rt; Parser::new(rt.alloc(), &[]).peek_tag(), None);
+}
+
+/// The error is displayed so.
+fn compare_displayed(
+    rt: &impl Abort,
+    alloc: Global,
+    error: &ParseError,
+    text: &str,
+) -> Result<(), Fail> {
+    let wanted = format!(in alloc; "ASN.1 parsing error: {text}")?;
+    let shown = format!(in alloc; "{error}")?;
+    assert_eq!(rt; shown.as_str(), wanted.as_str());
+    Ok(())
+}
+
+#[test]
+fn errors_displayed(rt: HostRuntime) -> Result<(), Fail> {
+    let actual = Tag::primitive(12);
+    let texts = [
+        (ParseErrorKind::InvalidValue, "invalid value"),
+        (ParseErrorKind::InvalidTag, "invalid tag"),
+        (ParseErrorKind::InvalidLength, "invalid length"),
+        (
+            ParseErrorKind::InvalidSize {
+                min: 1,
+                max: 5,
+                actual: 0,
+            },
+            "invalid container size (expected between 1 and 5, got 0)",
+        ),
+        (
+            ParseErrorKind::UnexpectedTag { actual },
+            "unexpected tag (got Tag { value: 12, constructed: false, class: Universal })",
+        ),
+        (
+            ParseErrorKind::ShortData { needed: 7 },
+            "short data (needed at least 7 additional bytes)",
+        ),
+        (ParseErrorKind::IntegerOverflow, "integer overflow"),
+        (ParseErrorKind::ExtraData, "extra data"),
+        (
+            ParseErrorKind::InvalidSetOrdering,
+            "SET value was ordered incorrectly",
+        ),
+        (
+            ParseErrorKind::EncodedDefault,
+            "DEFAULT value was explicitly encoded",
+        ),
+        (
+            ParseErrorKind::OidTooLong,
+            "OBJECT IDENTIFIER was too large to be stored in rust-asn1's buffer",
+        ),
+        (
+            ParseErrorKind::UnknownDefinedBy,
+            "DEFINED BY with unknown value",
+        ),
+        (ParseErrorKind::AllocationError, "allocation error"),
+    ];
+    for (kind, text) in texts {
+        let error = ParseError::new(kind);
+        assert_eq!(rt; error.kind(), kind);
+        compare_displayed(&rt, rt.alloc(), &error, text)?;
+        let error = error
+            .add_location(ParseLocation::Index(12))
+            .add_location(ParseLocation::Field("Abc::123"));
+        compare_displayed(&rt, rt.alloc(), &error, text)?;
+    }
+    Ok(())
+}
+
+#[test]
+fn errors_of_writes_displayed(rt: HostRuntime) -> Result<(), Fail> {
+    let memory = WriteError::AllocationError;
+    assert_eq!(rt;
+        format!(in rt.alloc(); "{memory}")?.as_str(),
+        "allocation error"
+    );
+    let order = WriteError::InvalidSetOrdering;
+    let shown = format!(in rt.alloc(); "{order}")?;
+    assert_eq!(rt; shown.as_str(), "SET elements are not in DER order");
+    Ok(())
+}

@@ -1,0 +1,416 @@
+use asn1_core::parser::{ParseErrorKind, parse_single};
+use asn1_core::tag::Tag;
+use asn1_core::types::{Asn1Readable, Asn1Writable, SimpleAsn1Writable, is_integer_content};
+use asn1_core::writer::{WriteError, write_single};
+use std::alloc::Global;
+use std::fmt::Debug;
+use std::num::{
+    NonZeroI8, NonZeroI16, NonZeroI32, NonZeroI64, NonZeroU8, NonZeroU16, NonZeroU32, NonZeroU64,
+};
+use std::process::Abort;
+use std::test::Fail;
+
+const INVALID: ParseErrorKind = ParseErrorKind::InvalidValue;
+
+const OVERFLOW: ParseErrorKind = ParseErrorKind::IntegerOverflow;
+
+const SHORT: ParseErrorKind = ParseErrorKind::ShortData { needed: 1 };
+
+fn unexpected_tag() -> ParseErrorKind {
+    ParseErrorKind::UnexpectedTag {
+        actual: Tag::primitive(3),
+    }
+}
+
+/// The text of 2^65, which no type here has.
+const TWO_TO_65: [u8; 11] = [
+    0x02, 0x09, 0x02, 0x00, 0x00, 0x00, 0x00, 0x00, 0x00, 0x00, 0x00,
+];
+
+fn read<'a, T: Asn1Readable<'a>>(alloc: Global, octets: &'a [u8]) -> Result<T, ParseErrorKind> {
+    match parse_single::<T>(alloc, octets) {
+        Ok(value) => Ok(value),
+        Err(error) => Err(error.kind()),
+    }
+}
+
+/// Reads numbers from their texts.
+fn compare_read<'a, T: Asn1Readable<'a> + Copy + PartialEq + Debug>(
+    rt: &impl Abort,
+    alloc: Global,
+    cases: &[(T, &'a [u8])],
+) {
+    for (number, octets) in cases {
+        assert_eq!(rt; read::<T>(alloc, octets), Ok(*number), "{octets:?}");
+    }
+}
+
+/// Writes numbers as their texts.
+fn compare_written<T: Asn1Writable<Error = WriteError>>(
+    rt: &impl Abort,
+    alloc: Global,
+    cases: &[(T, &[u8])],
+) -> Result<(), Fail>
+    requires { (number : T) → T.der.closures (T.der.meaning number) }
+{
+    for (number, octets) in cases {
+        assert_eq!(rt; write_single(alloc, number)?.as_slice(), *octets);
+    }
+    Ok(())
+}
+
+/// Numbers and their texts, in both directions.
+#[test]
+fn long_numbers(rt: HostRuntime) -> Result<(), Fail> {
+    let alloc = rt.alloc();
+    let cases: [(i64, &[u8]); 13] = [
+        (0, &[0x02, 0x01, 0x00]),
+        (1, &[0x02, 0x01, 0x01]),
+        (127, &[0x02, 0x01, 0x7f]),
+        (128, &[0x02, 0x02, 0x00, 0x80]),
+        (255, &[0x02, 0x02, 0x00, 0xff]),
+        (256, &[0x02, 0x02, 0x01, 0x00]),
+        (-1, &[0x02, 0x01, 0xff]),
+        (-128, &[0x02, 0x01, 0x80]),
+        (-129, &[0x02, 0x02, 0xff, 0x7f]),
+        (-256, &[0x02, 0x02, 0xff, 0x00]),
+        (
+            i64::MAX,
+            &[0x02, 0x08, 0x7f, 0xff, 0xff, 0xff, 0xff, 0xff, 0xff, 0xff],
+        ),
+        (
+            i64::MIN,
+            &[0x02, 0x08, 0x80, 0x00, 0x00, 0x00, 0x00, 0x00, 0x00, 0x00],
+        ),
+        (-65536, &[0x02, 0x03, 0xff, 0x00, 0x00]),
+    ];
+    compare_read(&rt, alloc, &cases);
+    compare_written(&rt, alloc, &cases)
+}
+
+#[test]
+fn other_texts_are_no_long_number(rt: HostRuntime) {
+    let faults: [(&[u8], ParseErrorKind); 15] = [
+        (&[0x03, 0x00], unexpected_tag()),
+        (&[0x02, 0x02, 0x00], SHORT),
+        (&[], SHORT),
+        (&[0x02], SHORT),
+        (
+            &[
+                0x02, 0x09, 0x02, 0x00, 0x00, 0x00, 0x00, 0x00, 0x00, 0x00, 0x00,
+            ],
+            OVERFLOW,
+        ),
+        (
+            &[
+                0x02, 0x09, 0x00, 0xd0, 0x07, 0x04, 0x00, 0x03, 0x31, 0x31, 0x00,
+            ],
+            OVERFLOW,
+        ),
+        (
+            &[
+                0x02, 0x09, 0x00, 0x80, 0x00, 0x00, 0x00, 0x00, 0x00, 0x00, 0x00,
+            ],
+            OVERFLOW,
+        ),
+        (
+            &[
+                0x02, 0x09, 0xff, 0x7f, 0xff, 0xff, 0xff, 0xff, 0xff, 0xff, 0xff,
+            ],
+            OVERFLOW,
+        ),
+        (
+            &[
+                0x02, 0x0a, 0x80, 0x00, 0x00, 0x00, 0x00, 0x00, 0x00, 0x00, 0x00, 0x00,
+            ],
+            OVERFLOW,
+        ),
+        (&[0x02, 0x05, 0x00, 0x00, 0x00, 0x00, 0x01], INVALID),
+        (&[0x02, 0x02, 0xff, 0x80], INVALID),
+        (&[0x02, 0x00], INVALID),
+        (&[0x02, 0x02, 0x00, 0x01], INVALID),
+        (&[0x02, 0x02, 0x00, 0x7f], INVALID),
+        (&[0x02, 0x02, 0xff, 0xff], INVALID),
+    ];
+    for (octets, kind) in faults {
+        assert_eq!(rt; read::<i64>(rt.alloc(), octets), Err(kind), "{octets:?}");
+    }
+}
+
+#[test]
+fn numbers_of_four_octets(rt: HostRuntime) -> Result<(), Fail> {
+    let alloc = rt.alloc();
+    let cases: [(i32, &[u8]); 11] = [
+        (0, &[0x02, 0x01, 0x00]),
+        (127, &[0x02, 0x01, 0x7f]),
+        (128, &[0x02, 0x02, 0x00, 0x80]),
+        (255, &[0x02, 0x02, 0x00, 0xff]),
+        (256, &[0x02, 0x02, 0x01, 0x00]),
+        (-1, &[0x02, 0x01, 0xff]),
+        (-128, &[0x02, 0x01, 0x80]),
+        (-129, &[0x02, 0x02, 0xff, 0x7f]),
+        (-256, &[0x02, 0x02, 0xff, 0x00]),
+        (i32::MAX, &[0x02, 0x04, 0x7f, 0xff, 0xff, 0xff]),
+        (i32::MIN, &[0x02, 0x04, 0x80, 0x00, 0x00, 0x00]),
+    ];
+    compare_read(&rt, alloc, &cases);
+    compare_written(&rt, alloc, &cases)
+}
+
+#[test]
+fn other_texts_are_no_number_of_four_octets(rt: HostRuntime) {
+    let faults: [(&[u8], ParseErrorKind); 9] = [
+        (&[0x03, 0x00], unexpected_tag()),
+        (&[0x02, 0x02, 0x00], SHORT),
+        (&[], SHORT),
+        (&[0x02], SHORT),
+        (
+            &[
+                0x02, 0x09, 0x02, 0x00, 0x00, 0x00, 0x00, 0x00, 0x00, 0x00, 0x00,
+            ],
+            OVERFLOW,
+        ),
+        (&[0x02, 0x05, 0x00, 0x80, 0x00, 0x00, 0x00], OVERFLOW),
+        (&[0x02, 0x05, 0x00, 0x00, 0x00, 0x00, 0x01], INVALID),
+        (&[0x02, 0x02, 0xff, 0x80], INVALID),
+        (&[0x02, 0x00], INVALID),
+    ];
+    for (octets, kind) in faults {
+        assert_eq!(rt; read::<i32>(rt.alloc(), octets), Err(kind), "{octets:?}");
+    }
+}
+
+#[test]
+fn short_signed_numbers(rt: HostRuntime) -> Result<(), Fail> {
+    let alloc = rt.alloc();
+    let of_i16: [(i16, &[u8]); 6] = [
+        (0, &[0x02, 0x01, 0x00]),
+        (1, &[0x02, 0x01, 0x01]),
+        (-256, &[0x02, 0x02, 0xff, 0x00]),
+        (-1, &[0x02, 0x01, 0xff]),
+        (-32768, &[0x02, 0x02, 0x80, 0x00]),
+        (32767, &[0x02, 0x02, 0x7f, 0xff]),
+    ];
+    compare_read(&rt, alloc, &of_i16);
+    compare_written(&rt, alloc, &of_i16)?;
+    let of_i8: [(i8, &[u8]); 4] = [
+        (0, &[0x02, 0x01, 0x00]),
+        (127, &[0x02, 0x01, 0x7f]),
+        (-1, &[0x02, 0x01, 0xff]),
+        (-128, &[0x02, 0x01, 0x80]),
+    ];
+    compare_read(&rt, alloc, &of_i8);
+    compare_written(&rt, alloc, &of_i8)
+}
+
+#[test]
+fn unsigned_numbers(rt: HostRuntime) -> Result<(), Fail> {
+    let alloc = rt.alloc();
+    let of_u64: [(u64, &[u8]); 2] = [
+        (
+            12356915591483590945,
+            &[
+                0x02, 0x09, 0x00, 0xab, 0x7c, 0x95, 0x42, 0xbd, 0xdd, 0x89, 0x21,
+            ],
+        ),
+        (
+            u64::MAX,
+            &[
+                0x02, 0x09, 0x00, 0xff, 0xff, 0xff, 0xff, 0xff, 0xff, 0xff, 0xff,
+            ],
+        ),
+    ];
+    compare_read(&rt, alloc, &of_u64);
+    compare_written(&rt, alloc, &of_u64)?;
+    let of_u32: [(u32, &[u8]); 2] = [
+        (256, &[0x02, 0x02, 0x01, 0x00]),
+        (u32::MAX, &[0x02, 0x05, 0x00, 0xff, 0xff, 0xff, 0xff]),
+    ];
+    compare_read(&rt, alloc, &of_u32);
+    compare_written(&rt, alloc, &of_u32)?;
+    let of_u16: [(u16, &[u8]); 4] = [
+        (0, &[0x02, 0x01, 0x00]),
+        (1, &[0x02, 0x01, 0x01]),
+        (256, &[0x02, 0x02, 0x01, 0x00]),
+        (65535, &[0x02, 0x03, 0x00, 0xff, 0xff]),
+    ];
+    compare_read(&rt, alloc, &of_u16);
+    compare_written(&rt, alloc, &of_u16)?;
+    let of_u8: [(u8, &[u8]); 4] = [
+        (0, &[0x02, 0x01, 0x00]),
+        (127, &[0x02, 0x01, 0x7f]),
+        (128, &[0x02, 0x02, 0x00, 0x80]),
+        (255, &[0x02, 0x02, 0x00, 0xff]),
+    ];
+    compare_read(&rt, alloc, &of_u8);
+    compare_written(&rt, alloc, &of_u8)
+}
+
+/// A number beyond the width of its type is refused as one that is too large.
+#[test]
+fn signed_numbers_end_at_their_width(rt: HostRuntime) {
+    let alloc = rt.alloc();
+    assert_eq!(rt;
+        read::<i16>(alloc, &[0x02, 0x03, 0x80, 0x00, 0x00]),
+        Err(OVERFLOW)
+    );
+    assert_eq!(rt; read::<i8>(alloc, &[0x02, 0x02, 0x02, 0x00]), Err(OVERFLOW));
+    assert_eq!(rt; read::<i8>(alloc, &[0x02, 0x02, 0xff, 0x7f]), Err(OVERFLOW));
+    assert_eq!(rt; read::<i8>(alloc, &[0x02, 0x02, 0x00, 0x80]), Err(OVERFLOW));
+    assert_eq!(rt; read::<i8>(alloc, &[0x02, 0x00]), Err(INVALID));
+}
+
+/// A negative number is no value of an unsigned type.
+#[test]
+fn unsigned_numbers_have_no_sign(rt: HostRuntime) {
+    let faults: [(&[u8], ParseErrorKind); 5] = [
+        (&[0x02, 0x01, 0xff], INVALID),
+        (&TWO_TO_65, OVERFLOW),
+        (
+            &[
+                0x02, 0x09, 0x01, 0x00, 0x00, 0x00, 0x00, 0x00, 0x00, 0x00, 0x00,
+            ],
+            OVERFLOW,
+        ),
+        (
+            &[
+                0x02, 0x09, 0xff, 0x7f, 0x00, 0x00, 0x00, 0x00, 0x00, 0x00, 0x00,
+            ],
+            INVALID,
+        ),
+        (&[0x02, 0x02, 0x00, 0x01], INVALID),
+    ];
+    for (octets, kind) in faults {
+        assert_eq!(rt; read::<u64>(rt.alloc(), octets), Err(kind), "{octets:?}");
+    }
+}
+
+/// Nor of a shorter one.
+#[test]
+fn short_unsigned_numbers_have_no_sign(rt: HostRuntime) {
+    let alloc = rt.alloc();
+    assert_eq!(rt;
+        read::<u32>(alloc, &[0x02, 0x05, 0x01, 0x00, 0x00, 0x00, 0x00]),
+        Err(OVERFLOW)
+    );
+    assert_eq!(rt;
+        read::<u16>(alloc, &[0x02, 0x03, 0x01, 0x00, 0x00]),
+        Err(OVERFLOW)
+    );
+    assert_eq!(rt; read::<u8>(alloc, &[0x02, 0x02, 0x01, 0x00]), Err(OVERFLOW));
+    assert_eq!(rt; read::<u8>(alloc, &[0x02, 0x01, 0x80]), Err(INVALID));
+    assert_eq!(rt; read::<u8>(alloc, &[0x02, 0x02, 0xff, 0x00]), Err(INVALID));
+}
+
+/// Both values have one text.
+fn compare_texts<S: Asn1Writable<Error = WriteError>, T: Asn1Writable<Error = WriteError>>(
+    rt: &impl Abort,
+    alloc: Global,
+    first: &S,
+    second: &T,
+) -> Result<(), Fail>
+    requires of_first { S.der.closures (S.der.meaning first.now) }
+    requires of_second { T.der.closures (T.der.meaning second.now) }
+{
+    let octets = write_single(alloc, first)?;
+    assert_eq!(rt; write_single(alloc, second)?.as_slice(), octets.as_slice());
+    Ok(())
+}
+
+/// A number that isn't 0 is written as the number.
+#[test]
+fn signed_numbers_other_than_zero(rt: HostRuntime) -> Result<(), Fail> {
+    let alloc = rt.alloc();
+    for number in [1, -1, i8::MIN, i8::MAX] {
+        let other = NonZeroI8::new(number).ok_or("zero")?;
+        compare_texts(&rt, alloc, &number, &other)?;
+    }
+    for number in [1, -1, i16::MIN, i16::MAX] {
+        let other = NonZeroI16::new(number).ok_or("zero")?;
+        compare_texts(&rt, alloc, &number, &other)?;
+    }
+    for number in [1, -1, i32::MIN, i32::MAX] {
+        let other = NonZeroI32::new(number).ok_or("zero")?;
+        compare_texts(&rt, alloc, &number, &other)?;
+    }
+    for number in [1, -1, i64::MIN, i64::MAX] {
+        let other = NonZeroI64::new(number).ok_or("zero")?;
+        compare_texts(&rt, alloc, &number, &other)?;
+    }
+    Ok(())
+}
+
+#[test]
+fn unsigned_numbers_other_than_zero(rt: HostRuntime) -> Result<(), Fail> {
+    let alloc = rt.alloc();
+    for number in [1, u8::MAX] {
+        let other = NonZeroU8::new(number).ok_or("zero")?;
+        compare_texts(&rt, alloc, &number, &other)?;
+    }
+    for number in [1, u16::MAX] {
+        let other = NonZeroU16::new(number).ok_or("zero")?;
+        compare_texts(&rt, alloc, &number, &other)?;
+    }
+    for number in [1, u32::MAX] {
+        let other = NonZeroU32::new(number).ok_or("zero")?;
+        compare_texts(&rt, alloc, &number, &other)?;
+    }
+    for number in [1, u64::MAX] {
+        let other = NonZeroU64::new(number).ok_or("zero")?;
+        compare_texts(&rt, alloc, &number, &other)?;
+    }
+    Ok(())
+}
+
+/// A value in a box, or behind a reference, is read and written as the value.
+#[test]
+fn boxes_hold_values(rt: HostRuntime) -> Result<(), Fail> {
+    let alloc = rt.alloc();
+    let text: &[u8] = &[0x02, 0x01, 0x0c];
+    let number = parse_single::<Box<u8>>(alloc, text)?;
+    assert_eq!(rt; *number, 12);
+    assert_eq!(rt; write_single(alloc, &number)?.as_slice(), text);
+    assert_eq!(rt; read::<Box<u8>>(alloc, &[0x02, 0x01, 0x80]), Err(INVALID));
+    Ok(())
+}
+
+#[test]
+fn other_boxes_hold_values(rt: HostRuntime) -> Result<(), Fail> {
+    let zero = Box::new(rt.alloc(), 0i32)?;
+    assert_eq!(rt;
+        write_single(rt.alloc(), &zero)?.as_slice(),
+        [0x02, 0x01, 0x00].as_slice()
+    );
+    assert!(rt; *parse_single::<Box<bool>>(rt.alloc(), &[0x01, 0x01, 0xff])?);
+    Ok(())
+}
+
+#[test]
+fn values_behind_references_are_written(rt: HostRuntime) -> Result<(), Fail> {
+    assert_eq!(rt;
+        write_single(rt.alloc(), &&12i64)?.as_slice(),
+        [0x02, 0x01, 0x0c].as_slice()
+    );
+    Ok(())
+}
+
+/// The lengths are known before a value in a box, or behind a reference, is written.
+#[test]
+fn lengths_of_boxes_are_known(rt: HostRuntime) -> Result<(), Fail> {
+    let boxed = Box::new(rt.alloc(), 128u8)?;
+    assert_eq!(rt; boxed.data_length(), Some(2));
+    assert_eq!(rt; boxed.encoded_length(), Some(4));
+    let seen = &-129i64;
+    assert_eq!(rt; (&seen).data_length(), Some(2));
+    assert_eq!(rt; (&seen).encoded_length(), Some(4));
+    Ok(())
+}
+
+#[test]
+fn contents_are_tested(rt: HostRuntime) {
+    assert!(rt; is_integer_content(&[0x00]));
+    assert!(rt; is_integer_content(&[0x00, 0x80]));
+    assert!(rt; !is_integer_content(&[]));
+    assert!(rt; !is_integer_content(&[0x00, 0x7f]));
+    assert!(rt; !is_integer_content(&[0xff, 0x80]));
+}

@@ -1,0 +1,21 @@
+//! What no contract says of `asn1_core`: values from outside, and that calls succeed where there is memory.
+#![tactic(auto)]
+
+#[cfg(test)]
+mod elements;
+#[cfg(test)]
+mod errors;
+#[cfg(test)]
+mod integers;
+#[cfg(test)]
+mod octets;
+#[cfg(test)]
+mod reading;
+#[cfg(test)]
+mod sets;
+#[cfg(test)]
+mod slow;
+#[cfg(test)]
+mod tags;
+#[cfg(test)]
+mod writing;

@@ -1,0 +1,265 @@
+//! Sets that are written: of slices, of closures, and of a slice by a second buffer for each text.
+
+ghost use Rattle.std.specs.Prelude.{◌≡◌, ◌∷◌, []};
+ghost use Rattle.asn1_core.specs.Tag.{universal};
+ghost use Rattle.asn1_core.specs.Der.{simple_der};
+ghost use Rattle.asn1_core.specs.Written.{written};
+ghost use Rattle.asn1_core_tests.specs.declared.sets.Custom.TheVariants.{Memory, Refused};
+
+use asn1_core::parser::strip_tlv;
+use asn1_core::tag::Tag;
+use asn1_core::types::{Asn1Type, Asn1Writable, SimpleAsn1Writable};
+use asn1_core::writer::{
+    SetElementWriter, SetOfWriter, SetWriter, WriteBuf, WriteError, WriteResult, write_single,
+};
+use std::alloc::Global;
+use std::process::Abort;
+use std::test::Fail;
+
+/// The value is written as these octets.
+fn is_written<A: Abort, T: Asn1Writable<Error = WriteError>>(
+    rt: &A,
+    alloc: Global,
+    value: &T,
+    octets: &[u8],
+) -> Result<(), Fail>
+    requires { T.der.closures (T.der.meaning value.now) }
+{
+    let written = write_single(alloc, value)?;
+    assert_eq!(rt; written.as_slice(), octets);
+    Ok(())
+}
+
+#[test]
+fn sets_of_a_slice(rt: HostRuntime) -> Result<(), Fail> {
+    let alloc = rt.alloc();
+    let cases: [(&[u8], &[u8]); 5] = [
+        (&[], &[0x31, 0]),
+        (&[1], &[0x31, 3, 2, 1, 1]),
+        (&[1, 2, 3], &[0x31, 9, 2, 1, 1, 2, 1, 2, 2, 1, 3]),
+        (&[3, 2, 1], &[0x31, 9, 2, 1, 1, 2, 1, 2, 2, 1, 3]),
+        (&[5, 5], &[0x31, 6, 2, 1, 5, 2, 1, 5]),
+    ];
+    for (items, octets) in cases {
+        is_written(&rt, alloc, &SetOfWriter::new(items), octets)?;
+    }
+    let longer = [256u16, 1, 255, 1];
+    is_written(
+        &rt,
+        alloc,
+        &SetOfWriter::new(&longer),
+        &[0x31, 0x0e, 2, 1, 1, 2, 1, 1, 2, 2, 0, 0xff, 2, 2, 1, 0],
+    )?;
+    assert_eq!(rt; SetOfWriter::new(&longer).data_length(), Some(14));
+    Ok(())
+}
+
+#[test]
+fn sets_of_sets(rt: HostRuntime) -> Result<(), Fail> {
+    let two = [2u8, 1];
+    let one = [1u8];
+    let sets = [SetOfWriter::new(&two), SetOfWriter::new(&one)];
+    is_written(
+        &rt,
+        rt.alloc(),
+        &SetOfWriter::new(&sets),
+        &[0x31, 0x0d, 0x31, 3, 2, 1, 1, 0x31, 6, 2, 1, 1, 2, 1, 2],
+    )
+}
+
+#[test]
+fn sets_of_a_slice_are_copied(rt: HostRuntime) -> Result<(), Fail> {
+    let items = [1u8, 2, 3];
+    let set = SetOfWriter::new(&items);
+    let copy = set.clone()?;
+    assert!(rt; copy == set);
+    assert!(rt; copy != SetOfWriter::new(&items[1..]));
+    Ok(())
+}
+
+#[test]
+fn sets_of_a_closure(rt: HostRuntime) -> Result<(), Fail> {
+    let alloc = rt.alloc();
+    let null = |set: &mut SetElementWriter<'_>| -> WriteResult<()> { set.write_element(&()) };
+    is_written(&rt, alloc, &SetWriter::new(&null), &[0x31, 2, 5, 0])?;
+    let truth = |set: &mut SetElementWriter<'_>| -> WriteResult<()> { set.write_element(&true) };
+    is_written(&rt, alloc, &SetWriter::new(&truth), &[0x31, 3, 1, 1, 0xff])?;
+    Ok(())
+}
+
+#[test]
+fn long_sets_of_a_closure(rt: HostRuntime) -> Result<(), Fail> {
+    let letters: &[u8] = &[0x61; 129];
+    let long = |set: &mut SetElementWriter<'_>| -> WriteResult<()> { set.write_element(&letters) };
+    let octets = write_single(rt.alloc(), &SetWriter::new(&long))?;
+    let (tlv, rest) = strip_tlv(octets.as_slice())?;
+    assert!(rt; rest.is_empty() && octets.as_slice().starts_with(&[0x31, 0x81, 0x84]));
+    assert!(rt; tlv.data().starts_with(&[4, 0x81, 0x81, 0x61]) && tlv.data().ends_with(letters));
+    Ok(())
+}
+
+#[test]
+fn elements_of_a_set_in_order(rt: HostRuntime) -> Result<(), Fail> {
+    let alloc = rt.alloc();
+    let some = |set: &mut SetElementWriter<'_>| -> WriteResult<()>
+        ensures { set.new.front ≡ set.old.front }
+    {
+        set.write_element(&true)?;
+        set.write_element(&Some(1i64))
+    };
+    is_written(
+        &rt,
+        alloc,
+        &SetWriter::new(&some),
+        &[0x31, 6, 1, 1, 0xff, 2, 1, 1],
+    )?;
+    let none = |set: &mut SetElementWriter<'_>| -> WriteResult<()>
+        ensures { set.new.front ≡ set.old.front }
+    {
+        set.write_element(&true)?;
+        set.write_element(&Option::<i64>::None)
+    };
+    is_written(&rt, alloc, &SetWriter::new(&none), &[0x31, 3, 1, 1, 0xff])
+}
+
+#[test]
+fn elements_of_a_set_out_of_order(rt: HostRuntime) -> Result<(), Fail> {
+    let alloc = rt.alloc();
+    let goes_on = |set: &mut SetElementWriter<'_>| -> WriteResult<()>
+        ensures { set.new.front ≡ set.old.front }
+    {
+        set.write_element(&1i64)?;
+        let refused = set.write_element(&true);
+        if refused.is_ok() {
+            return refused;
+        }
+        set.write_element(&2i64)
+    };
+    is_written(
+        &rt,
+        alloc,
+        &SetWriter::new(&goes_on),
+        &[0x31, 6, 2, 1, 1, 2, 1, 2],
+    )?;
+    let hands_on = |set: &mut SetElementWriter<'_>| -> WriteResult<()>
+        ensures { set.new.front ≡ set.old.front }
+    {
+        set.write_element(&1i64)?;
+        set.write_element(&true)
+    };
+    match write_single(alloc, &SetWriter::new(&hands_on)) {
+        Err(WriteError::AllocationError) => Err(WriteError::AllocationError)?,
+        answer => assert!(rt; matches!(answer, Err(WriteError::InvalidSetOrdering))),
+    }
+    Ok(())
+}
+
+#[test]
+fn equal_tags_in_any_order(rt: HostRuntime) -> Result<(), Fail> {
+    let numbers = |set: &mut SetElementWriter<'_>| -> WriteResult<()>
+        ensures { set.new.front ≡ set.old.front }
+    {
+        set.write_element(&7u8)?;
+        set.write_element(&5u8)
+    };
+    is_written(
+        &rt,
+        rt.alloc(),
+        &SetWriter::new(&numbers),
+        &[0x31, 6, 2, 1, 7, 2, 1, 5],
+    )
+}
+
+/// Why a digit was refused.
+#[derive(Debug, PartialEq, Eq, Drop)]
+enum Custom {
+    Memory,
+    Refused,
+}
+
+impl From<WriteError> for Custom {
+    ghost from_gives = { λ _ e. e ≡ Memory };
+
+    fn from(_e: WriteError) -> Custom {
+        Custom::Memory
+    }
+}
+
+/// A number that is written where it is below ten.
+struct Digit(u8);
+
+impl Asn1Type for Digit {
+    ghost der = { simple_der (λ v. v.0) (written (record { tag = universal 2; text = λ m. m ∷ []; texts = λ m t. t ≡ m ∷ []; closures = λ m. Unit {0}; valid = λ m. Unit {0}; plain = Unit {0}; one_text = λ p m t e. e; no_closures = λ p m. tt })) };
+
+    fn known(&self) {}
+}
+
+impl SimpleAsn1Writable for Digit {
+    type Error = Custom;
+
+    ghost write_errors = { λ _ e. e ≡ Refused };
+
+    fn tag() -> Tag {
+        Tag::primitive(2)
+    }
+
+    fn write_data(&self, dest: &mut WriteBuf) -> Result<(), Custom> {
+        if self.0 >= 10 {
+            return Err(Custom::Refused);
+        }
+        dest.push_byte(self.0)?;
+        Ok(())
+    }
+
+    fn data_length(&self) -> Option<usize> {
+        Some(1)
+    }
+}
+
+#[test]
+fn items_refuse_by_errors_of_their_own(rt: HostRuntime) -> Result<(), Fail> {
+    match write_single(rt.alloc(), &SetOfWriter::new(&[Digit(3), Digit(10)])) {
+        Err(Custom::Memory) => Err(WriteError::AllocationError)?,
+        answer => assert!(rt; matches!(answer, Err(Custom::Refused))),
+    }
+    Ok(())
+}
+
+const VALUES: [u32; 7] = [0, 1, 127, 128, 255, 256, 65535];
+
+/// How many slices of so many of the values there are.
+const COUNTS: [usize; 6] = [1, 7, 49, 343, 2401, 16807];
+
+/// The content of a set, by a second buffer for each text.
+fn slow_content(alloc: Global, items: &[u32]) -> Result<Vec<u8>, Fail> {
+    let mut texts: Vec<Vec<u8>> = Vec::new(alloc);
+    for item in items {
+        texts.push(write_single(alloc, item)?)?;
+    }
+    texts.sort()?;
+    let mut content = Vec::new(alloc);
+    for text in &texts {
+        content.extend_from_slice(text.as_slice())?;
+    }
+    Ok(content)
+}
+
+#[test]
+fn sets_by_two_ways(rt: HostRuntime) -> Result<(), Fail> {
+    for n in 0..6usize {
+        for index in 0..COUNTS[n] {
+            let mut items = [0u32; 5];
+            let mut rest = index;
+            for place in 0..n {
+                items[place] = VALUES[rest % 7];
+                rest /= 7;
+            }
+            let items = &items[..n];
+            let octets = write_single(rt.alloc(), &SetOfWriter::new(items))?;
+            let (tlv, _rest) = strip_tlv(octets.as_slice())?;
+            let slow = slow_content(rt.alloc(), items)?;
+            assert_eq!(rt; tlv.data(), slow.as_slice());
+        }
+    }
+    Ok(())
+}

@@ -1,8 +1,0 @@
-use Rattle.asn1_tests.proofs.KnownContents.{one_octet, three_octets}
-use Rattle.asn1_tests.proofs.of_values.identifiers.contents_that_are_known.Goals as goal
-
-pub from_der_unchecked-identifier-requires : goal.from_der_unchecked-identifier-requires
-from_der_unchecked-identifier-requires g c = one_octet
-
-pub from_der_unchecked-identifier-requires-2 : goal.from_der_unchecked-identifier-requires-2
-from_der_unchecked-identifier-requires-2 g c = three_octets

@@ -1,0 +1,454 @@
+//! Sequences, and lists of items of one type.
+
+ghost use Rattle.std.specs.Prelude.{◌≡◌, []};
+ghost use Rattle.asn1.specs.Tag.{universal};
+ghost use Rattle.asn1.specs.Buffer.{KeepsFront};
+ghost use Rattle.asn1.specs.Der.{simple_der};
+ghost use Rattle.asn1.specs.Written.{written};
+ghost use Rattle.asn1_tests.specs.declared.lists.Custom.TheVariants.{Memory, Refused};
+
+use asn1::{
+    Asn1Type, Asn1Writable, Choice2, ParseError, ParseErrorKind, ParseLocation, ParseResult,
+    Parser, Sequence, SequenceOf, SequenceOfWriter, SequenceWriter, SimpleAsn1Readable,
+    SimpleAsn1Writable, Tag, WriteBuf, WriteError, WriteResult, Writer, parse_single, strip_tlv,
+    write, write_single,
+};
+use std::alloc::Global;
+use std::hash::{DefaultHasher, Hash, Hasher};
+use std::process::Abort;
+use std::test::Fail;
+
+/// Why a read was refused.
+pub fn refusal<T: Drop>(answer: ParseResult<T>) -> Option<ParseError> {
+    match answer {
+        Ok(_value) => None,
+        Err(error) => Some(error),
+    }
+}
+
+/// An error at the item of this index.
+pub fn at(index: usize, kind: ParseErrorKind) -> Option<ParseError> {
+    Some(ParseError::new(kind).add_location(ParseLocation::Index(index)))
+}
+
+/// The value is written as these octets.
+pub fn is_written<A: Abort, T: Asn1Writable<Error = WriteError>>(
+    rt: &A,
+    alloc: Global,
+    value: &T,
+    octets: &[u8],
+) -> Result<(), Fail>
+    requires { T.der.closures (T.der.meaning value.now) }
+{
+    let written = write_single(alloc, value)?;
+    assert_eq!(rt; written.as_slice(), octets);
+    Ok(())
+}
+
+pub fn hash_of<T: Hash>(value: &T) -> u64 {
+    let mut state = DefaultHasher::new();
+    value.hash(&mut state);
+    state.finish()
+}
+
+/// A list of any count of items.
+pub type List<'a, T> = SequenceOf<'a, T, 0, { usize::MAX }>;
+
+const FIVE_AND_SEVEN: &[u8] = &[0x30, 0x06, 0x02, 0x01, 0x05, 0x02, 0x01, 0x07];
+
+const ONE_TO_THREE: &[u8] = &[
+    0x30, 0x09, 0x02, 0x01, 0x01, 0x02, 0x01, 0x02, 0x02, 0x01, 0x03,
+];
+
+#[test]
+fn sequences_read_by_the_caller(rt: HostRuntime) -> Result<(), Fail> {
+    let alloc = rt.alloc();
+    let octets: &[u8] = &[0x30, 0x06, 0x01, 0x01, 0xff, 0x02, 0x01, 0x06];
+    let sequence = parse_single::<Sequence<'_>>(alloc, octets)?;
+    is_written(&rt, alloc, &sequence, octets)?;
+    let parts = sequence.parse(
+        alloc,
+        |parser: &mut Parser<'_>| -> ParseResult<(bool, u8)> {
+            Ok((parser.read_element::<bool>()?, parser.read_element::<u8>()?))
+        },
+    );
+    assert_eq!(rt; parts, Ok((true, 6)));
+    let first = sequence.parse(
+        alloc,
+        |parser: &mut Parser<'_>| parser.read_element::<bool>(),
+    );
+    assert_eq!(rt; first, Err(ParseError::new(ParseErrorKind::ExtraData)));
+    Ok(())
+}
+
+#[test]
+fn equal_sequences(rt: HostRuntime) -> Result<(), Fail> {
+    let alloc = rt.alloc();
+    let none = parse_single::<Sequence<'_>>(alloc, &[0x30, 0x00])?;
+    let other = parse_single::<Sequence<'_>>(alloc, &[0x30, 0x02, 0x05, 0x00])?;
+    assert!(rt; none == none.clone()? && none != other);
+    assert!(rt; hash_of(&none) != hash_of(&other));
+    assert_eq!(rt;
+        format!(in alloc; "{none:?}")?.as_str(),
+        "Sequence { data: [] }"
+    );
+    Ok(())
+}
+
+#[test]
+fn lists_have_the_items_left(rt: HostRuntime) -> Result<(), Fail> {
+    let alloc = rt.alloc();
+    let mut list = parse_single::<SequenceOf<'_, u64, 2, 3>>(alloc, FIVE_AND_SEVEN)?;
+    assert_eq!(rt; list.len(), 2);
+    assert!(rt; !list.is_empty());
+    assert!(rt; matches!(list.next(), Some(Ok(5))));
+    assert!(rt; matches!(list.next(), Some(Ok(7))));
+    assert!(rt; list.next().is_none());
+    assert!(rt; list.is_empty());
+    Ok(())
+}
+
+#[test]
+fn items_left_are_written(rt: HostRuntime) -> Result<(), Fail> {
+    let alloc = rt.alloc();
+    let mut list = parse_single::<SequenceOf<'_, u64, 2, 3>>(alloc, FIVE_AND_SEVEN)?;
+    let whole = list.clone()?;
+    assert!(rt; matches!(list.next(), Some(Ok(5))));
+    assert!(rt; whole != list);
+    let rest: &[u8] = &[0x30, 0x03, 0x02, 0x01, 0x07];
+    is_written(&rt, alloc, &list, rest)?;
+    is_written(&rt, alloc, &whole, FIVE_AND_SEVEN)?;
+    let again = parse_single::<SequenceOf<'_, u64, 2, 3>>(alloc, rest);
+    assert_eq!(rt; refusal(again), wrong_count(2, 3, 1));
+    Ok(())
+}
+
+/// The items that are left.
+fn items_left(list: &mut List<'_, u64>) -> [Option<ParseResult<u64>>; 3] {
+    [list.next(), list.next(), list.next()]
+}
+
+#[test]
+fn copies_of_lists(rt: HostRuntime) -> Result<(), Fail> {
+    let mut list = parse_single::<List<'_, u64>>(rt.alloc(), ONE_TO_THREE)?;
+    assert!(rt; matches!(list.next(), Some(Ok(1))));
+    let mut copy = list.clone()?;
+    assert_eq!(rt; items_left(&mut list), [Some(Ok(2)), Some(Ok(3)), None]);
+    assert_eq!(rt; items_left(&mut copy), [Some(Ok(2)), Some(Ok(3)), None]);
+    Ok(())
+}
+
+#[test]
+fn copies_keep_their_count(rt: HostRuntime) -> Result<(), Fail> {
+    let mut list = parse_single::<List<'_, u64>>(rt.alloc(), ONE_TO_THREE)?;
+    let whole = list.clone()?;
+    assert_eq!(rt; list.len(), 3);
+    assert!(rt; matches!(list.next(), Some(Ok(1))));
+    assert_eq!(rt; (list.len(), whole.len()), (2, 3));
+    let _left = items_left(&mut list);
+    assert!(rt; list.len() == 0 && list.is_empty() && list.next().is_none());
+    assert!(rt; whole.len() == 3 && !whole.is_empty());
+    Ok(())
+}
+
+#[test]
+fn equal_lists(rt: HostRuntime) -> Result<(), Fail> {
+    let none = parse_single::<List<'_, bool>>(rt.alloc(), &[0x30, 0x00])?;
+    let other = parse_single::<List<'_, bool>>(rt.alloc(), &[0x30, 0x00])?;
+    let no = parse_single::<List<'_, bool>>(rt.alloc(), &[0x30, 0x03, 0x01, 0x01, 0x00])?;
+    let yes = parse_single::<List<'_, bool>>(rt.alloc(), &[0x30, 0x03, 0x01, 0x01, 0xff])?;
+    assert!(rt; none == other && other != no && no == no.clone()? && no != yes);
+    assert_eq!(rt; hash_of(&none), hash_of(&other));
+    assert!(rt; hash_of(&other) != hash_of(&no) && hash_of(&no) != hash_of(&yes));
+    Ok(())
+}
+
+/// The bounds of a list, and how many items it has.
+fn wrong_count(min: usize, max: usize, actual: usize) -> Option<ParseError> {
+    Some(ParseError::new(ParseErrorKind::InvalidSize { min, max, actual }))
+}
+
+#[test]
+fn faults_of_lists(rt: HostRuntime) {
+    let alloc = rt.alloc();
+    let many = parse_single::<SequenceOf<'_, u64, 0, 1>>(alloc, FIVE_AND_SEVEN);
+    assert_eq!(rt; refusal(many), wrong_count(0, 1, 2));
+    let few = parse_single::<SequenceOf<'_, u64, 2, 3>>(alloc, &[0x30, 0x03, 0x02, 0x01, 0x05]);
+    assert_eq!(rt; refusal(few), wrong_count(2, 3, 1));
+}
+
+#[test]
+fn faults_of_items(rt: HostRuntime) {
+    let alloc = rt.alloc();
+    let inner: &[u8] = &[0x30, 0x05, 0x30, 0x03, 0x02, 0x01, 0x05];
+    let few = parse_single::<List<'_, SequenceOf<'_, u64, 2, 3>>>(alloc, inner);
+    let kind = ParseErrorKind::InvalidSize {
+        min: 2,
+        max: 3,
+        actual: 1,
+    };
+    assert_eq!(rt; refusal(few), at(0, kind));
+    // A faulty item comes before a wrong count.
+    let faulty: &[u8] = &[0x30, 0x06, 0x02, 0x01, 0x05, 0x02, 0x01, 0xff];
+    let negative = parse_single::<SequenceOf<'_, u64, 0, 1>>(alloc, faulty);
+    assert_eq!(rt; refusal(negative), at(1, ParseErrorKind::InvalidValue));
+}
+
+#[test]
+fn lists_of_options(rt: HostRuntime) -> Result<(), Fail> {
+    let alloc = rt.alloc();
+    let other: &[u8] = &[0x30, 0x03, 0x01, 0x01, 0xff];
+    let none = parse_single::<List<'_, Option<u8>>>(alloc, other);
+    assert_eq!(rt; refusal(none), at(0, ParseErrorKind::ExtraData));
+    let octets: &[u8] = &[0x30, 0x03, 0x02, 0x01, 0x05];
+    let mut list = parse_single::<List<'_, Option<u8>>>(alloc, octets)?;
+    is_written(&rt, alloc, &list, octets)?;
+    assert_eq!(rt; list.len(), 1);
+    assert!(rt; matches!(list.next(), Some(Ok(Some(5)))));
+    assert!(rt; list.next().is_none());
+    Ok(())
+}
+
+#[test]
+fn lists_of_choices(rt: HostRuntime) -> Result<(), Fail> {
+    let octets: &[u8] = &[0x30, 0x06, 0x01, 0x01, 0xff, 0x02, 0x01, 0x05];
+    let mut list = parse_single::<List<'_, Choice2<bool, i64>>>(rt.alloc(), octets)?;
+    assert_eq!(rt; list.len(), 2);
+    assert!(rt; matches!(list.next(), Some(Ok(Choice2::ChoiceA(true)))));
+    assert!(rt; matches!(list.next(), Some(Ok(Choice2::ChoiceB(5)))));
+    assert!(rt; list.next().is_none());
+    Ok(())
+}
+
+/// The next item, and how many then are left.
+fn next_boxed(list: &mut List<'_, Box<u8>>) -> Result<(Option<u8>, usize), ParseError> {
+    match list.next() {
+        Some(item) => Ok((Some(*item?), list.len())),
+        None => Ok((None, list.len())),
+    }
+}
+
+#[test]
+fn lists_whose_items_take_memory(rt: HostRuntime) -> Result<(), Fail> {
+    let mut list = parse_single::<List<'_, Box<u8>>>(rt.alloc(), ONE_TO_THREE)?;
+    is_written(&rt, rt.alloc(), &list, ONE_TO_THREE)?;
+    // Without a length an item found no memory.
+    let length = list.data_length().ok_or(WriteError::AllocationError)?;
+    assert_eq!(rt; length, 9);
+    assert_eq!(rt; next_boxed(&mut list)?, (Some(1), 2));
+    assert_eq!(rt; next_boxed(&mut list)?, (Some(2), 1));
+    assert_eq!(rt; next_boxed(&mut list)?, (Some(3), 0));
+    assert_eq!(rt; next_boxed(&mut list)?, (None, 0));
+    Ok(())
+}
+
+#[test]
+fn lists_of_a_slice(rt: HostRuntime) -> Result<(), Fail> {
+    let alloc = rt.alloc();
+    let items = [1u8, 2, 3];
+    is_written(&rt, alloc, &SequenceOfWriter::new(&items), ONE_TO_THREE)?;
+    is_written(
+        &rt,
+        alloc,
+        &SequenceOfWriter::new(&items[..0]),
+        &[0x30, 0x00],
+    )?;
+    assert_eq!(rt; SequenceOfWriter::new(&items[..2]).data_length(), Some(6));
+    let list = SequenceOfWriter::new(&items);
+    assert!(rt; list.clone()? == list && list != SequenceOfWriter::new(&items[1..]));
+    Ok(())
+}
+
+#[test]
+fn lists_of_closures(rt: HostRuntime) -> Result<(), Fail> {
+    let alloc = rt.alloc();
+    let nothing = |_writer: &mut Writer<'_>| -> WriteResult<()> { Ok(()) };
+    let sequences = [SequenceWriter::new(&nothing)];
+    is_written(
+        &rt,
+        alloc,
+        &SequenceOfWriter::new(&sequences[..0]),
+        &[0x30, 0],
+    )?;
+    is_written(
+        &rt,
+        alloc,
+        &SequenceOfWriter::new(&sequences),
+        &[0x30, 2, 0x30, 0],
+    )?;
+    assert_eq!(rt; SequenceOfWriter::new(&sequences).data_length(), None);
+    Ok(())
+}
+
+#[test]
+fn lists_of_a_closure_with_items(rt: HostRuntime) -> Result<(), Fail> {
+    let number = |writer: &mut Writer<'_>| -> WriteResult<()> { writer.write_element(&1u64) };
+    let sequences = [SequenceWriter::new(&number)];
+    let octets: &[u8] = &[0x30, 5, 0x30, 3, 2, 1, 1];
+    is_written(&rt, rt.alloc(), &SequenceOfWriter::new(&sequences), octets)
+}
+
+#[test]
+fn sequences_of_a_closure(rt: HostRuntime) -> Result<(), Fail> {
+    let alloc = rt.alloc();
+    let null = |writer: &mut Writer<'_>| -> WriteResult<()> { writer.write_element(&()) };
+    is_written(&rt, alloc, &SequenceWriter::new(&null), &[0x30, 2, 5, 0])?;
+    let truth = |writer: &mut Writer<'_>| -> WriteResult<()> { writer.write_element(&true) };
+    is_written(
+        &rt,
+        alloc,
+        &SequenceWriter::new(&truth),
+        &[0x30, 3, 1, 1, 0xff],
+    )?;
+    Ok(())
+}
+
+#[test]
+fn sequences_in_an_implicit_tag(rt: HostRuntime) -> Result<(), Fail> {
+    let nothing = |_writer: &mut Writer<'_>| -> WriteResult<()> { Ok(()) };
+    let octets = write(rt.alloc(), |writer: &mut Writer<'_>| {
+        writer.write_implicit_element(&SequenceWriter::new(&nothing), 2)
+    })?;
+    assert_eq!(rt; octets.as_slice(), [0xa2u8, 0].as_slice());
+    Ok(())
+}
+
+/// A sequence of one octet string, by a closure.
+fn sequence_around(alloc: Global, octets: &[u8]) -> WriteResult<Vec<u8>> {
+    let inner = |writer: &mut Writer<'_>| -> WriteResult<()> { writer.write_element(&octets) };
+    write_single(alloc, &SequenceWriter::new(&inner))
+}
+
+/// That sequence in another, by two closures.
+fn two_sequences_around(alloc: Global, octets: &[u8]) -> WriteResult<Vec<u8>> {
+    let inner = |writer: &mut Writer<'_>| -> WriteResult<()> { writer.write_element(&octets) };
+    let outer = |writer: &mut Writer<'_>| -> WriteResult<()> {
+        writer.write_element(&SequenceWriter::new(&inner))
+    };
+    write_single(alloc, &SequenceWriter::new(&outer))
+}
+
+const LETTERS: [u8; 65532] = [0x61; 65532];
+
+#[test]
+fn patched_lengths(rt: HostRuntime) -> Result<(), Fail> {
+    let cases: [(usize, &[u8]); 7] = [
+        (125, &[0x30, 0x7f]),
+        (126, &[0x30, 0x81, 0x80]),
+        (129, &[0x30, 0x81, 0x84, 0x04, 0x81, 0x81]),
+        (252, &[0x30, 0x81, 0xff]),
+        (253, &[0x30, 0x82, 0x01, 0x00]),
+        (65531, &[0x30, 0x82, 0xff, 0xff]),
+        (65532, &[0x30, 0x83, 0x01, 0x00, 0x00]),
+    ];
+    for (count, header) in cases {
+        let octets = &LETTERS[..count];
+        let patched = sequence_around(rt.alloc(), octets)?;
+        assert!(rt; patched.as_slice().starts_with(header), "{count}");
+        let announced = write_single(rt.alloc(), &SequenceOfWriter::new(&[octets]))?;
+        assert_eq!(rt; patched.as_slice(), announced.as_slice(), "{count}");
+        let (tlv, _rest) = strip_tlv(patched.as_slice())?;
+        let inner = parse_single::<&[u8]>(rt.alloc(), tlv.data())?;
+        assert_eq!(rt; inner, octets, "{count}");
+    }
+    Ok(())
+}
+
+#[test]
+fn patched_lengths_in_one_another(rt: HostRuntime) -> Result<(), Fail> {
+    let cases: [(&[u8], &[u8]); 2] = [
+        (&LETTERS[..125], &[0x30, 0x81, 0x81, 0x30, 0x7f, 0x04, 0x7d]),
+        (
+            &LETTERS[..126],
+            &[0x30, 0x81, 0x83, 0x30, 0x81, 0x80, 0x04, 0x7e],
+        ),
+    ];
+    for (octets, header) in cases {
+        let outer = two_sequences_around(rt.alloc(), octets)?;
+        assert!(rt; outer.as_slice().starts_with(header));
+        let (tlv, _rest) = strip_tlv(outer.as_slice())?;
+        let inner = sequence_around(rt.alloc(), octets)?;
+        assert_eq!(rt; tlv.data(), inner.as_slice());
+    }
+    Ok(())
+}
+
+/// Why an item was refused.
+#[derive(Debug, PartialEq, Eq, Drop)]
+enum Custom {
+    Memory,
+    Refused,
+}
+
+impl From<WriteError> for Custom {
+    ghost from_gives = { λ _ e. e ≡ Memory };
+
+    fn from(_e: WriteError) -> Custom {
+        Custom::Memory
+    }
+}
+
+/// An item of that length, as it says, that puts one octet and then refuses.
+#[derive(Drop)]
+struct Unwritable(Option<usize>);
+
+impl Asn1Type for Unwritable {
+    ghost der = { simple_der (λ v. tt {0}) (written (record { tag = universal 2; text = λ m. []; texts = λ m t. ⊥; closures = λ m. Unit {0}; valid = λ m. Unit {0}; plain = Unit {0}; one_text = λ p m t e. absurd e; no_closures = λ p m. tt })) };
+
+    fn known(&self) {}
+}
+
+impl SimpleAsn1Writable for Unwritable {
+    type Error = Custom;
+
+    ghost write_errors = { λ _ e. e ≡ Refused };
+
+    fn tag() -> Tag {
+        Tag::primitive(2)
+    }
+
+    fn write_data(&self, dest: &mut WriteBuf) -> Result<(), Custom> {
+        dest.push_byte(1)?;
+        Err(Custom::Refused)
+    }
+
+    fn data_length(&self) -> Option<usize> {
+        Some(self.0?)
+    }
+}
+
+#[test]
+fn refused_items(rt: HostRuntime) -> Result<(), Fail> {
+    let alloc = rt.alloc();
+    let items = [Unwritable(None), Unwritable(None)];
+    match write_single(alloc, &SequenceOfWriter::new(&items)) {
+        Err(Custom::Memory) => Err(WriteError::AllocationError)?,
+        answer => assert!(rt; matches!(answer, Err(Custom::Refused))),
+    }
+    // A closure that goes on after a refusal: what the item put is gone.
+    let goes_on = |writer: &mut Writer<'_>| -> WriteResult<()>
+        ensures same_buffer { writer.new.buf.ghost_name ≡ writer.old.buf.ghost_name }
+        ensures front { KeepsFront writer.old.buf.now.bytes writer.new.buf.now.bytes }
+    {
+        if writer.write_element(&Unwritable(None)).is_ok() {
+            return Ok(());
+        }
+        writer.write_element(&true)
+    };
+    is_written(
+        &rt,
+        alloc,
+        &SequenceWriter::new(&goes_on),
+        &[0x30, 3, 1, 1, 0xff],
+    )
+}
+
+#[test]
+fn lengths_that_pass_the_largest(rt: HostRuntime) {
+    let items = [
+        Unwritable(Some(usize::MAX - 10)),
+        Unwritable(Some(usize::MAX - 10)),
+    ];
+    assert_eq!(rt; items[0].encoded_length(), Some(usize::MAX));
+    assert_eq!(rt; SequenceOfWriter::new(&items).data_length(), None);
+}

@@ -1,0 +1,45 @@
+//! The example of the crate's page.
+
+ghost use Rattle.std.specs.Prelude.{◌≡◌, ◌++◌, true, false, OnOk, OnErr};
+ghost use Rattle.asn1.specs.Buffer.{KeepsFront};
+ghost use Rattle.asn1.specs.Example.{bool_text};
+
+use asn1::*;
+use std::test::Fail;
+
+#[test]
+fn one_value(rt: HostRuntime) -> Result<(), Fail> {
+    let octets = write_single(rt.alloc(), &true)?;
+    assert_eq!(rt; octets.as_slice(), [1u8, 1, 0xff].as_slice());
+    let value = parse_single::<bool>(rt.alloc(), octets.as_slice());
+    assert!(rt; matches!(value, Ok(true)));
+    Ok(())
+}
+
+#[test]
+fn several_values(rt: HostRuntime) -> Result<(), Fail> {
+    let read = parse(
+        rt.alloc(),
+        &[1u8, 1, 0xff, 1, 1, 0],
+        |parser| -> ParseResult<(bool, bool)> {
+            Ok((
+                parser.read_element::<bool>()?,
+                parser.read_element::<bool>()?,
+            ))
+        },
+    );
+    assert!(rt; matches!(read, Ok((true, false))));
+    let written = write(
+        rt.alloc(),
+        |writer: &mut Writer<'_>| -> WriteResult<()>
+            ensures same_buffer { writer.new.buf.ghost_name ≡ writer.old.buf.ghost_name }
+            ensures ok { OnOk result (writer.new.buf.now.bytes ≡ writer.old.buf.now.bytes ++ (bool_text true ++ bool_text false)) }
+            ensures err { OnErr result (KeepsFront writer.old.buf.now.bytes writer.new.buf.now.bytes) }
+        {
+            writer.write_element(&true)?;
+            writer.write_element(&false)
+        },
+    )?;
+    assert_eq!(rt; written.as_slice(), [1u8, 1, 0xff, 1, 1, 0].as_slice());
+    Ok(())
+}

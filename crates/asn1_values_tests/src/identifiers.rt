@@ -1,0 +1,164 @@
+//! Identifiers: values from outside.
+
+use asn1_core::{ParseErrorKind, parse_single, write_single};
+use asn1_values::ObjectIdentifier;
+use std::test::Fail;
+
+const INVALID: Option<ParseErrorKind> = Some(ParseErrorKind::InvalidValue);
+
+/// The content of the greatest first number, 2^128 - 1.
+const GREATEST: [u8; 19] = [
+    0x83, 0xff, 0xff, 0xff, 0xff, 0xff, 0xff, 0xff, 0xff, 0xff, 0xff, 0xff, 0xff, 0xff, 0xff, 0xff,
+    0xff, 0xff, 0x7f,
+];
+
+/// The number 2^128 in base 128.
+const TOO_GREAT: [u8; 19] = [
+    0x84, 0x80, 0x80, 0x80, 0x80, 0x80, 0x80, 0x80, 0x80, 0x80, 0x80, 0x80, 0x80, 0x80, 0x80, 0x80,
+    0x80, 0x80, 0x00,
+];
+
+/// Why a content is refused.
+fn fault(octets: &[u8]) -> Option<ParseErrorKind> {
+    match ObjectIdentifier::from_der(octets) {
+        Ok(_) => None,
+        Err(error) => Some(error.kind()),
+    }
+}
+
+#[test]
+fn texts_are_read_and_shown(rt: HostRuntime) -> Result<(), Fail> {
+    let alloc = rt.alloc();
+    let texts = [
+        "0.0",
+        "0.4",
+        "2.5",
+        "2.39",
+        "2.5.2",
+        "1.2.3.4",
+        "2.100.3",
+        "1.2.840.113549",
+        "1.2.840.133549.1.1.5",
+        "2.1.750304883",
+        "2.25.223663413560230117710484359924050447509",
+        "2.25.340282366920938463463374607431768211455",
+        "2.340282366920938463463374607431768211375",
+    ];
+    for text in texts {
+        let identifier = ObjectIdentifier::from_string(text).expect(&rt, "an identifier");
+        let shown = String::format(alloc, format_args!("{identifier}"))?;
+        assert_eq!(rt; shown.as_str(), text);
+    }
+    Ok(())
+}
+
+#[test]
+fn other_texts_of_an_identifier(rt: HostRuntime) -> Result<(), Fail> {
+    let alloc = rt.alloc();
+    let identifier = ObjectIdentifier::from_string("1.+2.03").expect(&rt, "an identifier");
+    assert_eq!(rt; identifier.as_der(), [0x2a, 0x03].as_slice());
+    let shown = String::format(alloc, format_args!("{identifier}"))?;
+    assert_eq!(rt; shown.as_str(), "1.2.3");
+    let identifier = ObjectIdentifier::from_string("1.2.3.4").expect(&rt, "an identifier");
+    let shown = String::format(alloc, format_args!("{identifier:?}"))?;
+    assert_eq!(rt; shown.as_str(), "ObjectIdentifier { oid: 1.2.3.4 }");
+    Ok(())
+}
+
+#[test]
+fn other_texts_are_refused(rt: HostRuntime) {
+    let texts = [
+        "",
+        "1",
+        "3.1",
+        "3.10",
+        "1.50",
+        "2.12.a3.4",
+        "a.4",
+        "1.a",
+        ".1",
+        ".2.5",
+        "1..2",
+        "2..5",
+        "1.-2",
+        "2.5.",
+        "2.340282366920938463463374607431768211376",
+        "1.3.6.1.4.1.1248.1.1.2.1.3.21.69.112.115.111.110.32.83.116.121.108.117.115.32.80.114.111.32.52.57.48.48.123.124412.31.213321.123.110.32.83.116.121.108.117.115.32.80.114.111.32.52.57.48.48.123.124412.31.213321.123",
+    ];
+    for text in texts {
+        assert_eq!(rt; ObjectIdentifier::from_string(text), None);
+    }
+}
+
+#[test]
+fn elements_are_read_and_written(rt: HostRuntime) -> Result<(), Fail> {
+    let alloc = rt.alloc();
+    let rows: [(&str, &[u8]); 7] = [
+        ("2.5", &[0x06, 0x01, 0x55]),
+        ("2.5.2", &[0x06, 0x02, 0x55, 0x02]),
+        ("2.4.0", &[0x06, 0x02, 0x54, 0x00]),
+        ("1.2.3.4", &[0x06, 0x03, 0x2a, 0x03, 0x04]),
+        ("2.100.3", &[0x06, 0x03, 0x81, 0x34, 0x03]),
+        (
+            "1.2.840.113549",
+            &[0x06, 0x06, 0x2a, 0x86, 0x48, 0x86, 0xf7, 0x0d],
+        ),
+        (
+            "1.2.840.133549.1.1.5",
+            &[
+                0x06, 0x09, 0x2a, 0x86, 0x48, 0x88, 0x93, 0x2d, 0x01, 0x01, 0x05,
+            ],
+        ),
+    ];
+    for (text, octets) in rows {
+        let identifier = ObjectIdentifier::from_string(text).expect(&rt, "an identifier");
+        assert_eq!(rt; write_single(alloc, &identifier)?.as_slice(), octets);
+        let back = parse_single::<ObjectIdentifier>(alloc, octets)?;
+        assert_eq!(rt; back, identifier);
+        assert_eq!(rt; back.clone()?, identifier);
+    }
+    Ok(())
+}
+
+#[test]
+fn contents_are_read(rt: HostRuntime) -> Result<(), Fail> {
+    let alloc = rt.alloc();
+    let identifier = ObjectIdentifier::from_der(&GREATEST)?;
+    let shown = String::format(alloc, format_args!("{identifier}"))?;
+    assert_eq!(rt; shown.as_str(), "2.340282366920938463463374607431768211375");
+    Ok(())
+}
+
+#[test]
+fn other_contents_are_refused(rt: HostRuntime) {
+    let refused: [&[u8]; 7] = [
+        &[],
+        &[0x80],
+        &[0x80, 0x01],
+        &[0x81],
+        &[0x2a, 0x86],
+        &[0x55, 0x02, 0xc0, 0x80, 0x80, 0x80, 0x80],
+        &TOO_GREAT,
+    ];
+    for octets in refused {
+        assert_eq!(rt; fault(octets), INVALID);
+    }
+    let long = [0x01; 66];
+    assert_eq!(rt; fault(&long[..63]), None);
+    assert_eq!(rt; fault(&long[..64]), Some(ParseErrorKind::OidTooLong));
+    assert_eq!(rt; fault(&long), Some(ParseErrorKind::OidTooLong));
+}
+
+#[test]
+fn contents_that_are_known(rt: HostRuntime) {
+    let mut octets = [0; 63];
+    octets[0] = 0x55;
+    let identifier = ObjectIdentifier::from_der_unchecked(octets, 1);
+    assert_eq!(rt; ObjectIdentifier::from_string("2.5"), Some(identifier));
+    let mut octets = [0; 63];
+    octets[0] = 0x81;
+    octets[1] = 0x34;
+    octets[2] = 0x03;
+    let identifier = ObjectIdentifier::from_der_unchecked(octets, 3);
+    assert_eq!(rt; ObjectIdentifier::from_string("2.100.3"), Some(identifier));
+}

@@ -1,0 +1,13 @@
+//! What no contract says of `asn1_values`: values from outside, and that calls succeed where there is memory.
+#![tactic(auto)]
+
+#[cfg(test)]
+mod bits;
+#[cfg(test)]
+mod identifiers;
+#[cfg(test)]
+mod integers;
+#[cfg(test)]
+mod texts;
+#[cfg(test)]
+mod times;
