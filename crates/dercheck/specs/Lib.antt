@@ -12,7 +12,6 @@ pub mod Frames
 pub mod FrameLines
 pub mod Pending
 pub mod Laws
-pub mod Code
 pub mod Reason
 pub mod Time
 pub mod SomeSequence

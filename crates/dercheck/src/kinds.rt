@@ -65,7 +65,7 @@ fn push_number(out: &mut Vec<u8>, number: usize) -> Result<(), AllocError>
 }
 
 /// Appends the kind's name and what it says more.
-pub(crate) fn push_kind(out: &mut Vec<u8>, kind: ParseErrorKind) -> Result<(), AllocError>
+pub fn push_kind(out: &mut Vec<u8>, kind: ParseErrorKind) -> Result<(), AllocError>
     ensures { OnOk result (out.new.items ≡ out.old.items ++ kind_text kind) }
 {
     out.extend_from_slice(kind_name(kind))?;

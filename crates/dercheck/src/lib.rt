@@ -6,7 +6,7 @@ mod answers;
 mod frame_lines;
 pub mod framing;
 mod header;
-mod kinds;
+pub mod kinds;
 pub mod laws;
 mod lines;
 pub mod memory;
@@ -26,6 +26,3 @@ pub use modes::Mode;
 pub use program::{mode, status};
 pub use stream::{Sink, Source};
 pub use system::{Input, Output};
-
-#[cfg(test)]
-mod tests;

@@ -6,8 +6,8 @@ use Rattle.asn1.specs.Lemmas.Texts.{IsText-from_reads}
 use Rattle.dercheck.proofs.Headers.{long_kind}
 use Rattle.dercheck.proofs.header.needed_behind.Goals as goal
 
-pub returns : goal.returns
-returns c =
+pub returns-in_default : goal.returns-in_default
+returns-in_default c =
     let kind = c.kind.ensures in
     let long = long_kind c.in-Err.e.kind (λ x e. c.in_default.not-ShortData x (kind ∙ e)) in
     let here : front c.args.octets.now ≡ Err c.kind.result = c.in-Err.ensures.exact.0 ∙ rw kind refl in

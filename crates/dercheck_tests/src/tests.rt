@@ -2,7 +2,7 @@
 
 ghost use Rattle.std.specs.Prelude.{◌≡◌, ℕ, Some, OnOk};
 ghost use Rattle.asn1.specs.Der.{simple_der};
-ghost use Rattle.dercheck.specs.Code.{code_content};
+ghost use Rattle.dercheck_tests.specs.Code.{code_content};
 
 mod certificate;
 mod changed;
@@ -10,11 +10,11 @@ mod frames;
 mod nested;
 mod own_types;
 
-use super::*;
 use asn1::{
     Asn1Type, ParseError, ParseErrorKind, ParseResult, SimpleAsn1Readable, SimpleAsn1Writable, Tag,
     WriteBuf, WriteError, WriteResult, parse_single, write_single,
 };
+use dercheck::{kinds, *};
 use std::alloc::Global;
 use std::process::Abort;
 use std::test::Fail;

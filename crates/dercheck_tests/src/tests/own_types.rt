@@ -3,20 +3,20 @@
 ghost use Rattle.std.specs.Prelude.{◌≡◌, ◌∷◌, [], codes};
 ghost use Rattle.asn1.specs.FieldLists.{name_from};
 
-use crate::own_types::entry::Entry;
-use crate::own_types::my_sequence::{Content, MySequence, some_oid};
-use crate::own_types::reason::Reason;
-use crate::own_types::round_trips::read_and_write_back;
-use crate::own_types::sealable::{SealError, Sealable};
-use crate::own_types::signature::Signature;
-use crate::own_types::some_sequence::SomeSequence;
-use crate::own_types::time::Time;
 use asn1::fields::{DefinedLast, FieldNames, RowReadable, RowWritable};
 use asn1::{
     Asn1DefinedByReadable, Asn1DefinedByWritable, Asn1Readable, Asn1Writable, DefinedByMarker,
     Explicit, ObjectIdentifier, ParseError, ParseErrorKind, ParseLocation, ParseResult, Parser,
     Tag, WriteError, Writer, parse_single, write, write_single,
 };
+use dercheck::own_types::entry::Entry;
+use dercheck::own_types::my_sequence::{Content, MySequence, some_oid};
+use dercheck::own_types::reason::Reason;
+use dercheck::own_types::round_trips::read_and_write_back;
+use dercheck::own_types::sealable::{SealError, Sealable};
+use dercheck::own_types::signature::Signature;
+use dercheck::own_types::some_sequence::SomeSequence;
+use dercheck::own_types::time::Time;
 use std::alloc::Global;
 use std::process::Abort;
 use std::test::Fail;

@@ -5,12 +5,12 @@ ghost use Rattle.asn1.specs.Der.{seen};
 ghost use Rattle.asn1.specs.Items.{sequence_tag};
 ghost use Rattle.asn1.specs.Reading.{Answers};
 
-use crate::own_types::signature::Signature;
 use crate::tests::own_types::refused;
 use asn1::{
     Asn1Type, ParseError, ParseErrorKind, ParseLocation, ParseResult, SequenceOf,
     SimpleAsn1Readable, Tag,
 };
+use dercheck::own_types::signature::Signature;
 use std::alloc::Global;
 
 /// A list of any count of items.

@@ -9,7 +9,7 @@ ghost use Rattle.asn1.specs.Items.{sequence_tag};
 ghost use Rattle.asn1.specs.Fields.{sequence};
 ghost use Rattle.asn1.specs.FieldLists.{name_from};
 
-use crate::tests::certificate::parts::{
+use crate::certificate::parts::{
     AlgorithmIdentifier, Extensions, Name, SubjectPublicKeyInfo, Validity,
 };
 use asn1::fields::{Field, FieldNames, Last, Row, RowReadable, RowWritable};

@@ -1,4 +1,4 @@
-use Rattle.dercheck.proofs.tests.certificate.whole.CertificateSimpleAsn1Readable.parse_data.Goals as goal
+use Rattle.dercheck_tests.proofs.certificate.whole.CertificateSimpleAsn1Readable.parse_data.Goals as goal
 
 pub returns-in-Ok : goal.returns-in-Ok
 returns-in-Ok c = rw c.new.ensures at c.in-Ok.ensures

@@ -2,7 +2,7 @@
 
 ghost use Rattle.std.specs.Prelude.{None, false};
 
-use crate::{Fault, Held, Input, Output, Pieces, Sink, Source, frames};
+use dercheck::{Fault, Held, Input, Output, Pieces, Sink, Source, frames};
 use std::io;
 use std::io::{Error, ErrorKind, Read, Write};
 use std::process::Abort;

@@ -1,13 +1,13 @@
 //! Texts that are cut, and texts in which one octet is another.
 
-use crate::own_types::my_sequence::MySequence;
-use crate::own_types::reason::Reason;
-use crate::own_types::signature::Signature;
-use crate::own_types::some_sequence::SomeSequence;
-use crate::own_types::time::Time;
 use asn1::{
     Asn1Readable, Asn1Writable, ParseError, ParseErrorKind, WriteError, parse_single, write_single,
 };
+use dercheck::own_types::my_sequence::MySequence;
+use dercheck::own_types::reason::Reason;
+use dercheck::own_types::signature::Signature;
+use dercheck::own_types::some_sequence::SomeSequence;
+use dercheck::own_types::time::Time;
 use std::alloc::Global;
 use std::process::Abort;
 use std::test::Fail;

@@ -1,20 +1,17 @@
 //! Certificates (RFC 5280, 4.1): real ones are read, looked at, and written back.
 
-mod parts;
-mod whole;
-
-use crate::own_types::time::Time;
+use crate::certificate::parts::{
+    AlgorithmIdentifier, Attribute, Extension, Extensions, Name, SubjectPublicKeyInfo, Validity,
+};
+use crate::certificate::whole::{Certificate, TbsCertificate};
 use asn1::{
     Asn1Readable, Asn1Type, Asn1Writable, DateTime, Explicit, SetOf, Tag, WriteError,
     from_optional_default, parse_single, write_single,
 };
-use parts::{
-    AlgorithmIdentifier, Attribute, Extension, Extensions, Name, SubjectPublicKeyInfo, Validity,
-};
+use dercheck::own_types::time::Time;
 use std::alloc::Global;
 use std::process::Abort;
 use std::test::Fail;
-use whole::{Certificate, TbsCertificate};
 
 /// A certificate with a key of RSA, signed by itself.
 const RSA: &str = "\
@@ -197,11 +194,11 @@ fn a_key_of_rsa(rt: HostRuntime) -> Result<(), Fail> {
     );
     assert!(rt; read.subject().0 == read.issuer().0);
     assert_eq!(rt;
-        date(&read.validity().not_before),
+        date(&read.validity().not_before()),
         &DateTime::new(2026, 11, 23, 0, 57, 56)?
     );
     assert_eq!(rt;
-        date(&read.validity().not_after),
+        date(&read.validity().not_after()),
         &DateTime::new(2036, 11, 20, 0, 57, 56)?
     );
     is_algorithm(
@@ -247,14 +244,14 @@ fn a_key_on_a_curve(rt: HostRuntime) -> Result<(), Fail> {
         " 2.5.4.6=AT; 2.5.4.10=Example Works; 2.5.4.5=7 2.5.4.3=leaf.example;"
     );
     assert_eq!(rt;
-        date(&read.validity().not_before),
+        date(&read.validity().not_before()),
         &DateTime::new(2026, 11, 23, 0, 57, 56)?
     );
     assert_eq!(rt;
-        date(&read.validity().not_after),
+        date(&read.validity().not_after()),
         &DateTime::new(2076, 11, 10, 0, 57, 56)?
     );
-    assert!(rt; matches!(read.validity().not_after, Time::X509GeneralizedTime(_)));
+    assert!(rt; matches!(read.validity().not_after(), Time::X509GeneralizedTime(_)));
     is_algorithm(&rt, alloc, read.algorithm(), "1.2.840.10045.4.3.2", None)?;
     is_algorithm(
         &rt,
@@ -276,15 +273,3 @@ fn a_key_on_a_curve(rt: HostRuntime) -> Result<(), Fail> {
     assert_eq!(rt; certificate.signature().as_bytes().len(), 70);
     Ok(())
 }
-
-/// The types here are lawful, and a write appends their one text.
-pub fn parts_are_lawful()
-    ensures algorithm { ⟦<AlgorithmIdentifier<'static> as Asn1Type>⟧.der.lawful × ⟦<AlgorithmIdentifier<'static> as Asn1Type>⟧.der.plain }
-    ensures attribute { ⟦<Attribute<'static> as Asn1Type>⟧.der.lawful × ⟦<Attribute<'static> as Asn1Type>⟧.der.plain }
-    ensures name { ⟦<Name<'static> as Asn1Type>⟧.der.lawful × ⟦<Name<'static> as Asn1Type>⟧.der.plain }
-    ensures validity { ⟦<Validity as Asn1Type>⟧.der.lawful × ⟦<Validity as Asn1Type>⟧.der.plain }
-    ensures key { ⟦<SubjectPublicKeyInfo<'static> as Asn1Type>⟧.der.lawful × ⟦<SubjectPublicKeyInfo<'static> as Asn1Type>⟧.der.plain }
-    ensures extension { ⟦<Extension<'static> as Asn1Type>⟧.der.lawful × ⟦<Extension<'static> as Asn1Type>⟧.der.plain }
-    ensures tbs { ⟦<TbsCertificate<'static> as Asn1Type>⟧.der.lawful × ⟦<TbsCertificate<'static> as Asn1Type>⟧.der.plain }
-    ensures certificate { ⟦<Certificate<'static> as Asn1Type>⟧.der.lawful × ⟦<Certificate<'static> as Asn1Type>⟧.der.plain }
-{}

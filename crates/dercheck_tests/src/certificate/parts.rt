@@ -10,14 +10,13 @@ ghost use Rattle.asn1.specs.FieldLists.{name_from};
 ghost use Rattle.asn1.specs.IdentifierValues.{identifier_of};
 ghost use Rattle.asn1.specs.Options.{option_meaning};
 ghost use Rattle.asn1.specs.Tlv.{element_of};
-ghost use Rattle.dercheck.specs.Time.{time_meaning};
 
-use crate::own_types::time::Time;
 use asn1::fields::{Field, FieldNames, Last, Row, RowReadable, RowWritable};
 use asn1::{
     Asn1Type, Asn1Writable, BitString, ObjectIdentifier, ParseResult, Parser, SequenceOf, SetOf,
     SimpleAsn1Readable, SimpleAsn1Writable, Tag, Tlv, WriteBuf, WriteError, WriteResult, Writer,
 };
+use dercheck::own_types::time::Time;
 use std::alloc::Global;
 
 /// The value of a field, and the fields behind it.
@@ -262,33 +261,13 @@ impl<'a> SimpleAsn1Writable for Name<'a> {
     }
 }
 
-impl Asn1Writable for &Time {
-    type Error = WriteError;
-
-    ghost write_errors = { λ _ _. ⊥ };
-
-    fn write(&self, dest: &mut Writer<'_>) -> WriteResult<()> {
-        (**self).write(dest)
-    }
-
-    fn encoded_length(&self) -> Option<usize> {
-        (**self).encoded_length()
-    }
-}
+type ValidityRow = Field<ValidityNames, 0, Time, Last<ValidityNames, 1, Time>>;
 
 /// When a certificate is valid, both ends included.
 #[derive(Drop)]
 pub struct Validity {
-    pub not_before: Time,
-    pub not_after: Time,
+    row: ValidityRow,
 }
-
-/// The fields. One that isn't `Copy` is read by value and written by reference.
-type ValidityRow<A, B> = Field<ValidityNames, 0, A, Last<ValidityNames, 1, B>>;
-
-type ValidityRead = ValidityRow<Time, Time>;
-
-type ValidityWritten<'r> = ValidityRow<&'r Time, &'r Time>;
 
 struct ValidityNames;
 
@@ -304,19 +283,26 @@ impl FieldNames for ValidityNames {
 }
 
 impl Validity {
-    fn fields(&self) -> ValidityWritten<'_>
-        ensures { ⟦<ValidityWritten<'static> as Row>⟧.list.meaning result ≡ ⟦<Validity as Asn1Type>⟧.der.meaning self.now }
+    /// The first second.
+    pub fn not_before(&self) -> &Time
+        ensures { result.now ≡ self.now.row.value }
     {
-        Field::new(&self.not_before, Last::new(&self.not_after))
+        &self.row.value
+    }
+
+    /// The last second.
+    pub fn not_after(&self) -> &Time
+        ensures { result.now ≡ self.now.row.rest.value }
+    {
+        &self.row.rest.value
     }
 }
 
 impl Asn1Type for Validity {
-    ghost der = { simple_der (λ v. (time_meaning v.not_before, time_meaning v.not_after)) (sequence ⟦<ValidityRead as Row>⟧.list.fields) };
+    ghost der = { simple_der (λ v. ⟦<ValidityRow as Row>⟧.list.meaning v.row) (sequence ⟦<ValidityRow as Row>⟧.list.fields) };
 
     fn known(&self) {
-        self.not_before.known();
-        self.not_after.known();
+        self.row.known_row()
     }
 }
 
@@ -326,14 +312,8 @@ impl<'a> SimpleAsn1Readable<'a> for Validity {
     }
 
     fn parse_data(alloc: Global, data: &'a [u8]) -> ParseResult<Validity> {
-        match ValidityRead::read(Parser::new(alloc, data)) {
-            Ok(row) => {
-                let (not_before, rest) = split(row);
-                Ok(Validity {
-                    not_before,
-                    not_after: rest.value,
-                })
-            }
+        match ValidityRow::read(Parser::new(alloc, data)) {
+            Ok(row) => Ok(Validity { row }),
             Err(error) => Err(error),
         }
     }
@@ -349,11 +329,11 @@ impl SimpleAsn1Writable for Validity {
     }
 
     fn write_data(&self, dest: &mut WriteBuf) -> WriteResult<()> {
-        self.fields().write(&mut Writer::new(dest))
+        self.row.write(&mut Writer::new(dest))
     }
 
     fn data_length(&self) -> Option<usize> {
-        self.fields().length()
+        self.row.length()
     }
 }
 
