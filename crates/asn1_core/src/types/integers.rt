@@ -54,6 +54,10 @@ fn signed_number(octets: &[u8]) -> i128
     requires few { length octets.now ≤ MAX_CONTENT_OCTETS }
     ensures { result ≡ signed_number octets.now }
 {
+    if let [octet] = octets {
+        // Most numbers are small, and these need no array.
+        return i128::from(octet.cast_signed());
+    }
     let sign = sign_octet(octets[0] >= 0x80);
     let mut extended = [sign; OCTETS];
     extended[OCTETS - octets.len()..].copy_from_slice(octets);
