@@ -1,4 +1,4 @@
-use denote.Param.Send.{IsSend, IsSync, struct_sync}
+use denote.Param.Send.{IsSync, struct_sync}
 use denote.Struct.Owning.{shape}
 use Rattle.asn1_core.proofs.Lasting.{lasting-keyless}
 use Rattle.asn1_core.specs.contracts.parser.name.Lasting as C

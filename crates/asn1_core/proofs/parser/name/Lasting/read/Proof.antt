@@ -1,5 +1,5 @@
 -- `read` shortens a loan that never ends. Assumes `Logic`.
-use Rattle.std.proofs.Common.{◌≡◌, ◌+◌, ◌^◌, List, [], ◌∷◌, ◌++◌, length, refl, sym, ap, ◌∙◌, arith, ◌*◌, length-take-le, length-drop}
+use Rattle.std.proofs.Common.{◌≡◌, ◌^◌, List, [], ◌∷◌, ◌++◌, length, refl, sym, ap, ◌∙◌, arith, ◌*◌}
 use seplogic.Ra.Ura.{Ura}
 use mir.Syntax.{Fn, w8, w64, seq, assign, place, rv_opd, copy, return}
 use mir.Val.{Val, vptr, vint}
@@ -12,7 +12,7 @@ use contract.Monad.{Fun, fact}
 use contract.Running.{tables, tables_of}
 use sound.WpLaws.{WpFn-mono}
 use types.Logic.{Logic}
-use types.Kit.{‵, raw, ◌⊛◌, prop, ◌$◌, ◌∵◌, !, qed, move, drop, use1, split, fsplit, fjoin, feq_l, feq_i, regoal, rewrite, suffices, done, at_ret, flt_l, flt_i}
+use types.Kit.{‵, raw, ◌⊛◌, prop, ◌$◌, ◌∵◌, !, qed, move, drop, use1, split, fsplit, fjoin, feq_l, feq_i, regoal, suffices, done, at_ret, flt_l, flt_i}
 use types.Part.{agg}
 use types.Run.{enter, returns, of_opd, and_then, no_more, first, blocks, exec}
 use types.ByLocal.{alloc_all, pass_all, free_all, look_at, get, sets, sets_last, env}
@@ -29,7 +29,7 @@ use denote.Triple.Walked.{says, Stays, stay_dropped, walk_of, ends_at, walk_Meet
 use Rattle.asn1_core.specs.contracts.parser.name.Lasting as Lasting
 use denote.Opens.{unhide, hide}
 use denote.Plain.{uint_row_laws}
-use denote.RawPtr.{block_ptr, block_of, count_of, ptr_val, ◌+ₚ◌}
+use denote.RawPtr.{block_ptr, block_of, count_of, ptr_val}
 use denote.Slice.{slice_val, elements_shared, elements_shr_laws}
 use contract.BorrowLft.{⊑_static}
 use denote.SharingLaws.{shortens}
