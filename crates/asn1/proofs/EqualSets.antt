@@ -1,17 +1,17 @@
 -- Sets of the same octets have the same multisets of element texts, and the other way round.
-use Rattle.std.proofs.Common.{◌≡◌, ◌<◌, ◌^◌, ℕ, List, [], ◌∷◌, ◌++◌, map, Result, Ok, Err, refl, sym, ap, subst, ◌∙◌, lit<}
+use Rattle.std.proofs.Common.{◌≡◌, ℕ, List, [], ◌∷◌, map, Result, Ok, Err, sym, ap, subst, ◌∙◌, lit<}
 use Rattle.std.proofs.lemmas.List.{append-nil}
 use Rattle.asn1_core.specs.declared.parser.ParseErrorKind.{ParseErrorKind}
 use Rattle.asn1_core.specs.Element.{Element, element, element_text, IsReadable, front}
 use Rattle.asn1_core.specs.Reading.{Fits}
 use Rattle.asn1_core.specs.Items.{Each, set_tag}
-use Rattle.asn1_core.specs.Listing.{join, listing, SameTexts}
+use Rattle.asn1_core.specs.Listing.{join, listing}
 use Rattle.asn1_core.specs.ListingLaws.{ListingsAreOne, ListingsTellMultisets, IsElementText}
 use Rattle.asn1_core.specs.Lemmas.Contents.{fits_is_readable}
 use Rattle.asn1_core.specs.Lemmas.Elements.{element_ok}
 use Rattle.asn1_core.specs.Lemmas.Options.{element_in}
 use Rattle.asn1_core.specs.Der.{Der}
-use Rattle.asn1.specs.EqualSets.{set_text, AreRight, SetsTellMultisets}
+use Rattle.asn1.specs.EqualSets.{AreRight, SetsTellMultisets}
 
 -- the element that was found, or else this one
 abbrev found_or : Element → Result (Element × List ℕ) ParseErrorKind → Element

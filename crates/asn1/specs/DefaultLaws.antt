@@ -1,6 +1,5 @@
 -- The laws of values that are left out where they equal a default, from those of the type.
-use Rattle.std.proofs.Common.{◌≡◌, ℕ, ◌+◌, ◌<◌, ◌≤◌, Bool, true, false, cond, List, [], ◌∷◌, ◌++◌, length, Option, Some, None, Result, Ok, Err, IfErr, refl, sym, ap, subst, ◌∙◌, ◌⊎◌, inl, inr, arith}
-use Rattle.std.specs.Str.{bytes_eq}
+use Rattle.std.proofs.Common.{◌≡◌, ℕ, Bool, true, false, cond, List, [], ◌++◌, Option, Some, None, Result, Ok, Err, IfErr, refl, sym, ap, subst, ◌∙◌, ◌⊎◌, inl, inr}
 use Rattle.std.proofs.lemmas.Slice.Eq.{bytes_eq-Decides}
 use Rattle.asn1_core.specs.declared.tag.Tag.{Tag}
 use Rattle.asn1_core.specs.declared.parser.ParseErrorKind.TheVariants.{EncodedDefault}
@@ -8,7 +7,7 @@ use Rattle.asn1_core.specs.Text.{IsText}
 use Rattle.asn1_core.specs.Element.{Element, element_text, ◌>>=◌}
 use Rattle.asn1_core.specs.Fault.{Fault, fault, IsOfText}
 use Rattle.asn1_core.specs.Reading.{Takes, Fits, IsOneElement, stands}
-use Rattle.asn1_core.specs.Options.{IfThere, option_text, option_read}
+use Rattle.asn1_core.specs.Options.{option_read}
 use Rattle.asn1_core.specs.Lemmas.Elements.{element_some}
 use Rattle.asn1_core.specs.Lemmas.Results.{ok_is, bind_ok}
 use Rattle.asn1_core.specs.Lemmas.Options.{option_takes, element_in, option_faults}

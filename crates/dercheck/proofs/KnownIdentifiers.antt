@@ -1,5 +1,5 @@
 -- The identifier 1.2.3: its octets are a content, and its numbers.
-use Rattle.std.proofs.Common.{◌≡◌, ℕ, List, [], ◌∷◌, true, replicate, refl, lit<, lit≤}
+use Rattle.std.proofs.Common.{◌≡◌, [], ◌∷◌, true, replicate, refl, lit<, lit≤}
 use Rattle.std.specs.Prelude.{is_some}
 use Rattle.asn1.specs.Base128.{number_front}
 use Rattle.asn1.specs.Identifier.{numbers_in, identifier_numbers, IsIdentifierForm}

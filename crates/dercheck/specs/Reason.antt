@@ -2,7 +2,6 @@
 use Rattle.std.proofs.Common.{ℕ, ◌≡◌, List, [], ◌∷◌, nat_eq, cond, Result, Ok, Err, IfErr, refl, subst, inl, inr}
 use Rattle.std.proofs.lemmas.Bool.{eqb-true}
 use Rattle.asn1.specs.declared.ParseErrorKind.TheVariants.{InvalidValue}
-use Rattle.asn1.specs.Text.{IsText}
 use Rattle.asn1.specs.Tag.{universal}
 use Rattle.asn1.specs.Fault.{Fault, fault, IsOfText}
 use Rattle.asn1.specs.Der.{Content, basic}
