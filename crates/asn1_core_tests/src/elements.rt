@@ -1,3 +1,4 @@
+use crate::same::{same, same_octets, same_text};
 use asn1_core::parser::{
     ParseError, ParseErrorKind, ParseLocation, Parser, parse_single, strip_tlv,
 };
@@ -18,7 +19,7 @@ fn fault(octets: &[u8]) -> Option<ParseErrorKind> {
 /// The kind of the refusal, where the octets are no one value of the type.
 fn refusal<'a, T: Asn1Readable<'a>>(alloc: Global, octets: &'a [u8]) -> Option<ParseErrorKind> {
     match parse_single::<T>(alloc, octets) {
-        Ok(_) => None,
+        Ok(_value) => None,
         Err(error) => Some(error.kind()),
     }
 }
@@ -31,11 +32,11 @@ fn short(needed: usize) -> Option<ParseErrorKind> {
 fn elements_in_front(rt: HostRuntime) -> Result<(), Fail> {
     let octets = [0x04, 0x03, 0x61, 0x62, 0x63, 0x00, 0x00, 0x00];
     let (tlv, rest) = strip_tlv(&octets)?;
-    assert_eq!(rt; tlv.tag(), Tag::primitive(4));
-    assert_eq!(rt; tlv.tag_bytes(), [0x04].as_slice());
-    assert_eq!(rt; tlv.data(), [0x61, 0x62, 0x63].as_slice());
-    assert_eq!(rt; tlv.full_data(), [0x04, 0x03, 0x61, 0x62, 0x63].as_slice());
-    assert_eq!(rt; rest, [0x00, 0x00, 0x00].as_slice());
+    same(&rt, &tlv.tag(), &Tag::primitive(4));
+    same_octets(&rt, tlv.tag_bytes(), &[0x04]);
+    same_octets(&rt, tlv.data(), &[0x61, 0x62, 0x63]);
+    same_octets(&rt, tlv.full_data(), &[0x04, 0x03, 0x61, 0x62, 0x63]);
+    same_octets(&rt, rest, &[0x00, 0x00, 0x00]);
     Ok(())
 }
 
@@ -43,8 +44,8 @@ fn elements_in_front(rt: HostRuntime) -> Result<(), Fail> {
 fn an_element_alone(rt: HostRuntime) -> Result<(), Fail> {
     let octets = [0x04, 0x03, 0x61, 0x62, 0x63, 0x00, 0x00, 0x00];
     let (tlv, _rest) = strip_tlv(&octets)?;
-    let (same, rest) = strip_tlv(&octets[..5])?;
-    assert_eq!(rt; same, tlv);
+    let (alone, rest) = strip_tlv(&octets[..5])?;
+    same(&rt, &alone, &tlv);
     assert!(rt; rest.is_empty());
     Ok(())
 }
@@ -81,7 +82,7 @@ fn faults_of_framing(rt: HostRuntime) {
 fn compare_fronts(rt: &impl Abort, octets: &[u8], needed: &[usize]) {
     for (end, needed) in needed.iter().enumerate() {
         assert!(rt; end <= octets.len());
-        assert_eq!(rt; fault(&octets[..end]), short(*needed));
+        same(rt, &fault(&octets[..end]), &short(*needed));
     }
 }
 
@@ -104,7 +105,11 @@ fn compare_long(rt: &impl Abort, alloc: Global, header: &[u8], count: usize) -> 
     let (tlv, rest) = strip_tlv(octets.as_slice())?;
     assert_eq!(rt; tlv.tag(), Tag::primitive(4), "{count}");
     assert!(rt; tlv.data() == content.as_slice(), "{count}");
-    assert_eq!(rt; octets.len().checked_sub(1), Some(tlv.full_data().len()));
+    same(
+        rt,
+        &octets.len().checked_sub(1),
+        &Some(tlv.full_data().len()),
+    );
     assert_eq!(rt; rest, [0x61].as_slice(), "{count}");
     Ok(())
 }
@@ -126,9 +131,9 @@ fn elements_with_long_lengths(rt: HostRuntime) -> Result<(), Fail> {
 fn parts_of_an_element(rt: HostRuntime) -> Result<(), Fail> {
     let octets = [0x01, 0x03, 0x61, 0x62, 0x63];
     let tlv = parse_single::<Tlv<'_>>(rt.alloc(), &octets)?;
-    assert_eq!(rt; tlv.tag_bytes(), [0x01].as_slice());
-    assert_eq!(rt; tlv.data(), [0x61, 0x62, 0x63].as_slice());
-    assert_eq!(rt; tlv.full_data(), octets.as_slice());
+    same_octets(&rt, tlv.tag_bytes(), &[0x01]);
+    same_octets(&rt, tlv.data(), &[0x61, 0x62, 0x63]);
+    same_octets(&rt, tlv.full_data(), octets.as_slice());
     Ok(())
 }
 
@@ -136,16 +141,16 @@ fn parts_of_an_element(rt: HostRuntime) -> Result<(), Fail> {
 fn a_tag_of_two_octets(rt: HostRuntime) -> Result<(), Fail> {
     let octets = [0x1f, 0x1f, 0x03, 0x61, 0x62, 0x63];
     let tlv = parse_single::<Tlv<'_>>(rt.alloc(), &octets)?;
-    assert_eq!(rt; tlv.tag_bytes(), [0x1f, 0x1f].as_slice());
+    same_octets(&rt, tlv.tag_bytes(), &[0x1f, 0x1f]);
     Ok(())
 }
 
 /// Any element is written as it was read, behind a reference too.
 fn compare_written(rt: &impl Abort, alloc: Global, octets: &[u8]) -> Result<(), Fail> {
     let tlv = parse_single::<Tlv<'_>>(alloc, octets)?;
-    assert_eq!(rt; tlv.full_data(), octets);
-    assert_eq!(rt; write_single(alloc, &tlv)?.as_slice(), octets);
-    assert_eq!(rt; write_single(alloc, &&tlv)?.as_slice(), octets);
+    same_octets(rt, tlv.full_data(), octets);
+    same_octets(rt, write_single(alloc, &tlv)?.as_slice(), octets);
+    same_octets(rt, write_single(alloc, &&tlv)?.as_slice(), octets);
     Ok(())
 }
 
@@ -171,10 +176,10 @@ fn any_element_is_read_and_written(rt: HostRuntime) -> Result<(), Fail> {
     ];
     for (octets, class, number, content) in elements {
         let tlv = parse_single::<Tlv<'_>>(rt.alloc(), octets)?;
-        assert_eq!(rt; tlv.tag().class(), class);
-        assert_eq!(rt; tlv.tag().value(), number);
+        same(&rt, &tlv.tag().class(), &class);
+        same(&rt, &tlv.tag().value(), &number);
         assert!(rt; !tlv.tag().is_constructed());
-        assert_eq!(rt; tlv.data(), content);
+        same_octets(&rt, tlv.data(), content);
         compare_written(&rt, rt.alloc(), octets)?;
     }
     Ok(())
@@ -208,7 +213,7 @@ fn faults_of_any_element(rt: HostRuntime) {
 fn an_element_is_read_as_a_value(rt: HostRuntime) -> Result<(), Fail> {
     let octets = [0x02, 0x01, 0x03];
     let (tlv, _rest) = strip_tlv(&octets)?;
-    assert_eq!(rt; tlv.parse::<u64>(rt.alloc())?, 3);
+    same(&rt, &tlv.parse::<u64>(rt.alloc())?, &3);
     let octets = [0x01, 0x01, 0xff];
     let (tlv, _rest) = strip_tlv(&octets)?;
     assert!(rt; tlv.parse::<bool>(rt.alloc())?);
@@ -224,7 +229,7 @@ fn an_element_is_no_value_of_another_type(rt: HostRuntime) -> Result<(), Fail> {
     };
     match tlv.parse::<bool>(rt.alloc()) {
         Ok(_value) => assert!(rt; false),
-        Err(error) => assert_eq!(rt; error, ParseError::new(unexpected)),
+        Err(error) => same(&rt, &error, &ParseError::new(unexpected)),
     }
     Ok(())
 }
@@ -234,7 +239,7 @@ fn implicit_tags_known_at_run_time(rt: HostRuntime) -> Result<(), Fail> {
     let implicit = write(rt.alloc(), |writer: &mut Writer<'_>| {
         writer.write_implicit_element(&true, 2)
     })?;
-    assert_eq!(rt; implicit.as_slice(), [0x82, 0x01, 0xff].as_slice());
+    same_octets(&rt, implicit.as_slice(), &[0x82, 0x01, 0xff]);
     let mut parser = Parser::new(rt.alloc(), implicit.as_slice());
     assert!(rt; parser.read_implicit_element::<bool>(2)?);
     assert!(rt; parser.is_empty());
@@ -243,8 +248,12 @@ fn implicit_tags_known_at_run_time(rt: HostRuntime) -> Result<(), Fail> {
 
 #[test]
 fn implicit_tags_keep_the_form(rt: HostRuntime) {
-    assert_eq!(rt; implicit_tag(3, Tag::primitive(2)).as_u8(), Some(0x83));
-    assert_eq!(rt; implicit_tag(3, explicit_tag(2)).as_u8(), Some(0xa3));
+    same(
+        &rt,
+        &implicit_tag(3, Tag::primitive(2)).as_u8(),
+        &Some(0x83),
+    );
+    same(&rt, &implicit_tag(3, explicit_tag(2)).as_u8(), &Some(0xa3));
 }
 
 #[test]
@@ -252,10 +261,7 @@ fn explicit_tags_known_at_run_time(rt: HostRuntime) -> Result<(), Fail> {
     let explicit = write(rt.alloc(), |writer: &mut Writer<'_>| {
         writer.write_explicit_element(&true, 2)
     })?;
-    assert_eq!(rt;
-        explicit.as_slice(),
-        [0xa2, 0x03, 0x01, 0x01, 0xff].as_slice()
-    );
+    same_octets(&rt, explicit.as_slice(), &[0xa2, 0x03, 0x01, 0x01, 0xff]);
     let mut parser = Parser::new(rt.alloc(), explicit.as_slice());
     assert!(rt; parser.read_explicit_element::<bool>(2)?);
     assert!(rt; parser.is_empty());
@@ -268,18 +274,19 @@ fn another_tag_is_passed_over(rt: HostRuntime) {
     let actual = implicit_tag(1, Tag::primitive(1));
     let unexpected = ParseErrorKind::UnexpectedTag { actual };
     let mut parser = Parser::new(rt.alloc(), &octets);
-    assert_eq!(rt;
-        parser.read_implicit_element::<bool>(2),
-        Err(ParseError::new(unexpected))
+    same(
+        &rt,
+        &parser.read_implicit_element::<bool>(2),
+        &Err(ParseError::new(unexpected)),
     );
-    assert_eq!(rt; parser.peek_tag(), Some(Tag::primitive(5)));
-    assert_eq!(rt; parser.rest(), &octets[3..]);
+    same(&rt, &parser.peek_tag(), &Some(Tag::primitive(5)));
+    same_octets(&rt, parser.rest(), &octets[3..]);
 }
 
 #[test]
 fn no_tag_is_seen(rt: HostRuntime) {
-    assert_eq!(rt; Parser::new(rt.alloc(), &[0x1f]).peek_tag(), None);
-    assert_eq!(rt; Parser::new(rt.alloc(), &[]).peek_tag(), None);
+    same(&rt, &Parser::new(rt.alloc(), &[0x1f]).peek_tag(), &None);
+    same(&rt, &Parser::new(rt.alloc(), &[]).peek_tag(), &None);
 }
 
 /// The error is displayed so.
@@ -291,7 +298,7 @@ fn compare_displayed(
 ) -> Result<(), Fail> {
     let wanted = format!(in alloc; "ASN.1 parsing error: {text}")?;
     let shown = format!(in alloc; "{error}")?;
-    assert_eq!(rt; shown.as_str(), wanted.as_str());
+    same_text(rt, shown.as_str(), wanted.as_str());
     Ok(())
 }
 
@@ -340,7 +347,7 @@ fn errors_displayed(rt: HostRuntime) -> Result<(), Fail> {
     ];
     for (kind, text) in texts {
         let error = ParseError::new(kind);
-        assert_eq!(rt; error.kind(), kind);
+        same(&rt, &error.kind(), &kind);
         compare_displayed(&rt, rt.alloc(), &error, text)?;
         let error = error
             .add_location(ParseLocation::Index(12))
@@ -353,12 +360,13 @@ fn errors_displayed(rt: HostRuntime) -> Result<(), Fail> {
 #[test]
 fn errors_of_writes_displayed(rt: HostRuntime) -> Result<(), Fail> {
     let memory = WriteError::AllocationError;
-    assert_eq!(rt;
+    same_text(
+        &rt,
         format!(in rt.alloc(); "{memory}")?.as_str(),
-        "allocation error"
+        "allocation error",
     );
     let order = WriteError::InvalidSetOrdering;
     let shown = format!(in rt.alloc(); "{order}")?;
-    assert_eq!(rt; shown.as_str(), "SET elements are not in DER order");
+    same_text(&rt, shown.as_str(), "SET elements are not in DER order");
     Ok(())
 }

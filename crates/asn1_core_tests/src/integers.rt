@@ -1,3 +1,4 @@
+use crate::same::{same, same_octets};
 use asn1_core::parser::{ParseErrorKind, parse_single};
 use asn1_core::tag::Tag;
 use asn1_core::types::{Asn1Readable, Asn1Writable, SimpleAsn1Writable, is_integer_content};
@@ -54,7 +55,7 @@ fn compare_written<T: Asn1Writable<Error = WriteError>>(
     requires { (number : T) → T.der.closures (T.der.meaning number) }
 {
     for (number, octets) in cases {
-        assert_eq!(rt; write_single(alloc, number)?.as_slice(), *octets);
+        same_octets(rt, write_single(alloc, number)?.as_slice(), *octets);
     }
     Ok(())
 }
@@ -250,14 +251,27 @@ fn unsigned_numbers(rt: HostRuntime) -> Result<(), Fail> {
 #[test]
 fn signed_numbers_end_at_their_width(rt: HostRuntime) {
     let alloc = rt.alloc();
-    assert_eq!(rt;
-        read::<i16>(alloc, &[0x02, 0x03, 0x80, 0x00, 0x00]),
-        Err(OVERFLOW)
+    same(
+        &rt,
+        &read::<i16>(alloc, &[0x02, 0x03, 0x80, 0x00, 0x00]),
+        &Err(OVERFLOW),
     );
-    assert_eq!(rt; read::<i8>(alloc, &[0x02, 0x02, 0x02, 0x00]), Err(OVERFLOW));
-    assert_eq!(rt; read::<i8>(alloc, &[0x02, 0x02, 0xff, 0x7f]), Err(OVERFLOW));
-    assert_eq!(rt; read::<i8>(alloc, &[0x02, 0x02, 0x00, 0x80]), Err(OVERFLOW));
-    assert_eq!(rt; read::<i8>(alloc, &[0x02, 0x00]), Err(INVALID));
+    same(
+        &rt,
+        &read::<i8>(alloc, &[0x02, 0x02, 0x02, 0x00]),
+        &Err(OVERFLOW),
+    );
+    same(
+        &rt,
+        &read::<i8>(alloc, &[0x02, 0x02, 0xff, 0x7f]),
+        &Err(OVERFLOW),
+    );
+    same(
+        &rt,
+        &read::<i8>(alloc, &[0x02, 0x02, 0x00, 0x80]),
+        &Err(OVERFLOW),
+    );
+    same(&rt, &read::<i8>(alloc, &[0x02, 0x00]), &Err(INVALID));
 }
 
 /// A negative number is no value of an unsigned type.
@@ -289,17 +303,27 @@ fn unsigned_numbers_have_no_sign(rt: HostRuntime) {
 #[test]
 fn short_unsigned_numbers_have_no_sign(rt: HostRuntime) {
     let alloc = rt.alloc();
-    assert_eq!(rt;
-        read::<u32>(alloc, &[0x02, 0x05, 0x01, 0x00, 0x00, 0x00, 0x00]),
-        Err(OVERFLOW)
+    same(
+        &rt,
+        &read::<u32>(alloc, &[0x02, 0x05, 0x01, 0x00, 0x00, 0x00, 0x00]),
+        &Err(OVERFLOW),
     );
-    assert_eq!(rt;
-        read::<u16>(alloc, &[0x02, 0x03, 0x01, 0x00, 0x00]),
-        Err(OVERFLOW)
+    same(
+        &rt,
+        &read::<u16>(alloc, &[0x02, 0x03, 0x01, 0x00, 0x00]),
+        &Err(OVERFLOW),
     );
-    assert_eq!(rt; read::<u8>(alloc, &[0x02, 0x02, 0x01, 0x00]), Err(OVERFLOW));
-    assert_eq!(rt; read::<u8>(alloc, &[0x02, 0x01, 0x80]), Err(INVALID));
-    assert_eq!(rt; read::<u8>(alloc, &[0x02, 0x02, 0xff, 0x00]), Err(INVALID));
+    same(
+        &rt,
+        &read::<u8>(alloc, &[0x02, 0x02, 0x01, 0x00]),
+        &Err(OVERFLOW),
+    );
+    same(&rt, &read::<u8>(alloc, &[0x02, 0x01, 0x80]), &Err(INVALID));
+    same(
+        &rt,
+        &read::<u8>(alloc, &[0x02, 0x02, 0xff, 0x00]),
+        &Err(INVALID),
+    );
 }
 
 /// Both values have one text.
@@ -313,7 +337,11 @@ fn compare_texts<S: Asn1Writable<Error = WriteError>, T: Asn1Writable<Error = Wr
     requires of_second { T.der.closures (T.der.meaning second.now) }
 {
     let octets = write_single(alloc, first)?;
-    assert_eq!(rt; write_single(alloc, second)?.as_slice(), octets.as_slice());
+    same_octets(
+        rt,
+        write_single(alloc, second)?.as_slice(),
+        octets.as_slice(),
+    );
     Ok(())
 }
 
@@ -368,18 +396,23 @@ fn boxes_hold_values(rt: HostRuntime) -> Result<(), Fail> {
     let alloc = rt.alloc();
     let text: &[u8] = &[0x02, 0x01, 0x0c];
     let number = parse_single::<Box<u8>>(alloc, text)?;
-    assert_eq!(rt; *number, 12);
-    assert_eq!(rt; write_single(alloc, &number)?.as_slice(), text);
-    assert_eq!(rt; read::<Box<u8>>(alloc, &[0x02, 0x01, 0x80]), Err(INVALID));
+    same(&rt, &*number, &12);
+    same_octets(&rt, write_single(alloc, &number)?.as_slice(), text);
+    same(
+        &rt,
+        &read::<Box<u8>>(alloc, &[0x02, 0x01, 0x80]),
+        &Err(INVALID),
+    );
     Ok(())
 }
 
 #[test]
 fn other_boxes_hold_values(rt: HostRuntime) -> Result<(), Fail> {
     let zero = Box::new(rt.alloc(), 0i32)?;
-    assert_eq!(rt;
+    same_octets(
+        &rt,
         write_single(rt.alloc(), &zero)?.as_slice(),
-        [0x02, 0x01, 0x00].as_slice()
+        &[0x02, 0x01, 0x00],
     );
     assert!(rt; *parse_single::<Box<bool>>(rt.alloc(), &[0x01, 0x01, 0xff])?);
     Ok(())
@@ -387,9 +420,10 @@ fn other_boxes_hold_values(rt: HostRuntime) -> Result<(), Fail> {
 
 #[test]
 fn values_behind_references_are_written(rt: HostRuntime) -> Result<(), Fail> {
-    assert_eq!(rt;
+    same_octets(
+        &rt,
         write_single(rt.alloc(), &&12i64)?.as_slice(),
-        [0x02, 0x01, 0x0c].as_slice()
+        &[0x02, 0x01, 0x0c],
     );
     Ok(())
 }
@@ -398,11 +432,11 @@ fn values_behind_references_are_written(rt: HostRuntime) -> Result<(), Fail> {
 #[test]
 fn lengths_of_boxes_are_known(rt: HostRuntime) -> Result<(), Fail> {
     let boxed = Box::new(rt.alloc(), 128u8)?;
-    assert_eq!(rt; boxed.data_length(), Some(2));
-    assert_eq!(rt; boxed.encoded_length(), Some(4));
+    same(&rt, &boxed.data_length(), &Some(2));
+    same(&rt, &boxed.encoded_length(), &Some(4));
     let seen = &-129i64;
-    assert_eq!(rt; (&seen).data_length(), Some(2));
-    assert_eq!(rt; (&seen).encoded_length(), Some(4));
+    same(&rt, &(&seen).data_length(), &Some(2));
+    same(&rt, &(&seen).encoded_length(), &Some(4));
     Ok(())
 }
 

@@ -1,3 +1,4 @@
+use crate::same::{same, same_octets};
 use asn1_core::parser::{ParseErrorKind, ParseResult, Parser, parse_single};
 use asn1_core::types::Null;
 use asn1_core::writer::write_single;
@@ -15,7 +16,7 @@ fn short(needed: usize) -> Option<ParseErrorKind> {
 /// The kind of a refusal.
 fn refusal<T: Drop>(answer: ParseResult<T>) -> Option<ParseErrorKind> {
     match answer {
-        Ok(_) => None,
+        Ok(_value) => None,
         Err(error) => Some(error.kind()),
     }
 }
@@ -24,20 +25,19 @@ fn refusal<T: Drop>(answer: ParseResult<T>) -> Option<ParseErrorKind> {
 fn null_has_no_content(rt: HostRuntime) -> Result<(), Fail> {
     let alloc = rt.alloc();
     parse_single::<Null>(alloc, &[0x05, 0x00])?;
-    assert_eq!(rt;
-        refusal(parse_single::<Null>(alloc, &[0x05, 0x01, 0x00])),
-        INVALID
+    same(
+        &rt,
+        &refusal(parse_single::<Null>(alloc, &[0x05, 0x01, 0x00])),
+        &INVALID,
     );
     let extra = Some(ParseErrorKind::ExtraData);
-    assert_eq!(rt;
-        refusal(parse_single::<Null>(alloc, &[0x05, 0x00, 0xff])),
-        extra
+    same(
+        &rt,
+        &refusal(parse_single::<Null>(alloc, &[0x05, 0x00, 0xff])),
+        &extra,
     );
     let null: Null = ();
-    assert_eq!(rt;
-        write_single(alloc, &null)?.as_slice(),
-        [0x05, 0x00].as_slice()
-    );
+    same_octets(&rt, write_single(alloc, &null)?.as_slice(), &[0x05, 0x00]);
     Ok(())
 }
 
@@ -49,8 +49,8 @@ fn octet_strings_have_their_texts(rt: HostRuntime) -> Result<(), Fail> {
         (&[0x61, 0x62, 0x63], &[0x04, 0x03, 0x61, 0x62, 0x63]),
     ];
     for (octets, text) in cases {
-        assert_eq!(rt; parse_single::<&[u8]>(rt.alloc(), text)?, octets);
-        assert_eq!(rt; write_single(rt.alloc(), &octets)?.as_slice(), text);
+        same(&rt, &parse_single::<&[u8]>(rt.alloc(), text)?, &octets);
+        same_octets(&rt, write_single(rt.alloc(), &octets)?.as_slice(), text);
     }
     Ok(())
 }
@@ -121,7 +121,7 @@ fn headers_of_octet_strings(rt: HostRuntime) -> Result<(), Fail> {
         let written = write_single(rt.alloc(), &octets.as_slice())?;
         assert!(rt; written.as_slice().starts_with(header), "{count}");
         assert!(rt; written.as_slice().ends_with(octets.as_slice()), "{count}");
-        assert_eq!(rt; written.len(), header.len() + count);
+        same(&rt, &written.len(), &(header.len() + count));
     }
     Ok(())
 }
@@ -129,8 +129,12 @@ fn headers_of_octet_strings(rt: HostRuntime) -> Result<(), Fail> {
 #[test]
 fn octet_strings_of_a_size(rt: HostRuntime) -> Result<(), Fail> {
     let alloc = rt.alloc();
-    assert_eq!(rt; parse_single::<[u8; 0]>(alloc, &[0x04, 0x00])?, []);
-    assert_eq!(rt; parse_single::<[u8; 1]>(alloc, &[0x04, 0x01, 0x02])?, [2]);
+    same(&rt, &parse_single::<[u8; 0]>(alloc, &[0x04, 0x00])?, &[]);
+    same(
+        &rt,
+        &parse_single::<[u8; 1]>(alloc, &[0x04, 0x01, 0x02])?,
+        &[2],
+    );
     Ok(())
 }
 
@@ -138,15 +142,25 @@ fn octet_strings_of_a_size(rt: HostRuntime) -> Result<(), Fail> {
 fn octet_strings_of_another_size(rt: HostRuntime) {
     let alloc = rt.alloc();
     let two = [0x04, 0x02, 0x01, 0x02];
-    assert_eq!(rt; refusal(parse_single::<[u8; 0]>(alloc, &two)), INVALID);
-    assert_eq!(rt;
-        refusal(parse_single::<[u8; 1]>(alloc, &[0x04, 0x00])),
-        INVALID
+    same(
+        &rt,
+        &refusal(parse_single::<[u8; 0]>(alloc, &two)),
+        &INVALID,
     );
-    assert_eq!(rt; refusal(parse_single::<[u8; 1]>(alloc, &two)), INVALID);
-    assert_eq!(rt;
-        refusal(parse_single::<[u8; 2]>(alloc, &[0x04, 0x01, 0x61])),
-        INVALID
+    same(
+        &rt,
+        &refusal(parse_single::<[u8; 1]>(alloc, &[0x04, 0x00])),
+        &INVALID,
+    );
+    same(
+        &rt,
+        &refusal(parse_single::<[u8; 1]>(alloc, &two)),
+        &INVALID,
+    );
+    same(
+        &rt,
+        &refusal(parse_single::<[u8; 2]>(alloc, &[0x04, 0x01, 0x61])),
+        &INVALID,
     );
 }
 
@@ -154,17 +168,16 @@ fn octet_strings_of_another_size(rt: HostRuntime) {
 fn octet_strings_of_a_size_are_written(rt: HostRuntime) -> Result<(), Fail> {
     let alloc = rt.alloc();
     let none: [u8; 0] = [];
-    assert_eq!(rt;
-        write_single(alloc, &none)?.as_slice(),
-        [0x04, 0x00].as_slice()
-    );
-    assert_eq!(rt;
+    same_octets(&rt, write_single(alloc, &none)?.as_slice(), &[0x04, 0x00]);
+    same_octets(
+        &rt,
         write_single(alloc, &[1u8])?.as_slice(),
-        [0x04, 0x01, 0x01].as_slice()
+        &[0x04, 0x01, 0x01],
     );
-    assert_eq!(rt;
+    same_octets(
+        &rt,
         write_single(alloc, &[2u8, 3])?.as_slice(),
-        [0x04, 0x02, 0x02, 0x03].as_slice()
+        &[0x04, 0x02, 0x02, 0x03],
     );
     Ok(())
 }
@@ -176,6 +189,6 @@ fn octets_outlive_their_parser(rt: HostRuntime) -> Result<(), Fail> {
     let mut parser = Parser::new(rt.alloc(), &text);
     let octets = parser.read_element::<&[u8]>()?;
     std::mem::drop(parser);
-    assert_eq!(rt; octets, [0x00].as_slice());
+    same_octets(&rt, octets, &[0x00]);
     Ok(())
 }

@@ -1,3 +1,4 @@
+use crate::same::{same, same_octets, same_text};
 use asn1_core::parser::{
     ParseError, ParseErrorKind, ParseLocation, ParseResult, Parser, parse, parse_single,
 };
@@ -32,9 +33,10 @@ fn truth_values(rt: HostRuntime) -> Result<(), Fail> {
         assert_eq!(rt; fault(rt.alloc(), octets), Some(kind), "{octets:?}");
     }
     let actual = Tag::primitive(2);
-    assert_eq!(rt;
-        fault(rt.alloc(), &[0x02, 0x01, 0x05]),
-        Some(ParseErrorKind::UnexpectedTag { actual })
+    same(
+        &rt,
+        &fault(rt.alloc(), &[0x02, 0x01, 0x05]),
+        &Some(ParseErrorKind::UnexpectedTag { actual }),
     );
     Ok(())
 }
@@ -46,7 +48,7 @@ fn what_is_left_is_extra(rt: HostRuntime) {
         &[0x00],
         |_parser: &mut Parser<'_>| -> ParseResult<()> { Ok(()) },
     );
-    assert_eq!(rt; read, Err(ParseError::new(ParseErrorKind::ExtraData)));
+    same(&rt, &read, &Err(ParseError::new(ParseErrorKind::ExtraData)));
 }
 
 /// An error of a caller's own.
@@ -76,15 +78,17 @@ fn even_number(alloc: Global, octets: &[u8]) -> Result<u64, Own> {
 
 #[test]
 fn errors_of_a_caller(rt: HostRuntime) {
-    assert_eq!(rt; even_number(rt.alloc(), &[0x02, 0x01, 0x08]), Ok(8));
-    assert_eq!(rt;
-        even_number(rt.alloc(), &[0x02, 0x01, 0x07]),
-        Err(Own::Odd(7))
+    same(&rt, &even_number(rt.alloc(), &[0x02, 0x01, 0x08]), &Ok(8));
+    same(
+        &rt,
+        &even_number(rt.alloc(), &[0x02, 0x01, 0x07]),
+        &Err(Own::Odd(7)),
     );
     let short = ParseError::new(ParseErrorKind::ShortData { needed: 1 });
-    assert_eq!(rt;
-        even_number(rt.alloc(), &[0x02, 0x01]),
-        Err(Own::Read(short))
+    same(
+        &rt,
+        &even_number(rt.alloc(), &[0x02, 0x01]),
+        &Err(Own::Read(short)),
     );
 }
 
@@ -99,7 +103,7 @@ fn the_next_tag_is_seen_and_then_read(rt: HostRuntime) {
             Ok((tag, number))
         },
     );
-    assert_eq!(rt; read, Ok((Some(Tag::primitive(2)), 127)));
+    same(&rt, &read, &Ok((Some(Tag::primitive(2)), 127)));
 }
 
 /// Reads a Boolean behind an element that is refused as one.
@@ -116,13 +120,15 @@ fn second_boolean(alloc: Global, octets: &[u8]) -> ParseResult<bool> {
 
 #[test]
 fn a_closure_ignores_a_refusal(rt: HostRuntime) {
-    assert_eq!(rt;
-        second_boolean(rt.alloc(), &[0x02, 0x01, 0x05, 0x01, 0x01, 0xff]),
-        Ok(true)
+    same(
+        &rt,
+        &second_boolean(rt.alloc(), &[0x02, 0x01, 0x05, 0x01, 0x01, 0xff]),
+        &Ok(true),
     );
-    assert_eq!(rt;
-        second_boolean(rt.alloc(), &[0x01, 0x01, 0x05, 0x01, 0x01, 0xff, 0x00]),
-        Err(ParseError::new(ParseErrorKind::ExtraData))
+    same(
+        &rt,
+        &second_boolean(rt.alloc(), &[0x01, 0x01, 0x05, 0x01, 0x01, 0xff, 0x00]),
+        &Err(ParseError::new(ParseErrorKind::ExtraData)),
     );
 }
 
@@ -131,11 +137,12 @@ fn a_refusal_that_is_ignored(rt: HostRuntime) -> Result<(), Fail> {
     let octets = [0x02, 0x01, 0x05, 0x01, 0x01, 0xff];
     let mut parser = Parser::new(rt.alloc(), &octets);
     let actual = Tag::primitive(2);
-    assert_eq!(rt;
-        parser.read_element::<bool>(),
-        Err(ParseError::new(ParseErrorKind::UnexpectedTag { actual }))
+    same(
+        &rt,
+        &parser.read_element::<bool>(),
+        &Err(ParseError::new(ParseErrorKind::UnexpectedTag { actual })),
     );
-    assert_eq!(rt; parser.rest(), &octets[3..]);
+    same_octets(&rt, parser.rest(), &octets[3..]);
     assert!(rt; parser.read_element::<bool>()?);
     assert!(rt; parser.is_empty());
     Ok(())
@@ -160,7 +167,7 @@ fn places_of_an_error(rt: HostRuntime) -> Result<(), Fail> {
     ];
     for (error, text) in texts {
         let shown = format!(in rt.alloc(); "{error:?}")?;
-        assert_eq!(rt; shown.as_str(), text);
+        same_text(&rt, shown.as_str(), text);
     }
     Ok(())
 }
@@ -180,10 +187,10 @@ fn innermost_places_are_kept(rt: HostRuntime) -> Result<(), Fail> {
     let nine = deep(9, 0);
     let shown = format!(in rt.alloc(); "{nine:?}")?;
     let text = "ParseError { kind: ExtraData, location: [8, 7, 6, 5, 4, 3, 2, 1] }";
-    assert_eq!(rt; shown.as_str(), text);
-    assert_eq!(rt; deep(8, 0), nine);
-    assert_eq!(rt; deep(9, 9), nine);
-    assert_eq!(rt; nine.kind(), ParseErrorKind::ExtraData);
+    same_text(&rt, shown.as_str(), text);
+    same(&rt, &deep(8, 0), &nine);
+    same(&rt, &deep(9, 9), &nine);
+    same(&rt, &nine.kind(), &ParseErrorKind::ExtraData);
     Ok(())
 }
 

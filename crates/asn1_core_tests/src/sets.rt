@@ -6,6 +6,7 @@ ghost use Rattle.asn1_core.specs.Der.{simple_der};
 ghost use Rattle.asn1_core.specs.Written.{written};
 ghost use Rattle.asn1_core_tests.specs.declared.sets.Custom.TheVariants.{Memory, Refused};
 
+use crate::same::{same, same_octets};
 use asn1_core::parser::strip_tlv;
 use asn1_core::tag::Tag;
 use asn1_core::types::{Asn1Type, Asn1Writable, SimpleAsn1Writable};
@@ -26,7 +27,7 @@ fn is_written<A: Abort, T: Asn1Writable<Error = WriteError>>(
     requires { T.der.closures (T.der.meaning value.now) }
 {
     let written = write_single(alloc, value)?;
-    assert_eq!(rt; written.as_slice(), octets);
+    same_octets(rt, written.as_slice(), octets);
     Ok(())
 }
 
@@ -50,7 +51,7 @@ fn sets_of_a_slice(rt: HostRuntime) -> Result<(), Fail> {
         &SetOfWriter::new(&longer),
         &[0x31, 0x0e, 2, 1, 1, 2, 1, 1, 2, 2, 0, 0xff, 2, 2, 1, 0],
     )?;
-    assert_eq!(rt; SetOfWriter::new(&longer).data_length(), Some(14));
+    same(&rt, &SetOfWriter::new(&longer).data_length(), &Some(14));
     Ok(())
 }
 
@@ -258,7 +259,7 @@ fn sets_by_two_ways(rt: HostRuntime) -> Result<(), Fail> {
             let octets = write_single(rt.alloc(), &SetOfWriter::new(items))?;
             let (tlv, _rest) = strip_tlv(octets.as_slice())?;
             let slow = slow_content(rt.alloc(), items)?;
-            assert_eq!(rt; tlv.data(), slow.as_slice());
+            same_octets(&rt, tlv.data(), slow.as_slice());
         }
     }
     Ok(())

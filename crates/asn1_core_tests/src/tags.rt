@@ -1,3 +1,4 @@
+use crate::same::{same, same_octets};
 use crate::writing::announced_element;
 use asn1_core::base128;
 use asn1_core::parser::{ParseErrorKind, ParseResult};
@@ -23,7 +24,7 @@ fn numbers_that_are_too_large(rt: HostRuntime) {
     for octets in [lowest, highest] {
         match base128::read(&octets) {
             Ok(_) => assert!(rt; false),
-            Err(error) => assert_eq!(rt; error.kind(), ParseErrorKind::InvalidValue),
+            Err(error) => same(&rt, &error.kind(), &ParseErrorKind::InvalidValue),
         }
     }
 }
@@ -40,7 +41,7 @@ fn numbers_are_read_back(rt: HostRuntime) -> Result<(), Fail> {
         );
         assert_eq!(rt; octets[length], 7, "{number}");
         let (read, rest) = base128::read(&octets[..length])?;
-        assert_eq!(rt; read, number);
+        same(&rt, &read, &number);
         assert!(rt; rest.is_empty());
     }
     Ok(())
@@ -49,8 +50,8 @@ fn numbers_are_read_back(rt: HostRuntime) -> Result<(), Fail> {
 #[test]
 fn numbers_without_room_are_not_written(rt: HostRuntime) {
     let mut octets = [7; 3];
-    assert_eq!(rt; base128::write(1 << 21, &mut octets), None);
-    assert_eq!(rt; octets.as_slice(), [7, 7, 7].as_slice());
+    same(&rt, &base128::write(1 << 21, &mut octets), &None);
+    same_octets(&rt, octets.as_slice(), &[7, 7, 7]);
 }
 
 /// The tag of one octet.
@@ -73,7 +74,7 @@ fn tags_of_one_octet(rt: HostRuntime) -> Result<(), Fail> {
         assert_eq!(rt; tag.class(), class, "{octet}");
         assert_eq!(rt; tag.is_constructed(), constructed, "{octet}");
         assert_eq!(rt; tag.value(), number, "{octet}");
-        assert_eq!(rt; tag.as_u8(), Some(octet));
+        same(&rt, &tag.as_u8(), &Some(octet));
     }
     Ok(())
 }
@@ -93,21 +94,21 @@ fn constructed_tags_of_one_octet(rt: HostRuntime) {
     for number in 0..31u8 {
         let tag = Tag::constructed(u32::from(number));
         assert!(rt; tag.is_constructed(), "{number}");
-        assert_eq!(rt; tag.as_u8(), Some(0x20 | number));
+        same(&rt, &tag.as_u8(), &Some(0x20 | number));
     }
-    assert_eq!(rt; Tag::constructed(31).as_u8(), None);
-    assert_eq!(rt; Tag::primitive(31).as_u8(), None);
+    same(&rt, &Tag::constructed(31).as_u8(), &None);
+    same(&rt, &Tag::primitive(31).as_u8(), &None);
 }
 
 #[test]
 fn tags_of_several_octets(rt: HostRuntime) -> Result<(), Fail> {
     let octets = [0x1f, 0x8f, 0xff, 0xff, 0xff, 0x7f];
     let (tag, rest) = Tag::from_bytes(&octets)?;
-    assert_eq!(rt; tag, Tag::primitive(4294967295));
-    assert_eq!(rt; tag.class(), TagClass::Universal);
+    same(&rt, &tag, &Tag::primitive(4294967295));
+    same(&rt, &tag.class(), &TagClass::Universal);
     assert!(rt; !tag.is_constructed());
-    assert_eq!(rt; tag.value(), 4294967295);
-    assert_eq!(rt; tag.as_u8(), None);
+    same(&rt, &tag.value(), &4294967295);
+    same(&rt, &tag.as_u8(), &None);
     assert!(rt; rest.is_empty());
     Ok(())
 }
@@ -128,9 +129,9 @@ fn faults_of_tags(rt: HostRuntime) {
     }
     let mut octets = [0xff; 20];
     octets[0] = 0x1f;
-    assert_eq!(rt; tag_fault(&octets[..19]), Some(SHORT));
+    same(&rt, &tag_fault(&octets[..19]), &Some(SHORT));
     octets[19] = 0x00;
-    assert_eq!(rt; tag_fault(&octets), invalid);
+    same(&rt, &tag_fault(&octets), &invalid);
 }
 
 #[test]
@@ -146,7 +147,7 @@ fn tags_are_read_back(rt: HostRuntime) -> Result<(), Fail> {
     for text in cases {
         let (tag, _rest) = Tag::from_bytes(text)?;
         let octets = announced_element(rt.alloc(), tag, &[])?;
-        assert_eq!(rt; octets.as_slice(), text);
+        same_octets(&rt, octets.as_slice(), text);
     }
     Ok(())
 }

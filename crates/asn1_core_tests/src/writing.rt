@@ -1,6 +1,7 @@
 ghost use Rattle.std.specs.Prelude.{◌≡◌, ◌++◌, OnOk, OnErr};
 ghost use Rattle.asn1_core.specs.Buffer.{KeepsFront};
 
+use crate::same::{same, same_octets};
 use asn1_core::tag::Tag;
 use asn1_core::writer::{WriteBuf, WriteError, WriteResult, Writer, write, write_single};
 use std::alloc::{AllocError, Global};
@@ -9,16 +10,17 @@ use std::test::Fail;
 #[test]
 fn truth_values_are_written(rt: HostRuntime) -> Result<(), Fail> {
     let octets = write_single(rt.alloc(), &true)?;
-    assert_eq!(rt; octets.as_slice(), [0x01, 0x01, 0xff].as_slice());
+    same_octets(&rt, octets.as_slice(), &[0x01, 0x01, 0xff]);
     let octets = write_single(rt.alloc(), &false)?;
-    assert_eq!(rt; octets.as_slice(), [0x01, 0x01, 0x00].as_slice());
+    same_octets(&rt, octets.as_slice(), &[0x01, 0x01, 0x00]);
     let octets = write(rt.alloc(), |writer: &mut Writer<'_>| {
         writer.write_element(&true)?;
         writer.write_element(&false)
     })?;
-    assert_eq!(rt;
+    same_octets(
+        &rt,
         octets.as_slice(),
-        [0x01, 0x01, 0xff, 0x01, 0x01, 0x00].as_slice()
+        &[0x01, 0x01, 0xff, 0x01, 0x01, 0x00],
     );
     Ok(())
 }
@@ -82,7 +84,7 @@ fn headers_announced_and_patched(rt: HostRuntime) -> Result<(), Fail> {
         let content = counted_octets(rt.alloc(), n)?;
         let announced = announced_element(rt.alloc(), Tag::primitive(4), content.as_slice())?;
         let patched = patched_element(rt.alloc(), Tag::primitive(4), content.as_slice())?;
-        assert_eq!(rt; announced.len(), header.len() + n);
+        same(&rt, &announced.len(), &(header.len() + n));
         assert!(rt; announced.as_slice().starts_with(header), "{n}");
         assert!(rt; announced.as_slice().ends_with(content.as_slice()), "{n}");
         assert_eq!(rt; announced.as_slice(), patched.as_slice(), "{n}");
@@ -94,23 +96,28 @@ fn headers_announced_and_patched(rt: HostRuntime) -> Result<(), Fail> {
 #[test]
 fn a_length_is_put_between(rt: HostRuntime) -> Result<(), Fail> {
     let octets = patched_element(rt.alloc(), Tag::primitive(1), &[3, 4])?;
-    assert_eq!(rt; octets.as_slice(), [1, 2, 3, 4].as_slice());
+    same_octets(&rt, octets.as_slice(), &[1, 2, 3, 4]);
     let mut content = [5; 129];
     content[0] = 3;
     content[128] = 4;
     let octets = patched_element(rt.alloc(), Tag::primitive(1), &content)?;
     assert_eq!(rt; octets.len(), 132);
-    assert_eq!(rt; &octets.as_slice()[..5], [1, 0x81, 0x81, 3, 5].as_slice());
-    assert_eq!(rt; &octets.as_slice()[130..], [5, 4].as_slice());
+    same_octets(&rt, &octets.as_slice()[..5], &[1, 0x81, 0x81, 3, 5]);
+    same_octets(&rt, &octets.as_slice()[130..], &[5, 4]);
     Ok(())
 }
 
 #[test]
 fn errors_of_writes_compare(rt: HostRuntime) {
-    assert_eq!(rt; WriteError::AllocationError, WriteError::AllocationError);
-    assert_eq!(rt;
-        WriteError::InvalidSetOrdering,
-        WriteError::InvalidSetOrdering
+    same(
+        &rt,
+        &WriteError::AllocationError,
+        &WriteError::AllocationError,
+    );
+    same(
+        &rt,
+        &WriteError::InvalidSetOrdering,
+        &WriteError::InvalidSetOrdering,
     );
     assert_ne!(rt; WriteError::AllocationError, WriteError::InvalidSetOrdering);
 }
