@@ -1,5 +1,6 @@
 //! Bit strings: the original's cases, texts from outside, and what is refused.
 
+use crate::same::{same, same_octets, same_text};
 use asn1_core::{
     Asn1Readable, Asn1Writable, ParseErrorKind, WriteError, parse_single, write_single,
 };
@@ -16,7 +17,7 @@ fn fault<'a, T: Asn1Readable<'a> + Drop>(
     octets: &'a [u8],
 ) -> Option<ParseErrorKind> {
     match parse_single::<T>(alloc, octets) {
-        Ok(_) => None,
+        Ok(_value) => None,
         Err(error) => Some(error.kind()),
     }
 }
@@ -30,7 +31,7 @@ fn compare_written<T: Asn1Writable<Error = WriteError>>(
 ) -> Result<(), Fail>
     requires { T.der.closures (T.der.meaning value.now) }
 {
-    assert_eq!(rt; write_single(alloc, value)?.as_slice(), octets);
+    same_octets(rt, write_single(alloc, value)?.as_slice(), octets);
     Ok(())
 }
 
@@ -57,10 +58,14 @@ fn bit_strings_are_made(rt: HostRuntime) -> Result<(), Fail> {
     let made: [(&[u8], u8); 4] = [(&[0xff], 0), (&[0xfe], 1), (&[0xe0], 5), (&[], 0)];
     for (octets, padding) in made {
         let bits = BitString::new(octets, padding).expect(&rt, "a right padding");
-        assert_eq!(rt; bits.as_bytes(), octets);
-        assert_eq!(rt; bits.padding_bits(), padding);
+        same_octets(&rt, bits.as_bytes(), octets);
+        same(&rt, &bits.padding_bits(), &padding);
         let owned = OwnedBitString::new(Vec::from_slice(alloc, octets)?, padding);
-        assert_eq!(rt; owned.expect(&rt, "a right padding").as_bitstring(), bits);
+        same(
+            &rt,
+            &owned.expect(&rt, "a right padding").as_bitstring(),
+            &bits,
+        );
     }
     Ok(())
 }
@@ -90,12 +95,12 @@ fn bit_strings_are_read_and_written(rt: HostRuntime) -> Result<(), Fail> {
     ];
     for text in texts {
         let bits = parse_single::<BitString<'_>>(alloc, text)?;
-        assert_eq!(rt; bits.padding_bits(), text[2]);
-        assert_eq!(rt; bits.as_bytes(), &text[3..]);
+        same(&rt, &bits.padding_bits(), &text[2]);
+        same_octets(&rt, bits.as_bytes(), &text[3..]);
         compare_written(&rt, alloc, &bits, text)?;
         let owned = parse_single::<OwnedBitString>(alloc, text)?;
         compare_written(&rt, alloc, &owned, text)?;
-        assert_eq!(rt; owned.as_bitstring(), bits);
+        same(&rt, &owned.as_bitstring(), &bits);
     }
     Ok(())
 }
@@ -111,8 +116,8 @@ fn other_contents_are_no_bit_strings(rt: HostRuntime) {
         &[0x03, 0x02, 0x08, 0x00],
     ];
     for text in refused {
-        assert_eq!(rt; fault::<BitString<'_>>(rt.alloc(), text), INVALID);
-        assert_eq!(rt; fault::<OwnedBitString>(rt.alloc(), text), INVALID);
+        same(&rt, &fault::<BitString<'_>>(rt.alloc(), text), &INVALID);
+        same(&rt, &fault::<OwnedBitString>(rt.alloc(), text), &INVALID);
     }
 }
 
@@ -120,14 +125,15 @@ fn other_contents_are_no_bit_strings(rt: HostRuntime) {
 fn bit_strings_are_shown_cloned_and_hashed(rt: HostRuntime) -> Result<(), Fail> {
     let alloc = rt.alloc();
     let bits = BitString::new(&[0x81, 0xf0], 4).expect(&rt, "a right padding");
-    assert_eq!(rt;
+    same_text(
+        &rt,
         format!(in alloc; "{bits:?}")?.as_str(),
-        "BitString { data: [129, 240], padding_bits: 4 }"
+        "BitString { data: [129, 240], padding_bits: 4 }",
     );
     let text: [u8; 5] = [0x03, 0x03, 0x04, 0x81, 0xf0];
     let read = parse_single::<BitString<'_>>(alloc, &text)?;
-    assert_eq!(rt; bits.clone()?, read);
-    assert_eq!(rt; hash_of(&bits), hash_of(&read));
+    same(&rt, &bits.clone()?, &read);
+    same(&rt, &hash_of(&bits), &hash_of(&read));
     Ok(())
 }
 
@@ -136,12 +142,13 @@ fn owned_bit_strings_are_shown_cloned_and_hashed(rt: HostRuntime) -> Result<(), 
     let alloc = rt.alloc();
     let text: [u8; 5] = [0x03, 0x03, 0x04, 0x81, 0xf0];
     let owned = parse_single::<OwnedBitString>(alloc, &text)?;
-    assert_eq!(rt;
+    same_text(
+        &rt,
         format!(in alloc; "{owned:?}")?.as_str(),
-        "OwnedBitString { data: [129, 240], padding_bits: 4 }"
+        "OwnedBitString { data: [129, 240], padding_bits: 4 }",
     );
     let copy = owned.clone()?;
-    assert_eq!(rt; hash_of(&copy), hash_of(&owned));
-    assert_eq!(rt; copy, owned);
+    same(&rt, &hash_of(&copy), &hash_of(&owned));
+    same(&rt, &copy, &owned);
     Ok(())
 }

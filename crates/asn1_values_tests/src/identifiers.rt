@@ -1,5 +1,6 @@
 //! Identifiers: values from outside.
 
+use crate::same::{same, same_octets, same_text};
 use asn1_core::{ParseErrorKind, parse_single, write_single};
 use asn1_values::ObjectIdentifier;
 use std::test::Fail;
@@ -47,7 +48,7 @@ fn texts_are_read_and_shown(rt: HostRuntime) -> Result<(), Fail> {
     for text in texts {
         let identifier = ObjectIdentifier::from_string(text).expect(&rt, "an identifier");
         let shown = String::format(alloc, format_args!("{identifier}"))?;
-        assert_eq!(rt; shown.as_str(), text);
+        same_text(&rt, shown.as_str(), text);
     }
     Ok(())
 }
@@ -56,12 +57,12 @@ fn texts_are_read_and_shown(rt: HostRuntime) -> Result<(), Fail> {
 fn other_texts_of_an_identifier(rt: HostRuntime) -> Result<(), Fail> {
     let alloc = rt.alloc();
     let identifier = ObjectIdentifier::from_string("1.+2.03").expect(&rt, "an identifier");
-    assert_eq!(rt; identifier.as_der(), [0x2a, 0x03].as_slice());
+    same_octets(&rt, identifier.as_der(), &[0x2a, 0x03]);
     let shown = String::format(alloc, format_args!("{identifier}"))?;
-    assert_eq!(rt; shown.as_str(), "1.2.3");
+    same_text(&rt, shown.as_str(), "1.2.3");
     let identifier = ObjectIdentifier::from_string("1.2.3.4").expect(&rt, "an identifier");
     let shown = String::format(alloc, format_args!("{identifier:?}"))?;
-    assert_eq!(rt; shown.as_str(), "ObjectIdentifier { oid: 1.2.3.4 }");
+    same_text(&rt, shown.as_str(), "ObjectIdentifier { oid: 1.2.3.4 }");
     Ok(())
 }
 
@@ -86,7 +87,7 @@ fn other_texts_are_refused(rt: HostRuntime) {
         "1.3.6.1.4.1.1248.1.1.2.1.3.21.69.112.115.111.110.32.83.116.121.108.117.115.32.80.114.111.32.52.57.48.48.123.124412.31.213321.123.110.32.83.116.121.108.117.115.32.80.114.111.32.52.57.48.48.123.124412.31.213321.123",
     ];
     for text in texts {
-        assert_eq!(rt; ObjectIdentifier::from_string(text), None);
+        same(&rt, &ObjectIdentifier::from_string(text), &None);
     }
 }
 
@@ -112,10 +113,10 @@ fn elements_are_read_and_written(rt: HostRuntime) -> Result<(), Fail> {
     ];
     for (text, octets) in rows {
         let identifier = ObjectIdentifier::from_string(text).expect(&rt, "an identifier");
-        assert_eq!(rt; write_single(alloc, &identifier)?.as_slice(), octets);
+        same_octets(&rt, write_single(alloc, &identifier)?.as_slice(), octets);
         let back = parse_single::<ObjectIdentifier>(alloc, octets)?;
-        assert_eq!(rt; back, identifier);
-        assert_eq!(rt; back.clone()?, identifier);
+        same(&rt, &back, &identifier);
+        same(&rt, &back.clone()?, &identifier);
     }
     Ok(())
 }
@@ -125,7 +126,11 @@ fn contents_are_read(rt: HostRuntime) -> Result<(), Fail> {
     let alloc = rt.alloc();
     let identifier = ObjectIdentifier::from_der(&GREATEST)?;
     let shown = String::format(alloc, format_args!("{identifier}"))?;
-    assert_eq!(rt; shown.as_str(), "2.340282366920938463463374607431768211375");
+    same_text(
+        &rt,
+        shown.as_str(),
+        "2.340282366920938463463374607431768211375",
+    );
     Ok(())
 }
 
@@ -141,12 +146,12 @@ fn other_contents_are_refused(rt: HostRuntime) {
         &TOO_GREAT,
     ];
     for octets in refused {
-        assert_eq!(rt; fault(octets), INVALID);
+        same(&rt, &fault(octets), &INVALID);
     }
     let long = [0x01; 66];
-    assert_eq!(rt; fault(&long[..63]), None);
-    assert_eq!(rt; fault(&long[..64]), Some(ParseErrorKind::OidTooLong));
-    assert_eq!(rt; fault(&long), Some(ParseErrorKind::OidTooLong));
+    same(&rt, &fault(&long[..63]), &None);
+    same(&rt, &fault(&long[..64]), &Some(ParseErrorKind::OidTooLong));
+    same(&rt, &fault(&long), &Some(ParseErrorKind::OidTooLong));
 }
 
 #[test]
@@ -154,11 +159,19 @@ fn contents_that_are_known(rt: HostRuntime) {
     let mut octets = [0; 63];
     octets[0] = 0x55;
     let identifier = ObjectIdentifier::from_der_unchecked(octets, 1);
-    assert_eq!(rt; ObjectIdentifier::from_string("2.5"), Some(identifier));
+    same(
+        &rt,
+        &ObjectIdentifier::from_string("2.5"),
+        &Some(identifier),
+    );
     let mut octets = [0; 63];
     octets[0] = 0x81;
     octets[1] = 0x34;
     octets[2] = 0x03;
     let identifier = ObjectIdentifier::from_der_unchecked(octets, 3);
-    assert_eq!(rt; ObjectIdentifier::from_string("2.100.3"), Some(identifier));
+    same(
+        &rt,
+        &ObjectIdentifier::from_string("2.100.3"),
+        &Some(identifier),
+    );
 }

@@ -1,3 +1,4 @@
+use crate::same::{same, same_octets, same_text};
 use asn1_core::{
     Asn1Readable, Asn1Writable, ParseErrorKind, WriteError, parse_single, write_single,
 };
@@ -34,7 +35,7 @@ const UNSIGNED: [&[u8]; 5] = [&[0x00], &[0x01], &[0x7f, 0xff], &[0x00, 0xff], &T
 
 fn fault<'a, T: Asn1Readable<'a>>(alloc: Global, octets: &'a [u8]) -> Option<ParseErrorKind> {
     match parse_single::<T>(alloc, octets) {
-        Ok(_) => None,
+        Ok(_value) => None,
         Err(error) => Some(error.kind()),
     }
 }
@@ -48,7 +49,7 @@ fn compare_written<T: Asn1Writable<Error = WriteError>>(
 ) -> Result<(), Fail>
     requires { T.der.closures (T.der.meaning value.now) }
 {
-    assert_eq!(rt; write_single(alloc, value)?.as_slice(), octets);
+    same_octets(rt, write_single(alloc, value)?.as_slice(), octets);
     Ok(())
 }
 
@@ -60,7 +61,7 @@ fn compare_shown<T: Debug>(
     text: &str,
 ) -> Result<(), Fail> {
     let shown = format!(in alloc; "{value:?}")?;
-    assert_eq!(rt; shown.as_str(), text);
+    same_text(rt, shown.as_str(), text);
     Ok(())
 }
 
@@ -79,9 +80,9 @@ fn signed_integers_of_any_length(rt: HostRuntime) -> Result<(), Fail> {
     for content in SIGNED {
         let text = integer_text(alloc, content)?;
         let number = parse_single::<BigInt<'_>>(alloc, text.as_slice())?;
-        assert_eq!(rt; number.as_bytes(), content);
+        same_octets(&rt, number.as_bytes(), content);
         compare_written(&rt, alloc, &number, text.as_slice())?;
-        assert_eq!(rt; BigInt::new(content), Some(number));
+        same(&rt, &BigInt::new(content), &Some(number));
     }
     Ok(())
 }
@@ -92,9 +93,9 @@ fn owned_signed_integers_of_any_length(rt: HostRuntime) -> Result<(), Fail> {
     for content in SIGNED {
         let text = integer_text(alloc, content)?;
         let owned = parse_single::<OwnedBigInt>(alloc, text.as_slice())?;
-        assert_eq!(rt; owned.as_bytes(), content);
+        same_octets(&rt, owned.as_bytes(), content);
         let made = OwnedBigInt::new(Vec::from_slice(alloc, content)?).ok_or("no content")?;
-        assert_eq!(rt; made, owned);
+        same(&rt, &made, &owned);
         compare_written(&rt, alloc, &made, text.as_slice())?;
     }
     Ok(())
@@ -106,9 +107,9 @@ fn unsigned_integers_of_any_length(rt: HostRuntime) -> Result<(), Fail> {
     for content in UNSIGNED {
         let text = integer_text(alloc, content)?;
         let number = parse_single::<BigUint<'_>>(alloc, text.as_slice())?;
-        assert_eq!(rt; number.as_bytes(), content);
+        same_octets(&rt, number.as_bytes(), content);
         compare_written(&rt, alloc, &number, text.as_slice())?;
-        assert_eq!(rt; BigUint::new(content), Some(number));
+        same(&rt, &BigUint::new(content), &Some(number));
     }
     Ok(())
 }
@@ -119,9 +120,9 @@ fn owned_unsigned_integers_of_any_length(rt: HostRuntime) -> Result<(), Fail> {
     for content in UNSIGNED {
         let text = integer_text(alloc, content)?;
         let owned = parse_single::<OwnedBigUint>(alloc, text.as_slice())?;
-        assert_eq!(rt; owned.as_bytes(), content);
+        same_octets(&rt, owned.as_bytes(), content);
         let made = OwnedBigUint::new(Vec::from_slice(alloc, content)?).ok_or("no content")?;
-        assert_eq!(rt; made, owned);
+        same(&rt, &made, &owned);
         compare_written(&rt, alloc, &made, text.as_slice())?;
     }
     Ok(())
@@ -130,22 +131,43 @@ fn owned_unsigned_integers_of_any_length(rt: HostRuntime) -> Result<(), Fail> {
 /// The content is no integer's, read or made.
 fn is_no_signed_integer(rt: &impl Abort, alloc: Global, content: &[u8]) -> Result<(), Fail> {
     let text = integer_text(alloc, content)?;
-    assert_eq!(rt; BigInt::new(content), None);
-    assert_eq!(rt; OwnedBigInt::new(Vec::from_slice(alloc, content)?), None);
-    assert_eq!(rt; fault::<BigInt<'_>>(alloc, text.as_slice()), Some(INVALID));
-    assert_eq!(rt; fault::<OwnedBigInt>(alloc, text.as_slice()), Some(INVALID));
+    same(rt, &BigInt::new(content), &None);
+    same(
+        rt,
+        &OwnedBigInt::new(Vec::from_slice(alloc, content)?),
+        &None,
+    );
+    same(
+        rt,
+        &fault::<BigInt<'_>>(alloc, text.as_slice()),
+        &Some(INVALID),
+    );
+    same(
+        rt,
+        &fault::<OwnedBigInt>(alloc, text.as_slice()),
+        &Some(INVALID),
+    );
     Ok(())
 }
 
 /// The content is none of a number that isn't negative, read or made.
 fn is_no_unsigned_integer(rt: &impl Abort, alloc: Global, content: &[u8]) -> Result<(), Fail> {
     let text = integer_text(alloc, content)?;
-    assert_eq!(rt; BigUint::new(content), None);
-    assert_eq!(rt; OwnedBigUint::new(Vec::from_slice(alloc, content)?), None);
-    assert_eq!(rt; fault::<BigUint<'_>>(alloc, text.as_slice()), Some(INVALID));
-    assert_eq!(rt;
-        fault::<OwnedBigUint>(alloc, text.as_slice()),
-        Some(INVALID)
+    same(rt, &BigUint::new(content), &None);
+    same(
+        rt,
+        &OwnedBigUint::new(Vec::from_slice(alloc, content)?),
+        &None,
+    );
+    same(
+        rt,
+        &fault::<BigUint<'_>>(alloc, text.as_slice()),
+        &Some(INVALID),
+    );
+    same(
+        rt,
+        &fault::<OwnedBigUint>(alloc, text.as_slice()),
+        &Some(INVALID),
     );
     Ok(())
 }
@@ -207,7 +229,7 @@ fn binary_digits_are_counted(rt: HostRuntime) -> Result<(), Fail> {
         let borrowed = parse_single::<BigInt<'_>>(rt.alloc(), text.as_slice())?;
         assert!(rt; borrowed.as_bytes().len() < 0x80);
         assert_eq!(rt; borrowed.bit_length(), count, "{number}");
-        assert_eq!(rt; borrowed.is_negative(), number < 0);
+        same(&rt, &borrowed.is_negative(), &(number < 0));
     }
     Ok(())
 }
@@ -219,7 +241,7 @@ fn binary_digits_of_owned_integers(rt: HostRuntime) -> Result<(), Fail> {
         let owned = parse_single::<OwnedBigInt>(rt.alloc(), text.as_slice())?;
         assert!(rt; owned.as_bytes().len() < 0x80);
         assert_eq!(rt; owned.bit_length(), count, "{number}");
-        assert_eq!(rt; owned.is_negative(), number < 0);
+        same(&rt, &owned.is_negative(), &(number < 0));
     }
     Ok(())
 }
@@ -230,7 +252,7 @@ fn copies_are_equal(rt: HostRuntime) -> Result<(), Fail> {
     let text = integer_text(alloc, &[0x00, 0x80])?;
     let signed = parse_single::<OwnedBigInt>(alloc, text.as_slice())?;
     let other = parse_single::<OwnedBigInt>(alloc, &[0x02, 0x01, 0x7f])?;
-    assert_eq!(rt; signed.clone()?, signed);
+    same(&rt, &signed.clone()?, &signed);
     assert_ne!(rt; signed, other);
     Ok(())
 }
@@ -240,22 +262,23 @@ fn copies_of_unsigned_integers_are_equal(rt: HostRuntime) -> Result<(), Fail> {
     let alloc = rt.alloc();
     let text = integer_text(alloc, &[0x00, 0x80])?;
     let unsigned = parse_single::<OwnedBigUint>(alloc, text.as_slice())?;
-    assert_eq!(rt; unsigned.clone()?, unsigned);
-    assert_eq!(rt; unsigned.as_bytes(), [0x00, 0x80].as_slice());
+    same(&rt, &unsigned.clone()?, &unsigned);
+    same_octets(&rt, unsigned.as_bytes(), &[0x00, 0x80]);
     Ok(())
 }
 
 #[test]
 fn enumerated_values(rt: HostRuntime) -> Result<(), Fail> {
     let alloc = rt.alloc();
-    assert_eq!(rt; Enumerated::new(4).value(), 4);
+    same(&rt, &Enumerated::new(4).value(), &4);
     let most: &[u8] = &[0x0a, 0x05, 0x00, 0xff, 0xff, 0xff, 0xff];
     let value = parse_single::<Enumerated>(alloc, most)?;
-    assert_eq!(rt; value.value(), 4294967295);
+    same(&rt, &value.value(), &4294967295);
     compare_written(&rt, alloc, &value, most)?;
-    assert_eq!(rt;
-        parse_single::<Enumerated>(alloc, &[0x0a, 0x01, 0x0c])?,
-        Enumerated::new(12)
+    same(
+        &rt,
+        &parse_single::<Enumerated>(alloc, &[0x0a, 0x01, 0x0c])?,
+        &Enumerated::new(12),
     );
     compare_written(&rt, alloc, &Enumerated::new(0), &[0x0a, 0x01, 0x00])?;
     compare_written(&rt, alloc, &Enumerated::new(12), &[0x0a, 0x01, 0x0c])
@@ -265,13 +288,15 @@ fn enumerated_values(rt: HostRuntime) -> Result<(), Fail> {
 fn other_contents_are_no_enumerated_values(rt: HostRuntime) {
     let alloc = rt.alloc();
     let more: &[u8] = &[0x0a, 0x05, 0x01, 0x00, 0x00, 0x00, 0x00];
-    assert_eq!(rt;
-        fault::<Enumerated>(alloc, more),
-        Some(ParseErrorKind::IntegerOverflow)
+    same(
+        &rt,
+        &fault::<Enumerated>(alloc, more),
+        &Some(ParseErrorKind::IntegerOverflow),
     );
-    assert_eq!(rt;
-        fault::<Enumerated>(alloc, &[0x0a, 0x01, 0xff]),
-        Some(INVALID)
+    same(
+        &rt,
+        &fault::<Enumerated>(alloc, &[0x0a, 0x01, 0xff]),
+        &Some(INVALID),
     );
 }
 

@@ -1,5 +1,6 @@
 //! Texts: the original's cases, values from outside, and what is refused.
 
+use crate::same::{same, same_octets, same_text};
 use asn1_core::{
     Asn1Readable, Asn1Writable, ParseErrorKind, WriteError, parse_single, write_single,
 };
@@ -24,7 +25,7 @@ fn fault<'a, T: Asn1Readable<'a> + Drop>(
     octets: &'a [u8],
 ) -> Option<ParseErrorKind> {
     match parse_single::<T>(alloc, octets) {
-        Ok(_) => None,
+        Ok(_value) => None,
         Err(error) => Some(error.kind()),
     }
 }
@@ -44,7 +45,7 @@ fn compare_written<T: Asn1Writable<Error = WriteError>>(
 ) -> Result<(), Fail>
     requires { T.der.closures (T.der.meaning value.now) }
 {
-    assert_eq!(rt; write_single(alloc, value)?.as_slice(), octets);
+    same_octets(rt, write_single(alloc, value)?.as_slice(), octets);
     Ok(())
 }
 
@@ -56,7 +57,7 @@ fn compare_shown_and_copied<T: Debug + Clone + PartialEq + Drop>(
     text: &str,
 ) -> Result<(), Fail> {
     let shown = format!(in alloc; "{value:?}")?;
-    assert_eq!(rt; shown.as_str(), text);
+    same_text(rt, shown.as_str(), text);
     assert!(rt; value.clone()? == *value);
     Ok(())
 }
@@ -83,12 +84,13 @@ fn printable_strings(rt: HostRuntime) -> Result<(), Fail> {
     let alloc = rt.alloc();
     for characters in ["abc", ")", "", " ", "Test User 1"] {
         let value = PrintableString::new(characters).expect(&rt, "characters of the type");
-        assert_eq!(rt; value.as_str(), characters);
+        same_text(&rt, value.as_str(), characters);
         let text = short_text(alloc, 0x13, characters)?;
         compare_written(&rt, alloc, &value, text.as_slice())?;
-        assert_eq!(rt;
-            parse_single::<PrintableString<'_>>(alloc, text.as_slice())?,
-            value
+        same(
+            &rt,
+            &parse_single::<PrintableString<'_>>(alloc, text.as_slice())?,
+            &value,
         );
     }
     let value = PrintableString::new(LONG).expect(&rt, "characters of the type");
@@ -99,7 +101,11 @@ fn printable_strings(rt: HostRuntime) -> Result<(), Fail> {
 fn other_characters_are_not_printable(rt: HostRuntime) {
     let refused: [&[u8]; 2] = [&[0x13, 0x03, 0x61, 0x62, 0x00], &[0x13, 0x01, 0x25]];
     for octets in refused {
-        assert_eq!(rt; fault::<PrintableString<'_>>(rt.alloc(), octets), INVALID);
+        same(
+            &rt,
+            &fault::<PrintableString<'_>>(rt.alloc(), octets),
+            &INVALID,
+        );
     }
     assert!(rt; PrintableString::new("%").is_none());
     assert!(rt; PrintableString::new("\0").is_none());
@@ -112,12 +118,13 @@ fn ia5_strings(rt: HostRuntime) -> Result<(), Fail> {
     let alloc = rt.alloc();
     for characters in ["abc", ")", "", " ", "Test User 1"] {
         let value = IA5String::new(characters).expect(&rt, "characters of the type");
-        assert_eq!(rt; value.as_str(), characters);
+        same_text(&rt, value.as_str(), characters);
         let text = short_text(alloc, 0x16, characters)?;
         compare_written(&rt, alloc, &value, text.as_slice())?;
-        assert_eq!(rt;
-            parse_single::<IA5String<'_>>(alloc, text.as_slice())?,
-            value
+        same(
+            &rt,
+            &parse_single::<IA5String<'_>>(alloc, text.as_slice())?,
+            &value,
         );
     }
     let value = IA5String::new(LONG).expect(&rt, "characters of the type");
@@ -128,12 +135,12 @@ fn ia5_strings(rt: HostRuntime) -> Result<(), Fail> {
 fn other_characters_are_not_ascii(rt: HostRuntime) -> Result<(), Fail> {
     let refused: [&[u8]; 2] = [&[0x16, 0x03, 0x61, 0x62, 0xff], &[0x16, 0x01, 0x80]];
     for octets in refused {
-        assert_eq!(rt; fault::<IA5String<'_>>(rt.alloc(), octets), INVALID);
+        same(&rt, &fault::<IA5String<'_>>(rt.alloc(), octets), &INVALID);
     }
     assert!(rt; IA5String::new("%").is_some());
     assert!(rt; IA5String::new("😄").is_none());
     let delete = parse_single::<IA5String<'_>>(rt.alloc(), &[0x16, 0x01, 0x7f])?;
-    assert_eq!(rt; delete.as_str(), "\x7f");
+    same_text(&rt, delete.as_str(), "\x7f");
     Ok(())
 }
 
@@ -142,12 +149,13 @@ fn visible_strings(rt: HostRuntime) -> Result<(), Fail> {
     let alloc = rt.alloc();
     for characters in ["abc", ")", "", " ", "Test User 1"] {
         let value = VisibleString::new(characters).expect(&rt, "characters of the type");
-        assert_eq!(rt; value.as_str(), characters);
+        same_text(&rt, value.as_str(), characters);
         let text = short_text(alloc, 0x1a, characters)?;
         compare_written(&rt, alloc, &value, text.as_slice())?;
-        assert_eq!(rt;
-            parse_single::<VisibleString<'_>>(alloc, text.as_slice())?,
-            value
+        same(
+            &rt,
+            &parse_single::<VisibleString<'_>>(alloc, text.as_slice())?,
+            &value,
         );
     }
     let value = VisibleString::new(LONG).expect(&rt, "characters of the type");
@@ -158,7 +166,11 @@ fn visible_strings(rt: HostRuntime) -> Result<(), Fail> {
 fn other_characters_are_not_visible(rt: HostRuntime) {
     for octet in [0x0a, 0x7f, 0x1f] {
         let octets = [0x1a, 0x01, octet];
-        assert_eq!(rt; fault::<VisibleString<'_>>(rt.alloc(), &octets), INVALID);
+        same(
+            &rt,
+            &fault::<VisibleString<'_>>(rt.alloc(), &octets),
+            &INVALID,
+        );
     }
     assert!(rt; VisibleString::new("\n").is_none());
     assert!(rt; VisibleString::new("~").is_some());
@@ -169,12 +181,13 @@ fn utf8_strings(rt: HostRuntime) -> Result<(), Fail> {
     let alloc = rt.alloc();
     for characters in ["abc", ")", "", " ", "Test User 1"] {
         let value = Utf8String::new(characters);
-        assert_eq!(rt; value.as_str(), characters);
+        same_text(&rt, value.as_str(), characters);
         let text = short_text(alloc, 0x0c, characters)?;
         compare_written(&rt, alloc, &value, text.as_slice())?;
-        assert_eq!(rt;
-            parse_single::<Utf8String<'_>>(alloc, text.as_slice())?,
-            value
+        same(
+            &rt,
+            &parse_single::<Utf8String<'_>>(alloc, text.as_slice())?,
+            &value,
         );
     }
     let value = Utf8String::new(LONG);
@@ -185,10 +198,10 @@ fn utf8_strings(rt: HostRuntime) -> Result<(), Fail> {
 fn other_octets_are_not_utf8(rt: HostRuntime) -> Result<(), Fail> {
     let refused: [&[u8]; 2] = [&[0x0c, 0x01, 0xff], &[0x0c, 0x02, 0xc3, 0x28]];
     for octets in refused {
-        assert_eq!(rt; fault::<Utf8String<'_>>(rt.alloc(), octets), INVALID);
+        same(&rt, &fault::<Utf8String<'_>>(rt.alloc(), octets), &INVALID);
     }
     let smile = parse_single::<Utf8String<'_>>(rt.alloc(), &[0x0c, 0x04, 0xf0, 0x9f, 0x98, 0x84])?;
-    assert_eq!(rt; smile.as_str(), "😄");
+    same_text(&rt, smile.as_str(), "😄");
     Ok(())
 }
 
@@ -202,9 +215,9 @@ fn bmp_strings(rt: HostRuntime) -> Result<(), Fail> {
     ];
     for text in texts {
         let value = parse_single::<BMPString<'_>>(alloc, text)?;
-        assert_eq!(rt; value.as_utf16_be_bytes(), &text[2..]);
+        same_octets(&rt, value.as_utf16_be_bytes(), &text[2..]);
         compare_written(&rt, alloc, &value, text)?;
-        assert_eq!(rt; BMPString::new(&text[2..]), Some(value));
+        same(&rt, &BMPString::new(&text[2..]), &Some(value));
     }
     Ok(())
 }
@@ -220,7 +233,7 @@ fn other_octets_are_no_bmp_string(rt: HostRuntime) {
         &[0x1e, 0x03, 0xd8, 0x00, 0xdc],
     ];
     for text in refused {
-        assert_eq!(rt; fault::<BMPString<'_>>(rt.alloc(), text), INVALID);
+        same(&rt, &fault::<BMPString<'_>>(rt.alloc(), text), &INVALID);
         assert!(rt; BMPString::new(&text[2..]).is_none());
     }
 }
@@ -237,9 +250,9 @@ fn universal_strings(rt: HostRuntime) -> Result<(), Fail> {
     ];
     for text in texts {
         let value = parse_single::<UniversalString<'_>>(alloc, text)?;
-        assert_eq!(rt; value.as_utf32_be_bytes(), &text[2..]);
+        same_octets(&rt, value.as_utf32_be_bytes(), &text[2..]);
         compare_written(&rt, alloc, &value, text)?;
-        assert_eq!(rt; UniversalString::new(&text[2..]), Some(value));
+        same(&rt, &UniversalString::new(&text[2..]), &Some(value));
     }
     Ok(())
 }
@@ -255,7 +268,11 @@ fn other_octets_are_no_universal_string(rt: HostRuntime) {
         &[0x1c, 0x04, 0x00, 0x00, 0xd8, 0x00],
     ];
     for text in refused {
-        assert_eq!(rt; fault::<UniversalString<'_>>(rt.alloc(), text), INVALID);
+        same(
+            &rt,
+            &fault::<UniversalString<'_>>(rt.alloc(), text),
+            &INVALID,
+        );
         assert!(rt; UniversalString::new(&text[2..]).is_none());
     }
 }
@@ -287,11 +304,11 @@ fn equal_texts_hash_alike(rt: HostRuntime) -> Result<(), Fail> {
     let alloc = rt.alloc();
     let content = short_text(alloc, 0x0c, "abc")?;
     let utf8 = parse_single::<Utf8String<'_>>(alloc, content.as_slice())?;
-    assert_eq!(rt; hash_of(&utf8), hash_of(&Utf8String::new("abc")));
+    same(&rt, &hash_of(&utf8), &hash_of(&Utf8String::new("abc")));
     let content = short_text(alloc, 0x13, "abc")?;
     let printable = parse_single::<PrintableString<'_>>(alloc, content.as_slice())?;
     let other = PrintableString::new("abc").expect(&rt, "printable");
-    assert_eq!(rt; hash_of(&printable), hash_of(&other));
+    same(&rt, &hash_of(&printable), &hash_of(&other));
     Ok(())
 }
 
@@ -301,10 +318,10 @@ fn equal_wide_texts_hash_alike(rt: HostRuntime) -> Result<(), Fail> {
     let text: [u8; 4] = [0x1e, 0x02, 0x00, 0x61];
     let bmp = parse_single::<BMPString<'_>>(alloc, &text)?;
     let other = BMPString::new(&[0x00, 0x61]).expect(&rt, "UTF-16");
-    assert_eq!(rt; hash_of(&bmp), hash_of(&other));
+    same(&rt, &hash_of(&bmp), &hash_of(&other));
     let text: [u8; 6] = [0x1c, 0x04, 0x00, 0x00, 0x00, 0x61];
     let universal = parse_single::<UniversalString<'_>>(alloc, &text)?;
     let other = UniversalString::new(&[0x00, 0x00, 0x00, 0x61]).expect(&rt, "UTF-32");
-    assert_eq!(rt; hash_of(&universal), hash_of(&other));
+    same(&rt, &hash_of(&universal), &hash_of(&other));
     Ok(())
 }

@@ -1,5 +1,6 @@
 //! Times: elements from outside, and what is refused.
 
+use crate::same::{same, same_octets, same_text};
 use asn1_core::{
     Asn1Readable, Asn1Writable, ParseErrorKind, ParseResult, WriteError, parse_single, write_single,
 };
@@ -14,7 +15,7 @@ const INVALID: Option<ParseErrorKind> = Some(ParseErrorKind::InvalidValue);
 /// Why a value is refused.
 fn refusal<T: Drop>(answer: ParseResult<T>) -> Option<ParseErrorKind> {
     match answer {
-        Ok(_) => None,
+        Ok(_value) => None,
         Err(error) => Some(error.kind()),
     }
 }
@@ -28,7 +29,7 @@ fn compare_written<T: Asn1Writable<Error = WriteError>>(
 ) -> Result<(), Fail>
     requires { T.der.closures (T.der.meaning value.now) }
 {
-    assert_eq!(rt; write_single(alloc, value)?.as_slice(), octets);
+    same_octets(rt, write_single(alloc, value)?.as_slice(), octets);
     Ok(())
 }
 
@@ -40,7 +41,7 @@ fn compare_shown<T: Debug>(
     text: &str,
 ) -> Result<(), Fail> {
     let shown = format!(in alloc; "{value:?}")?;
-    assert_eq!(rt; shown.as_str(), text);
+    same_text(rt, shown.as_str(), text);
     Ok(())
 }
 
@@ -64,9 +65,10 @@ fn other_numbers_are_no_dates(rt: HostRuntime) {
         ((2024, 2, 29, 0, 0, 0), None),
     ];
     for ((year, month, day, hour, minute, second), kind) in rows {
-        assert_eq!(rt;
-            refusal(DateTime::new(year, month, day, hour, minute, second)),
-            kind
+        same(
+            &rt,
+            &refusal(DateTime::new(year, month, day, hour, minute, second)),
+            &kind,
         );
     }
 }
@@ -74,9 +76,17 @@ fn other_numbers_are_no_dates(rt: HostRuntime) {
 #[test]
 fn dates(rt: HostRuntime) -> Result<(), Fail> {
     let date = DateTime::new(2009, 11, 15, 22, 56, 16)?;
-    assert_eq!(rt; (date.year(), date.month(), date.day()), (2009, 11, 15));
-    assert_eq!(rt; (date.hour(), date.minute(), date.second()), (22, 56, 16));
-    assert_eq!(rt; date.clone()?, date);
+    same(
+        &rt,
+        &(date.year(), date.month(), date.day()),
+        &(2009, 11, 15),
+    );
+    same(
+        &rt,
+        &(date.hour(), date.minute(), date.second()),
+        &(22, 56, 16),
+    );
+    same(&rt, &date.clone()?, &date);
     Ok(())
 }
 
@@ -128,8 +138,8 @@ fn utc_times(rt: HostRuntime) -> Result<(), Fail> {
         let time = UtcTime::new(DateTime::new(year, month, day, hour, minute, second)?)?;
         compare_written(&rt, alloc, &time, octets)?;
         let back = parse_single::<UtcTime>(alloc, octets)?;
-        assert_eq!(rt; back.as_datetime(), time.as_datetime());
-        assert_eq!(rt; back.clone()?, time);
+        same(&rt, &back.as_datetime(), &time.as_datetime());
+        same(&rt, &back.clone()?, &time);
     }
     Ok(())
 }
@@ -138,7 +148,7 @@ fn utc_times(rt: HostRuntime) -> Result<(), Fail> {
 fn other_years_have_no_utc_time(rt: HostRuntime) -> Result<(), Fail> {
     for year in [1949, 2050, 2100] {
         let date = DateTime::new(year, 1, 1, 12, 0, 0)?;
-        assert_eq!(rt; refusal(UtcTime::new(date)), INVALID);
+        same(&rt, &refusal(UtcTime::new(date)), &INVALID);
     }
     Ok(())
 }
@@ -165,7 +175,7 @@ fn other_forms_are_no_utc_times(rt: HostRuntime) {
         b"\x17\x0f4912311047-2026",
     ];
     for octets in refused {
-        assert_eq!(rt; fault::<UtcTime>(alloc, octets), INVALID);
+        same(&rt, &fault::<UtcTime>(alloc, octets), &INVALID);
     }
 }
 
@@ -192,7 +202,7 @@ fn other_numbers_are_no_utc_times(rt: HostRuntime) {
         b"\x17\x0d230229000000Z",
     ];
     for octets in refused {
-        assert_eq!(rt; fault::<UtcTime>(alloc, octets), INVALID);
+        same(&rt, &fault::<UtcTime>(alloc, octets), &INVALID);
     }
 }
 
@@ -214,8 +224,8 @@ fn times_without_a_fraction(rt: HostRuntime) -> Result<(), Fail> {
         )?)?;
         compare_written(&rt, alloc, &time, octets)?;
         let back = parse_single::<X509GeneralizedTime>(alloc, octets)?;
-        assert_eq!(rt; back.as_datetime(), time.as_datetime());
-        assert_eq!(rt; back.clone()?, time);
+        same(&rt, &back.as_datetime(), &time.as_datetime());
+        same(&rt, &back.clone()?, &time);
     }
     Ok(())
 }
@@ -223,9 +233,9 @@ fn times_without_a_fraction(rt: HostRuntime) -> Result<(), Fail> {
 #[test]
 fn the_last_year_of_a_time(rt: HostRuntime) -> Result<(), Fail> {
     let last = DateTime::new(2015, 6, 30, 23, 59, 59)?;
-    assert_eq!(rt; refusal(X509GeneralizedTime::new(last)), None);
+    same(&rt, &refusal(X509GeneralizedTime::new(last)), &None);
     let late = DateTime::new(10000, 1, 1, 0, 0, 0)?;
-    assert_eq!(rt; refusal(X509GeneralizedTime::new(late)), INVALID);
+    same(&rt, &refusal(X509GeneralizedTime::new(late)), &INVALID);
     Ok(())
 }
 
@@ -259,7 +269,7 @@ fn other_forms_have_a_fraction_or_no_z(rt: HostRuntime) {
         b"\x18\x0d0 1204000060Z",
     ];
     for octets in refused {
-        assert_eq!(rt; fault::<X509GeneralizedTime>(alloc, octets), INVALID);
+        same(&rt, &fault::<X509GeneralizedTime>(alloc, octets), &INVALID);
     }
 }
 
@@ -288,7 +298,7 @@ fn other_numbers_are_no_times(rt: HostRuntime) {
         b"\x18\x0f19000229000000Z",
     ];
     for octets in refused {
-        assert_eq!(rt; fault::<X509GeneralizedTime>(alloc, octets), INVALID);
+        same(&rt, &fault::<X509GeneralizedTime>(alloc, octets), &INVALID);
     }
 }
 
@@ -338,9 +348,9 @@ fn times_with_a_fraction(rt: HostRuntime) -> Result<(), Fail> {
         let time = GeneralizedTime::new(date, nanoseconds)?;
         compare_written(&rt, alloc, &time, octets)?;
         let back = parse_single::<GeneralizedTime>(alloc, octets)?;
-        assert_eq!(rt; back.as_datetime(), time.as_datetime());
-        assert_eq!(rt; back.nanoseconds(), nanoseconds);
-        assert_eq!(rt; back.clone()?, time);
+        same(&rt, &back.as_datetime(), &time.as_datetime());
+        same(&rt, &back.nanoseconds(), &nanoseconds);
+        same(&rt, &back.clone()?, &time);
     }
     Ok(())
 }
@@ -355,7 +365,7 @@ fn other_fractions_are_refused(rt: HostRuntime) {
         b"\x18\x0f20090101240000Z",
     ];
     for octets in refused {
-        assert_eq!(rt; fault::<GeneralizedTime>(rt.alloc(), octets), INVALID);
+        same(&rt, &fault::<GeneralizedTime>(rt.alloc(), octets), &INVALID);
     }
 }
 
@@ -363,17 +373,22 @@ fn other_fractions_are_refused(rt: HostRuntime) {
 fn nanoseconds_of_a_second(rt: HostRuntime) -> Result<(), Fail> {
     for nanoseconds in [None, Some(1234), Some(999_999_999)] {
         let date = DateTime::new(2015, 6, 30, 23, 59, 59)?;
-        assert_eq!(rt; refusal(GeneralizedTime::new(date, nanoseconds)), None);
+        same(
+            &rt,
+            &refusal(GeneralizedTime::new(date, nanoseconds)),
+            &None,
+        );
     }
     for nanoseconds in [0, 1_000_000_000, 1_000_000_001] {
         let date = DateTime::new(2015, 6, 30, 23, 59, 59)?;
-        assert_eq!(rt;
-            refusal(GeneralizedTime::new(date, Some(nanoseconds))),
-            INVALID
+        same(
+            &rt,
+            &refusal(GeneralizedTime::new(date, Some(nanoseconds))),
+            &INVALID,
         );
     }
     let late = DateTime::new(10000, 1, 1, 0, 0, 0)?;
-    assert_eq!(rt; refusal(GeneralizedTime::new(late, None)), INVALID);
+    same(&rt, &refusal(GeneralizedTime::new(late, None)), &INVALID);
     Ok(())
 }
 
