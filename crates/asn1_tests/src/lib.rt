@@ -12,6 +12,8 @@ mod page;
 #[cfg(test)]
 mod readme;
 #[cfg(test)]
+mod same;
+#[cfg(test)]
 mod sets;
 #[cfg(test)]
 mod wrappers;

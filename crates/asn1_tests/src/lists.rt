@@ -7,6 +7,7 @@ ghost use Rattle.asn1.specs.Der.{simple_der};
 ghost use Rattle.asn1.specs.Written.{written};
 ghost use Rattle.asn1_tests.specs.declared.lists.Custom.TheVariants.{Memory, Refused};
 
+use crate::same::{same, same_octets, same_text};
 use asn1::{
     Asn1Type, Asn1Writable, Choice2, ParseError, ParseErrorKind, ParseLocation, ParseResult,
     Parser, Sequence, SequenceOf, SequenceOfWriter, SequenceWriter, SimpleAsn1Readable,
@@ -41,7 +42,7 @@ pub fn is_written<A: Abort, T: Asn1Writable<Error = WriteError>>(
     requires { T.der.closures (T.der.meaning value.now) }
 {
     let written = write_single(alloc, value)?;
-    assert_eq!(rt; written.as_slice(), octets);
+    same_octets(rt, written.as_slice(), octets);
     Ok(())
 }
 
@@ -72,12 +73,16 @@ fn sequences_read_by_the_caller(rt: HostRuntime) -> Result<(), Fail> {
             Ok((parser.read_element::<bool>()?, parser.read_element::<u8>()?))
         },
     );
-    assert_eq!(rt; parts, Ok((true, 6)));
+    same(&rt, &parts, &Ok((true, 6)));
     let first = sequence.parse(
         alloc,
         |parser: &mut Parser<'_>| parser.read_element::<bool>(),
     );
-    assert_eq!(rt; first, Err(ParseError::new(ParseErrorKind::ExtraData)));
+    same(
+        &rt,
+        &first,
+        &Err(ParseError::new(ParseErrorKind::ExtraData)),
+    );
     Ok(())
 }
 
@@ -88,9 +93,10 @@ fn equal_sequences(rt: HostRuntime) -> Result<(), Fail> {
     let other = parse_single::<Sequence<'_>>(alloc, &[0x30, 0x02, 0x05, 0x00])?;
     assert!(rt; none == none.clone()? && none != other);
     assert!(rt; hash_of(&none) != hash_of(&other));
-    assert_eq!(rt;
+    same_text(
+        &rt,
         format!(in alloc; "{none:?}")?.as_str(),
-        "Sequence { data: [] }"
+        "Sequence { data: [] }",
     );
     Ok(())
 }
@@ -99,7 +105,7 @@ fn equal_sequences(rt: HostRuntime) -> Result<(), Fail> {
 fn lists_have_the_items_left(rt: HostRuntime) -> Result<(), Fail> {
     let alloc = rt.alloc();
     let mut list = parse_single::<SequenceOf<'_, u64, 2, 3>>(alloc, FIVE_AND_SEVEN)?;
-    assert_eq!(rt; list.len(), 2);
+    same(&rt, &list.len(), &2);
     assert!(rt; !list.is_empty());
     assert!(rt; matches!(list.next(), Some(Ok(5))));
     assert!(rt; matches!(list.next(), Some(Ok(7))));
@@ -119,7 +125,7 @@ fn items_left_are_written(rt: HostRuntime) -> Result<(), Fail> {
     is_written(&rt, alloc, &list, rest)?;
     is_written(&rt, alloc, &whole, FIVE_AND_SEVEN)?;
     let again = parse_single::<SequenceOf<'_, u64, 2, 3>>(alloc, rest);
-    assert_eq!(rt; refusal(again), wrong_count(2, 3, 1));
+    same(&rt, &refusal(again), &wrong_count(2, 3, 1));
     Ok(())
 }
 
@@ -133,8 +139,16 @@ fn copies_of_lists(rt: HostRuntime) -> Result<(), Fail> {
     let mut list = parse_single::<List<'_, u64>>(rt.alloc(), ONE_TO_THREE)?;
     assert!(rt; matches!(list.next(), Some(Ok(1))));
     let mut copy = list.clone()?;
-    assert_eq!(rt; items_left(&mut list), [Some(Ok(2)), Some(Ok(3)), None]);
-    assert_eq!(rt; items_left(&mut copy), [Some(Ok(2)), Some(Ok(3)), None]);
+    same(
+        &rt,
+        &items_left(&mut list),
+        &[Some(Ok(2)), Some(Ok(3)), None],
+    );
+    same(
+        &rt,
+        &items_left(&mut copy),
+        &[Some(Ok(2)), Some(Ok(3)), None],
+    );
     Ok(())
 }
 
@@ -142,9 +156,9 @@ fn copies_of_lists(rt: HostRuntime) -> Result<(), Fail> {
 fn copies_keep_their_count(rt: HostRuntime) -> Result<(), Fail> {
     let mut list = parse_single::<List<'_, u64>>(rt.alloc(), ONE_TO_THREE)?;
     let whole = list.clone()?;
-    assert_eq!(rt; list.len(), 3);
+    same(&rt, &list.len(), &3);
     assert!(rt; matches!(list.next(), Some(Ok(1))));
-    assert_eq!(rt; (list.len(), whole.len()), (2, 3));
+    same(&rt, &(list.len(), whole.len()), &(2, 3));
     let _left = items_left(&mut list);
     assert!(rt; list.len() == 0 && list.is_empty() && list.next().is_none());
     assert!(rt; whole.len() == 3 && !whole.is_empty());
@@ -158,7 +172,7 @@ fn equal_lists(rt: HostRuntime) -> Result<(), Fail> {
     let no = parse_single::<List<'_, bool>>(rt.alloc(), &[0x30, 0x03, 0x01, 0x01, 0x00])?;
     let yes = parse_single::<List<'_, bool>>(rt.alloc(), &[0x30, 0x03, 0x01, 0x01, 0xff])?;
     assert!(rt; none == other && other != no && no == no.clone()? && no != yes);
-    assert_eq!(rt; hash_of(&none), hash_of(&other));
+    same(&rt, &hash_of(&none), &hash_of(&other));
     assert!(rt; hash_of(&other) != hash_of(&no) && hash_of(&no) != hash_of(&yes));
     Ok(())
 }
@@ -172,9 +186,9 @@ fn wrong_count(min: usize, max: usize, actual: usize) -> Option<ParseError> {
 fn faults_of_lists(rt: HostRuntime) {
     let alloc = rt.alloc();
     let many = parse_single::<SequenceOf<'_, u64, 0, 1>>(alloc, FIVE_AND_SEVEN);
-    assert_eq!(rt; refusal(many), wrong_count(0, 1, 2));
+    same(&rt, &refusal(many), &wrong_count(0, 1, 2));
     let few = parse_single::<SequenceOf<'_, u64, 2, 3>>(alloc, &[0x30, 0x03, 0x02, 0x01, 0x05]);
-    assert_eq!(rt; refusal(few), wrong_count(2, 3, 1));
+    same(&rt, &refusal(few), &wrong_count(2, 3, 1));
 }
 
 #[test]
@@ -187,11 +201,15 @@ fn faults_of_items(rt: HostRuntime) {
         max: 3,
         actual: 1,
     };
-    assert_eq!(rt; refusal(few), at(0, kind));
+    same(&rt, &refusal(few), &at(0, kind));
     // A faulty item comes before a wrong count.
     let faulty: &[u8] = &[0x30, 0x06, 0x02, 0x01, 0x05, 0x02, 0x01, 0xff];
     let negative = parse_single::<SequenceOf<'_, u64, 0, 1>>(alloc, faulty);
-    assert_eq!(rt; refusal(negative), at(1, ParseErrorKind::InvalidValue));
+    same(
+        &rt,
+        &refusal(negative),
+        &at(1, ParseErrorKind::InvalidValue),
+    );
 }
 
 #[test]
@@ -199,11 +217,11 @@ fn lists_of_options(rt: HostRuntime) -> Result<(), Fail> {
     let alloc = rt.alloc();
     let other: &[u8] = &[0x30, 0x03, 0x01, 0x01, 0xff];
     let none = parse_single::<List<'_, Option<u8>>>(alloc, other);
-    assert_eq!(rt; refusal(none), at(0, ParseErrorKind::ExtraData));
+    same(&rt, &refusal(none), &at(0, ParseErrorKind::ExtraData));
     let octets: &[u8] = &[0x30, 0x03, 0x02, 0x01, 0x05];
     let mut list = parse_single::<List<'_, Option<u8>>>(alloc, octets)?;
     is_written(&rt, alloc, &list, octets)?;
-    assert_eq!(rt; list.len(), 1);
+    same(&rt, &list.len(), &1);
     assert!(rt; matches!(list.next(), Some(Ok(Some(5)))));
     assert!(rt; list.next().is_none());
     Ok(())
@@ -213,7 +231,7 @@ fn lists_of_options(rt: HostRuntime) -> Result<(), Fail> {
 fn lists_of_choices(rt: HostRuntime) -> Result<(), Fail> {
     let octets: &[u8] = &[0x30, 0x06, 0x01, 0x01, 0xff, 0x02, 0x01, 0x05];
     let mut list = parse_single::<List<'_, Choice2<bool, i64>>>(rt.alloc(), octets)?;
-    assert_eq!(rt; list.len(), 2);
+    same(&rt, &list.len(), &2);
     assert!(rt; matches!(list.next(), Some(Ok(Choice2::ChoiceA(true)))));
     assert!(rt; matches!(list.next(), Some(Ok(Choice2::ChoiceB(5)))));
     assert!(rt; list.next().is_none());
@@ -234,11 +252,11 @@ fn lists_whose_items_take_memory(rt: HostRuntime) -> Result<(), Fail> {
     is_written(&rt, rt.alloc(), &list, ONE_TO_THREE)?;
     // Without a length an item found no memory.
     let length = list.data_length().ok_or(WriteError::AllocationError)?;
-    assert_eq!(rt; length, 9);
-    assert_eq!(rt; next_boxed(&mut list)?, (Some(1), 2));
-    assert_eq!(rt; next_boxed(&mut list)?, (Some(2), 1));
-    assert_eq!(rt; next_boxed(&mut list)?, (Some(3), 0));
-    assert_eq!(rt; next_boxed(&mut list)?, (None, 0));
+    same(&rt, &length, &9);
+    same(&rt, &next_boxed(&mut list)?, &(Some(1), 2));
+    same(&rt, &next_boxed(&mut list)?, &(Some(2), 1));
+    same(&rt, &next_boxed(&mut list)?, &(Some(3), 0));
+    same(&rt, &next_boxed(&mut list)?, &(None, 0));
     Ok(())
 }
 
@@ -253,7 +271,11 @@ fn lists_of_a_slice(rt: HostRuntime) -> Result<(), Fail> {
         &SequenceOfWriter::new(&items[..0]),
         &[0x30, 0x00],
     )?;
-    assert_eq!(rt; SequenceOfWriter::new(&items[..2]).data_length(), Some(6));
+    same(
+        &rt,
+        &SequenceOfWriter::new(&items[..2]).data_length(),
+        &Some(6),
+    );
     let list = SequenceOfWriter::new(&items);
     assert!(rt; list.clone()? == list && list != SequenceOfWriter::new(&items[1..]));
     Ok(())
@@ -276,7 +298,7 @@ fn lists_of_closures(rt: HostRuntime) -> Result<(), Fail> {
         &SequenceOfWriter::new(&sequences),
         &[0x30, 2, 0x30, 0],
     )?;
-    assert_eq!(rt; SequenceOfWriter::new(&sequences).data_length(), None);
+    same(&rt, &SequenceOfWriter::new(&sequences).data_length(), &None);
     Ok(())
 }
 
@@ -309,7 +331,7 @@ fn sequences_in_an_implicit_tag(rt: HostRuntime) -> Result<(), Fail> {
     let octets = write(rt.alloc(), |writer: &mut Writer<'_>| {
         writer.write_implicit_element(&SequenceWriter::new(&nothing), 2)
     })?;
-    assert_eq!(rt; octets.as_slice(), [0xa2u8, 0].as_slice());
+    same_octets(&rt, octets.as_slice(), &[0xa2u8, 0]);
     Ok(())
 }
 
@@ -368,7 +390,7 @@ fn patched_lengths_in_one_another(rt: HostRuntime) -> Result<(), Fail> {
         assert!(rt; outer.as_slice().starts_with(header));
         let (tlv, _rest) = strip_tlv(outer.as_slice())?;
         let inner = sequence_around(rt.alloc(), octets)?;
-        assert_eq!(rt; tlv.data(), inner.as_slice());
+        same_octets(&rt, tlv.data(), inner.as_slice());
     }
     Ok(())
 }
@@ -449,6 +471,6 @@ fn lengths_that_pass_the_largest(rt: HostRuntime) {
         Unwritable(Some(usize::MAX - 10)),
         Unwritable(Some(usize::MAX - 10)),
     ];
-    assert_eq!(rt; items[0].encoded_length(), Some(usize::MAX));
-    assert_eq!(rt; SequenceOfWriter::new(&items).data_length(), None);
+    same(&rt, &items[0].encoded_length(), &Some(usize::MAX));
+    same(&rt, &SequenceOfWriter::new(&items).data_length(), &None);
 }

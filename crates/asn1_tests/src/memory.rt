@@ -6,6 +6,7 @@ ghost use Rattle.std.specs.Prelude.{◌≡◌};
 ghost use Rattle.asn1.specs.Buffer.{KeepsFront};
 
 use crate::lists::{at, refusal};
+use crate::same::{same, same_octets};
 use asn1::{
     Choice3, OwnedBigInt, ParseError, ParseErrorKind, SequenceOf, SequenceWriter, SetOf,
     WriteError, WriteResult, Writer, parse_single, strip_tlv, write,
@@ -34,11 +35,11 @@ fn is_next<A: Abort>(
 ) -> Result<(), ParseError> {
     match item {
         Some(Ok(item)) => {
-            assert_eq!(rt; *item, number);
+            same(rt, &*item, &number);
             return found;
         }
         item => {
-            assert_eq!(rt; found, Ok(()));
+            same(rt, &found, &Ok(()));
             assert!(rt; item == Some(Err(ParseError::new(NO_MEMORY))));
         }
     }
@@ -51,10 +52,10 @@ fn walks_go_on_behind_an_item_without_memory(rt: HostRuntime) -> Result<(), Fail
     let mut found = Ok(());
     for (number, left) in [(1, 2), (2, 1), (3, 0)] {
         found = is_next(&rt, list.next(), number, found);
-        assert_eq!(rt; list.len(), left);
+        same(&rt, &list.len(), &left);
     }
     assert!(rt; list.next().is_none());
-    assert_eq!(rt; list.len(), 0);
+    same(&rt, &list.len(), &0);
     let mut set = parse_single::<SetOf<'_, Box<u8>>>(rt.alloc(), SET)?;
     for number in 1..=3 {
         found = is_next(&rt, set.next(), number, found);
@@ -83,7 +84,7 @@ fn reading_names_the_item_without_memory(rt: HostRuntime) -> Result<(), Fail> {
             refusal(parse_single::<SetOf<'_, Item>>(rt.alloc(), octets))
         };
         if fault.is_some() {
-            assert_eq!(rt; fault, at(index, NO_MEMORY));
+            same(&rt, &fault, &at(index, NO_MEMORY));
             return Err(WriteError::AllocationError.into());
         }
     }
@@ -95,7 +96,7 @@ fn lists_of_owned_integers(rt: HostRuntime) -> Result<(), Fail> {
     let mut list = parse_single::<List<'_, OwnedBigInt>>(rt.alloc(), LIST)?;
     for number in 1..=3u8 {
         let item = list.next().ok_or("no item")??;
-        assert_eq!(rt; item.as_bytes(), [number].as_slice());
+        same_octets(&rt, item.as_bytes(), &[number]);
     }
     assert!(rt; list.next().is_none());
     Ok(())
@@ -119,6 +120,6 @@ fn an_element_without_memory_is_left_out(rt: HostRuntime) -> Result<(), Fail> {
     if sequence == [0x30u8, 3, 1, 1, 0xff].as_slice() {
         return Err(WriteError::AllocationError.into());
     }
-    assert_eq!(rt; sequence, [0x30u8, 6, 2, 1, 5, 1, 1, 0xff].as_slice());
+    same_octets(&rt, sequence, &[0x30u8, 6, 2, 1, 5, 1, 1, 0xff]);
     Ok(())
 }

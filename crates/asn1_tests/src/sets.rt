@@ -3,6 +3,7 @@
 ghost use Rattle.std.specs.Prelude.{◌≡◌};
 
 use crate::lists::{at, hash_of, is_written, refusal};
+use crate::same::{same, same_text};
 use asn1::{
     Explicit, Implicit, ParseError, ParseErrorKind, ParseResult, Parser, Set, SetElementWriter,
     SetOf, SetOfWriter, SetWriter, Tag, WriteResult, parse_single,
@@ -41,7 +42,7 @@ fn equal_sets(rt: HostRuntime) -> Result<(), Fail> {
     let no = parse_single::<SetOf<'_, bool>>(rt.alloc(), &[0x31, 0x03, 0x01, 0x01, 0x00])?;
     let yes = parse_single::<SetOf<'_, bool>>(rt.alloc(), &[0x31, 0x03, 0x01, 0x01, 0xff])?;
     assert!(rt; none == other && other != no && no == no.clone()? && no != yes);
-    assert_eq!(rt; hash_of(&none), hash_of(&other));
+    same(&rt, &hash_of(&none), &hash_of(&other));
     assert!(rt; hash_of(&other) != hash_of(&no) && hash_of(&no) != hash_of(&yes));
     Ok(())
 }
@@ -55,15 +56,19 @@ fn faults_of_sets(rt: HostRuntime) {
     ];
     for octets in unordered {
         let read = parse_single::<SetOf<'_, u64>>(alloc, octets);
-        assert_eq!(rt; refusal(read), at(1, ParseErrorKind::InvalidSetOrdering));
+        same(
+            &rt,
+            &refusal(read),
+            &at(1, ParseErrorKind::InvalidSetOrdering),
+        );
     }
     let other = parse_single::<SetOf<'_, u64>>(alloc, &[0x31, 0x03, 0x01, 0x01, 0xff]);
     let kind = ParseErrorKind::UnexpectedTag {
         actual: Tag::primitive(1),
     };
-    assert_eq!(rt; refusal(other), at(0, kind));
+    same(&rt, &refusal(other), &at(0, kind));
     let none = parse_single::<SetOf<'_, Option<u8>>>(alloc, &[0x31, 0x03, 0x01, 0x01, 0xff]);
-    assert_eq!(rt; refusal(none), at(0, ParseErrorKind::ExtraData));
+    same(&rt, &refusal(none), &at(0, ParseErrorKind::ExtraData));
 }
 
 /// The next item.
@@ -79,9 +84,9 @@ fn sets_whose_items_take_memory(rt: HostRuntime) -> Result<(), Fail> {
     let octets: &[u8] = &[0x31, 0x06, 0x02, 0x01, 0x01, 0x02, 0x01, 0x02];
     let mut set = parse_single::<SetOf<'_, Box<u8>>>(rt.alloc(), octets)?;
     is_written(&rt, rt.alloc(), &set, octets)?;
-    assert_eq!(rt; next_boxed(&mut set)?, Some(1));
-    assert_eq!(rt; next_boxed(&mut set)?, Some(2));
-    assert_eq!(rt; next_boxed(&mut set)?, None);
+    same(&rt, &next_boxed(&mut set)?, &Some(1));
+    same(&rt, &next_boxed(&mut set)?, &Some(2));
+    same(&rt, &next_boxed(&mut set)?, &None);
     Ok(())
 }
 
@@ -130,12 +135,17 @@ fn faults_of_sets_of_any_elements(rt: HostRuntime) {
     ];
     for octets in unordered {
         let read = parse_single::<Set<'_>>(alloc, octets);
-        assert_eq!(rt; refusal(read), at(1, ParseErrorKind::InvalidSetOrdering));
+        same(
+            &rt,
+            &refusal(read),
+            &at(1, ParseErrorKind::InvalidSetOrdering),
+        );
     }
     let short = parse_single::<Set<'_>>(alloc, &[0x31, 0x03, 0x02, 0x02, 0x05]);
-    assert_eq!(rt;
-        refusal(short),
-        at(0, ParseErrorKind::ShortData { needed: 1 })
+    same(
+        &rt,
+        &refusal(short),
+        &at(0, ParseErrorKind::ShortData { needed: 1 }),
     );
 }
 
@@ -143,15 +153,15 @@ fn faults_of_sets_of_any_elements(rt: HostRuntime) {
 fn parts_of_a_set(rt: HostRuntime) -> Result<(), Fail> {
     let octets: &[u8] = &[0x31, 0x06, 0x01, 0x01, 0xff, 0x02, 0x01, 0x05];
     let set = parse_single::<Set<'_>>(rt.alloc(), octets)?;
-    let same = set.clone()?;
-    assert!(rt; set == same && hash_of(&set) == hash_of(&same));
+    let copy = set.clone()?;
+    assert!(rt; set == copy && hash_of(&set) == hash_of(&copy));
     let parts = set.parse(
         rt.alloc(),
         |parser: &mut Parser<'_>| -> ParseResult<(bool, u8)> {
             Ok((parser.read_element::<bool>()?, parser.read_element::<u8>()?))
         },
     );
-    assert_eq!(rt; parts, Ok((true, 5)));
+    same(&rt, &parts, &Ok((true, 5)));
     Ok(())
 }
 
@@ -162,16 +172,21 @@ fn a_part_of_a_set_is_left(rt: HostRuntime) -> Result<(), Fail> {
         rt.alloc(),
         |parser: &mut Parser<'_>| parser.read_element::<bool>(),
     );
-    assert_eq!(rt; first, Err(ParseError::new(ParseErrorKind::ExtraData)));
+    same(
+        &rt,
+        &first,
+        &Err(ParseError::new(ParseErrorKind::ExtraData)),
+    );
     Ok(())
 }
 
 #[test]
 fn sets_are_shown(rt: HostRuntime) -> Result<(), Fail> {
     let none = parse_single::<Set<'_>>(rt.alloc(), &[0x31, 0x00])?;
-    assert_eq!(rt;
+    same_text(
+        &rt,
         format!(in rt.alloc(); "{none:?}")?.as_str(),
-        "Set { data: [] }"
+        "Set { data: [] }",
     );
     Ok(())
 }

@@ -2,6 +2,7 @@
 
 ghost use Rattle.std.specs.Prelude.{false};
 
+use crate::same::{same, same_octets};
 use asn1::{
     Asn1Readable, Asn1Writable, Choice1, Choice2, Choice3, DefaultValue, Defaulted,
     DefinedByMarker, Explicit, Implicit, ObjectIdentifier, OctetStringEncoded, ParseErrorKind,
@@ -40,8 +41,8 @@ fn both_ways<'a, A: Abort, T: Asn1Readable<'a> + Asn1Writable<Error = WriteError
     requires { T.der.closures (T.der.meaning value) }
 {
     let written = write_single(alloc, &value)?;
-    assert_eq!(rt; written.as_slice(), octets);
-    assert_eq!(rt; value.encoded_length(), Some(octets.len()));
+    same_octets(rt, written.as_slice(), octets);
+    same(rt, &value.encoded_length(), &Some(octets.len()));
     let read = parse_single::<T>(alloc, octets)?;
     assert!(rt; read == value);
     Ok(())
@@ -54,8 +55,8 @@ fn options(rt: HostRuntime) -> Result<(), Fail> {
     both_ways(&rt, alloc, Some(false), &[1, 1, 0])?;
     both_ways::<_, Option<bool>>(&rt, alloc, None, &[])?;
     let mut parser = Parser::new(alloc, &[5, 0]);
-    assert_eq!(rt; parser.read_element::<Option<bool>>()?, None);
-    assert_eq!(rt; parser.rest(), [5u8, 0].as_slice());
+    same(&rt, &parser.read_element::<Option<bool>>()?, &None);
+    same_octets(&rt, parser.rest(), &[5u8, 0]);
     Ok(())
 }
 
@@ -63,12 +64,12 @@ fn options(rt: HostRuntime) -> Result<(), Fail> {
 fn faults_of_options(rt: HostRuntime) {
     let alloc = rt.alloc();
     let faulty = refused::<Option<bool>>(alloc, &[1, 1, 1]);
-    assert_eq!(rt; faulty, Some(ParseErrorKind::InvalidValue));
+    same(&rt, &faulty, &Some(ParseErrorKind::InvalidValue));
     let extra = Some(ParseErrorKind::ExtraData);
-    assert_eq!(rt; refused::<Option<bool>>(alloc, &[0x1f]), extra);
-    assert_eq!(rt; refused::<Option<bool>>(alloc, &[5, 0]), extra);
+    same(&rt, &refused::<Option<bool>>(alloc, &[0x1f]), &extra);
+    same(&rt, &refused::<Option<bool>>(alloc, &[5, 0]), &extra);
     let short = refused::<Option<bool>>(alloc, &[1, 1]);
-    assert_eq!(rt; short, Some(ParseErrorKind::ShortData { needed: 1 }));
+    same(&rt, &short, &Some(ParseErrorKind::ShortData { needed: 1 }));
 }
 
 #[test]
@@ -99,19 +100,19 @@ fn explicit_tags(rt: HostRuntime) -> Result<(), Fail> {
 fn faults_of_explicit_tags(rt: HostRuntime) -> Result<(), Fail> {
     let alloc = rt.alloc();
     let rest = refused::<Explicit<bool, 0>>(alloc, &[0xa0, 4, 1, 1, 0xff, 0]);
-    assert_eq!(rt; rest, Some(ParseErrorKind::ExtraData));
+    same(&rt, &rest, &Some(ParseErrorKind::ExtraData));
     let primitive = refused::<Explicit<bool, 0>>(alloc, &[0x80, 3, 1, 1, 0xff]);
-    assert_eq!(rt; primitive, other_tag(Tag::from_bytes(&[0x80])?.0));
+    same(&rt, &primitive, &other_tag(Tag::from_bytes(&[0x80])?.0));
     Ok(())
 }
 
 #[test]
 fn values_in_explicit_tags(rt: HostRuntime) {
     let value = Explicit::<i32, 0>::new(12);
-    assert_eq!(rt; value.as_inner(), &12);
-    assert_eq!(rt; value.into_inner(), 12);
+    same(&rt, value.as_inner(), &12);
+    same(&rt, &value.into_inner(), &12);
     let value: Explicit<i32, 0> = 12.into();
-    assert_eq!(rt; value.into_inner(), 12);
+    same(&rt, &value.into_inner(), &12);
 }
 
 #[test]
@@ -128,22 +129,22 @@ fn implicit_tags_known_at_run_time(rt: HostRuntime) -> Result<(), Fail> {
     let octets = write(alloc, |writer: &mut Writer<'_>| {
         writer.write_implicit_element(&true, 2)
     })?;
-    assert_eq!(rt; octets.as_slice(), [0x82u8, 1, 0xff].as_slice());
+    same_octets(&rt, octets.as_slice(), &[0x82u8, 1, 0xff]);
     let octets = write(alloc, |writer: &mut Writer<'_>| {
         let nothing = |_writer: &mut Writer<'_>| -> WriteResult<()> { Ok(()) };
         writer.write_implicit_element(&SequenceWriter::new(&nothing), 2)
     })?;
-    assert_eq!(rt; octets.as_slice(), [0xa2u8, 0].as_slice());
+    same_octets(&rt, octets.as_slice(), &[0xa2u8, 0]);
     Ok(())
 }
 
 #[test]
 fn values_in_implicit_tags(rt: HostRuntime) {
     let value = Implicit::<i32, 0>::new(12);
-    assert_eq!(rt; value.as_inner(), &12);
-    assert_eq!(rt; value.into_inner(), 12);
+    same(&rt, value.as_inner(), &12);
+    same(&rt, &value.into_inner(), &12);
     let value: Implicit<i32, 0> = 12.into();
-    assert_eq!(rt; value.into_inner(), 12);
+    same(&rt, &value.into_inner(), &12);
 }
 
 #[test]
@@ -156,8 +157,8 @@ fn octet_strings_of_values(rt: HostRuntime) -> Result<(), Fail> {
         &[4, 3, 1, 1, 0xff],
     )?;
     both_ways(&rt, alloc, OctetStringEncoded::new(false), &[4, 3, 1, 1, 0])?;
-    assert_eq!(rt; OctetStringEncoded::new(12).get(), &12);
-    assert_eq!(rt; OctetStringEncoded::new(12).into_inner(), 12);
+    same(&rt, OctetStringEncoded::new(12).get(), &12);
+    same(&rt, &OctetStringEncoded::new(12).into_inner(), &12);
     Ok(())
 }
 
@@ -165,11 +166,11 @@ fn octet_strings_of_values(rt: HostRuntime) -> Result<(), Fail> {
 fn faults_of_octet_strings_of_values(rt: HostRuntime) {
     let alloc = rt.alloc();
     let bits = refused::<OctetStringEncoded<bool>>(alloc, &[3, 0]);
-    assert_eq!(rt; bits, other_tag(Tag::primitive(3)));
+    same(&rt, &bits, &other_tag(Tag::primitive(3)));
     let integer = refused::<OctetStringEncoded<bool>>(alloc, &[4, 2, 2, 0]);
-    assert_eq!(rt; integer, other_tag(Tag::primitive(2)));
+    same(&rt, &integer, &other_tag(Tag::primitive(2)));
     let rest = refused::<OctetStringEncoded<bool>>(alloc, &[4, 5, 1, 1, 0xff, 5, 0]);
-    assert_eq!(rt; rest, Some(ParseErrorKind::ExtraData));
+    same(&rt, &rest, &Some(ParseErrorKind::ExtraData));
 }
 
 type Three = Choice3<bool, i64, ()>;
@@ -196,14 +197,15 @@ fn choices(rt: HostRuntime) -> Result<(), Fail> {
 fn faults_of_choices(rt: HostRuntime) {
     let alloc = rt.alloc();
     let null = other_tag(Tag::primitive(5));
-    assert_eq!(rt; refused::<Choice1<bool>>(alloc, &[5, 0]), null);
+    same(&rt, &refused::<Choice1<bool>>(alloc, &[5, 0]), &null);
     assert_eq!(rt; refused::<Choice2<bool, i64>>(alloc, &[5, 0]), null);
-    assert_eq!(rt;
-        refused::<Three>(alloc, &[4, 0]),
-        other_tag(Tag::primitive(4))
+    same(
+        &rt,
+        &refused::<Three>(alloc, &[4, 0]),
+        &other_tag(Tag::primitive(4)),
     );
     let overflow = refused::<Choice2<u8, u64>>(alloc, &[2, 2, 1, 0]);
-    assert_eq!(rt; overflow, Some(ParseErrorKind::IntegerOverflow));
+    same(&rt, &overflow, &Some(ParseErrorKind::IntegerOverflow));
 }
 
 /// A truth value is false where it isn't there.
@@ -240,7 +242,7 @@ fn fields_with_a_default(rt: HostRuntime) -> Result<(), Fail> {
     let mut parser = Parser::new(alloc, &[5, 0]);
     let value = parser.read_element::<Critical>()?;
     assert!(rt; !value.into_inner());
-    assert_eq!(rt; parser.rest(), [5u8, 0].as_slice());
+    same_octets(&rt, parser.rest(), &[5u8, 0]);
     Ok(())
 }
 
@@ -248,11 +250,11 @@ fn fields_with_a_default(rt: HostRuntime) -> Result<(), Fail> {
 fn faults_of_fields_with_a_default(rt: HostRuntime) {
     let alloc = rt.alloc();
     let default = refused::<Critical>(alloc, &[1, 1, 0]);
-    assert_eq!(rt; default, Some(ParseErrorKind::EncodedDefault));
+    same(&rt, &default, &Some(ParseErrorKind::EncodedDefault));
     let faulty = refused::<Critical>(alloc, &[1, 1, 1]);
-    assert_eq!(rt; faulty, Some(ParseErrorKind::InvalidValue));
+    same(&rt, &faulty, &Some(ParseErrorKind::InvalidValue));
     let short = refused::<Critical>(alloc, &[1, 1]);
-    assert_eq!(rt; short, Some(ParseErrorKind::ShortData { needed: 1 }));
+    same(&rt, &short, &Some(ParseErrorKind::ShortData { needed: 1 }));
 }
 
 #[test]
@@ -267,20 +269,24 @@ fn tagged_fields_with_a_default(rt: HostRuntime) -> Result<(), Fail> {
     )?;
     both_ways(&rt, alloc, Version::new(Explicit::new(1)), &[])?;
     let default = refused::<Version>(alloc, &[0xa0, 3, 2, 1, 1]);
-    assert_eq!(rt; default, Some(ParseErrorKind::EncodedDefault));
+    same(&rt, &default, &Some(ParseErrorKind::EncodedDefault));
     let value: Version = Explicit::new(3).into();
-    assert_eq!(rt; value.as_inner().as_inner(), &3);
+    same(&rt, value.as_inner().as_inner(), &3);
     Ok(())
 }
 
 #[test]
 fn defaults(rt: HostRuntime) {
     let default = from_optional_default(Some(3u8), 3);
-    assert_eq!(rt; refusal(default), Some(ParseErrorKind::EncodedDefault));
+    same(
+        &rt,
+        &refusal(default),
+        &Some(ParseErrorKind::EncodedDefault),
+    );
     assert!(rt; matches!(from_optional_default(None, 3u8), Ok(3)));
     assert!(rt; matches!(from_optional_default(Some(4u8), 3), Ok(4)));
-    assert_eq!(rt; to_optional_default(&3u8, &3), None);
-    assert_eq!(rt; to_optional_default(&4u8, &3), Some(&4));
+    same(&rt, &to_optional_default(&3u8, &3), &None);
+    same(&rt, &to_optional_default(&4u8, &3), &Some(&4));
 }
 
 #[test]
