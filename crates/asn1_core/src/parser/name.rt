@@ -67,7 +67,7 @@ unsafe impl Sync for Name {}
 
 impl Name {
     /// Keeps the name. No memory is taken.
-    pub(super) fn new(text: &'static str) -> Name
+    pub fn new(text: &'static str) -> Name
         ensures { result ≡ text.now }
     {
         let octets = text.as_bytes();
@@ -80,7 +80,7 @@ impl Name {
     }
 
     /// The name as a text.
-    pub(super) fn as_str(&self) -> &str
+    pub fn as_str(&self) -> &str
         ensures { result.now ≡ self.now }
     {
         unsafe { str::from_utf8_unchecked(self.lasting.read(self.start, self.count)) }
