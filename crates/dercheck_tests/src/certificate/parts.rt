@@ -1,45 +1,33 @@
 //! The parts of a certificate (RFC 5280, 4.1.1.2 to 4.1.2.9).
 
-ghost use Rattle.std.specs.Prelude.{◌≡◌, ◌∷◌, [], codes};
-ghost use Rattle.asn1.specs.BitStrings.{bits_of};
+ghost use Rattle.std.specs.Prelude.{◌≡◌, ◌∷◌, [], codes, false};
 ghost use Rattle.asn1.specs.Reading.{Answers};
 ghost use Rattle.asn1.specs.Der.{seen, simple_der};
 ghost use Rattle.asn1.specs.Items.{sequence_tag};
 ghost use Rattle.asn1.specs.Fields.{sequence};
 ghost use Rattle.asn1.specs.FieldLists.{name_from};
-ghost use Rattle.asn1.specs.IdentifierValues.{identifier_of};
-ghost use Rattle.asn1.specs.Options.{option_meaning};
-ghost use Rattle.asn1.specs.Tlv.{element_of};
 
 use asn1::fields::{Field, FieldNames, Last, Row, RowReadable, RowWritable};
 use asn1::{
-    Asn1Type, Asn1Writable, BitString, ObjectIdentifier, ParseResult, Parser, SequenceOf, SetOf,
-    SimpleAsn1Readable, SimpleAsn1Writable, Tag, Tlv, WriteBuf, WriteError, WriteResult, Writer,
+    Asn1Type, BitString, DefaultValue, Defaulted, ObjectIdentifier, ParseResult, Parser,
+    SequenceOf, SetOf, SimpleAsn1Readable, SimpleAsn1Writable, Tag, Tlv, WriteBuf, WriteError,
+    WriteResult, Writer,
 };
 use dercheck::own_types::time::Time;
 use std::alloc::Global;
 
-/// The value of a field, and the fields behind it.
-pub fn split<N, const I: usize, A, R>(field: Field<N, I, A, R>) -> (A, R)
-    ensures { result ≡ (field.value, field.rest) }
-{
-    let Field { value, rest, .. } = field;
-    (value, rest)
-}
+type AlgorithmRow<'a> = Field<
+    AlgorithmNames,
+    0,
+    ObjectIdentifier,
+    Last<AlgorithmNames, 1, Option<Tlv<'a>>>,
+>;
 
 /// An algorithm, and its parameters, if there are any: one element of any type.
 #[derive(Drop)]
 pub struct AlgorithmIdentifier<'a> {
-    pub algorithm: ObjectIdentifier,
-    pub parameters: Option<Tlv<'a>>,
+    row: AlgorithmRow<'a>,
 }
-
-/// The fields. One that isn't `Copy` is read by value and written by reference.
-type AlgorithmRow<'a, A> = Field<AlgorithmNames, 0, A, Last<AlgorithmNames, 1, Option<Tlv<'a>>>>;
-
-type AlgorithmRead<'a> = AlgorithmRow<'a, ObjectIdentifier>;
-
-type AlgorithmWritten<'a, 'r> = AlgorithmRow<'a, &'r ObjectIdentifier>;
 
 struct AlgorithmNames;
 
@@ -55,19 +43,26 @@ impl FieldNames for AlgorithmNames {
 }
 
 impl<'a> AlgorithmIdentifier<'a> {
-    fn fields(&self) -> AlgorithmWritten<'a, '_>
-        ensures { ⟦<AlgorithmWritten<'a, 'static> as Row>⟧.list.meaning result ≡ ⟦<AlgorithmIdentifier<'a> as Asn1Type>⟧.der.meaning self.now }
+    /// The algorithm.
+    pub fn algorithm(&self) -> &ObjectIdentifier
+        ensures { result.now ≡ self.now.row.value }
     {
-        Field::new(&self.algorithm, Last::new(self.parameters))
+        &self.row.value
+    }
+
+    /// Its parameters.
+    pub fn parameters(&self) -> Option<Tlv<'a>>
+        ensures { result ≡ self.now.row.rest.value }
+    {
+        self.row.rest.value
     }
 }
 
 impl<'a> Asn1Type for AlgorithmIdentifier<'a> {
-    ghost der = { simple_der (λ v. (identifier_of v.algorithm, option_meaning element_of v.parameters)) (sequence ⟦<AlgorithmRead<'a> as Row>⟧.list.fields) };
+    ghost der = { simple_der (λ v. ⟦<AlgorithmRow<'a> as Row>⟧.list.meaning v.row) (sequence ⟦<AlgorithmRow<'a> as Row>⟧.list.fields) };
 
     fn known(&self) {
-        self.algorithm.known();
-        self.parameters.known();
+        self.row.known_row()
     }
 }
 
@@ -83,14 +78,8 @@ impl<'a> SimpleAsn1Readable<'a> for AlgorithmIdentifier<'a> {
     fn parse_data(alloc: Global, data: &'a [u8]) -> ParseResult<AlgorithmIdentifier<'a>>
         ensures { Answers ⟦<AlgorithmIdentifier<'a> as Asn1Type>⟧.der.meaning (⟦<AlgorithmIdentifier<'a> as Asn1Type>⟧.der.content.runs_out «data».entry.now) result (⟦<AlgorithmIdentifier<'a> as Asn1Type>⟧.der.content.read «data».entry.now) }
     {
-        match <AlgorithmRead<'a>>::read(Parser::new(alloc, data)) {
-            Ok(row) => {
-                let (algorithm, rest) = split(row);
-                Ok(AlgorithmIdentifier {
-                    algorithm,
-                    parameters: rest.value,
-                })
-            }
+        match <AlgorithmRow<'a>>::read(Parser::new(alloc, data)) {
+            Ok(row) => Ok(AlgorithmIdentifier { row }),
             Err(error) => Err(error),
         }
     }
@@ -109,27 +98,26 @@ impl<'a> SimpleAsn1Writable for AlgorithmIdentifier<'a> {
     }
 
     fn write_data(&self, dest: &mut WriteBuf) -> WriteResult<()> {
-        self.fields().write(&mut Writer::new(dest))
+        self.row.write(&mut Writer::new(dest))
     }
 
     fn data_length(&self) -> Option<usize> {
-        self.fields().length()
+        self.row.length()
     }
 }
+
+type AttributeRow<'a> = Field<
+    AttributeNames,
+    0,
+    ObjectIdentifier,
+    Last<AttributeNames, 1, Tlv<'a>>,
+>;
 
 /// A part of a name: its type, and a value, one element of any type.
 #[derive(Drop)]
 pub struct Attribute<'a> {
-    pub kind: ObjectIdentifier,
-    pub value: Tlv<'a>,
+    row: AttributeRow<'a>,
 }
-
-/// The fields. One that isn't `Copy` is read by value and written by reference.
-type AttributeRow<'a, A> = Field<AttributeNames, 0, A, Last<AttributeNames, 1, Tlv<'a>>>;
-
-type AttributeRead<'a> = AttributeRow<'a, ObjectIdentifier>;
-
-type AttributeWritten<'a, 'r> = AttributeRow<'a, &'r ObjectIdentifier>;
 
 struct AttributeNames;
 
@@ -145,19 +133,26 @@ impl FieldNames for AttributeNames {
 }
 
 impl<'a> Attribute<'a> {
-    fn fields(&self) -> AttributeWritten<'a, '_>
-        ensures { ⟦<AttributeWritten<'a, 'static> as Row>⟧.list.meaning result ≡ ⟦<Attribute<'a> as Asn1Type>⟧.der.meaning self.now }
+    /// Its type.
+    pub fn kind(&self) -> &ObjectIdentifier
+        ensures { result.now ≡ self.now.row.value }
     {
-        Field::new(&self.kind, Last::new(self.value))
+        &self.row.value
+    }
+
+    /// Its value.
+    pub fn value(&self) -> Tlv<'a>
+        ensures { result ≡ self.now.row.rest.value }
+    {
+        self.row.rest.value
     }
 }
 
 impl<'a> Asn1Type for Attribute<'a> {
-    ghost der = { simple_der (λ v. (identifier_of v.kind, element_of v.value)) (sequence ⟦<AttributeRead<'a> as Row>⟧.list.fields) };
+    ghost der = { simple_der (λ v. ⟦<AttributeRow<'a> as Row>⟧.list.meaning v.row) (sequence ⟦<AttributeRow<'a> as Row>⟧.list.fields) };
 
     fn known(&self) {
-        self.kind.known();
-        self.value.known();
+        self.row.known_row()
     }
 }
 
@@ -173,14 +168,8 @@ impl<'a> SimpleAsn1Readable<'a> for Attribute<'a> {
     fn parse_data(alloc: Global, data: &'a [u8]) -> ParseResult<Attribute<'a>>
         ensures { Answers ⟦<Attribute<'a> as Asn1Type>⟧.der.meaning (⟦<Attribute<'a> as Asn1Type>⟧.der.content.runs_out «data».entry.now) result (⟦<Attribute<'a> as Asn1Type>⟧.der.content.read «data».entry.now) }
     {
-        match <AttributeRead<'a>>::read(Parser::new(alloc, data)) {
-            Ok(row) => {
-                let (kind, rest) = split(row);
-                Ok(Attribute {
-                    kind,
-                    value: rest.value,
-                })
-            }
+        match <AttributeRow<'a>>::read(Parser::new(alloc, data)) {
+            Ok(row) => Ok(Attribute { row }),
             Err(error) => Err(error),
         }
     }
@@ -199,11 +188,11 @@ impl<'a> SimpleAsn1Writable for Attribute<'a> {
     }
 
     fn write_data(&self, dest: &mut WriteBuf) -> WriteResult<()> {
-        self.fields().write(&mut Writer::new(dest))
+        self.row.write(&mut Writer::new(dest))
     }
 
     fn data_length(&self) -> Option<usize> {
-        self.fields().length()
+        self.row.length()
     }
 }
 
@@ -337,19 +326,13 @@ impl SimpleAsn1Writable for Validity {
     }
 }
 
+type KeyRow<'a> = Field<KeyNames, 0, AlgorithmIdentifier<'a>, Last<KeyNames, 1, BitString<'a>>>;
+
 /// A key, and the algorithm that it is for.
 #[derive(Drop)]
 pub struct SubjectPublicKeyInfo<'a> {
-    pub algorithm: AlgorithmIdentifier<'a>,
-    pub key: BitString<'a>,
+    row: KeyRow<'a>,
 }
-
-/// The fields. One that isn't `Copy` is read by value and written by reference.
-type KeyRow<'a, A, B> = Field<KeyNames, 0, A, Last<KeyNames, 1, B>>;
-
-type KeyRead<'a> = KeyRow<'a, AlgorithmIdentifier<'a>, BitString<'a>>;
-
-type KeyWritten<'a, 'r> = KeyRow<'a, &'r AlgorithmIdentifier<'a>, &'r BitString<'a>>;
 
 struct KeyNames;
 
@@ -365,19 +348,26 @@ impl FieldNames for KeyNames {
 }
 
 impl<'a> SubjectPublicKeyInfo<'a> {
-    fn fields(&self) -> KeyWritten<'a, '_>
-        ensures { ⟦<KeyWritten<'a, 'static> as Row>⟧.list.meaning result ≡ ⟦<SubjectPublicKeyInfo<'a> as Asn1Type>⟧.der.meaning self.now }
+    /// The algorithm.
+    pub fn algorithm(&self) -> &AlgorithmIdentifier<'a>
+        ensures { result.now ≡ self.now.row.value }
     {
-        Field::new(&self.algorithm, Last::new(&self.key))
+        &self.row.value
+    }
+
+    /// The key.
+    pub fn key(&self) -> &BitString<'a>
+        ensures { result.now ≡ self.now.row.rest.value }
+    {
+        &self.row.rest.value
     }
 }
 
 impl<'a> Asn1Type for SubjectPublicKeyInfo<'a> {
-    ghost der = { simple_der (λ v. (⟦<AlgorithmIdentifier<'a> as Asn1Type>⟧.der.meaning v.algorithm, bits_of v.key)) (sequence ⟦<KeyRead<'a> as Row>⟧.list.fields) };
+    ghost der = { simple_der (λ v. ⟦<KeyRow<'a> as Row>⟧.list.meaning v.row) (sequence ⟦<KeyRow<'a> as Row>⟧.list.fields) };
 
     fn known(&self) {
-        self.algorithm.known();
-        self.key.known();
+        self.row.known_row()
     }
 }
 
@@ -393,14 +383,8 @@ impl<'a> SimpleAsn1Readable<'a> for SubjectPublicKeyInfo<'a> {
     fn parse_data(alloc: Global, data: &'a [u8]) -> ParseResult<SubjectPublicKeyInfo<'a>>
         ensures { Answers ⟦<SubjectPublicKeyInfo<'a> as Asn1Type>⟧.der.meaning (⟦<SubjectPublicKeyInfo<'a> as Asn1Type>⟧.der.content.runs_out «data».entry.now) result (⟦<SubjectPublicKeyInfo<'a> as Asn1Type>⟧.der.content.read «data».entry.now) }
     {
-        match <KeyRead<'a>>::read(Parser::new(alloc, data)) {
-            Ok(row) => {
-                let (algorithm, rest) = split(row);
-                Ok(SubjectPublicKeyInfo {
-                    algorithm,
-                    key: rest.value,
-                })
-            }
+        match <KeyRow<'a>>::read(Parser::new(alloc, data)) {
+            Ok(row) => Ok(SubjectPublicKeyInfo { row }),
             Err(error) => Err(error),
         }
     }
@@ -419,33 +403,38 @@ impl<'a> SimpleAsn1Writable for SubjectPublicKeyInfo<'a> {
     }
 
     fn write_data(&self, dest: &mut WriteBuf) -> WriteResult<()> {
-        self.fields().write(&mut Writer::new(dest))
+        self.row.write(&mut Writer::new(dest))
     }
 
     fn data_length(&self) -> Option<usize> {
-        self.fields().length()
+        self.row.length()
     }
 }
+
+/// An extension that says nothing of it isn't critical.
+#[derive(Drop)]
+pub struct NotCritical;
+
+impl DefaultValue<bool> for NotCritical {
+    ghost default = { false };
+
+    fn value() -> bool {
+        false
+    }
+}
+
+type ExtensionRow<'a> = Field<
+    ExtensionNames,
+    0,
+    ObjectIdentifier,
+    Field<ExtensionNames, 1, Defaulted<bool, NotCritical>, Last<ExtensionNames, 2, &'a [u8]>>,
+>;
 
 /// An extension: its type, whether who doesn't know it has to refuse the certificate, and its value.
 #[derive(Drop)]
 pub struct Extension<'a> {
-    pub id: ObjectIdentifier,
-    pub critical: Option<bool>,
-    pub value: &'a [u8],
+    row: ExtensionRow<'a>,
 }
-
-/// The fields. One that isn't `Copy` is read by value and written by reference.
-type ExtensionRow<'a, A> = Field<
-    ExtensionNames,
-    0,
-    A,
-    Field<ExtensionNames, 1, Option<bool>, Last<ExtensionNames, 2, &'a [u8]>>,
->;
-
-type ExtensionRead<'a> = ExtensionRow<'a, ObjectIdentifier>;
-
-type ExtensionWritten<'a, 'r> = ExtensionRow<'a, &'r ObjectIdentifier>;
 
 struct ExtensionNames;
 
@@ -462,22 +451,33 @@ impl FieldNames for ExtensionNames {
 }
 
 impl<'a> Extension<'a> {
-    fn fields(&self) -> ExtensionWritten<'a, '_>
-        ensures { ⟦<ExtensionWritten<'a, 'static> as Row>⟧.list.meaning result ≡ ⟦<Extension<'a> as Asn1Type>⟧.der.meaning self.now }
+    /// Its type.
+    pub fn id(&self) -> &ObjectIdentifier
+        ensures { result.now ≡ self.now.row.value }
     {
-        let fields = Last::new(self.value);
-        let fields = Field::new(self.critical, fields);
-        Field::new(&self.id, fields)
+        &self.row.value
+    }
+
+    /// Whether who doesn't know it has to refuse the certificate.
+    pub fn critical(&self) -> bool
+        ensures { result ≡ self.now.row.rest.value.inner }
+    {
+        *self.row.rest.value.as_inner()
+    }
+
+    /// Its value.
+    pub fn value(&self) -> &'a [u8]
+        ensures { result ≡ self.now.row.rest.rest.value }
+    {
+        self.row.rest.rest.value
     }
 }
 
 impl<'a> Asn1Type for Extension<'a> {
-    ghost der = { simple_der (λ v. (identifier_of v.id, (v.critical, v.value.now))) (sequence ⟦<ExtensionRead<'a> as Row>⟧.list.fields) };
+    ghost der = { simple_der (λ v. ⟦<ExtensionRow<'a> as Row>⟧.list.meaning v.row) (sequence ⟦<ExtensionRow<'a> as Row>⟧.list.fields) };
 
     fn known(&self) {
-        self.id.known();
-        self.critical.known();
-        self.value.known();
+        self.row.known_row()
     }
 }
 
@@ -493,16 +493,8 @@ impl<'a> SimpleAsn1Readable<'a> for Extension<'a> {
     fn parse_data(alloc: Global, data: &'a [u8]) -> ParseResult<Extension<'a>>
         ensures { Answers ⟦<Extension<'a> as Asn1Type>⟧.der.meaning (⟦<Extension<'a> as Asn1Type>⟧.der.content.runs_out «data».entry.now) result (⟦<Extension<'a> as Asn1Type>⟧.der.content.read «data».entry.now) }
     {
-        match <ExtensionRead<'a>>::read(Parser::new(alloc, data)) {
-            Ok(row) => {
-                let (id, rest) = split(row);
-                let (critical, rest) = split(rest);
-                Ok(Extension {
-                    id,
-                    critical,
-                    value: rest.value,
-                })
-            }
+        match <ExtensionRow<'a>>::read(Parser::new(alloc, data)) {
+            Ok(row) => Ok(Extension { row }),
             Err(error) => Err(error),
         }
     }
@@ -521,11 +513,11 @@ impl<'a> SimpleAsn1Writable for Extension<'a> {
     }
 
     fn write_data(&self, dest: &mut WriteBuf) -> WriteResult<()> {
-        self.fields().write(&mut Writer::new(dest))
+        self.row.write(&mut Writer::new(dest))
     }
 
     fn data_length(&self) -> Option<usize> {
-        self.fields().length()
+        self.row.length()
     }
 }
 

@@ -1,12 +1,11 @@
 //! Certificates (RFC 5280, 4.1): real ones are read, looked at, and written back.
 
-use crate::certificate::parts::{
-    AlgorithmIdentifier, Attribute, Extension, Extensions, Name, SubjectPublicKeyInfo, Validity,
-};
-use crate::certificate::whole::{Certificate, TbsCertificate};
+use crate::certificate::parts::{AlgorithmIdentifier, Attribute, Extension, Extensions, Name};
+use crate::certificate::whole::Certificate;
+use crate::tests::own_types::refused;
 use asn1::{
-    Asn1Readable, Asn1Type, Asn1Writable, DateTime, Explicit, SetOf, Tag, WriteError,
-    from_optional_default, parse_single, write_single,
+    Asn1Readable, Asn1Writable, DateTime, Explicit, ParseError, ParseErrorKind, ParseLocation,
+    SetOf, Tag, WriteError, parse_single, write_single,
 };
 use dercheck::own_types::time::Time;
 use std::alloc::Global;
@@ -114,8 +113,8 @@ fn set_text<'a>(alloc: Global, set: SetOf<'a, Attribute<'a>>) -> Result<String, 
     let mut text = String::new(alloc);
     for attribute in set {
         let attribute = attribute?;
-        let value = str::from_utf8(attribute.value.data())?;
-        let part = format!(in alloc; " {}={value}", attribute.kind)?;
+        let value = str::from_utf8(attribute.value().data())?;
+        let part = format!(in alloc; " {}={value}", attribute.kind())?;
         text.push_str(part.as_str())?;
     }
     Ok(text)
@@ -142,10 +141,13 @@ fn extensions_text(
     };
     for extension in extensions.as_inner().0.clone()? {
         let extension = extension?;
-        let critical = from_optional_default(extension.critical, false)?;
-        let mark = if critical { " critical" } else { "" };
-        let value = hex::encode(alloc, extension.value)?;
-        let part = format!(in alloc; "{}{mark} {value};", extension.id)?;
+        let mark = if extension.critical() {
+            " critical"
+        } else {
+            ""
+        };
+        let value = hex::encode(alloc, extension.value())?;
+        let part = format!(in alloc; "{}{mark} {value};", extension.id())?;
         text.push_str(part.as_str())?;
     }
     Ok(text)
@@ -167,9 +169,9 @@ fn is_algorithm<A: Abort>(
     identifier: &str,
     parameters: Option<&[u8]>,
 ) -> Result<(), Fail> {
-    let shown = format!(in alloc; "{}", algorithm.algorithm)?;
+    let shown = format!(in alloc; "{}", algorithm.algorithm())?;
     assert_eq!(rt; shown.as_str(), identifier);
-    match algorithm.parameters {
+    match algorithm.parameters() {
         Some(element) => assert_eq!(rt; Some(element.full_data()), parameters),
         None => assert!(rt; parameters.is_none()),
     }
@@ -211,11 +213,11 @@ fn a_key_of_rsa(rt: HostRuntime) -> Result<(), Fail> {
     is_algorithm(
         &rt,
         alloc,
-        &read.key().algorithm,
+        read.key().algorithm(),
         "1.2.840.113549.1.1.1",
         Some(&[5, 0]),
     )?;
-    assert_eq!(rt; read.key().key.as_bytes().len(), 270);
+    assert_eq!(rt; read.key().key().as_bytes().len(), 270);
     assert!(rt; read.issuer_id().is_none());
     assert!(rt; read.subject_id().is_none());
     let extensions = extensions_text(alloc, read.extensions())?;
@@ -256,11 +258,11 @@ fn a_key_on_a_curve(rt: HostRuntime) -> Result<(), Fail> {
     is_algorithm(
         &rt,
         alloc,
-        &read.key().algorithm,
+        read.key().algorithm(),
         "1.2.840.10045.2.1",
         Some(b"\x06\x08\x2a\x86\x48\xce\x3d\x03\x01\x07"),
     )?;
-    assert_eq!(rt; read.key().key.as_bytes().len(), 65);
+    assert_eq!(rt; read.key().key().as_bytes().len(), 65);
     let extensions = extensions_text(alloc, read.extensions())?;
     assert_eq!(rt; extensions.as_str(), CURVE_EXTENSIONS);
     is_algorithm(
@@ -271,5 +273,19 @@ fn a_key_on_a_curve(rt: HostRuntime) -> Result<(), Fail> {
         None,
     )?;
     assert_eq!(rt; certificate.signature().as_bytes().len(), 70);
+    Ok(())
+}
+
+#[test]
+fn extensions_say_no_default(rt: HostRuntime) -> Result<(), Fail> {
+    let alloc = rt.alloc();
+    let silent: &[u8] = &[0x30, 7, 6, 3, 0x55, 0x1d, 0x13, 4, 0];
+    let extension = parse_single::<Extension<'_>>(alloc, silent)?;
+    assert!(rt; !extension.critical());
+    let says_so: &[u8] = &[0x30, 10, 6, 3, 0x55, 0x1d, 0x13, 1, 1, 0, 4, 0];
+    let fault = refused::<Extension<'_>>(alloc, says_so);
+    let encoded = ParseError::new(ParseErrorKind::EncodedDefault);
+    let place = ParseLocation::Field("Extension::critical");
+    assert_eq!(rt; fault, Some(encoded.add_location(place)));
     Ok(())
 }
