@@ -1,4 +1,4 @@
-//! What `Debug` shows: the names and fields of the original.
+//! What `Debug` shows: the names and fields of the original; and that errors may go to other threads.
 
 use asn1_core::parser::{ParseError, ParseErrorKind, ParseLocation, strip_tlv};
 use asn1_core::tag::{Tag, TagClass, explicit_tag};
@@ -103,4 +103,16 @@ fn tags_and_elements_are_shown(rt: HostRuntime) -> Result<(), Fail> {
         &tlv,
         "Tlv { tag: Tag { value: 1, constructed: false, class: Universal }, data: [255], full_data: [1, 1, 255] }",
     )
+}
+
+/// Hands the value on, which another thread may take over or see.
+fn across_threads<T: Send + Sync>(value: T) -> T {
+    value
+}
+
+#[test]
+fn errors_go_to_other_threads(rt: HostRuntime) {
+    let error = ParseError::new(ParseErrorKind::ExtraData);
+    let error = across_threads(error.add_location(ParseLocation::Field("Signature::r")));
+    assert_eq!(rt; error.kind(), ParseErrorKind::ExtraData);
 }
