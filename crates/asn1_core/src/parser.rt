@@ -540,7 +540,7 @@ pub fn parse<'a, T: Drop, E: From<ParseError> + Drop, F: FnOnce(&mut Parser<'a>)
 ///
 /// A value is answered exactly where the octets are the value's one text. Every other text is refused with the type's
 /// first fault.
-#[inline]
+#[inline(always)]
 pub fn parse_single<'a, T: Asn1Readable<'a>>(alloc: Global, data: &'a [u8]) -> ParseResult<T>
     ensures exact { Answers T.der.meaning (T.der.runs_out «data».entry.now) result (whole (T.der.read «data».entry.now)) }
 
@@ -558,7 +558,7 @@ pub fn parse_single<'a, T: Asn1Readable<'a>>(alloc: Global, data: &'a [u8]) -> P
 }
 
 /// Reads one value and nothing behind it.
-#[inline]
+#[inline(always)]
 fn read_single<'a, T: Asn1Readable<'a>>(alloc: Global, data: &'a [u8]) -> ParseResult<T>
     ensures { Answers T.der.meaning (T.der.runs_out «data».entry.now) result (whole (T.der.read «data».entry.now)) }
 {

@@ -199,7 +199,7 @@ fn behind_element<'a>(alloc: Global, content: &'a [u8]) -> &'a [u8]
 }
 
 /// Reads the first of the items. The parser then stands behind it, also where memory ran out for it.
-#[inline]
+#[inline(always)]
 fn read_first<'a, T: Asn1Readable<'a>>(parser: &mut Parser<'a>, count: usize) -> ParseResult<T>
     requires some { 0 < length parser.now }
     requires are_items { AreItems T.der.read parser.now count }

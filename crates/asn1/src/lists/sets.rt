@@ -33,7 +33,7 @@ use std::marker::PhantomData;
 
 /// Reads the element at an index, which stands behind one with the text `before`: framing, then its place in the order,
 /// then the item, which its whole text is. Answers the item and that text.
-#[inline]
+#[inline(always)]
 fn read_in_order<'a, T: Asn1Readable<'a>>(
     parser: &mut Parser<'a>,
     before: &'a [u8],
@@ -284,7 +284,7 @@ impl<'a, T: Asn1Readable<'a>> SimpleAsn1Readable<'a> for SetOf<'a, T> {
 }
 
 /// Reads the first of the items. The parser then stands behind it, also where memory ran out for it.
-#[inline]
+#[inline(always)]
 fn read_first<'a, T: Asn1Readable<'a>>(parser: &mut Parser<'a>) -> ParseResult<T>
     requires some { 0 < length parser.now }
     requires are_ordered { AreOrdered text_less T.der.read parser.now }
