@@ -212,8 +212,24 @@ impl WriteBuf {
         Ok(())
     }
 
-    /// Appends the text of a length. One of one octet, as most are, takes no array.
+    /// Appends octets one after another, which for a few takes less time than to copy them together. `AllocationError`
+    /// where there is no room and no memory.
     #[inline]
+    pub(crate) fn push_each(&mut self, octets: &[u8]) -> WriteResult<()>
+        ensures ok { OnOk result (self.new.bytes ≡ self.old.bytes ++ octets.now) }
+        ensures err { OnErr result (self.new ≡ self.old) }
+        ensures error { IsOkUnless result WriteError.AllocationError }
+    {
+        self.octets.try_reserve(octets.len())?;
+        for octet in octets {
+            // There is room now, so each push succeeds.
+            let _pushed = self.octets.push(*octet);
+        }
+        Ok(())
+    }
+
+    /// Appends the text of a length. One of one octet, as most are, takes no array.
+    #[inline(always)]
     fn push_length(&mut self, n: usize) -> WriteResult<()>
         ensures ok { OnOk result (self.new.bytes ≡ self.old.bytes ++ length_text n) }
         ensures err { OnErr result (self.new ≡ self.old) }

@@ -143,7 +143,7 @@ pub(crate) fn write(number: i128, dest: &mut WriteBuf) -> WriteResult<()>
     ensures err { OnErr result (dest.new ≡ dest.old) }
     ensures error { IsOkUnless result WriteError.AllocationError }
 {
-    dest.push_slice(IntegerText::new(number).octets())
+    dest.push_each(IntegerText::new(number).octets())
 }
 
 /// How many octets the content of the number has: its bits and one for the sign.
