@@ -4,13 +4,13 @@ use Rattle.std.proofs.lemmas.Bool.{lt-ltb, le-ltb, eq-eqb, ne_eqb, cases_lt, cas
 use Rattle.asn1_core.specs.Order.{IsLess, text_less, OrderIsAnswered}
 
 -- a step of the test
-less_below : (x y : ℕ) (xs ys : List ℕ) → x < y → text_less (x ∷ xs) (y ∷ ys) ≡ true
+pub less_below : (x y : ℕ) (xs ys : List ℕ) → x < y → text_less (x ∷ xs) (y ∷ ys) ≡ true
 less_below x y xs ys l = rw (lt-ltb x y l) refl
 
-less_same : (x y : ℕ) (xs ys : List ℕ) → x ≡ y → text_less (x ∷ xs) (y ∷ ys) ≡ text_less xs ys
+pub less_same : (x y : ℕ) (xs ys : List ℕ) → x ≡ y → text_less (x ∷ xs) (y ∷ ys) ≡ text_less xs ys
 less_same x y xs ys e = rw (le-ltb x y (omega arith), eq-eqb x y e) refl
 
-less_above : (x y : ℕ) (xs ys : List ℕ) → y < x → text_less (x ∷ xs) (y ∷ ys) ≡ false
+pub less_above : (x y : ℕ) (xs ys : List ℕ) → y < x → text_less (x ∷ xs) (y ∷ ys) ≡ false
 less_above x y xs ys l = rw (le-ltb x y (omega arith), ne_eqb x y (λ (e : x ≡ y). omega arith)) refl
 
 more_in_front : (x y : ℕ) (xs ys : List ℕ) → x ≡ y → IsLess xs ys → IsLess (x ∷ xs) (y ∷ ys)

@@ -433,7 +433,7 @@ pub(crate) fn kind_as_error<T: Drop>(answer: Result<T, ParseErrorKind>) -> Parse
 
 /// The number of the octets, the most significant first.
 #[inline]
-fn number_in(octets: &[u8]) -> usize
+pub(crate) fn number_in(octets: &[u8]) -> usize
     requires { length octets.now ≤ 8 }
     ensures { result ≡ number octets.now }
 {

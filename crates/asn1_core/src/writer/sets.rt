@@ -9,21 +9,37 @@ ghost use Rattle.asn1_core.specs.Items.{Each, AnyNames, set_tag};
 ghost use Rattle.asn1_core.specs.Listing.{join, ListingOf};
 ghost use Rattle.asn1_core.specs.SetWriting.{StandsBehind, AddsTo, IsOutOfOrder, SetContent, MayRefuseSet, set_closure_written};
 ghost use Rattle.asn1_core.specs.TagOrder.{tag_in_front, before_tag};
-ghost use Rattle.asn1_core.specs.Spans.{part_of, IsBefore, IsWithin, NotesTexts};
+ghost use Rattle.asn1_core.specs.Spans.{part_of, first_number, span_cmp, IsBefore, IsWithin, NotesFirst, NotesTexts};
 ghost use Rattle.asn1_core.specs.Written.{listing_written};
 ghost use Rattle.asn1_core.specs.declared.writer.WriteError.TheVariants.{AllocationError, InvalidSetOrdering};
 
+use crate::parser::number_in;
 use crate::tag::Tag;
 use crate::types::{Asn1Type, Asn1Writable, SimpleAsn1Writable};
 use crate::writer::{WriteBuf, WriteError, WriteResult, Writer};
+use std::cmp::Ordering;
 use std::marker::{Model, PhantomData};
 use std::mem;
 
-/// Where a text stands in the buffer.
+/// How many octets of a text are noted with its span.
+const FIRST_OCTETS: usize = 8;
+
+/// Where a text stands in the buffer, and the number of its first octets, which most often tells its place in the order.
 #[derive(Clone, Copy)]
 pub(crate) struct Span {
     pub(crate) from: usize,
     pub(crate) len: usize,
+    pub(crate) first: usize,
+}
+
+/// The number of the first octets of a text, as if zeros stood behind a shorter one.
+fn first_number(text: &[u8]) -> usize
+    ensures { result ≡ first_number text.now }
+{
+    let mut octets = [0u8; FIRST_OCTETS];
+    let count = text.len().min(FIRST_OCTETS);
+    octets[..count].copy_from_slice(&text[..count]);
+    number_in(&octets)
 }
 
 /// The octets of a span, or none where it passes the end.
@@ -37,12 +53,24 @@ fn part<'a>(octets: &'a [u8], span: &Span) -> &'a [u8]
     }
 }
 
+/// Compares spans by their first octets, and only where these are the same by all of them.
+#[inline]
+fn compare(octets: &[u8], a: &Span, b: &Span) -> Ordering
+    ensures { result ≡ span_cmp octets.now a.now b.now }
+{
+    match a.first.cmp(&b.first) {
+        Ordering::Equal => part(octets, a).cmp(part(octets, b)),
+        found => found,
+    }
+}
+
 /// Sorts spans by their octets.
 fn sort_spans(octets: &[u8], spans: &mut Vec<Span>)
+    requires { All (NotesFirst octets.now) spans.old.items }
     ensures permutation { IsPermutation spans.old.items spans.new.items }
     ensures sorted { IsSortedBy (IsBefore octets.now) spans.new.items }
 {
-    spans.sort_unstable_by(|a, b| part(octets, a).cmp(part(octets, b)));
+    spans.sort_unstable_by(|a, b| compare(octets, a, b));
 }
 
 /// Appends the items' texts one after another, and notes where each stands.
@@ -61,10 +89,9 @@ fn write_items<T: Asn1Writable>(
     for item in items {
         let from = writer.buf.len();
         writer.write_element(item)?;
-        let span = Span {
-            from,
-            len: writer.buf.len() - from,
-        };
+        let len = writer.buf.len() - from;
+        let first = first_number(&writer.buf.as_slice()[from..]);
+        let span = Span { from, len, first };
         if spans.push(span).is_err() {
             return Err(T::Error::from(WriteError::AllocationError));
         }

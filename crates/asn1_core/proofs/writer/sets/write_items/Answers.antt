@@ -1,4 +1,6 @@
-use Rattle.std.proofs.Common.{rules, ◌∙◌, ◌≡◌, ◌-◌, ◌++◌, ◌∷◌, [], length}
+use Rattle.std.proofs.Common.{rules, ◌∙◌, ◌≡◌, ◌-◌, ◌++◌, ◌∷◌, [], length, take, drop, List, ℕ, ap, refl, arith}
+use Rattle.std.proofs.lemmas.List.{length-drop, take_all}
+use Rattle.asn1_core.specs.Spans.{first_number}
 use Rattle.asn1_core.specs.declared.writer.sets.Span.{Span}
 use Rattle.asn1_core.specs.Items.{AnyNames}
 use Rattle.asn1_core.specs.Lemmas.Bodies.{keeps_front_by, keeps_front_on}
@@ -20,14 +22,17 @@ loop-item-preserved g c =
     let d = g.T.Asn1Type.der in
     let old = c.loop-item.writer.buf.now.bytes in
     let new = c.write_element.new.self.buf.now.bytes in
-    let span : Span = record { from = c.len-from.result; len = c.len.result - c.len-from.result } in
+    let from = c.len-from.result in
+    let octets : List ℕ = c.as_slice.result.now in
+    let span : Span = record { from = from; len = c.len.result - from; first = c.first_number-first.result } in
     let pushed : c.push.new.self.items ≡ c.loop-item.spans.items ++ span ∷ [] = search rules in
-    let size : c.len.result ≡ length new = c.len.ensures in
-    let first : c.len-from.result ≡ length old = c.len-from.ensures in
-    let less : span.len ≡ length new - length old = rw (size, first) in
+    let at : from ≡ length old = c.len-from.ensures in
+    let size : span.len ≡ length new - length old = rw (c.len.ensures, at) refl in
+    let whole : take (length octets - from) (drop from octets) ≡ drop from octets = take_all (length octets - from) (drop from octets) (omega (arith, length-drop from octets)) in
+    let first : c.first_number-first.result ≡ first_number (drop (length old) new) = c.first_number-first.ensures ∙ ap first_number (whole ∙ rw (c.as_slice.ensures, at) refl) in
     let a = c.in_ok-write_element.ensures.ok in
     record {
       same_buffer = c.in_ok-write_element.ensures.same_buffer ∙ c.loop-item.invariant.same_buffer;
       front = keeps_front_on c.loop-item.invariant.front (keeps_front_by a.text a.joined);
-      notes = rw pushed (notes_more (λ v. d.texts (d.meaning v)) c.args.items.now c.loop-item.item-index c.item-item.result old new c.loop-item.spans.items span c.loop-item-test.true c.item-item.is c.loop-item.invariant.notes c.in_ok-write_element.ensures.ok c.len-from.ensures less);
+      notes = rw pushed (notes_more (λ v. d.texts (d.meaning v)) c.args.items.now c.loop-item.item-index c.item-item.result old new c.loop-item.spans.items span c.loop-item-test.true c.item-item.is c.loop-item.invariant.notes a at size first);
     }

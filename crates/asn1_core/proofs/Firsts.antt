@@ -1,0 +1,137 @@
+-- The number of a text's first octets, and the order of texts.
+use Rattle.std.proofs.Common.{◌≡◌, ℕ, zero, suc, ◌+◌, ◌-◌, ◌*◌, ◌^◌, min, ◌<◌, ◌≤◌, ◌++◌, Bool, true, false, List, [], ◌∷◌, length, take, drop, get_or, cond, nat_le, replicate, refl, sym, ap, subst, ◌∙◌, ⊎_elim, arith, lit<}
+use Rattle.std.proofs.lemmas.Bool.{lt-ltb, le-ltb, eq-eqb, cases_lt, cases_eq}
+use Rattle.std.proofs.lemmas.List.{length-take-le, length-append, length-replicate, take_all, take-replicate, drop-replicate}
+use Rattle.std.proofs.lemmas.Grind.{common_steps}
+use Rattle.std.proofs.lemmas.Nat.{mul-add-lt}
+use Rattle.asn1_core.specs.Text.{IsText, number}
+use Rattle.asn1_core.specs.Order.{text_less}
+use Rattle.std.specs.List.{All}
+use Rattle.std.specs.List.Sorted.{IsSortedBy}
+use Rattle.std.specs.Ordering.{is_lt, nat_cmp, ordering_then}
+use Rattle.std.specs.declared.cmp.Ordering.{Ordering}
+use Rattle.std.specs.Cmp.Lexicographic.{slice_cmp}
+use Rattle.asn1_core.specs.declared.writer.sets.Span.{Span}
+use Rattle.asn1_core.specs.Lemmas.Listing.{less_once}
+use Rattle.asn1_core.specs.Spans.{part_of, first_number, span_cmp, IsBefore, NotesFirst}
+use Rattle.asn1_core.specs.Lemmas.Lengths.{number_lt}
+use Rattle.asn1_core.specs.Lemmas.Texts.{IsText-both}
+use Rattle.asn1_core.proofs.Ordered.{less_below, less_same}
+
+zeros_text : (n : ℕ) → IsText (replicate n 0)
+zeros_text zero = tt
+zeros_text (suc n) = (lit< tt, zeros_text n)
+
+zeros_number : (n : ℕ) → number (replicate n 0) ≡ 0
+zeros_number zero = refl
+zeros_number (suc n) = omega (arith, zeros_number n)
+
+take_text : (k : ℕ) (t : List ℕ) → IsText t → IsText (take k t)
+take_text zero t is = tt
+take_text (suc k) [] is = tt
+take_text (suc k) (x ∷ xs) is = (is.0, take_text k xs is.1)
+
+-- the first k octets of a text behind which n zeros stand
+abbrev firsts : ℕ → ℕ → List ℕ → List ℕ
+firsts n k t = take k (t ++ replicate n 0)
+
+firsts_length : (n k : ℕ) (t : List ℕ) → k ≤ n → length (firsts n k t) ≡ k
+firsts_length n k t h = length-take-le k (t ++ replicate n 0) (omega (arith, length-append t (replicate n 0), length-replicate {A = ℕ} n 0))
+
+firsts_below : (n k : ℕ) (t : List ℕ) → IsText t → k ≤ n → number (firsts n k t) < 256 ^ k
+firsts_below n k t is h =
+    subst (λ (m : ℕ). number (firsts n k t) < 256 ^ m) (firsts_length n k t h)
+    (number_lt (firsts n k t) (take_text k (t ++ replicate n 0) (IsText-both t (replicate n 0) is (zeros_text n))))
+
+firsts_none : (n k : ℕ) → k ≤ n → number (firsts n k []) ≡ 0
+firsts_none n k h = ap number (take-replicate {X = ℕ} k n 0 h) ∙ zeros_number k
+
+firsts_more : (n k x : ℕ) (xs : List ℕ) → k ≤ n → number (firsts n (suc k) (x ∷ xs)) ≡ x * 256 ^ k + number (firsts n k xs)
+firsts_more n k x xs h = ap (λ (m : ℕ). x * 256 ^ m + number (firsts n k xs)) (firsts_length n k xs h)
+
+-- the number in front decides
+decided : {A : Type 0} (x y p r s : ℕ) → x * p + r < y * p + s → r < p → s < p → (x < y → A) → (x ≡ y → r < s → A) → A
+decided x y p r s less hr hs below same = ⊎_elim
+    below
+    (λ (h : y ≤ x). ⊎_elim
+    (λ (e : x ≡ y). same e (let f : x * p ≡ y * p = ap (λ (n : ℕ). n * p) e in omega (arith, f, less)))
+    (λ (n : x ≡ y → ⊥). let over : y * p + s < p * x = mul-add-lt y p s x (omega arith) hs in absurd (omega (arith, over, less))) (cases_eq x y))
+    (cases_lt x y)
+
+firsts_less : (n k : ℕ) (a b : List ℕ) → IsText a → IsText b → k ≤ n → number (firsts n k a) < number (firsts n k b) → text_less a b ≡ true
+firsts_less n zero a b f g h less = absurd (omega (arith, less))
+firsts_less n (suc k) a [] f g h less = absurd (omega (arith, less, firsts_none n (suc k) h))
+firsts_less n (suc k) [] (y ∷ ys) f g h less = refl
+firsts_less n (suc k) (x ∷ xs) (y ∷ ys) f g h less =
+    let l : k ≤ n = omega (arith, h) in
+    decided x y (256 ^ k) (number (firsts n k xs)) (number (firsts n k ys)) (omega (arith, less, firsts_more n k x xs l, firsts_more n k y ys l)) (firsts_below n k xs f.1 l) (firsts_below n k ys g.1 l)
+    (less_below x y xs ys)
+    (λ e rest. less_same x y xs ys e ∙ firsts_less n k xs ys f.1 g.1 l rest)
+
+pub first_less : (a b : List ℕ) → IsText a → IsText b → first_number a < first_number b → text_less a b ≡ true
+first_less a b f g less = firsts_less 8 8 a b f g (omega arith) less
+
+-- a text is taken whole, and what it lacks from behind it
+take_past : (t r : List ℕ) (n : ℕ) → length t ≤ n → take n (t ++ r) ≡ t ++ take (n - length t) r
+take_past [] r n h = ap (λ (m : ℕ). take m r) (omega arith)
+take_past (x ∷ xs) r zero h = absurd (omega (arith, h))
+take_past (x ∷ xs) r (suc n) h =
+    ap (λ (u : List ℕ). x ∷ u) (take_past xs r n (omega (arith, h))) ∙ ap (λ (m : ℕ). x ∷ xs ++ take m r) (omega arith)
+
+-- the octets that there are, and zeros behind them
+filled_firsts : (n : ℕ) (t ys : List ℕ) (count : ℕ) → count ≡ min (length t) n → ys ≡ take count t → ys ++ drop count (replicate n 0) ≡ firsts n n t
+filled_firsts n t ys count e f = ⊎_elim
+    (λ (h : length t < n).
+    let all : ys ≡ t = f ∙ take_all count t (omega (arith, e)) in
+    let size : count ≡ length t = omega (arith, e) in
+    let rest : drop count (replicate n 0) ≡ replicate (n - count) 0 = drop-replicate {X = ℕ} count n 0 in
+    let more : take (n - count) (replicate n 0) ≡ replicate (n - count) 0 = take-replicate {X = ℕ} (n - count) n 0 (omega arith) in
+    let past : firsts n n t ≡ t ++ take (n - count) (replicate n 0) = take_past t (replicate n 0) n (omega arith) ∙ ap (λ (m : ℕ). t ++ take (n - m) (replicate n 0)) (sym size) in
+    rw (past, rest, more, all) refl)
+    (λ (h : n ≤ length t).
+    let all : count ≡ n = omega (arith, e) in
+    let rest : drop count (replicate n 0) ≡ replicate (n - count) 0 = drop-replicate {X = ℕ} count n 0 in
+    grind (arith, common_steps))
+    (cases_lt (length t) n)
+
+pub filled : (t ys : List ℕ) (count : ℕ) → count ≡ min (length t) 8 → ys ≡ take count t → ys ++ drop count (replicate 8 0) ≡ take 8 (t ++ replicate 8 0)
+filled t ys count e f = filled_firsts 8 t ys count e f
+
+-- ---- spans
+
+less_first : (m n : ℕ) (o : Ordering) → m < n → is_lt (ordering_then (nat_cmp m n) o) ≡ true
+less_first m n o h = rw (lt-ltb m n h) refl
+
+same_first : (m n : ℕ) (o : Ordering) → m ≡ n → ordering_then (nat_cmp m n) o ≡ o
+same_first m n o e = rw (le-ltb m n (omega arith), eq-eqb m n e) refl
+
+drop_text : (k : ℕ) (t : List ℕ) → IsText t → IsText (drop k t)
+drop_text zero t is = is
+drop_text (suc k) [] is = tt
+drop_text (suc k) (x ∷ xs) is = drop_text k xs is.1
+
+either_text : (b : Bool) (t : List ℕ) → IsText t → IsText (cond b t [])
+either_text true t is = is
+either_text false t is = tt
+
+part_text : (octets : List ℕ) (s : Span) → IsText octets → IsText (part_of octets s)
+part_text octets s is = either_text (nat_le (s.from + s.len) (length octets)) _ (take_text s.len (drop s.from octets) (drop_text s.from octets is))
+
+-- spans that don't compare as less aren't before one another
+not_before : (octets : List ℕ) (a b : Span) → IsText octets → NotesFirst octets a → NotesFirst octets b → is_lt (span_cmp octets a b) ≡ false → IsBefore octets a b ≡ false
+not_before octets a b is fa fb e =
+    let ta = part_text octets a is in
+    let tb = part_text octets b is in
+    let o = slice_cmp nat_cmp (part_of octets a) (part_of octets b) in
+    let na : a.first ≡ first_number (part_of octets a) = fa.first in
+    let nb : b.first ≡ first_number (part_of octets b) = fb.first in
+    ⊎_elim
+    (λ (l : a.first < b.first). absurd (let f : is_lt (span_cmp octets a b) ≡ true = less_first a.first b.first o l in cc))
+    (λ (l : b.first ≤ a.first). ⊎_elim
+    (λ (s : a.first ≡ b.first). ap is_lt (sym (same_first a.first b.first o s)) ∙ e)
+    (λ (n : a.first ≡ b.first → ⊥). less_once (part_of octets b) (part_of octets a) (first_less (part_of octets b) (part_of octets a) tb ta (omega (arith, na, nb)))) (cases_eq a.first b.first))
+    (cases_lt a.first b.first)
+
+pub sorted_spans : (octets : List ℕ) (ss : List Span) → IsText octets → All (NotesFirst octets) ss → IsSortedBy (λ a b. is_lt (span_cmp octets a b)) ss → IsSortedBy (IsBefore octets) ss
+sorted_spans octets ss is each s k d low high =
+    not_before octets (get_or ss (k + 1) d) (get_or ss k d) is (each (k + 1) d high) (each k d (omega arith)) (s k d low high)
