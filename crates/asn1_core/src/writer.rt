@@ -241,9 +241,26 @@ impl WriteBuf {
         self.push_byte(n as u8)
     }
 
-    /// Puts the length of what stands from `start` on in place of the octet before it. The buffer grows once, and what
-    /// stands behind is moved once.
+    /// Puts the length of what stands from `start` on in place of the octet before it. A length of one octet, as most
+    /// have, moves nothing.
+    #[inline]
     pub(crate) fn patch_length(&mut self, start: usize) -> WriteResult<()>
+        requires from { 0 < start }
+        requires within { start ≤ length self.old.bytes }
+        ensures ok { OnOk result (self.new.bytes ≡ take (start - 1) self.old.bytes ++ length_text (length self.old.bytes - start) ++ drop start self.old.bytes) }
+        ensures err { OnErr result (self.new.bytes ≡ self.old.bytes) }
+        ensures error { IsOkUnless result WriteError.AllocationError }
+    {
+        let count = self.octets.len() - start;
+        if count > 0x7f {
+            return self.patch_long_length(start);
+        }
+        self.octets[start - 1] = count as u8;
+        Ok(())
+    }
+
+    /// The same for any length. The buffer grows once, and what stands behind is moved once.
+    fn patch_long_length(&mut self, start: usize) -> WriteResult<()>
         requires from { 0 < start }
         requires within { start ≤ length self.old.bytes }
         ensures ok { OnOk result (self.new.bytes ≡ take (start - 1) self.old.bytes ++ length_text (length self.old.bytes - start) ++ drop start self.old.bytes) }
