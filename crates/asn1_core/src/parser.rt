@@ -445,7 +445,7 @@ pub(crate) fn number_in(octets: &[u8]) -> usize
 }
 
 /// The length in front of the octets, and what follows it.
-#[inline]
+#[inline(always)]
 fn read_length(octets: &[u8]) -> Result<(usize, &[u8]), ParseErrorKind>
     ensures { AnswersKind (λ x. (x.0, x.1.now)) result (length_front octets.now) }
 {
@@ -496,7 +496,7 @@ pub fn strip_tlv(data: &[u8]) -> ParseResult<(Tlv<'_>, &[u8])>
 }
 
 /// The element in front of the octets, and what follows it.
-#[inline]
+#[inline(always)]
 fn tlv_in(octets: &[u8]) -> Result<(Tlv<'_>, &[u8]), ParseErrorKind>
     ensures answer { AnswersKind (λ x. (element_of x.0, x.1.now)) result (front octets.now) }
     ensures parts { IfOk result (λ x. octets.now ≡ full_octets x.0 ++ x.1.now) }

@@ -81,7 +81,7 @@ impl Tag {
     }
 
     /// What [`Tag::from_bytes`] answers, with no more than the kind of a refusal.
-    #[inline]
+    #[inline(always)]
     pub(crate) fn in_front(octets: &[u8]) -> Result<(Tag, &[u8]), ParseErrorKind>
         ensures { AnswersKind (λ x. (x.0, x.1.now)) result (tag_front octets.now) }
     {
