@@ -97,6 +97,38 @@ pub record Der (V : Type 0) : Type 1 where
   pub as_out : is_simple → (t : List ℕ) (places : List Place) → simple_out content.tag content.runs_out t places ↔ runs_out t places
   pub as_stops : is_simple → (t rest : List ℕ) → simple_stops t rest ↔ stops t rest
 
+-- The laws of a simple type, by its content. They are lemmas of their own, which don't unfold: the type of a list holds
+-- what its items mean, laws included, and a comparison of two such types goes through them. At a lemma it compares the
+-- content and no proof, and lists nest deeper.
+module _ {M : Type 0} (c : Content M) where
+  pub simple_type_one_text : c.plain → (m : M) (t : List ℕ) → IsElementOf c.tag (c.texts m) t → t ≡ element_text (element c.tag (c.text m))
+  simple_type_one_text p m = one_element c.tag (c.texts m) (c.text m) (c.one_text p m)
+
+  pub simple_type_takes : (t rest : List ℕ) (m : M) → IsText t → simple c.tag c.read t ≡ Ok (m, rest) → Takes t (element_text (element c.tag (c.text m))) rest × (c.valid m × c.allowed m)
+  simple_type_takes = simple_takes c.tag c.text (λ m. c.valid m × c.allowed m) c.read c.takes
+
+  pub simple_type_shape : (m : M) → c.lawful × (c.tag.value < 2 ^ 32) → c.valid m → (element_text (element c.tag (c.text m)) ≡ []) ⊎ IsOneElement (element_text (element c.tag (c.text m)))
+  simple_type_shape m l v = simple_shape c.tag (c.text m) l.1
+
+  pub simple_type_accepted : (m : M) (e : Element) → c.valid m → element_text (element c.tag (c.text m)) ≡ element_text e → tag_eq e.tag c.tag ≡ true
+  simple_type_accepted m e v same = simple_accepted c.tag (c.text m) e same
+
+  pub simple_type_solid : (m : M) → c.lawful × (c.tag.value < 2 ^ 32) → Unit {0} → c.valid m → element_text (element c.tag (c.text m)) ≡ [] → ⊥
+  simple_type_solid m l i v e = element_some (element c.tag (c.text m)) e
+
+  pub simple_type_again : (m : M) (rest : List ℕ) → c.lawful × (c.tag.value < 2 ^ 32) → c.valid m → c.allowed m → Fits (element_text (element c.tag (c.text m))) →
+      (element_text (element c.tag (c.text m)) ≡ [] → stands (λ t. tag_eq t c.tag) rest ≡ false) → simple c.tag c.read (element_text (element c.tag (c.text m)) ++ rest) ≡ Ok (m, rest)
+  simple_type_again m rest l v a fits none = simple_again c.tag c.text c.read m rest l.1 (c.again m l.0 v a) fits
+
+  pub simple_type_memory : (t : List ℕ) (places : List Place) → simple_out c.tag c.runs_out t places → c.takes_memory
+  simple_type_memory t places out = c.memory out.0.0.content places out.3
+
+  pub simple_type_in_front : (t : List ℕ) (places : List Place) → simple_out c.tag c.runs_out t places → (f : Element × List ℕ) × (front t ≡ Ok f)
+  simple_type_in_front t places out = (out.0, out.1)
+
+  pub simple_type_faults : (t : List ℕ) → IfErr (simple c.tag c.read t) IsOfText
+  simple_type_faults = simple_faults c.tag c.read c.faults
+
 -- a simple type, by its content
 abbrev pub simple_der : {V M : Type 0} → (V → M) → Content M → Der V
 simple_der {M = M} meaning c = record {
@@ -115,16 +147,16 @@ simple_der {M = M} meaning c = record {
   accepts = λ t. tag_eq t c.tag;
   read = simple c.tag c.read;
   stops = simple_stops;
-  one_text = λ p m. one_element c.tag (c.texts m) (c.text m) (c.one_text p m);
+  one_text = simple_type_one_text c;
   no_closures = c.no_closures;
-  takes = simple_takes c.tag c.text (λ m. c.valid m × c.allowed m) c.read c.takes;
-  shape = λ m l v. simple_shape c.tag (c.text m) l.1;
-  accepted = λ m e v same. simple_accepted c.tag (c.text m) e same;
-  solid = λ m l i v e. element_some (element c.tag (c.text m)) e;
-  again = λ m rest l v a fits none. simple_again c.tag c.text c.read m rest l.1 (c.again m l.0 v a) fits;
-  memory = λ t places out. c.memory out.0.0.content places out.3;
-  in_front = λ t places out. (out.0, out.1);
-  faults = simple_faults c.tag c.read c.faults;
+  takes = simple_type_takes c;
+  shape = simple_type_shape c;
+  accepted = simple_type_accepted c;
+  solid = simple_type_solid c;
+  again = simple_type_again c;
+  memory = simple_type_memory c;
+  in_front = simple_type_in_front c;
+  faults = simple_type_faults c;
   is_simple = Unit {0};
   content = c;
   as_closures = λ m h. h;

@@ -13,14 +13,14 @@ use asn1::{
 };
 use std::alloc::Global;
 
-type Three<'a> = List<'a, List<'a, List<'a, bool>>>;
+type Four<'a> = List<'a, List<'a, List<'a, List<'a, bool>>>>;
 
-/// Three lists in one another, under a name of their own: a check of five at once takes too many steps.
+/// Four lists in one another, under a name of their own: a check of nine at once takes too many steps.
 #[derive(Drop)]
-struct Inner<'a>(Three<'a>);
+struct Inner<'a>(Four<'a>);
 
 impl<'a> Asn1Type for Inner<'a> {
-    ghost der = { seen (λ v. v.0) ⟦<Three<'a> as Asn1Type>⟧.der };
+    ghost der = { seen (λ v. v.0) ⟦<Four<'a> as Asn1Type>⟧.der };
 
     fn known(&self) {
         self.0.known()
@@ -37,43 +37,10 @@ impl<'a> SimpleAsn1Readable<'a> for Inner<'a> {
     }
 
     fn parse_data(alloc: Global, data: &'a [u8]) -> ParseResult<Inner<'a>>
-        ensures { Answers (λ v. ⟦<Three<'a> as Asn1Type>⟧.der.meaning v.0) (⟦<Three<'a> as Asn1Type>⟧.der.content.runs_out «data».entry.now) result (⟦<Three<'a> as Asn1Type>⟧.der.content.read «data».entry.now) }
+        ensures { Answers (λ v. ⟦<Four<'a> as Asn1Type>⟧.der.meaning v.0) (⟦<Four<'a> as Asn1Type>⟧.der.content.runs_out «data».entry.now) result (⟦<Four<'a> as Asn1Type>⟧.der.content.read «data».entry.now) }
     {
-        match <Three<'a>>::parse_data(alloc, data) {
+        match <Four<'a>>::parse_data(alloc, data) {
             Ok(list) => Ok(Inner(list)),
-            Err(error) => Err(error),
-        }
-    }
-}
-
-type Six<'a> = List<'a, List<'a, List<'a, Inner<'a>>>>;
-
-/// Three lists around those three, and so six in one another.
-#[derive(Drop)]
-struct Middle<'a>(Six<'a>);
-
-impl<'a> Asn1Type for Middle<'a> {
-    ghost der = { seen (λ v. v.0) ⟦<Six<'a> as Asn1Type>⟧.der };
-
-    fn known(&self) {
-        self.0.known()
-    }
-}
-
-impl<'a> SimpleAsn1Readable<'a> for Middle<'a> {
-    fn tag() -> Tag
-        ensures value { result ≡ sequence_tag }
-        ensures simple { Unit {0} }
-        ensures plain { Unit {0} }
-    {
-        Tag::constructed(0x10)
-    }
-
-    fn parse_data(alloc: Global, data: &'a [u8]) -> ParseResult<Middle<'a>>
-        ensures { Answers (λ v. ⟦<Six<'a> as Asn1Type>⟧.der.meaning v.0) (⟦<Six<'a> as Asn1Type>⟧.der.content.runs_out «data».entry.now) result (⟦<Six<'a> as Asn1Type>⟧.der.content.read «data».entry.now) }
-    {
-        match <Six<'a>>::parse_data(alloc, data) {
-            Ok(list) => Ok(Middle(list)),
             Err(error) => Err(error),
         }
     }
@@ -93,8 +60,17 @@ fn five_lists_in_one_another(rt: HostRuntime) {
     let octets: &[u8] = &[
         0x30, 0x0b, 0x30, 0x09, 0x30, 0x07, 0x30, 0x05, 0x30, 0x03, 0x01, 0x01, 0x01,
     ];
-    let read = parse_single::<List<'_, List<'_, Inner<'_>>>>(rt.alloc(), octets);
+    let read = parse_single::<List<'_, Four<'_>>>(rt.alloc(), octets);
     same(&rt, &refusal(read), &in_first_items(5));
+}
+
+#[test]
+fn six_lists_in_one_another(rt: HostRuntime) {
+    let octets: &[u8] = &[
+        0x30, 0x0d, 0x30, 0x0b, 0x30, 0x09, 0x30, 0x07, 0x30, 0x05, 0x30, 0x03, 0x01, 0x01, 0x01,
+    ];
+    let read = parse_single::<List<'_, List<'_, Four<'_>>>>(rt.alloc(), octets);
+    same(&rt, &refusal(read), &in_first_items(6));
 }
 
 #[test]
@@ -103,6 +79,9 @@ fn nine_lists_in_one_another(rt: HostRuntime) {
         0x30, 0x13, 0x30, 0x11, 0x30, 0x0f, 0x30, 0x0d, 0x30, 0x0b, 0x30, 0x09, 0x30, 0x07, 0x30,
         0x05, 0x30, 0x03, 0x01, 0x01, 0x01,
     ];
-    let read = parse_single::<List<'_, List<'_, List<'_, Middle<'_>>>>>(rt.alloc(), octets);
+    let read = parse_single::<List<'_, List<'_, List<'_, List<'_, List<'_, Inner<'_>>>>>>>(
+        rt.alloc(),
+        octets,
+    );
     same(&rt, &refusal(read), &in_first_items(8));
 }
