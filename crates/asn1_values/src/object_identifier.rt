@@ -149,6 +149,7 @@ impl ObjectIdentifier {
 
     /// The identifier with this content. `OidTooLong` where there are more than 63 octets, else `InvalidValue` where they
     /// are no numbers in base 128, or none.
+    #[inline(always)]
     pub fn from_der(octets: &[u8]) -> ParseResult<ObjectIdentifier>
         ensures { Answers identifier_of (λ _. ⊥) result (read_identifier octets.now) }
     {
@@ -249,7 +250,7 @@ impl<'a> SimpleAsn1Readable<'a> for ObjectIdentifier {
         Tag::primitive(0x06)
     }
 
-    #[inline]
+    #[inline(always)]
     fn parse_data(_alloc: Global, data: &'a [u8]) -> ParseResult<ObjectIdentifier> {
         ObjectIdentifier::from_der(data)
     }
