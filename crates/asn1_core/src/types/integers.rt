@@ -102,18 +102,19 @@ pub(crate) fn read(octets: &[u8], low: i128, high: i128) -> Result<i128, ParseEr
 /// The content of a number, at the end of an array.
 #[derive(Drop)]
 struct IntegerText {
-    octets: [u8; 16],
+    octets: [u8; OCTETS],
     start: usize,
 }
 
 impl Model for IntegerText {
     ghost use Rattle.std.specs.Prelude.{List, ℕ, drop, length, ◌≤◌, ◌≡◌};
+    ghost use Rattle.asn1_core.specs.declared.types.integers.TheConstants.{OCTETS};
 
     ghost Value = { List ℕ };
 
     ghost view = { λ text. drop text.start text.octets };
 
-    ghost invariant = { λ text. (text.start ≤ 16) × (length text.octets ≡ 16) };
+    ghost invariant = { λ text. (text.start ≤ OCTETS) × (length text.octets ≡ OCTETS) };
 }
 
 impl IntegerText {
