@@ -1,11 +1,25 @@
 -- The octets after a length was put in place of one octet.
-use Rattle.std.proofs.Common.{◌≡◌, ◌+◌, ◌-◌, ◌<◌, ◌≤◌, ◌++◌, length, take, drop, replicate, ℕ, List, sym, arith, length-drop}
-use Rattle.std.proofs.lemmas.Grind.{common_steps}
+use Rattle.std.proofs.Common.{◌≡◌, ◌+◌, ◌-◌, ◌<◌, ◌≤◌, ◌++◌, ◌^◌, [], ◌∷◌, zero, suc, length, take, drop, replicate, bit_or, ℕ, List, refl, sym, arith, length-drop}
+use Rattle.std.specs.Int.Digits.{digits_of}
+use Rattle.std.proofs.lemmas.Grind.{common_steps, numeral_or}
 use Rattle.std.proofs.lemmas.List.Edits.{take-paste, length-paste}
 use Rattle.std.specs.List.{copy_within}
+use Rattle.asn1_core.specs.Length.{length_text}
+use Rattle.asn1_core.specs.Lemmas.Lengths.{length_text_high, few_digits}
 
-take_whole : (n : ℕ) (ys zs : List ℕ) → n ≡ length ys → take n (ys ++ drop (length ys) zs) ≡ ys
-take_whole n ys zs e = grind (arith, common_steps)
+pub some_number : (n : ℕ) → 0 < length (digits_of 256 n) → 0 < n
+some_number zero h = absurd (omega (arith, h))
+some_number (suc n) h = omega arith
+
+pub none_left : (xs : List ℕ) → length xs ≡ 0 → xs ≡ []
+none_left [] e = refl
+none_left (x ∷ xs) e = absurd (omega (arith, e))
+
+-- the first octet of a long length
+pub top_of : (n : ℕ) → 128 ≤ n → n < 2 ^ 64 → bit_or 128 (length (digits_of 256 n)) ∷ digits_of 256 n ≡ length_text n
+top_of n l small =
+    let few : length (digits_of 256 n) < 128 = omega (arith, few_digits n small) in
+    rw (numeral_or 127 (length (digits_of 256 n)) refl few) (sym (length_text_high n l))
 
 module _ (xs text : List ℕ) (start more : ℕ) (low : 0 < start) (within : start ≤ length xs) (size : length text ≡ more + 1) where
   pub grown_is : (big : List ℕ) → big ≡ take (length xs + more) xs ++ replicate (length xs + more - length xs) 0 → big ≡ xs ++ replicate more 0
@@ -34,11 +48,3 @@ module _ (xs text : List ℕ) (start more : ℕ) (low : 0 < start) (within : sta
       let a : take (start - 1) moved ≡ take (start - 1) (take (start + more) big) = grind (arith, common_steps) in
       let b : take (start - 1) (take (start + more) big) ≡ take (start - 1) big = grind (arith, common_steps) in
       grind (arith, common_steps)
-
-  pub joined_is : (moved : List ℕ) (len : ℕ) → len ≡ length xs + more → length moved ≡ len → take (start - 1) moved ≡ take (start - 1) xs → drop (start + more) moved ≡ drop start xs → take len (take (start - 1) moved ++ (text ++ drop (length text) (drop (start - 1) moved)) ++ drop (length (take (start - 1) moved ++ (text ++ drop (length text) (drop (start - 1) moved)))) moved) ≡ take (start - 1) xs ++ text ++ drop start xs
-  joined_is moved len l m f t =
-      let s : start - 1 + length text ≡ start + more = omega arith in
-      let d : drop (length text) (drop (start - 1) moved) ≡ drop start xs = grind (arith, common_steps) in
-      let whole : take (start - 1) moved ++ (text ++ drop (length text) (drop (start - 1) moved)) ≡ take (start - 1) xs ++ text ++ drop start xs = grind (arith, common_steps) in
-      let size_of : length (take (start - 1) xs ++ text ++ drop start xs) ≡ len = grind (arith, common_steps) in
-      rw whole (take_whole len _ _ (sym size_of))

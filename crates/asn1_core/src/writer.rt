@@ -259,21 +259,24 @@ impl WriteBuf {
         Ok(())
     }
 
-    /// The same for any length. The buffer grows once, and what stands behind is moved once.
+    /// The same for a length of more octets. The buffer grows once, and what stands behind is moved once.
     fn patch_long_length(&mut self, start: usize) -> WriteResult<()>
         requires from { 0 < start }
-        requires within { start ≤ length self.old.bytes }
+        requires long { start + 0x7f < length self.old.bytes }
         ensures ok { OnOk result (self.new.bytes ≡ take (start - 1) self.old.bytes ++ length_text (length self.old.bytes - start) ++ drop start self.old.bytes) }
         ensures err { OnErr result (self.new.bytes ≡ self.old.bytes) }
         ensures error { IsOkUnless result WriteError.AllocationError }
     {
         let len = self.octets.len();
-        let text = LengthText::new(len - start);
-        let more = text.octets().len() - 1;
+        let mut rest = len - start;
+        let more = length_octets(rest) - 1;
         self.octets.resize(len + more, 0)?;
         self.octets.copy_within(start..len, start + more);
-        let place = self.octets.slice_mut(start - 1..start + more);
-        place.copy_from_slice(text.octets());
+        for place in (start..start + more).rev() {
+            self.octets[place] = (rest & 0xff) as u8;
+            rest >>= 8;
+        }
+        self.octets[start - 1] = 0x80 | more as u8;
         Ok(())
     }
 

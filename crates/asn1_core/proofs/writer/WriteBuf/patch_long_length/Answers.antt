@@ -1,29 +1,88 @@
-use Rattle.std.proofs.Common.{◌≡◌, ◌+◌, ◌-◌, ◌<◌, ◌≤◌, ◌++◌, length, take, drop, replicate, arith, sym, ap, ◌∙◌}
+use Rattle.std.proofs.Common.{◌≡◌, ◌+◌, ◌-◌, ◌^◌, ◌<◌, ◌≤◌, ◌++◌, ◌∷◌, [], suc, length, take, drop, replicate, bit_or, ℕ, List, arith, sym, ap, refl, ◌∙◌, append_assoc}
+use Rattle.std.specs.Int.Digits.{digits_of}
+use Rattle.std.proofs.lemmas.Int.Digits.{length-digits_of_step}
+use Rattle.std.proofs.lemmas.List.{length-set, set_split, take-set-le, take-take}
 use Rattle.asn1_core.specs.Length.{length_text}
 use Rattle.asn1_core.specs.Buffer.{Buffer}
-use Rattle.asn1_core.proofs.Patch.{joined_is, grown_is, moved_is, moved_tail, moved_front}
+use Rattle.asn1_core.specs.Lemmas.Lengths.{length_text_high, write_step, low_eight}
+use Rattle.asn1_core.proofs.Patch.{grown_is, moved_is, moved_tail, moved_front, some_number, none_left, top_of}
 use Rattle.asn1_core.proofs.writer.WriteBuf.patch_long_length.Goals as goal
+
+-- a front of a front
+shorter : (xs : List ℕ) (n : ℕ) → take (n - 1) (take n xs) ≡ take (n - 1) xs
+shorter xs n = take-take (n - 1) n xs (omega arith)
+
+-- a long length's octets but the first
+more_octets : (n m : ℕ) → 128 ≤ n → m ≡ length (length_text n) → m ≡ length (digits_of 256 n) + 1
+more_octets n m l e = omega (arith, e, ap length (length_text_high n l))
+
+pub overflow_sub-more : goal.overflow_sub-more
+overflow_sub-more c =
+    let v : c.args.self.now.bytes ≡ c.self.inside.octets.items = sym (ap (λ (b : Buffer). b.bytes) c.self.view_is) in
+    let ll : c.len-len.result ≡ length c.self.inside.octets.items = c.len-len.ensures ∙ c.self.inside.octets.ok.0 in
+    let long : c.args.start + 127 < length c.self.inside.octets.items = rw v at c.requires.long in
+    omega (arith, more_octets (c.len-len.result - c.args.start) c.length_octets-more.result (omega (arith, ll, long)) c.length_octets-more.ensures.value)
+
+pub loop-place-init : goal.loop-place-init
+loop-place-init c =
+    let v : c.args.self.now.bytes ≡ c.self.inside.octets.items = sym (ap (λ (b : Buffer). b.bytes) c.self.view_is) in
+    let ll : c.len-len.result ≡ length c.self.inside.octets.items = c.len-len.ensures ∙ c.self.inside.octets.ok.0 in
+    let long : c.args.start + 127 < length c.self.inside.octets.items = rw v at c.requires.long in
+    record {
+      size = omega (arith, sym c.copy_within.new.self.ok.0, c.in_ok-resize.ensures.len, c.copy_within.ensures.len);
+      front = refl;
+      left = omega (arith, more_octets (c.len-len.result - c.args.start) c.length_octets-more.result (omega (arith, ll, long)) c.length_octets-more.ensures.value);
+      whole = refl;
+    }
+
+pub loop-place-preserved : goal.loop-place-preserved
+loop-place-preserved c =
+    let inv = c.loop-place.invariant in
+    let items = c.loop-place.self-inside.octets.items in
+    let rest = c.loop-place.rest in
+    let place = c.loop-place.place in
+    let some : 0 < rest = some_number rest (omega (arith, inv.left, c.loop-place-test.true)) in
+    let step = length-digits_of_step 256 rest (omega arith) some in
+    let v : c.args.self.now.bytes ≡ c.self.inside.octets.items = sym (ap (λ (b : Buffer). b.bytes) c.self.view_is) in
+    let ll : c.len-len.result ≡ length c.self.inside.octets.items = c.len-len.ensures ∙ c.self.inside.octets.ok.0 in
+    let long : c.args.start + 127 < length c.self.inside.octets.items = rw v at c.requires.long in
+    let within : place ≤ length items = omega (arith, inv.size, c.loop-place.auto.place, ll, long) in
+    record {
+      size = length-set items (place - 1) _ ∙ inv.size;
+      front = take-set-le c.args.start items (place - 1) _ (omega (arith, c.loop-place-test.true)) ∙ inv.front;
+      left = omega (arith, step, inv.left);
+      whole = rw (low_eight rest) (write_step rest place items some (omega (arith, c.loop-place-test.true)) within ∙ inv.whole);
+    }
 
 pub returns-clause-ok : goal.returns-clause-ok
 returns-clause-ok c =
+    let inv = c.loop-place.invariant in
     let xs = c.self.inside.octets.items in
     let v : c.args.self.now.bytes ≡ xs = sym (ap (λ (b : Buffer). b.bytes) c.self.view_is) in
-    let start = c.args.start in
-    let text = c.copy_from_slice.new.self in
     let ll : c.len-len.result ≡ length xs = c.len-len.ensures ∙ c.self.inside.octets.ok.0 in
-    let vl : c.self.inside.octets.len ≡ length xs = c.self.inside.octets.ok.0 in
+    let start = c.args.start in
+    let long : start + 127 < length xs = rw v at c.requires.long in
     let low : 0 < start = c.requires.from in
-    let within : start ≤ length xs = rw v at c.requires.within in
-    let is : text ≡ c.new-text.result = c.copy_from_slice.ensures.after ∙ c.octets-2.ensures in
-    let first : c.octets.result.now ≡ c.new-text.result = c.octets.ensures in
-    let more = length c.octets.result.now - 1 in
-    let size : length text ≡ more + 1 = omega (arith, ap length is, ap length first, c.new-text.ensures.some) in
-    let big : c.resize.new.self.items ≡ xs ++ replicate more 0 = grown_is xs text start more low within size _ (rw (ll, vl) at c.in_ok-resize.ensures.items) in
-    let m : c.copy_within.new.self.items ≡ take (start + more) c.resize.new.self.items ++ drop start xs = moved_is xs text start more low within size _ _ big (rw ll at c.copy_within.ensures.items) in
-    let lc = c.in_ok-resize.ensures.len in
-    let ld = c.copy_within.ensures.len in
-    let lm : c.copy_within.new.self.len ≡ length xs + more = omega arith in
-    let lmm : length c.copy_within.new.self.items ≡ c.copy_within.new.self.len = sym c.copy_within.new.self.ok.0 in
-    let t : text ≡ length_text (length xs - start) = is ∙ c.new-text.ensures.text ∙ ap (λ n. length_text (n - start)) ll in
-    let j = joined_is xs text start more low within size c.copy_within.new.self.items c.copy_within.new.self.len lm lmm (moved_front xs text start more low within size _ _ big m) (moved_tail xs text start more low within size _ _ big m) in
-    rw v (rw (← t) j)
+    let n : ℕ = c.len-len.result - start in
+    let more : ℕ = c.length_octets-more.result - 1 in
+    let large : 128 ≤ n = omega (arith, ll, long) in
+    let small : n < 2 ^ 64 = omega (arith, c.len-len.type_inv) in
+    let count : more ≡ length (digits_of 256 n) = omega (arith, more_octets n c.length_octets-more.result large c.length_octets-more.ensures.value) in
+    let size : length (length_text n) ≡ more + 1 = omega (arith, more_octets n (length (length_text n)) large refl, count) in
+    let within : start ≤ length xs = omega (arith, long) in
+    let moved = c.copy_within.new.self.items in
+    let big : c.resize.new.self.items ≡ xs ++ replicate more 0 = grown_is xs (length_text n) start more low within size _ (rw (ll, c.self.inside.octets.ok.0) at c.in_ok-resize.ensures.items) in
+    let m : moved ≡ take (start + more) c.resize.new.self.items ++ drop start xs = moved_is xs (length_text n) start more low within size _ _ big (rw ll at c.copy_within.ensures.items) in
+    let now = c.loop-place.self-inside.octets.items in
+    let place : c.loop-place.place ≡ start = omega (arith, inv.left, c.loop-place-test.false) in
+    let done : digits_of 256 c.loop-place.rest ≡ [] = none_left _ (omega (arith, inv.left, place)) in
+    let behind : drop start now ≡ digits_of 256 n ++ drop start xs =
+    ap (λ (k : ℕ). drop k now) (sym place) ∙ ap (λ (t : List ℕ). t ++ drop c.loop-place.place now) (sym done) ∙ inv.whole ∙ ap (λ (t : List ℕ). digits_of 256 n ++ t) (moved_tail xs (length_text n) start more low within size _ _ big m) in
+    let front : take (start - 1) now ≡ take (start - 1) xs =
+    sym (shorter now start) ∙ ap (take (start - 1)) inv.front ∙ shorter moved start ∙ moved_front xs (length_text n) start more low within size _ _ big m in
+    let next : suc (start - 1) ≡ start = omega (arith, low) in
+    let text : bit_or 128 more ∷ digits_of 256 n ≡ length_text (length xs - start) = rw count (top_of n large small) ∙ ap (λ (k : ℕ). length_text (k - start)) ll in
+    let inside : start - 1 < length now = omega (arith, inv.size, ll, long) in
+    rw v
+    (set_split now (start - 1) (bit_or 128 more) inside
+    ∙ rw (next, front, behind) (ap (λ (t : List ℕ). take (start - 1) xs ++ (t ++ drop start xs)) text ∙ sym (append_assoc (take (start - 1) xs) (length_text (length xs - start)) (drop start xs))))
