@@ -21,7 +21,7 @@ top_of n l small =
     let few : length (digits_of 256 n) < 128 = omega (arith, few_digits n small) in
     rw (numeral_or 127 (length (digits_of 256 n)) refl few) (sym (length_text_high n l))
 
-module _ (xs text : List ℕ) (start more : ℕ) (low : 0 < start) (within : start ≤ length xs) (size : length text ≡ more + 1) where
+module _ (xs : List ℕ) (start more : ℕ) (low : 0 < start) (within : start ≤ length xs) where
   pub grown_is : (big : List ℕ) → big ≡ take (length xs + more) xs ++ replicate (length xs + more - length xs) 0 → big ≡ xs ++ replicate more 0
   grown_is big e = grind (arith, common_steps)
 

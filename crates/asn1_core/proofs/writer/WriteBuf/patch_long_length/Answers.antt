@@ -68,18 +68,17 @@ returns-clause-ok c =
     let large : 128 ≤ n = omega (arith, ll, long) in
     let small : n < 2 ^ 64 = omega (arith, c.len-len.type_inv) in
     let count : more ≡ length (digits_of 256 n) = omega (arith, more_octets n c.length_octets-more.result large c.length_octets-more.ensures.value) in
-    let size : length (length_text n) ≡ more + 1 = omega (arith, more_octets n (length (length_text n)) large refl, count) in
     let within : start ≤ length xs = omega (arith, long) in
     let moved = c.copy_within.new.self.items in
-    let big : c.resize.new.self.items ≡ xs ++ replicate more 0 = grown_is xs (length_text n) start more low within size _ (rw (ll, c.self.inside.octets.ok.0) at c.in_ok-resize.ensures.items) in
-    let m : moved ≡ take (start + more) c.resize.new.self.items ++ drop start xs = moved_is xs (length_text n) start more low within size _ _ big (rw ll at c.copy_within.ensures.items) in
+    let big : c.resize.new.self.items ≡ xs ++ replicate more 0 = grown_is xs start more low within _ (rw (ll, c.self.inside.octets.ok.0) at c.in_ok-resize.ensures.items) in
+    let m : moved ≡ take (start + more) c.resize.new.self.items ++ drop start xs = moved_is xs start more low within _ _ big (rw ll at c.copy_within.ensures.items) in
     let now = c.loop-place.self-inside.octets.items in
     let place : c.loop-place.place ≡ start = omega (arith, inv.left, c.loop-place-test.false) in
     let done : digits_of 256 c.loop-place.rest ≡ [] = none_left _ (omega (arith, inv.left, place)) in
     let behind : drop start now ≡ digits_of 256 n ++ drop start xs =
-    ap (λ (k : ℕ). drop k now) (sym place) ∙ ap (λ (t : List ℕ). t ++ drop c.loop-place.place now) (sym done) ∙ inv.whole ∙ ap (λ (t : List ℕ). digits_of 256 n ++ t) (moved_tail xs (length_text n) start more low within size _ _ big m) in
+    ap (λ (k : ℕ). drop k now) (sym place) ∙ ap (λ (t : List ℕ). t ++ drop c.loop-place.place now) (sym done) ∙ inv.whole ∙ ap (λ (t : List ℕ). digits_of 256 n ++ t) (moved_tail xs start more low within _ _ big m) in
     let front : take (start - 1) now ≡ take (start - 1) xs =
-    sym (shorter now start) ∙ ap (take (start - 1)) inv.front ∙ shorter moved start ∙ moved_front xs (length_text n) start more low within size _ _ big m in
+    sym (shorter now start) ∙ ap (take (start - 1)) inv.front ∙ shorter moved start ∙ moved_front xs start more low within _ _ big m in
     let next : suc (start - 1) ≡ start = omega (arith, low) in
     let text : bit_or 128 more ∷ digits_of 256 n ≡ length_text (length xs - start) = rw count (top_of n large small) ∙ ap (λ (k : ℕ). length_text (k - start)) ll in
     let inside : start - 1 < length now = omega (arith, inv.size, ll, long) in
