@@ -10,8 +10,8 @@ use Rattle.asn1_core.specs.Der.{Der, no_content}
 use Rattle.asn1_core.specs.Lemmas.Elements.{element_some}
 use Rattle.asn1_core.specs.Lemmas.Options.{element_in}
 use Rattle.asn1.specs.Alternatives.{Disjoint, either, either_text, only_read, or_read, only_out, or_out, choice_read, choice_out}
-use Rattle.asn1.specs.ChoiceLaws.{only_takes, only_again, only_faults, or_takes, or_again, or_faults, or_shape, or_accepted, or_one, or_both, or_pair, or_all, or_memory, choice_takes, choice_again, choice_faults}
-use Rattle.std.proofs.Common.{inr, sym, ◌∙◌}
+use Rattle.asn1.specs.ChoiceLaws.{only_takes, only_again, only_faults, or_takes, or_again, or_faults, or_shape, or_accepted, or_one, or_both, or_pair, or_weaker, or_all, or_memory, choice_takes, choice_again, choice_faults}
+use Rattle.std.proofs.Common.{inl, inr, sym, ◌∙◌}
 
 -- One or more alternatives, whose values mean an M: what an element is read as, and the laws.
 pub record Alternatives (M : Type 0) : Type 1 where
@@ -20,6 +20,7 @@ pub record Alternatives (M : Type 0) : Type 1 where
   pub closures : M → Type 0
   pub valid : M → Type 0
   pub allowed : M → Type 0
+  pub bounded : Type 0
   pub plain : Type 0
   pub lawful : Type 0
   pub takes_memory : Type 0
@@ -32,6 +33,7 @@ pub record Alternatives (M : Type 0) : Type 1 where
   pub shape : (m : M) → lawful → valid m → IsOneElement (text m)
   pub accepted : (m : M) (e : Element) → valid m → text m ≡ element_text e → accepts e.tag ≡ true
   pub again : (m : M) (e : Element) → lawful → valid m → allowed m → IsReadable e → text m ≡ element_text e → read e ≡ Ok m
+  pub unbounded : (bounded → ⊥) → (m : M) → valid m → allowed m
   pub memory : (e : Element) (places : List Place) → runs_out e places → takes_memory
   pub faults : (e : Element) → IfErr (read e) IsOfText
 
@@ -43,6 +45,7 @@ only d = record {
   closures = d.closures;
   valid = d.valid;
   allowed = d.allowed;
+  bounded = d.bounded;
   plain = d.plain;
   lawful = d.lawful × d.is_element;
   takes_memory = d.takes_memory;
@@ -55,6 +58,7 @@ only d = record {
   shape = λ m l v. element_in (d.shape m l.0 v) (d.solid m l.0 l.1 v);
   accepted = d.accepted;
   again = λ m e l v a readable same. only_again d.accepts d.text (λ x. d.valid x × d.allowed x) d.read m e same readable (d.accepted m e v same) (d.again m [] l.0 v a);
+  unbounded = d.unbounded;
   memory = λ e places out. d.memory (element_text e) places out.1;
   faults = only_faults d.accepts d.text (λ x. d.valid x × d.allowed x) d.read d.faults;
 }
@@ -67,6 +71,7 @@ or d c = record {
   closures = either d.closures c.closures;
   valid = either d.valid c.valid;
   allowed = either d.allowed c.allowed;
+  bounded = d.bounded ⊎ c.bounded;
   plain = d.plain × c.plain;
   lawful = d.lawful × d.is_element × c.lawful × Disjoint d.accepts c.accepts;
   takes_memory = d.takes_memory ⊎ c.takes_memory;
@@ -82,6 +87,7 @@ or d c = record {
   accepted = or_accepted d.text d.valid c.text c.valid d.accepts c.accepts d.accepted c.accepted;
   again = λ m e l v a readable same. or_again d.accepts d.text (λ x. d.valid x × d.allowed x) d.read c.accepts c.text (λ x. c.valid x × c.allowed x) c.read l.3 m e same readable (or_pair d.valid d.allowed c.valid c.allowed m v a)
       (λ x w. d.accepted x e w.0) (λ x w. d.again x [] l.0 w.0 w.1) (λ x w. c.accepted x e w.0) (λ x w. c.again x e l.2 w.0 w.1 readable);
+  unbounded = λ free. or_weaker d.valid d.allowed c.valid c.allowed (d.unbounded (λ b. free (inl b))) (c.unbounded (λ b. free (inr b)));
   memory = or_memory d.accepts d.runs_out d.takes_memory c.runs_out c.takes_memory d.memory c.memory;
   faults = or_faults d.accepts d.text (λ x. d.valid x × d.allowed x) d.read c.read d.faults c.faults;
 }
@@ -96,6 +102,7 @@ choice_der {M = M} view c = record {
   closures = c.closures;
   valid = c.valid;
   allowed = c.allowed;
+  bounded = c.bounded;
   plain = c.plain;
   lawful = c.lawful;
   is_element = Unit {0};
@@ -111,6 +118,7 @@ choice_der {M = M} view c = record {
   accepted = c.accepted;
   solid = λ m l i v e. let one = c.shape m l v in element_some one.element (sym one.is ∙ e);
   again = λ m rest l v a fits none. let one = c.shape m l v in choice_again c.text c.read m rest one fits (λ readable. c.again m one.element l v a readable one.is);
+  unbounded = c.unbounded;
   memory = λ t places out. c.memory out.0.0 places out.2;
   in_front = λ t places out. (out.0, out.1);
   faults = choice_faults c.read c.faults;

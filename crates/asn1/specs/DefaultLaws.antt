@@ -103,3 +103,7 @@ default_one false text texts law t e = law t e
 pub default_both : {M : Type 0} (default : M) (P Q : M → Type 0) (R : M → Type 0) (m : M) → (m ≡ default) ⊎ ((P m × Q m) × R m) → ((m ≡ default) ⊎ (P m × R m)) × ((m ≡ default) ⊎ Q m)
 default_both default P Q R m (inl e) = (inl e, inl e)
 default_both default P Q R m (inr h) = (inr (h.0.0, h.1), inr h.0.1)
+
+pub default_weaker : {M : Type 0} (default : M) (P Q R : M → Type 0) → ((m : M) → P m → Q m) → (m : M) → (m ≡ default) ⊎ (P m × R m) → (m ≡ default) ⊎ Q m
+default_weaker default P Q R law m (inl e) = inl e
+default_weaker default P Q R law m (inr h) = inr (law m h.0)

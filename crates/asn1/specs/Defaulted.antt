@@ -3,7 +3,7 @@ use Rattle.std.specs.Prelude.{◌≡◌, ◌⊎◌, ℕ, Bool, true, false, List
 use Rattle.asn1_core.specs.Options.{option_out}
 use Rattle.asn1_core.specs.Der.{Der, no_content}
 use Rattle.asn1.specs.Defaults.{same_text, unless, default_text, default_read}
-use Rattle.asn1.specs.DefaultLaws.{default_takes, default_shape, default_accepted, default_again, default_faults, default_one, default_both}
+use Rattle.asn1.specs.DefaultLaws.{default_takes, default_shape, default_accepted, default_again, default_faults, default_one, default_both, default_weaker}
 
 -- Values that are equal mean the same, and values with the same text are equal.
 pub record EqualityTells {V M : Type 0} (meaning : V → M) (text : M → List ℕ) (same : V → V → Bool) (a b : V) : Type 0 where
@@ -20,6 +20,7 @@ default_der view d default = record {
   closures = d.closures;
   valid = λ m. (m ≡ default) ⊎ (d.valid m × (same_text d.text m default ≡ false));
   allowed = λ m. (m ≡ default) ⊎ d.allowed m;
+  bounded = d.bounded;
   plain = d.plain;
   lawful = d.lawful × d.is_element;
   is_element = ⊥;
@@ -37,6 +38,7 @@ default_der view d default = record {
   accepted = default_accepted d.text default d.accepts d.read d.valid d.accepted;
   solid = λ m l i v e. i;
   again = λ m rest l v a fits none. default_again d.text default d.accepts d.read d.valid d.allowed (λ x w. d.shape x l.0 w) d.accepted (λ x w e. d.solid x l.0 l.1 w e) (λ x r w b o n. d.again x r l.0 w b o n) m rest v a fits none;
+  unbounded = λ free m v. default_weaker default d.valid d.allowed (λ x. same_text d.text x default ≡ false) (d.unbounded free) m v;
   memory = λ t places out. d.memory t places out.1;
   in_front = λ t places out. d.in_front t places out.1;
   faults = default_faults d.text default d.accepts d.read d.faults;

@@ -41,6 +41,7 @@ pub record ItemAgrees {T : Type 0} (a b : Der T) : Type 0 where
   pub runs_out : (t : List ℕ) (places : List Place) → a.runs_out t places → b.runs_out t places
   pub texts : (m : a.Meaning) (t : List ℕ) → a.texts m t ↔ b.texts (stands_for m) t
   pub closures : (m : a.Meaning) → b.closures (stands_for m) → a.closures m
+  pub plain : a.plain → b.plain
 
 -- The same of a value that an item defines.
 pub record ValueAgrees {T V : Type 0} (by : ByItem T V) (both : ItemAndValue T V) : Type 0 where
@@ -52,6 +53,7 @@ pub record ValueAgrees {T V : Type 0} (by : ByItem T V) (both : ItemAndValue T V
   pub texts : (m : by.means.Meaning) (t : List ℕ) → by.means.texts m t ↔ both.value.texts (stands_for m) t
   pub closures : (m : by.means.Meaning) → both.value.closures (stands_for m) → by.means.closures m
   pub valid : (m : by.means.Meaning) → by.means.valid m → both.value.valid (stands_for m)
+  pub plain : by.means.plain → both.value.plain
 
 -- What a type and one that it defines say of themselves is what is said of both.
 abbrev pub Agrees : {T V : Type 0} → Der T → ByItem T V → ItemAndValue T V → Type 0
@@ -71,6 +73,7 @@ word_for_word both = (
     runs_out = λ t places out. out;
     texts = λ m t. (λ h. h, λ h. h);
     closures = λ m h. h;
+    plain = λ p. p;
   },
   record {
     stands_for = λ m. m;
@@ -81,6 +84,7 @@ word_for_word both = (
     texts = λ m t. (λ h. h, λ h. h);
     closures = λ m h. h;
     valid = λ m h. h;
+    plain = λ p. p;
   },
 )
 
@@ -149,6 +153,7 @@ agrees_inside tag view d by both h =
         texts = λ m t. (element_texts tag _ _ (λ x. (k.texts m x).0) t, element_texts tag _ _ (λ x. (k.texts m x).1) t);
         closures = k.closures;
         valid = k.valid;
+        plain = k.plain;
       },
     )
 
@@ -168,5 +173,6 @@ agrees_seen view d by both h =
         texts = k.texts;
         closures = k.closures;
         valid = k.valid;
+        plain = k.plain;
       },
     )

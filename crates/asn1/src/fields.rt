@@ -3,6 +3,7 @@
 ghost use Rattle.std.specs.Prelude.{◌≡◌, ◌⊎◌, List, ℕ, OnOk, OnErr, IfErr};
 ghost use Rattle.asn1_core.specs.Buffer.{Appends, KeepsFront};
 ghost use Rattle.asn1_core.specs.Reading.{Answers, rest_refused};
+ghost use Rattle.asn1_core.specs.Writers.{buffer_name, octets_of};
 ghost use Rattle.asn1_core.specs.Writing.{KnowsLength, Refuses};
 ghost use Rattle.asn1.specs.FieldLaws.{in_field};
 ghost use Rattle.asn1.specs.FieldSteps.{IsSum};
@@ -16,7 +17,7 @@ use std::marker::PhantomData;
 
 mod defined;
 
-pub use defined::{Borrowed, Defined, DefinedField, DefinedLast};
+pub use defined::{Borrowed, Defined, DefinedField, DefinedLast, both_have_one_text};
 
 /// The names of a structure's fields, as places have them.
 pub trait FieldNames {
@@ -55,9 +56,9 @@ pub trait RowWritable: Row + Sized {
     /// Appends the texts of the fields, one behind another. At Err what stood before still stands in front.
     fn write(&self, dest: &mut Writer<'_>) -> Result<(), Self::Error>
         requires { Self.list.fields.closures (Self.list.meaning self.now) }
-        ensures same_buffer { dest.new.buf.ghost_name ≡ dest.old.buf.ghost_name }
-        ensures ok { OnOk result (Appends (Self.list.fields.texts (Self.list.meaning self.now)) dest.old.buf.now.bytes dest.new.buf.now.bytes) }
-        ensures err { OnErr result (KeepsFront dest.old.buf.now.bytes dest.new.buf.now.bytes) }
+        ensures same_buffer { buffer_name dest.new ≡ buffer_name dest.old }
+        ensures ok { OnOk result (Appends (Self.list.fields.texts (Self.list.meaning self.now)) (octets_of dest.old) (octets_of dest.new)) }
+        ensures err { OnErr result (KeepsFront (octets_of dest.old) (octets_of dest.new)) }
         ensures error { IfErr result (Refuses Self.Error.from_gives (write_errors self.now)) };
 
     /// How many octets the texts have together, where that is known without writing them.

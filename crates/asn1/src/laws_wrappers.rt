@@ -7,7 +7,7 @@ use crate::{
     Choice1, Choice2, Choice3, DefaultValue, Defaulted, Explicit, Implicit, MeaningEq,
     OctetStringEncoded,
 };
-use asn1_core::Asn1Type;
+use asn1_core::{Asn1DefinedBy, Asn1Type};
 
 /// Each wrapper of a lawful part is lawful: what it is written as is read back, and means the same. An option's part is
 /// an element wherever it is there, since elsewhere nothing in front tells an option that is there from one that isn't;
@@ -36,5 +36,20 @@ pub fn wrappers_are_elements<T: Asn1Type, const TAG: u32>()
     ensures explicit { ⟦<Explicit<T, TAG> as Asn1Type>⟧.der.is_element }
     ensures implicit { ⟦<Implicit<T, TAG> as Asn1Type>⟧.der.is_element }
     ensures octet_string { ⟦<OctetStringEncoded<T> as Asn1Type>⟧.der.is_element }
-    ensures choice { ⟦<Choice2<T, T> as Asn1Type>⟧.der.is_element }
+{}
+
+/// So are choices.
+pub fn choices_are_elements<T1: Asn1Type, T2: Asn1Type, T3: Asn1Type>()
+    ensures choice1 { ⟦<Choice1<T1> as Asn1Type>⟧.der.is_element }
+    ensures choice2 { ⟦<Choice2<T1, T2> as Asn1Type>⟧.der.is_element }
+    ensures choice3 { ⟦<Choice3<T1, T2, T3> as Asn1Type>⟧.der.is_element }
+{}
+
+/// A type that an item defines is lawful under an explicit tag where it is lawful and its text is an element, and is as it
+/// otherwise.
+pub fn defined_types_are_lawful<T: Asn1Type, U: Asn1DefinedBy<T>, const TAG: u32>()
+    ensures lawful { U.by.means.lawful → U.by.means.is_element → ⟦<Explicit<U, TAG> as Asn1DefinedBy<T>>⟧.by.means.lawful }
+    ensures plain { U.by.means.plain → ⟦<Explicit<U, TAG> as Asn1DefinedBy<T>>⟧.by.means.plain }
+    ensures takes_none { (U.by.means.takes_memory → ⊥) → ⟦<Explicit<U, TAG> as Asn1DefinedBy<T>>⟧.by.means.takes_memory → ⊥ }
+    ensures unbounded { (U.by.means.bounded → ⊥) → ⟦<Explicit<U, TAG> as Asn1DefinedBy<T>>⟧.by.means.bounded → ⊥ }
 {}

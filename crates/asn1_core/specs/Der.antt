@@ -11,7 +11,7 @@ use Rattle.asn1_core.specs.Fault.{Fault, IsOfText}
 use Rattle.asn1_core.specs.Writing.{IsElementOf}
 use Rattle.asn1_core.specs.Reading.{Takes, Fits, IsOneElement, simple, simple_out, simple_stops, element_front, tlv_stops, stands, bool_content_text, read_bool, refuses}
 use Rattle.asn1_core.specs.Options.{option_meaning, IfThere, option_text, option_texts, option_read, option_out}
-use Rattle.asn1_core.specs.Lemmas.Options.{option_takes, option_shape, option_accepted, option_again, option_both, option_pair, option_one, option_all, option_faults}
+use Rattle.asn1_core.specs.Lemmas.Options.{option_takes, option_shape, option_accepted, option_again, option_both, option_pair, option_weaker, option_one, option_all, option_faults}
 use Rattle.asn1_core.specs.Lemmas.Elements.{element_some}
 use Rattle.asn1_core.specs.Lemmas.Faults.{simple_faults, tlv_faults, bool_faults, refuses_faults}
 use Rattle.asn1_core.specs.Lemmas.Contents.{simple_takes, simple_shape, simple_accepted, simple_again, one_element, tlv_takes, tlv_again, bool_takes, bool_again, refuses_takes}
@@ -29,6 +29,8 @@ pub record Content (M : Type 0) : Type 1 where
   pub valid : M → Type 0
   -- those that may be read back
   pub allowed : M → Type 0
+  -- the type has bounds, so that some valid values may not be read back
+  pub bounded : Type 0
   -- a write appends the content and nothing else
   pub plain : Type 0
   pub lawful : Type 0
@@ -40,6 +42,7 @@ pub record Content (M : Type 0) : Type 1 where
   pub no_closures : plain → (m : M) → closures m
   pub takes : (c : List ℕ) (m : M) → IsText c → read c ≡ Ok m → (c ≡ text m) × (valid m × allowed m)
   pub again : (m : M) → lawful → valid m → allowed m → length (text m) < 2 ^ 32 → read (text m) ≡ Ok m
+  pub unbounded : (bounded → ⊥) → (m : M) → valid m → allowed m
   pub memory : (c : List ℕ) (places : List Place) → runs_out c places → takes_memory
   pub faults : (c : List ℕ) → IfErr (read c) IsOfText
 
@@ -57,6 +60,8 @@ pub record Der (V : Type 0) : Type 1 where
   pub valid : Meaning → Type 0
   -- those that may be read back: a list has as many items as its bounds allow
   pub allowed : Meaning → Type 0
+  -- the type has bounds, so that some valid values may not be read back
+  pub bounded : Type 0
   -- a write appends the text and nothing else
   pub plain : Type 0
   -- alternatives accept disjoint tags, and an option stands only where it may
@@ -79,6 +84,8 @@ pub record Der (V : Type 0) : Type 1 where
   pub accepted : (m : Meaning) (e : Element) → valid m → text m ≡ element_text e → accepts e.tag ≡ true
   pub solid : (m : Meaning) → lawful → is_element → valid m → text m ≡ [] → ⊥
   pub again : (m : Meaning) (rest : List ℕ) → lawful → valid m → allowed m → Fits (text m) → (text m ≡ [] → stands accepts rest ≡ false) → read (text m ++ rest) ≡ Ok (m, rest)
+  -- a type without bounds reads each valid value back
+  pub unbounded : (bounded → ⊥) → (m : Meaning) → valid m → allowed m
   pub memory : (t : List ℕ) (places : List Place) → runs_out t places → takes_memory
   -- memory runs out only where an element stands in front
   pub in_front : (t : List ℕ) (places : List Place) → runs_out t places → (f : Element × List ℕ) × (front t ≡ Ok f)
@@ -139,6 +146,7 @@ simple_der {M = M} meaning c = record {
   closures = c.closures;
   valid = c.valid;
   allowed = c.allowed;
+  bounded = c.bounded;
   plain = c.plain;
   lawful = c.lawful × (c.tag.value < 2 ^ 32);
   is_element = Unit {0};
@@ -154,6 +162,7 @@ simple_der {M = M} meaning c = record {
   accepted = simple_type_accepted c;
   solid = simple_type_solid c;
   again = simple_type_again c;
+  unbounded = c.unbounded;
   memory = simple_type_memory c;
   in_front = simple_type_in_front c;
   faults = simple_type_faults c;
@@ -188,6 +197,7 @@ basic b = record {
   closures = λ m. Unit {0};
   valid = b.valid;
   allowed = λ m. Unit {0};
+  bounded = ⊥;
   plain = Unit {0};
   lawful = Unit {0};
   takes_memory = ⊥;
@@ -197,6 +207,7 @@ basic b = record {
   no_closures = λ p m. tt;
   takes = λ c m bytes e. let h = b.takes c m bytes e in (h.0, (h.1, tt));
   again = λ m l v a s. b.again m v;
+  unbounded = λ free m v. tt;
   memory = λ c places out. out;
   faults = b.faults;
 }
@@ -210,6 +221,7 @@ no_content {M = M} = record {
   closures = λ m. Unit {0};
   valid = λ m. Unit {0};
   allowed = λ m. Unit {0};
+  bounded = ⊥;
   plain = ⊥;
   lawful = ⊥;
   takes_memory = ⊥;
@@ -219,6 +231,7 @@ no_content {M = M} = record {
   no_closures = λ p. absurd p;
   takes = λ c m b e. absurd (refuses_takes c m e);
   again = λ m l. absurd l;
+  unbounded = λ free m v. tt;
   memory = λ c places out. out;
   faults = refuses_faults M;
 }
@@ -244,6 +257,7 @@ seen view d = record {
   closures = d.closures;
   valid = d.valid;
   allowed = d.allowed;
+  bounded = d.bounded;
   plain = d.plain;
   lawful = d.lawful;
   is_element = d.is_element;
@@ -259,6 +273,7 @@ seen view d = record {
   accepted = d.accepted;
   solid = d.solid;
   again = d.again;
+  unbounded = d.unbounded;
   memory = d.memory;
   in_front = d.in_front;
   faults = d.faults;
@@ -285,6 +300,7 @@ tlv_der view = record {
   closures = λ m. Unit {0};
   valid = λ m. m.tag.value < 2 ^ 32;
   allowed = λ m. Unit {0};
+  bounded = ⊥;
   plain = Unit {0};
   lawful = Unit {0};
   is_element = Unit {0};
@@ -300,6 +316,7 @@ tlv_der view = record {
   accepted = λ m e v same. refl;
   solid = λ m l i v e. element_some m e;
   again = λ m rest l v a fits none. tlv_again m rest v fits;
+  unbounded = λ free m v. tt;
   memory = λ t places out. out;
   in_front = λ t places out. absurd out;
   faults = tlv_faults;
@@ -326,6 +343,7 @@ option_der d = record {
   closures = IfThere d.closures;
   valid = IfThere d.valid;
   allowed = IfThere d.allowed;
+  bounded = d.bounded;
   plain = d.plain;
   lawful = d.lawful × d.is_element;
   is_element = ⊥;
@@ -341,6 +359,7 @@ option_der d = record {
   accepted = λ m e v same. option_accepted d.accepts d.text d.valid d.accepted m e v same;
   solid = λ m l i v e. i;
   again = λ m rest l v a fits none. option_again d.accepts d.text (λ x. d.valid x × d.allowed x) d.read (λ x w. d.shape x l.0 w.0) (λ x e w. d.accepted x e w.0) (λ x w e. d.solid x l.0 l.1 w.0 e) (λ x r w o n. d.again x r l.0 w.0 w.1 o n) m rest (option_pair d.valid d.allowed m v a) fits none;
+  unbounded = λ free. option_weaker d.valid d.allowed (d.unbounded free);
   memory = λ t places out. d.memory t places out.1;
   in_front = λ t places out. d.in_front t places out.1;
   faults = option_faults d.accepts d.read d.faults;
@@ -356,3 +375,11 @@ option_der d = record {
   as_out = λ i. absurd i;
   as_stops = λ i. absurd i;
 }
+
+-- The closures in a value keep what they owe. A plain type has none.
+abbrev pub IsWritable : {V : Type 0} → (d : Der V) → d.Meaning → Type 0
+IsWritable d m = d.plain ⊎ d.closures m
+
+-- The same of the content of a simple type.
+abbrev pub IsWritableContent : {M : Type 0} → Content M → M → Type 0
+IsWritableContent c m = c.plain ⊎ c.closures m

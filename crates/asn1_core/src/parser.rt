@@ -400,6 +400,7 @@ impl<'a> Parser<'a> {
         ensures answers { Answers (λ v. (T.der.meaning v, self.new)) (simple_out (explicit_tag_of tag) T.der.runs_out self.old) result (simple (explicit_tag_of tag) (λ c. whole (T.der.read c)) self.old) }
         ensures rest { EndsWith self.old self.new }
         ensures stops { OnErr result (simple_stops self.old self.new) }
+        ensures no_want { ¬ T.der.takes_memory → IfErr result IsOfText }
     {
         let content = kind_as_error(self.read_expected(explicit_tag(tag)))?;
         parse_single::<T>(self.alloc, content)
@@ -412,6 +413,7 @@ impl<'a> Parser<'a> {
         ensures answers { Answers (λ v. (T.der.meaning v, self.new)) (simple_out (implicit_tag_of tag T.der.content.tag) T.der.content.runs_out self.old) result (simple (implicit_tag_of tag T.der.content.tag) T.der.content.read self.old) }
         ensures rest { EndsWith self.old self.new }
         ensures stops { OnErr result (simple_stops self.old self.new) }
+        ensures no_want { ¬ T.der.content.takes_memory → IfErr result IsOfText }
     {
         let content = kind_as_error(self.read_expected(implicit_tag(tag, T::tag())))?;
         T::parse_data(self.alloc, content)

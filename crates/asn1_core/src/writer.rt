@@ -5,6 +5,8 @@ ghost use Rattle.asn1_core.specs.Tag.{explicit_tag_of, implicit_tag_of};
 ghost use Rattle.asn1_core.specs.Length.{length_text};
 ghost use Rattle.asn1_core.specs.Display.{write_error_text};
 ghost use Rattle.asn1_core.specs.Closures.{IsWriter, WriterCall, MayAnswer};
+ghost use Rattle.asn1_core.specs.Der.{IsWritable, IsWritableContent};
+ghost use Rattle.asn1_core.specs.Writers.{buffer_name, buffer_of, octets_of};
 ghost use Rattle.asn1_core.specs.Writing.{Refuses, IsElementOf, full_count};
 ghost use Rattle.asn1_core.specs.declared.writer.WriteError.TheVariants.{AllocationError};
 
@@ -350,8 +352,8 @@ impl<'a> Writer<'a> {
     /// A writer into the buffer.
     #[inline]
     pub fn new(buf: &'a mut WriteBuf) -> Writer<'a>
-        ensures same_buffer { result.buf.ghost_name ≡ buf.entry.ghost_name }
-        ensures as_passed { result.buf.now ≡ buf.old }
+        ensures same_buffer { buffer_name result ≡ buf.entry.ghost_name }
+        ensures as_passed { buffer_of result ≡ buf.old }
     {
         Writer { buf }
     }
@@ -371,9 +373,9 @@ impl<'a> Writer<'a> {
         requires callable { F.IsAlwaysCallable body }
         requires front { LeavesFront F.FnOnce body }
         requires announced { Announces F.FnOnce body content_length }
-        ensures same_buffer { self.new.buf.ghost_name ≡ self.old.buf.ghost_name }
-        ensures ok { OnOk result (Appended F.FnOnce body tag self.old.buf.now.bytes self.new.buf.now.bytes) }
-        ensures err { OnErr result (self.new.buf.now.bytes ≡ self.old.buf.now.bytes) }
+        ensures same_buffer { buffer_name self.new ≡ buffer_name self.old }
+        ensures ok { OnOk result (Appended F.FnOnce body tag (octets_of self.old) (octets_of self.new)) }
+        ensures err { OnErr result (octets_of self.new ≡ octets_of self.old) }
         ensures error { IfErr result (Refused F.FnOnce body E.From.from_gives) }
     {
         let before = self.buf.len();
@@ -390,10 +392,10 @@ impl<'a> Writer<'a> {
     /// memory, or one that the value names.
     #[inline]
     pub fn write_element<T: Asn1Writable>(&mut self, val: &T) -> Result<(), T::Error>
-        requires { T.der.closures (T.der.meaning val.now) }
-        ensures same_buffer { self.new.buf.ghost_name ≡ self.old.buf.ghost_name }
-        ensures ok { OnOk result (Appends (T.der.texts (T.der.meaning val.now)) self.old.buf.now.bytes self.new.buf.now.bytes) }
-        ensures err { OnErr result (self.new.buf.now.bytes ≡ self.old.buf.now.bytes) }
+        requires { IsWritable T.der (T.der.meaning val.now) }
+        ensures same_buffer { buffer_name self.new ≡ buffer_name self.old }
+        ensures ok { OnOk result (Appends (T.der.texts (T.der.meaning val.now)) (octets_of self.old) (octets_of self.new)) }
+        ensures err { OnErr result (octets_of self.new ≡ octets_of self.old) }
         ensures error { IfErr result (Refuses T.Error.from_gives (T.write_errors val.now)) }
     {
         let before = self.buf.len();
@@ -412,10 +414,10 @@ impl<'a> Writer<'a> {
         val: &T,
         tag: u32,
     ) -> Result<(), T::Error>
-        requires { T.der.closures (T.der.meaning val.now) }
-        ensures same_buffer { self.new.buf.ghost_name ≡ self.old.buf.ghost_name }
-        ensures ok { OnOk result (Appends (IsElementOf (explicit_tag_of tag) (T.der.texts (T.der.meaning val.now))) self.old.buf.now.bytes self.new.buf.now.bytes) }
-        ensures err { OnErr result (self.new.buf.now.bytes ≡ self.old.buf.now.bytes) }
+        requires { IsWritable T.der (T.der.meaning val.now) }
+        ensures same_buffer { buffer_name self.new ≡ buffer_name self.old }
+        ensures ok { OnOk result (Appends (IsElementOf (explicit_tag_of tag) (T.der.texts (T.der.meaning val.now))) (octets_of self.old) (octets_of self.new)) }
+        ensures err { OnErr result (octets_of self.new ≡ octets_of self.old) }
         ensures error { IfErr result (Refuses T.Error.from_gives (T.write_errors val.now)) }
     {
         let tag = explicit_tag(tag);
@@ -423,7 +425,7 @@ impl<'a> Writer<'a> {
             tag,
             val.encoded_length(),
             |dest: &mut WriteBuf| -> Result<(), T::Error>
-                requires { T.der.closures (T.der.meaning val.now) }
+                requires { IsWritable T.der (T.der.meaning val.now) }
             { Writer::new(dest).write_element(val) },
         )
     }
@@ -435,10 +437,10 @@ impl<'a> Writer<'a> {
         val: &T,
         tag: u32,
     ) -> Result<(), T::Error>
-        requires { T.der.content.closures (T.der.meaning val.now) }
-        ensures same_buffer { self.new.buf.ghost_name ≡ self.old.buf.ghost_name }
-        ensures ok { OnOk result (Appends (IsElementOf (implicit_tag_of tag T.der.content.tag) (T.der.content.texts (T.der.meaning val.now))) self.old.buf.now.bytes self.new.buf.now.bytes) }
-        ensures err { OnErr result (self.new.buf.now.bytes ≡ self.old.buf.now.bytes) }
+        requires { IsWritableContent T.der.content (T.der.meaning val.now) }
+        ensures same_buffer { buffer_name self.new ≡ buffer_name self.old }
+        ensures ok { OnOk result (Appends (IsElementOf (implicit_tag_of tag T.der.content.tag) (T.der.content.texts (T.der.meaning val.now))) (octets_of self.old) (octets_of self.new)) }
+        ensures err { OnErr result (octets_of self.new ≡ octets_of self.old) }
         ensures error { IfErr result (Refuses T.Error.from_gives (T.write_errors val.now)) }
     {
         let tag = implicit_tag(tag, T::tag());
@@ -447,9 +449,9 @@ impl<'a> Writer<'a> {
 
     fn write_element_or_part<T: Asn1Writable>(&mut self, val: &T) -> Result<(), T::Error>
         requires { T.der.closures (T.der.meaning val.now) }
-        ensures same_buffer { self.new.buf.ghost_name ≡ self.old.buf.ghost_name }
-        ensures ok { OnOk result (Appends (T.der.texts (T.der.meaning val.now)) self.old.buf.now.bytes self.new.buf.now.bytes) }
-        ensures err { OnErr result (KeepsFront self.old.buf.now.bytes self.new.buf.now.bytes) }
+        ensures same_buffer { buffer_name self.new ≡ buffer_name self.old }
+        ensures ok { OnOk result (Appends (T.der.texts (T.der.meaning val.now)) (octets_of self.old) (octets_of self.new)) }
+        ensures err { OnErr result (KeepsFront (octets_of self.old) (octets_of self.new)) }
         ensures error { IfErr result (Refuses T.Error.from_gives (T.write_errors val.now)) }
     {
         if let Some(len) = val.encoded_length() {
@@ -467,9 +469,9 @@ impl<'a> Writer<'a> {
         requires callable { F.IsAlwaysCallable body }
         requires front { LeavesFront F.FnOnce body }
         requires announced { Announces F.FnOnce body content_length }
-        ensures same_buffer { self.new.buf.ghost_name ≡ self.old.buf.ghost_name }
-        ensures ok { OnOk result (Appended F.FnOnce body tag self.old.buf.now.bytes self.new.buf.now.bytes) }
-        ensures err { OnErr result (KeepsFront self.old.buf.now.bytes self.new.buf.now.bytes) }
+        ensures same_buffer { buffer_name self.new ≡ buffer_name self.old }
+        ensures ok { OnOk result (Appended F.FnOnce body tag (octets_of self.old) (octets_of self.new)) }
+        ensures err { OnErr result (KeepsFront (octets_of self.old) (octets_of self.new)) }
         ensures error { IfErr result (Refused F.FnOnce body E.From.from_gives) }
     {
         tag.write_to(self.buf)?;
@@ -510,7 +512,7 @@ pub fn write<E: From<WriteError>, F: Fn(&mut Writer<'_>) -> Result<(), E> + Drop
 /// want of memory, or one that the value names.
 #[inline]
 pub fn write_single<T: Asn1Writable>(alloc: Global, value: &T) -> Result<Vec<u8>, T::Error>
-    requires { T.der.closures (T.der.meaning value.now) }
+    requires { IsWritable T.der (T.der.meaning value.now) }
     ensures ok { IfOk result (λ v. T.der.texts (T.der.meaning value.now) v.items) }
     ensures text { T.der.plain → IfOk result (λ v. v.items ≡ T.der.text (T.der.meaning value.now)) }
     ensures error { IfErr result (Refuses T.Error.from_gives (T.write_errors value.now)) }

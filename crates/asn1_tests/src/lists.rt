@@ -449,8 +449,8 @@ fn refused_items(rt: HostRuntime) -> Result<(), Fail> {
     }
     // A closure that goes on after a refusal: what the item put is gone.
     let goes_on = |writer: &mut Writer<'_>| -> WriteResult<()>
-        ensures same_buffer { writer.new.buf.ghost_name ≡ writer.old.buf.ghost_name }
-        ensures front { KeepsFront writer.old.buf.now.bytes writer.new.buf.now.bytes }
+        ensures same_buffer { buffer_name writer.new ≡ buffer_name writer.old }
+        ensures front { KeepsFront (octets_of writer.old) (octets_of writer.new) }
     {
         if writer.write_element(&Unwritable(None)).is_ok() {
             return Ok(());

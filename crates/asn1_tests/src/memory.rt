@@ -105,8 +105,8 @@ fn lists_of_owned_integers(rt: HostRuntime) -> Result<(), Fail> {
 #[test]
 fn an_element_without_memory_is_left_out(rt: HostRuntime) -> Result<(), Fail> {
     let goes_on = |writer: &mut Writer<'_>| -> WriteResult<()>
-        ensures same_buffer { writer.new.buf.ghost_name ≡ writer.old.buf.ghost_name }
-        ensures front { KeepsFront writer.old.buf.now.bytes writer.new.buf.now.bytes }
+        ensures same_buffer { buffer_name writer.new ≡ buffer_name writer.old }
+        ensures front { KeepsFront (octets_of writer.old) (octets_of writer.new) }
     {
         let _refused = writer.write_element(&5u8);
         writer.write_element(&true)

@@ -32,9 +32,9 @@ fn several_values(rt: HostRuntime) -> Result<(), Fail> {
     let written = write(
         rt.alloc(),
         |writer: &mut Writer<'_>| -> WriteResult<()>
-            ensures same_buffer { writer.new.buf.ghost_name ≡ writer.old.buf.ghost_name }
-            ensures ok { OnOk result (writer.new.buf.now.bytes ≡ writer.old.buf.now.bytes ++ (bool_text true ++ bool_text false)) }
-            ensures err { OnErr result (KeepsFront writer.old.buf.now.bytes writer.new.buf.now.bytes) }
+            ensures same_buffer { buffer_name writer.new ≡ buffer_name writer.old }
+            ensures ok { OnOk result (octets_of writer.new ≡ octets_of writer.old ++ (bool_text true ++ bool_text false)) }
+            ensures err { OnErr result (KeepsFront (octets_of writer.old) (octets_of writer.new)) }
         {
             writer.write_element(&true)?;
             writer.write_element(&false)

@@ -3,6 +3,7 @@
 ghost use Rattle.std.specs.Prelude.{◌≡◌, ◌⊎◌, OnOk, OnErr, IfErr};
 ghost use Rattle.asn1_core.specs.Buffer.{Appends, KeepsFront};
 ghost use Rattle.asn1_core.specs.Reading.{Answers};
+ghost use Rattle.asn1_core.specs.Writers.{buffer_name, octets_of};
 ghost use Rattle.asn1_core.specs.Writing.{KnowsLength, Refuses};
 ghost use Rattle.asn1.specs.Defined.{by_seen, defined_seen};
 ghost use Rattle.asn1.specs.ItemsAndValues.{Agrees, ItemAndValue, agrees_seen};
@@ -11,7 +12,7 @@ ghost use Rattle.asn1.specs.FieldLists.{ItemOf, defined_field, defined_last_fiel
 use super::{FieldNames, Row, RowReadable, RowWritable, finish, placed, sum};
 use asn1_core::{
     Asn1DefinedBy, Asn1DefinedByReadable, Asn1DefinedByWritable, Asn1Readable, Asn1Type,
-    Asn1Writable, ParseResult, Parser, Writer,
+    Asn1Writable, ParseResult, Parser, Tag, Writer,
 };
 use std::marker::PhantomData;
 
@@ -120,6 +121,20 @@ impl<T: Asn1Writable, C: Asn1DefinedByWritable<T>> Asn1DefinedByWritable<T> for 
     }
 }
 
+/// The item and the value that it defines have one text each, as both are said together: what the `tag` of a structure
+/// needs that is generic over its value. The body asks both types.
+pub fn both_have_one_text<
+    'a,
+    T: Asn1Readable<'a>,
+    C: DefinedField<T> + Asn1DefinedByReadable<'a, T>,
+>()
+    ensures item { C.both.item.plain }
+    ensures value { C.both.value.plain }
+{
+    let _accepted = T::can_parse(Tag::primitive(0));
+    C::one_text();
+}
+
 /// Reads the item, as both are said together.
 fn read_item<'a, T: Asn1Readable<'a>, C: DefinedField<T>>(parser: &mut Parser<'a>) -> ParseResult<T>
     ensures { Answers (λ v. (C.both.item.meaning v, parser.new)) (C.both.item.runs_out parser.old) result (C.both.item.read parser.old) }
@@ -150,9 +165,9 @@ fn write_item<T: Asn1Writable + Drop, C: DefinedField<T> + Asn1DefinedByWritable
     dest: &mut Writer<'_>,
 ) -> Result<(), T::Error>
     requires { C.both.item.closures (C.both.value.item (C.both.value.meaning value.now)) }
-    ensures same_buffer { dest.new.buf.ghost_name ≡ dest.old.buf.ghost_name }
-    ensures ok { OnOk result (Appends (C.both.item.texts (C.both.value.item (C.both.value.meaning value.now))) dest.old.buf.now.bytes dest.new.buf.now.bytes) }
-    ensures err { OnErr result (KeepsFront dest.old.buf.now.bytes dest.new.buf.now.bytes) }
+    ensures same_buffer { buffer_name dest.new ≡ buffer_name dest.old }
+    ensures ok { OnOk result (Appends (C.both.item.texts (C.both.value.item (C.both.value.meaning value.now))) (octets_of dest.old) (octets_of dest.new)) }
+    ensures err { OnErr result (KeepsFront (octets_of dest.old) (octets_of dest.new)) }
     ensures error { IfErr result (Refuses T.Error.from_gives (ItemOf C.both value.now T.write_errors)) }
 {
     let item = value.item();
@@ -165,9 +180,9 @@ fn write_value<T: Asn1Writable, C: DefinedField<T> + Asn1DefinedByWritable<T>>(
     dest: &mut Writer<'_>,
 ) -> Result<(), C::Error>
     requires { C.both.value.closures (C.both.value.meaning value.now) }
-    ensures same_buffer { dest.new.buf.ghost_name ≡ dest.old.buf.ghost_name }
-    ensures ok { OnOk result (Appends (C.both.value.texts (C.both.value.meaning value.now)) dest.old.buf.now.bytes dest.new.buf.now.bytes) }
-    ensures err { OnErr result (KeepsFront dest.old.buf.now.bytes dest.new.buf.now.bytes) }
+    ensures same_buffer { buffer_name dest.new ≡ buffer_name dest.old }
+    ensures ok { OnOk result (Appends (C.both.value.texts (C.both.value.meaning value.now)) (octets_of dest.old) (octets_of dest.new)) }
+    ensures err { OnErr result (KeepsFront (octets_of dest.old) (octets_of dest.new)) }
     ensures error { IfErr result (Refuses C.Error.from_gives (C.write_errors_by value.now)) }
 {
     value.write(dest)

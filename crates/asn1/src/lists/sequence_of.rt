@@ -12,6 +12,7 @@ ghost use Rattle.asn1_core.specs.Element.{Element, front};
 ghost use Rattle.asn1_core.specs.Reading.{Answers, EndsWith};
 ghost use Rattle.asn1_core.specs.Der.{simple_der};
 ghost use Rattle.asn1_core.specs.Items.{Each, Joins, OneNames, sequence_tag};
+ghost use Rattle.asn1_core.specs.Writers.{buffer_name, octets_of};
 ghost use Rattle.asn1_core.specs.Writing.{KnowsLength, Refuses};
 ghost use Rattle.asn1.specs.Lists.{AreItems, left, item, counted, item_out, items_out, sequence_read, NextItem};
 ghost use Rattle.asn1.specs.ListTypes.{items_inside};
@@ -253,9 +254,9 @@ fn write_items<'a, T: Asn1Readable<'a> + Asn1Writable>(
 ) -> Result<(), T::Error>
     requires are_items { AreItems T.der.read items.now number }
     requires closures { Each T.der.closures (left T.der.read items.now) }
-    ensures same_buffer { writer.new.buf.ghost_name ≡ writer.old.buf.ghost_name }
-    ensures ok { OnOk result (Appends (Joins T.der.texts (left T.der.read items.entry.now)) writer.old.buf.now.bytes writer.new.buf.now.bytes) }
-    ensures err { OnErr result (KeepsFront writer.old.buf.now.bytes writer.new.buf.now.bytes) }
+    ensures same_buffer { buffer_name writer.new ≡ buffer_name writer.old }
+    ensures ok { OnOk result (Appends (Joins T.der.texts (left T.der.read items.entry.now)) (octets_of writer.old) (octets_of writer.new)) }
+    ensures err { OnErr result (KeepsFront (octets_of writer.old) (octets_of writer.new)) }
     ensures error { IfErr result (Refuses T.Error.from_gives (OneNames T.write_errors)) }
 {
     let mut parser = Parser::new(alloc, items);

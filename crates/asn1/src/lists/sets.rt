@@ -16,6 +16,7 @@ ghost use Rattle.asn1_core.specs.Tlv.{element_of};
 ghost use Rattle.asn1_core.specs.Reading.{Answers, EndsWith, IsHandedOn, element_front};
 ghost use Rattle.asn1_core.specs.Der.{simple_der};
 ghost use Rattle.asn1_core.specs.Items.{Each, Joins, OneNames, set_tag};
+ghost use Rattle.asn1_core.specs.Writers.{buffer_name, octets_of};
 ghost use Rattle.asn1_core.specs.Writing.{KnowsLength, Refuses};
 ghost use Rattle.asn1.specs.Lists.{NextItem};
 ghost use Rattle.asn1.specs.Sets.{AreOrdered, set_left, set_item, checked, set_item_out, set_out, first_out, set_read, set_octets, element_behind};
@@ -330,9 +331,9 @@ fn write_set_items<'a, T: Asn1Readable<'a> + Asn1Writable>(
 ) -> Result<(), T::Error>
     requires are_ordered { AreOrdered text_less T.der.read items.now }
     requires closures { Each T.der.closures (set_left text_less T.der.read items.now) }
-    ensures same_buffer { writer.new.buf.ghost_name ≡ writer.old.buf.ghost_name }
-    ensures ok { OnOk result (Appends (Joins T.der.texts (set_left text_less T.der.read items.entry.now)) writer.old.buf.now.bytes writer.new.buf.now.bytes) }
-    ensures err { OnErr result (KeepsFront writer.old.buf.now.bytes writer.new.buf.now.bytes) }
+    ensures same_buffer { buffer_name writer.new ≡ buffer_name writer.old }
+    ensures ok { OnOk result (Appends (Joins T.der.texts (set_left text_less T.der.read items.entry.now)) (octets_of writer.old) (octets_of writer.new)) }
+    ensures err { OnErr result (KeepsFront (octets_of writer.old) (octets_of writer.new)) }
     ensures error { IfErr result (Refuses T.Error.from_gives (OneNames T.write_errors)) }
 {
     let mut parser = Parser::new(alloc, items);

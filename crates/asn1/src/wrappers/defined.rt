@@ -37,6 +37,10 @@ impl<
         }
         Ok(Explicit::new(value))
     }
+
+    fn one_text() {
+        U::one_text()
+    }
 }
 
 impl<T: Asn1Writable, U: Asn1DefinedByWritable<T>, const TAG: u32> Asn1DefinedByWritable<T>

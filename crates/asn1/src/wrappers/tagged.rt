@@ -10,6 +10,7 @@ use asn1_core::{
     WriteBuf, Writer, explicit_tag, implicit_tag, parse_single,
 };
 use std::alloc::Global;
+use std::fmt;
 
 /// A value in an element with an explicit tag.
 #[derive(Debug, PartialEq, Eq, Drop)]
@@ -161,9 +162,17 @@ impl<T: SimpleAsn1Writable, const TAG: u32> SimpleAsn1Writable for Implicit<T, T
 }
 
 /// A value in an octet string.
-#[derive(Debug, PartialEq, Eq, Drop)]
+#[derive(PartialEq, Eq, Drop)]
 pub struct OctetStringEncoded<T> {
     inner: T,
+}
+
+impl<T: fmt::Debug> fmt::Debug for OctetStringEncoded<T> {
+    fn fmt<W: fmt::Write>(&self, f: &mut fmt::Formatter<W>) -> fmt::Result {
+        f.debug_tuple("OctetStringEncoded")
+            .field(&self.inner)
+            .finish()
+    }
 }
 
 impl<T> OctetStringEncoded<T> {

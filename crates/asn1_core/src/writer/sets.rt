@@ -4,12 +4,13 @@ ghost use Rattle.std.specs.Prelude.{◌≡◌, ◌++◌, [], length, map, All, I
 ghost use Rattle.std.specs.List.Sorted.{IsSortedBy};
 ghost use Rattle.asn1_core.specs.Buffer.{Appends, KeepsFront};
 ghost use Rattle.asn1_core.specs.Writing.{Refuses};
-ghost use Rattle.asn1_core.specs.Der.{simple_der};
+ghost use Rattle.asn1_core.specs.Der.{IsWritable, simple_der};
 ghost use Rattle.asn1_core.specs.Items.{Each, AnyNames, set_tag};
 ghost use Rattle.asn1_core.specs.Listing.{join, ListingOf};
-ghost use Rattle.asn1_core.specs.SetWriting.{StandsBehind, AddsTo, IsOutOfOrder, SetContent, MayRefuseSet, set_closure_written};
+ghost use Rattle.asn1_core.specs.SetWriting.{StandsBehind, AddsTo, IsElementWritten, IsOutOfOrder, KeepsElements, SetContent, MayRefuseSet, set_closure_written};
 ghost use Rattle.asn1_core.specs.TagOrder.{tag_in_front, before_tag};
 ghost use Rattle.asn1_core.specs.Spans.{part_of, first_number, span_cmp, IsBefore, IsWithin, NotesFirst, NotesTexts};
+ghost use Rattle.asn1_core.specs.Writers.{set_closure, set_items};
 ghost use Rattle.asn1_core.specs.Written.{listing_written};
 ghost use Rattle.asn1_core.specs.declared.writer.WriteError.TheVariants.{AllocationError, InvalidSetOrdering};
 
@@ -139,14 +140,14 @@ pub struct SetOfWriter<'a, T> {
 impl<'a, T: Asn1Writable> SetOfWriter<'a, T> {
     /// A set of these items.
     pub fn new(items: &'a [T]) -> SetOfWriter<'a, T>
-        ensures { result.items.now ≡ items.now }
+        ensures { set_items result ≡ items.now }
     {
         SetOfWriter { items }
     }
 }
 
 impl<'a, T: Asn1Type> Asn1Type for SetOfWriter<'a, T> {
-    ghost der = { simple_der (λ v. map T.der.meaning v.items.now) (listing_written T.der) };
+    ghost der = { simple_der (λ v. map T.der.meaning (set_items v)) (listing_written T.der) };
 
     fn known(&self) {
         for item in self.items {
@@ -158,7 +159,7 @@ impl<'a, T: Asn1Type> Asn1Type for SetOfWriter<'a, T> {
 impl<T: Asn1Writable> SimpleAsn1Writable for SetOfWriter<'_, T> {
     type Error = T::Error;
 
-    ghost write_errors = { λ v. AnyNames T.write_errors v.items.now };
+    ghost write_errors = { λ v. AnyNames T.write_errors (set_items v) };
 
     fn tag() -> Tag
         ensures value { result ≡ set_tag }
@@ -235,9 +236,12 @@ impl<'a> SetElementWriter<'a> {
     /// Writes an element whose tag doesn't come before that of the element in front of it. An element that has no octets
     /// isn't compared.
     pub fn write_element<T: Asn1Writable>(&mut self, val: &T) -> Result<(), T::Error>
-        requires { T.der.closures (T.der.meaning val.now) }
+        requires { IsWritable T.der (T.der.meaning val.now) }
         ensures front { self.new.front ≡ self.old.front }
         ensures ok { OnOk result (AddsTo (T.der.texts (T.der.meaning val.now)) self.old self.new) }
+
+        // A join of elements in the order of their tags stays one.
+        ensures elements { IsElementWritten T.der (T.der.meaning val.now) → OnOk result (KeepsElements self.old self.new) }
         ensures err { OnErr result (self.new ≡ self.old) }
         ensures error { IfErr result (λ e. Refuses T.Error.from_gives (T.write_errors val.now) e ⊎ (IsOutOfOrder (T.der.texts (T.der.meaning val.now)) self.old × T.Error.from_gives InvalidSetOrdering e)) }
     {
@@ -280,7 +284,7 @@ pub struct SetWriter<'a, F: Fn(&mut SetElementWriter<'_>) -> Result<(), E>, E> {
 impl<'a, F: Fn(&mut SetElementWriter<'_>) -> Result<(), E>, E> SetWriter<'a, F, E> {
     /// A set of what the closure writes.
     pub fn new(f: &'a F) -> SetWriter<'a, F, E>
-        ensures { result.f.now ≡ f.now }
+        ensures { set_closure result ≡ f.now }
     {
         SetWriter {
             f,
@@ -290,7 +294,7 @@ impl<'a, F: Fn(&mut SetElementWriter<'_>) -> Result<(), E>, E> SetWriter<'a, F, 
 }
 
 impl<'a, F: Fn(&mut SetElementWriter<'_>) -> Result<(), E>, E> Asn1Type for SetWriter<'a, F, E> {
-    ghost der = { simple_der (λ v. v.f.now) (set_closure_written F.FnOnce) };
+    ghost der = { simple_der set_closure (set_closure_written F.FnOnce) };
 
     fn known(&self) {}
 }
@@ -299,7 +303,7 @@ impl<F: Fn(&mut SetElementWriter<'_>) -> Result<(), E>, E: From<WriteError>> Sim
     for SetWriter<'_, F, E> {
     type Error = E;
 
-    ghost write_errors = { λ v. MayRefuseSet F.FnOnce v.f.now };
+    ghost write_errors = { λ v. MayRefuseSet F.FnOnce (set_closure v) };
 
     fn tag() -> Tag
         ensures value { result ≡ set_tag }

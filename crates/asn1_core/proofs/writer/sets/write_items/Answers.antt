@@ -1,4 +1,4 @@
-use Rattle.std.proofs.Common.{rules, ◌∙◌, ◌≡◌, ◌-◌, ◌++◌, ◌∷◌, [], length, take, drop, List, ℕ, ap, refl, arith}
+use Rattle.std.proofs.Common.{rules, ◌∙◌, ◌≡◌, ◌-◌, ◌++◌, ◌∷◌, [], length, take, drop, List, ℕ, ap, refl, arith, inr}
 use Rattle.std.proofs.lemmas.List.{length-drop, take_all}
 use Rattle.asn1_core.specs.Spans.{first_number}
 use Rattle.asn1_core.specs.declared.writer.sets.Span.{Span}
@@ -11,7 +11,7 @@ use Rattle.asn1_core.proofs.writer.sets.write_items.Goals as goal
 pub write_element-requires : goal.write_element-requires
 write_element-requires g c =
     let d = g.T.Asn1Type.der in
-    each_at d.meaning d.closures c.args.items.now c.loop-item.item-index c.item-item.result c.requires.closures c.loop-item-test.true c.item-item.is
+    inr (each_at d.meaning d.closures c.args.items.now c.loop-item.item-index c.item-item.result c.requires.closures c.loop-item-test.true c.item-item.is)
 
 pub returns-in_err-write_element-clause-error : goal.returns-in_err-write_element-clause-error
 returns-in_err-write_element-clause-error g c =

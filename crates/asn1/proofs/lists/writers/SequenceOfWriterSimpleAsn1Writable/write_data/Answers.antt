@@ -1,4 +1,4 @@
-use Rattle.std.proofs.Common.{rules, ◌∙◌, arith, subst, map}
+use Rattle.std.proofs.Common.{rules, ◌∙◌, arith, subst, map, inr}
 use Rattle.std.proofs.lemmas.List.{take_all}
 use Rattle.asn1_core.specs.Buffer.{Appends}
 use Rattle.asn1_core.specs.Items.{Joins, AnyNames}
@@ -8,7 +8,7 @@ use Rattle.asn1.proofs.lists.writers.SequenceOfWriterSimpleAsn1Writable.write_da
 pub write_element-requires : goal.write_element-requires
 write_element-requires g c =
     let d = g.T.Asn1Type.der in
-    each_at d.meaning d.closures c.args.self.now.items.now c.loop-item.item-index c.item-item.result c.requires c.loop-item-test.true c.item-item.is
+    inr (each_at d.meaning d.closures c.args.self.now.items.now c.loop-item.item-index c.item-item.result c.requires c.loop-item-test.true c.item-item.is)
 
 pub returns-in_err-write_element-clause-error : goal.returns-in_err-write_element-clause-error
 returns-in_err-write_element-clause-error g c =

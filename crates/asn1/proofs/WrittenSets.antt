@@ -1,0 +1,84 @@
+-- Elements that were written one behind another in order are the content of a set.
+use Rattle.std.proofs.Common.{◌≡◌, ◌<◌, ◌≤◌, ◌^◌, ◌++◌, ◌∙◌, ℕ, List, [], ◌∷◌, length, Option, Some, None, Result, Ok, false, refl, sym, ap, subst, arith, append_assoc, length-append}
+use Rattle.std.proofs.lemmas.List.{append-nil}
+use Rattle.std.specs.Fn.{Once}
+use Rattle.std.specs.Borrow.{MutBor}
+use Rattle.asn1_core.specs.declared.tag.Tag.{Tag}
+use Rattle.asn1_core.specs.Tag.{tag_text}
+use Rattle.asn1_core.specs.Length.{length_text}
+use Rattle.asn1_core.specs.Element.{Element, element_text, IsReadable}
+use Rattle.asn1_core.specs.TagOrder.{IsTagBefore, before_tag}
+use Rattle.asn1_core.specs.Items.{Each, joined}
+use Rattle.asn1_core.specs.SetWriting.{SetState, OrderedElements, no_element, one_more, KeepsElements, MayWriteSet}
+use Rattle.asn1_core.specs.Lemmas.TagOrder.{tag_order_is_answered}
+use Rattle.asn1.specs.Sets.{TagsInOrder, IsSetContent}
+use Rattle.asn1.specs.WrittenSets.{WritesSets}
+
+-- the tag of the last element
+abbrev last_tag : List Element → Option Tag
+last_tag [] = None
+last_tag (e ∷ []) = Some e.tag
+last_tag (e ∷ f ∷ es) = last_tag (f ∷ es)
+
+-- elements with small tags, joined in order
+record Ordered (done : List ℕ) (last : Option Tag) : Type 0 where
+  pub elements : List Element
+  pub small : Each (λ e. e.tag.value < 2 ^ 32) elements
+  pub ordered : TagsInOrder elements
+  pub is : done ≡ joined element_text elements
+  pub ends : last ≡ last_tag elements
+
+joined_more : (es : List Element) (e : Element) → joined element_text (es ++ e ∷ []) ≡ joined element_text es ++ element_text e
+joined_more [] e = append-nil (element_text e)
+joined_more (f ∷ es) e = ap (λ (t : List ℕ). element_text f ++ t) (joined_more es e) ∙ sym (append_assoc (element_text f) (joined element_text es) (element_text e))
+
+small_more : (es : List Element) (e : Element) → Each (λ x. x.tag.value < 2 ^ 32) es → e.tag.value < 2 ^ 32 → Each (λ x. x.tag.value < 2 ^ 32) (es ++ e ∷ [])
+small_more [] e h small = (small, tt)
+small_more (f ∷ es) e h small = (h.0, small_more es e h.1 small)
+
+ends_more : (es : List Element) (e : Element) → last_tag (es ++ e ∷ []) ≡ Some e.tag
+ends_more [] e = refl
+ends_more (f ∷ []) e = refl
+ends_more (f ∷ g ∷ es) e = ends_more (g ∷ es) e
+
+not_before : (a b : Tag) → before_tag (Some a) (Some b) ≡ false → IsTagBefore a b → ⊥
+not_before a b apart before = let e = (tag_order_is_answered a b).1 before in cc
+
+tags_more : (es : List Element) (e : Element) → TagsInOrder es → before_tag (Some e.tag) (last_tag es) ≡ false → TagsInOrder (es ++ e ∷ [])
+tags_more [] e h apart = tt
+tags_more (f ∷ []) e h apart = (not_before e.tag f.tag apart, tt)
+tags_more (f ∷ g ∷ es) e h apart = (h.0, tags_more (g ∷ es) e h.1 apart)
+
+ordered_elements : (done : List ℕ) (last : Option Tag) → OrderedElements done last → Ordered done last
+ordered_elements _ _ no_element = record { elements = []; small = tt; ordered = tt; is = refl; ends = refl }
+ordered_elements _ _ (one_more {done} {last} e before small apart) =
+    let h = ordered_elements done last before in
+    record {
+      elements = h.elements ++ e ∷ [];
+      small = small_more h.elements e h.small small;
+      ordered = tags_more h.elements e h.ordered (subst (λ (t : Option Tag). before_tag (Some e.tag) t ≡ false) h.ends apart);
+      is = ap (λ (t : List ℕ). t ++ element_text e) h.is ∙ sym (joined_more h.elements e);
+      ends = sym (ends_more h.elements e);
+    }
+
+content_most : (e : Element) → length e.content ≤ length (element_text e)
+unfolding element_text
+content_most e = omega (arith, length-append (tag_text e.tag) (length_text (length e.content) ++ e.content), length-append (length_text (length e.content)) e.content)
+
+readable_all : (es : List Element) → Each (λ e. e.tag.value < 2 ^ 32) es → length (joined element_text es) < 2 ^ 32 → Each IsReadable es
+readable_all [] h short = tt
+readable_all (e ∷ es) h short =
+    let both = length-append (element_text e) (joined element_text es) in
+    let most = content_most e in
+    (record { tag = h.0; content = omega (arith, both, most, short) }, readable_all es h.1 (omega (arith, both, short)))
+
+is_set_content : (done : List ℕ) (last : Option Tag) → OrderedElements done last → length done < 2 ^ 32 → IsSetContent done
+is_set_content done last ordered short =
+    let h = ordered_elements done last ordered in
+    record { elements = h.elements; readable = readable_all h.elements h.small (subst (λ (t : List ℕ). length t < 2 ^ 32) h.is short); ordered = h.ordered; is = h.is }
+
+pub writes_sets : {F E : Type 0} (calls : Once F (MutBor SetState × Unit {0}) (Result (Unit {0}) E × (MutBor SetState × Unit {0}))) → WritesSets calls
+writes_sets calls f keeps content may short =
+    let none : OrderedElements may.shown.now.done may.shown.now.last = subst (λ (t : List ℕ). OrderedElements t may.shown.now.last) (sym may.starts) (subst (OrderedElements []) (sym may.compares_none) no_element) in
+    let ordered = keeps may.shown may.left may.met none in
+    is_set_content content may.left.now.last (subst (λ (t : List ℕ). OrderedElements t may.left.now.last) may.is ordered) short

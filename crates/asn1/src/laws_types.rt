@@ -1,0 +1,103 @@
+//! Which types are lawful, have one text a value, take memory and have bounds, each the contract of a function that does
+//! nothing. A type with parts is as its parts are.
+
+ghost use Rattle.asn1.specs.TypeLaws.{Inherits, InheritsBoth, IsSound, IsSoundOwned};
+
+use crate::{
+    BMPString, BigInt, BigUint, BitString, Choice1, Choice2, Choice3, DefaultValue, Defaulted,
+    Enumerated, Explicit, GeneralizedTime, IA5String, MeaningEq, Null, ObjectIdentifier,
+    OctetStringEncoded, OwnedBigInt, OwnedBigUint, OwnedBitString, PrintableString, Sequence,
+    SequenceOf, SequenceOfWriter, Set, SetOf, SetOfWriter, Tlv, UniversalString, UtcTime,
+    Utf8String, VisibleString, X509GeneralizedTime,
+};
+use asn1_core::Asn1Type;
+
+/// Types of numbers without parts.
+pub fn numbers_are_sound()
+    ensures boolean { IsSound ⟦<bool as Asn1Type>⟧.der }
+    ensures i8 { IsSound ⟦<i8 as Asn1Type>⟧.der }
+    ensures i16 { IsSound ⟦<i16 as Asn1Type>⟧.der }
+    ensures i32 { IsSound ⟦<i32 as Asn1Type>⟧.der }
+    ensures i64 { IsSound ⟦<i64 as Asn1Type>⟧.der }
+    ensures u8 { IsSound ⟦<u8 as Asn1Type>⟧.der }
+    ensures u16 { IsSound ⟦<u16 as Asn1Type>⟧.der }
+    ensures u32 { IsSound ⟦<u32 as Asn1Type>⟧.der }
+    ensures u64 { IsSound ⟦<u64 as Asn1Type>⟧.der }
+    ensures big_int { IsSound ⟦<BigInt<'static> as Asn1Type>⟧.der }
+    ensures big_uint { IsSound ⟦<BigUint<'static> as Asn1Type>⟧.der }
+    ensures enumerated { IsSound ⟦<Enumerated as Asn1Type>⟧.der }
+{}
+
+/// Types of octets, bits, texts, identifiers and times.
+pub fn values_are_sound<const N: usize>()
+    ensures null { IsSound ⟦<Null as Asn1Type>⟧.der }
+    ensures octets { IsSound ⟦<&'static [u8] as Asn1Type>⟧.der }
+    ensures array { IsSound ⟦<[u8; N] as Asn1Type>⟧.der }
+    ensures bits { IsSound ⟦<BitString<'static> as Asn1Type>⟧.der }
+    ensures printable { IsSound ⟦<PrintableString<'static> as Asn1Type>⟧.der }
+    ensures ia5 { IsSound ⟦<IA5String<'static> as Asn1Type>⟧.der }
+    ensures visible { IsSound ⟦<VisibleString<'static> as Asn1Type>⟧.der }
+    ensures utf8 { IsSound ⟦<Utf8String<'static> as Asn1Type>⟧.der }
+    ensures bmp { IsSound ⟦<BMPString<'static> as Asn1Type>⟧.der }
+    ensures universal { IsSound ⟦<UniversalString<'static> as Asn1Type>⟧.der }
+    ensures identifier { IsSound ⟦<ObjectIdentifier as Asn1Type>⟧.der }
+    ensures utc { IsSound ⟦<UtcTime as Asn1Type>⟧.der }
+    ensures x509 { IsSound ⟦<X509GeneralizedTime as Asn1Type>⟧.der }
+    ensures generalized { IsSound ⟦<GeneralizedTime as Asn1Type>⟧.der }
+{}
+
+/// Elements as they stand.
+pub fn elements_are_sound()
+    ensures any { IsSound ⟦<Tlv<'static> as Asn1Type>⟧.der }
+    ensures sequence { IsSound ⟦<Sequence<'static> as Asn1Type>⟧.der }
+    ensures set { IsSound ⟦<Set<'static> as Asn1Type>⟧.der }
+{}
+
+/// Types that own memory, which reading takes. So do boxes, whatever they hold.
+pub fn owned_types_are_sound()
+    ensures big_int { IsSoundOwned ⟦<OwnedBigInt as Asn1Type>⟧.der }
+    ensures big_uint { IsSoundOwned ⟦<OwnedBigUint as Asn1Type>⟧.der }
+    ensures bits { IsSoundOwned ⟦<OwnedBitString as Asn1Type>⟧.der }
+{}
+
+/// Boxes and references are lawful where what they hold is, and have its text.
+pub fn references_are_lawful<'a, T: Asn1Type + 'a>()
+    ensures boxed { T.der.lawful → ⟦<Box<T> as Asn1Type>⟧.der.lawful }
+    ensures box_plain { T.der.plain → ⟦<Box<T> as Asn1Type>⟧.der.plain }
+    ensures box_unbounded { (T.der.bounded → ⊥) → ⟦<Box<T> as Asn1Type>⟧.der.bounded → ⊥ }
+    ensures reference { T.der.lawful → ⟦<&'a T as Asn1Type>⟧.der.lawful }
+    ensures as_held { Inherits T.der ⟦<&'a T as Asn1Type>⟧.der }
+{}
+
+/// Lists and sets of lawful elements are lawful, read or written. A list that is read has bounds; a slice is only
+/// written.
+pub fn lists_are_lawful<'a, T: Asn1Type + 'a, const MIN: usize, const MAX: usize>()
+    ensures list { T.der.lawful → T.der.is_element → ⟦<SequenceOf<'a, T, MIN, MAX> as Asn1Type>⟧.der.lawful }
+    ensures list_plain { T.der.plain → ⟦<SequenceOf<'a, T, MIN, MAX> as Asn1Type>⟧.der.plain }
+    ensures list_takes_none { (T.der.takes_memory → ⊥) → ⟦<SequenceOf<'a, T, MIN, MAX> as Asn1Type>⟧.der.takes_memory → ⊥ }
+    ensures set { T.der.lawful → T.der.is_element → ⟦<SetOf<'a, T> as Asn1Type>⟧.der.lawful }
+    ensures set_as_items { Inherits T.der ⟦<SetOf<'a, T> as Asn1Type>⟧.der }
+    ensures slice { T.der.lawful → T.der.is_element → ⟦<SequenceOfWriter<'a, T> as Asn1Type>⟧.der.lawful }
+    ensures slice_plain { T.der.plain → ⟦<SequenceOfWriter<'a, T> as Asn1Type>⟧.der.plain }
+    ensures set_slice { T.der.lawful → T.der.is_element → ⟦<SetOfWriter<'a, T> as Asn1Type>⟧.der.lawful }
+    ensures set_slice_plain { T.der.plain → ⟦<SetOfWriter<'a, T> as Asn1Type>⟧.der.plain }
+{}
+
+/// Wrappers have one text, take memory and have bounds as their parts do.
+pub fn wrappers_inherit<T: Asn1Type, const TAG: u32>()
+    ensures option { Inherits T.der ⟦<Option<T> as Asn1Type>⟧.der }
+    ensures explicit { Inherits T.der ⟦<Explicit<T, TAG> as Asn1Type>⟧.der }
+    ensures octet_string { Inherits T.der ⟦<OctetStringEncoded<T> as Asn1Type>⟧.der }
+    ensures choice { Inherits T.der ⟦<Choice1<T> as Asn1Type>⟧.der }
+{}
+
+/// A field with a default does so too.
+pub fn defaults_inherit<T: MeaningEq, D: DefaultValue<T>>()
+    ensures { Inherits T.der ⟦<Defaulted<T, D> as Asn1Type>⟧.der }
+{}
+
+/// Choices do so, by each of their alternatives.
+pub fn choices_inherit<T1: Asn1Type, T2: Asn1Type, T3: Asn1Type>()
+    ensures choice2 { InheritsBoth T1.der T2.der ⟦<Choice2<T1, T2> as Asn1Type>⟧.der }
+    ensures choice3 { InheritsBoth T1.der ⟦<Choice2<T2, T3> as Asn1Type>⟧.der ⟦<Choice3<T1, T2, T3> as Asn1Type>⟧.der }
+{}
