@@ -71,6 +71,8 @@ impl<'a> Asn1DefinedByReadable<'a, ObjectIdentifier> for Content {
         }
         Ok(Content::SomeVariant(parser.read_element::<i32>()?))
     }
+
+    fn one_text() {}
 }
 
 impl Asn1DefinedByWritable<ObjectIdentifier> for Content {

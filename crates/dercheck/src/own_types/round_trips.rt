@@ -10,7 +10,7 @@ use super::sealable::Sealable;
 use super::signature::Signature;
 use super::some_sequence::SomeSequence;
 use super::time::Time;
-use asn1::{Asn1Readable, Asn1Type, Asn1Writable, ParseResult, parse_single, write_single};
+use asn1::{Asn1Readable, Asn1Type, Asn1Writable, ParseResult, Tag, parse_single, write_single};
 use std::alloc::Global;
 
 /// Reads one value and writes it back: the same octets, where the write is Ok.
@@ -18,10 +18,11 @@ pub fn read_and_write_back<'a, T: Asn1Readable<'a> + Asn1Writable>(
     alloc: Global,
     data: &'a [u8],
 ) -> ParseResult<Result<Vec<u8>, T::Error>>
-    requires { T.der.plain }
     ensures written { IfOk result (λ written. IfOk written (λ v. v.items ≡ «data».entry.now)) }
     ensures refused { IfErr result (IsRefusal (T.der.runs_out «data».entry.now) (whole (T.der.read «data».entry.now))) }
 {
+    // The call tells that each value has one text.
+    let _accepted = T::can_parse(Tag::primitive(0));
     let value = parse_single::<T>(alloc, data)?;
     Ok(write_single(alloc, &value))
 }
@@ -32,13 +33,14 @@ pub fn write_and_read_back<'a, T: Asn1Readable<'a> + Asn1Writable>(
     value: &T,
     store: &'a mut Vec<u8>,
 ) -> Result<ParseResult<T>, T::Error>
-    requires plain { T.der.plain }
     requires lawful { T.der.lawful }
     requires allowed { T.der.allowed (T.der.meaning value.now) }
     requires fits { Fits (T.der.text (T.der.meaning value.now)) }
     ensures { IfOk result (λ read. Answers T.der.meaning (T.der.runs_out (T.der.text (T.der.meaning value.now))) read (Ok (T.der.meaning value.now))) }
 {
     value.known();
+    // The call tells that each value has one text.
+    let _accepted = T::can_parse(Tag::primitive(0));
     *store = write_single(alloc, value)?;
     Ok(parse_single::<T>(alloc, store.as_slice()))
 }
