@@ -3,6 +3,7 @@
 ghost use Rattle.std.specs.Prelude.{◌≡◌, []};
 ghost use Rattle.asn1.specs.Tag.{universal};
 ghost use Rattle.asn1.specs.Buffer.{KeepsFront};
+ghost use Rattle.asn1.specs.Writers.{buffer_name, octets_of};
 ghost use Rattle.asn1.specs.Der.{simple_der};
 ghost use Rattle.asn1.specs.Written.{written};
 ghost use Rattle.asn1_tests.specs.declared.lists.Custom.TheVariants.{Memory, Refused};
@@ -415,7 +416,7 @@ impl From<WriteError> for Custom {
 struct Unwritable(Option<usize>);
 
 impl Asn1Type for Unwritable {
-    ghost der = { simple_der (λ v. tt {0}) (written (record { tag = universal 2; text = λ m. []; texts = λ m t. ⊥; closures = λ m. Unit {0}; valid = λ m. Unit {0}; plain = Unit {0}; one_text = λ p m t e. absurd e; no_closures = λ p m. tt })) };
+    ghost der = { simple_der (λ v. tt {0}) (written (record { tag = universal 2; text = λ m. []; texts = λ m t. ⊥; closures = λ m. Unit {0}; valid = λ m. Unit {0}; plain = Unit {0}; lawful = ⊥; one_text = λ p m t e. absurd e; no_closures = λ p m. tt })) };
 
     fn known(&self) {}
 }

@@ -4,6 +4,7 @@
 
 ghost use Rattle.std.specs.Prelude.{◌≡◌};
 ghost use Rattle.asn1.specs.Buffer.{KeepsFront};
+ghost use Rattle.asn1.specs.Writers.{buffer_name, octets_of};
 
 use crate::lists::{at, refusal};
 use crate::same::{same, same_octets};

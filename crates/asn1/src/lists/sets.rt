@@ -120,6 +120,8 @@ pub struct Set<'a> {
 }
 
 impl<'a> Set<'a> {
+    ghost use Rattle.asn1.specs.InHand.{octets_of_set};
+
     /// Reads the contents octets by `f`, as [`asn1_core::parse`] does.
     ///
     /// An error of `f` is handed on; where `f` answers a value and leaves octets, the error is `ExtraData`, without a place.
@@ -129,14 +131,16 @@ impl<'a> Set<'a> {
         f: F,
     ) -> Result<T, E>
         requires { F.IsAlwaysCallable f }
-        ensures { (rest : List ℕ) × (answer : Result T E) × FnOnceReturnsAtMut F.FnOnce f self.entry.«data».now answer rest × IsHandedOn E.from_gives answer rest result }
+        ensures { (rest : List ℕ) × (answer : Result T E) × FnOnceReturnsAtMut F.FnOnce f (octets_of_set self.entry) answer rest × IsHandedOn E.from_gives answer rest result }
     {
         parse(alloc, self.data, f)
     }
 }
 
 impl<'a> Clone for Set<'a> {
-    ghost is_clone = { λ x y. y.«data».now ≡ x.«data».now };
+    ghost use Rattle.asn1.specs.InHand.{octets_of_set};
+
+    ghost is_clone = { λ x y. octets_of_set y ≡ octets_of_set x };
 
     ghost is_infallible = { λ _. Unit {0} };
 
@@ -146,7 +150,9 @@ impl<'a> Clone for Set<'a> {
 }
 
 impl<'a> Asn1Type for Set<'a> {
-    ghost der = { simple_der (λ s. s.«data».now) set_content };
+    ghost use Rattle.asn1.specs.InHand.{octets_of_set};
+
+    ghost der = { simple_der octets_of_set set_content };
 
     fn known(&self) {
         are_octets(self.data);
@@ -154,6 +160,8 @@ impl<'a> Asn1Type for Set<'a> {
 }
 
 impl<'a> SimpleAsn1Readable<'a> for Set<'a> {
+    ghost use Rattle.asn1.specs.InHand.{octets_of_set};
+
     fn tag() -> Tag
         ensures value { result ≡ set_tag }
         ensures simple { Unit {0} }
@@ -163,7 +171,7 @@ impl<'a> SimpleAsn1Readable<'a> for Set<'a> {
     }
 
     fn parse_data(alloc: Global, data: &'a [u8]) -> ParseResult<Self>
-        ensures { Answers (λ s. s.«data».now) (λ _. ⊥) result (set_octets tag_less «data».entry.now) }
+        ensures { Answers octets_of_set (λ _. ⊥) result (set_octets tag_less «data».entry.now) }
     {
         check_elements(alloc, data)?;
         Ok(Set { data })
@@ -171,6 +179,8 @@ impl<'a> SimpleAsn1Readable<'a> for Set<'a> {
 }
 
 impl SimpleAsn1Writable for Set<'_> {
+    ghost use Rattle.asn1.specs.InHand.{octets_of_set};
+
     type Error = WriteError;
 
     ghost write_errors = { λ _ _. ⊥ };
@@ -187,8 +197,8 @@ impl SimpleAsn1Writable for Set<'_> {
     }
 
     fn data_length(&self) -> Option<usize>
-        ensures length { KnowsLength (λ t. t ≡ self.now.«data».now) result }
-        ensures known { result ≡ Some (length self.now.«data».now) }
+        ensures length { KnowsLength (λ t. t ≡ octets_of_set self.now) result }
+        ensures known { result ≡ Some (length (octets_of_set self.now)) }
     {
         Some(self.data.len())
     }

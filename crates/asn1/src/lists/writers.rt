@@ -6,6 +6,7 @@ ghost use Rattle.asn1_core.specs.Der.{simple_der};
 ghost use Rattle.asn1_core.specs.Items.{AnyNames, sequence_tag};
 ghost use Rattle.asn1_core.specs.Written.{items_written};
 ghost use Rattle.asn1.specs.ClosureWritten.{closure_written};
+ghost use Rattle.asn1.specs.InHand.{sequence_closure, sequence_items};
 
 use asn1_core::{Asn1Type, Asn1Writable, SimpleAsn1Writable, Tag, WriteBuf, WriteError, Writer};
 use std::marker::PhantomData;
@@ -23,7 +24,7 @@ pub struct SequenceWriter<'a, F: Fn(&mut Writer<'_>) -> Result<(), E>, E> {
 impl<'a, F: Fn(&mut Writer<'_>) -> Result<(), E>, E> SequenceWriter<'a, F, E> {
     /// A sequence of what the closure will write. The closure isn't called yet.
     pub fn new(f: &'a F) -> SequenceWriter<'a, F, E>
-        ensures { result.f.now ≡ f.now }
+        ensures { sequence_closure result ≡ f.now }
     {
         SequenceWriter {
             f,
@@ -33,7 +34,7 @@ impl<'a, F: Fn(&mut Writer<'_>) -> Result<(), E>, E> SequenceWriter<'a, F, E> {
 }
 
 impl<'a, F: Fn(&mut Writer<'_>) -> Result<(), E>, E> Asn1Type for SequenceWriter<'a, F, E> {
-    ghost der = { simple_der (λ v. v.f.now) (closure_written F.FnOnce) };
+    ghost der = { simple_der sequence_closure (closure_written F.FnOnce) };
 
     fn known(&self) {}
 }
@@ -42,7 +43,7 @@ impl<F: Fn(&mut Writer<'_>) -> Result<(), E>, E: From<WriteError>> SimpleAsn1Wri
     for SequenceWriter<'_, F, E> {
     type Error = E;
 
-    ghost write_errors = { λ v. MayAnswer F.FnOnce v.f.now };
+    ghost write_errors = { λ v. MayAnswer F.FnOnce (sequence_closure v) };
 
     fn tag() -> Tag
         ensures value { result ≡ sequence_tag }
@@ -72,14 +73,14 @@ pub struct SequenceOfWriter<'a, T> {
 impl<'a, T: Asn1Writable> SequenceOfWriter<'a, T> {
     /// A sequence of these items.
     pub fn new(items: &'a [T]) -> SequenceOfWriter<'a, T>
-        ensures { result.items.now ≡ items.now }
+        ensures { sequence_items result ≡ items.now }
     {
         SequenceOfWriter { items }
     }
 }
 
 impl<'a, T: Asn1Type> Asn1Type for SequenceOfWriter<'a, T> {
-    ghost der = { simple_der (λ v. map T.der.meaning v.items.now) (items_written T.der) };
+    ghost der = { simple_der (λ v. map T.der.meaning (sequence_items v)) (items_written T.der) };
 
     fn known(&self) {
         for item in self.items {
@@ -91,7 +92,7 @@ impl<'a, T: Asn1Type> Asn1Type for SequenceOfWriter<'a, T> {
 impl<T: Asn1Writable> SimpleAsn1Writable for SequenceOfWriter<'_, T> {
     type Error = T::Error;
 
-    ghost write_errors = { λ v. AnyNames T.write_errors v.items.now };
+    ghost write_errors = { λ v. AnyNames T.write_errors (sequence_items v) };
 
     fn tag() -> Tag
         ensures value { result ≡ sequence_tag }

@@ -1,6 +1,7 @@
 //! Fields with a default, which are left out where they equal it (X.690 11.5).
 
 ghost use Rattle.std.specs.Prelude.{◌≡◌};
+ghost use Rattle.asn1.specs.InHand.{defaulted_inner};
 ghost use Rattle.asn1.specs.Defaults.{or_read_default, same_text, seen_ok};
 ghost use Rattle.asn1.specs.Defaulted.{EqualityTells, default_der};
 
@@ -36,7 +37,7 @@ pub struct Defaulted<T, D> {
 impl<T, D> Defaulted<T, D> {
     /// The value.
     pub fn new(inner: T) -> Self
-        ensures { result.inner ≡ inner }
+        ensures { defaulted_inner result ≡ inner }
     {
         Defaulted {
             inner,
@@ -46,21 +47,21 @@ impl<T, D> Defaulted<T, D> {
 
     /// The value.
     pub fn as_inner(&self) -> &T
-        ensures { result.now ≡ self.now.inner }
+        ensures { result.now ≡ defaulted_inner self.now }
     {
         &self.inner
     }
 
     /// The value.
     pub fn into_inner(self) -> T
-        ensures { result ≡ self.inner }
+        ensures { result ≡ defaulted_inner self }
     {
         self.inner
     }
 }
 
 impl<T, D> From<T> for Defaulted<T, D> {
-    ghost from_gives = { λ inner result. result.inner ≡ inner };
+    ghost from_gives = { λ inner result. defaulted_inner result ≡ inner };
 
     fn from(inner: T) -> Self {
         Defaulted::new(inner)
@@ -68,7 +69,7 @@ impl<T, D> From<T> for Defaulted<T, D> {
 }
 
 impl<T: MeaningEq, D: DefaultValue<T>> Asn1Type for Defaulted<T, D> {
-    ghost der = { default_der (λ x. x.inner) T.der (T.der.meaning D.default) };
+    ghost der = { default_der defaulted_inner T.der (T.der.meaning D.default) };
 
     fn known(&self) {
         self.inner.known()
@@ -80,7 +81,7 @@ fn or_default<T: MeaningEq + Drop, D>(
     read: ParseResult<Option<T>>,
     default: T,
 ) -> ParseResult<Defaulted<T, D>>
-    ensures { seen_ok (λ x. x.inner) result ≡ or_read_default T.eq read default }
+    ensures { seen_ok defaulted_inner result ≡ or_read_default T.eq read default }
 {
     match read {
         Ok(value) => match from_optional_default(value, default) {
@@ -113,7 +114,7 @@ impl<'a, T: Asn1Readable<'a> + MeaningEq, D: DefaultValue<T>> Asn1Readable<'a> f
 impl<T: Asn1Writable + MeaningEq + Drop, D: DefaultValue<T>> Asn1Writable for Defaulted<T, D> {
     type Error = T::Error;
 
-    ghost write_errors = { λ x. T.write_errors x.inner };
+    ghost write_errors = { λ x. T.write_errors (defaulted_inner x) };
 
     fn write(&self, dest: &mut Writer<'_>) -> Result<(), T::Error> {
         if is_default::<T, D>(&self.inner) {

@@ -2,6 +2,7 @@
 
 ghost use Rattle.asn1_core.specs.Tag.{explicit_tag_of};
 ghost use Rattle.asn1.specs.Defined.{by_inside, defined_inside};
+ghost use Rattle.asn1.specs.InHand.{explicit_inner};
 ghost use Rattle.asn1.specs.ItemsAndValues.{agrees_inside};
 
 use super::Explicit;
@@ -14,7 +15,7 @@ use asn1_core::{
 };
 
 impl<T: Asn1Type, U: Asn1DefinedBy<T>, const TAG: u32> Asn1DefinedBy<T> for Explicit<U, TAG> {
-    ghost by = { by_inside (explicit_tag_of TAG) (λ x. x.inner) U.by };
+    ghost by = { by_inside (explicit_tag_of TAG) explicit_inner U.by };
 
     fn known_by(&self) {
         self.as_inner().known_by()
@@ -47,7 +48,7 @@ impl<T: Asn1Writable, U: Asn1DefinedByWritable<T>, const TAG: u32> Asn1DefinedBy
     for Explicit<U, TAG> {
     type Error = U::Error;
 
-    ghost write_errors_by = { λ x. U.write_errors_by x.inner };
+    ghost write_errors_by = { λ x. U.write_errors_by (explicit_inner x) };
 
     fn item(&self) -> T {
         self.as_inner().item()
@@ -70,11 +71,11 @@ impl<T: Asn1Writable, U: Asn1DefinedByWritable<T>, const TAG: u32> Asn1DefinedBy
 }
 
 impl<T: Asn1Type, U: DefinedField<T>, const TAG: u32> DefinedField<T> for Explicit<U, TAG> {
-    ghost both = { record { item = U.both.item; value = defined_inside (explicit_tag_of TAG) (λ x. x.inner) U.both.value } };
+    ghost both = { record { item = U.both.item; value = defined_inside (explicit_tag_of TAG) explicit_inner U.both.value } };
 
     fn known_item(&self) {
         self.as_inner().known_item()
     }
 
-    ghost agrees = { agrees_inside (explicit_tag_of TAG) (λ x. x.inner) _ _ _ U.agrees };
+    ghost agrees = { agrees_inside (explicit_tag_of TAG) explicit_inner _ _ _ U.agrees };
 }

@@ -3,6 +3,7 @@
 ghost use Rattle.std.specs.Prelude.{◌≡◌};
 ghost use Rattle.asn1_core.specs.Tag.{explicit_tag_of, implicit_tag_of, universal};
 ghost use Rattle.asn1_core.specs.Der.{simple_der};
+ghost use Rattle.asn1.specs.InHand.{explicit_inner, implicit_inner, octet_string_inner};
 ghost use Rattle.asn1.specs.Inside.{one_inside, retagged};
 
 use asn1_core::{
@@ -21,28 +22,28 @@ pub struct Explicit<T, const TAG: u32> {
 impl<T, const TAG: u32> Explicit<T, TAG> {
     /// The value under the tag.
     pub fn new(inner: T) -> Self
-        ensures { result.inner ≡ inner }
+        ensures { explicit_inner result ≡ inner }
     {
         Explicit { inner }
     }
 
     /// The value.
     pub fn as_inner(&self) -> &T
-        ensures { result.now ≡ self.now.inner }
+        ensures { result.now ≡ explicit_inner self.now }
     {
         &self.inner
     }
 
     /// The value.
     pub fn into_inner(self) -> T
-        ensures { result ≡ self.inner }
+        ensures { result ≡ explicit_inner self }
     {
         self.inner
     }
 }
 
 impl<T, const TAG: u32> From<T> for Explicit<T, TAG> {
-    ghost from_gives = { λ inner result. result.inner ≡ inner };
+    ghost from_gives = { λ inner result. explicit_inner result ≡ inner };
 
     fn from(inner: T) -> Self {
         Explicit::new(inner)
@@ -50,7 +51,7 @@ impl<T, const TAG: u32> From<T> for Explicit<T, TAG> {
 }
 
 impl<T: Asn1Type, const TAG: u32> Asn1Type for Explicit<T, TAG> {
-    ghost der = { simple_der (λ x. T.der.meaning x.inner) (one_inside (explicit_tag_of TAG) T.der) };
+    ghost der = { simple_der (λ x. T.der.meaning (explicit_inner x)) (one_inside (explicit_tag_of TAG) T.der) };
 
     fn known(&self) {
         self.inner.known()
@@ -73,7 +74,7 @@ impl<'a, T: Asn1Readable<'a>, const TAG: u32> SimpleAsn1Readable<'a> for Explici
 impl<T: Asn1Writable, const TAG: u32> SimpleAsn1Writable for Explicit<T, TAG> {
     type Error = T::Error;
 
-    ghost write_errors = { λ x. T.write_errors x.inner };
+    ghost write_errors = { λ x. T.write_errors (explicit_inner x) };
 
     fn tag() -> Tag {
         explicit_tag(TAG)
@@ -97,28 +98,28 @@ pub struct Implicit<T, const TAG: u32> {
 impl<T, const TAG: u32> Implicit<T, TAG> {
     /// The value under the tag.
     pub fn new(inner: T) -> Self
-        ensures { result.inner ≡ inner }
+        ensures { implicit_inner result ≡ inner }
     {
         Implicit { inner }
     }
 
     /// The value.
     pub fn as_inner(&self) -> &T
-        ensures { result.now ≡ self.now.inner }
+        ensures { result.now ≡ implicit_inner self.now }
     {
         &self.inner
     }
 
     /// The value.
     pub fn into_inner(self) -> T
-        ensures { result ≡ self.inner }
+        ensures { result ≡ implicit_inner self }
     {
         self.inner
     }
 }
 
 impl<T, const TAG: u32> From<T> for Implicit<T, TAG> {
-    ghost from_gives = { λ inner result. result.inner ≡ inner };
+    ghost from_gives = { λ inner result. implicit_inner result ≡ inner };
 
     fn from(inner: T) -> Self {
         Implicit::new(inner)
@@ -126,7 +127,7 @@ impl<T, const TAG: u32> From<T> for Implicit<T, TAG> {
 }
 
 impl<T: Asn1Type, const TAG: u32> Asn1Type for Implicit<T, TAG> {
-    ghost der = { simple_der (λ x. T.der.meaning x.inner) (retagged (implicit_tag_of TAG) T.der.content) };
+    ghost der = { simple_der (λ x. T.der.meaning (implicit_inner x)) (retagged (implicit_tag_of TAG) T.der.content) };
 
     fn known(&self) {
         self.inner.known()
@@ -146,7 +147,7 @@ impl<'a, T: SimpleAsn1Readable<'a>, const TAG: u32> SimpleAsn1Readable<'a> for I
 impl<T: SimpleAsn1Writable, const TAG: u32> SimpleAsn1Writable for Implicit<T, TAG> {
     type Error = T::Error;
 
-    ghost write_errors = { λ x. T.write_errors x.inner };
+    ghost write_errors = { λ x. T.write_errors (implicit_inner x) };
 
     fn tag() -> Tag {
         implicit_tag(TAG, T::tag())
@@ -178,28 +179,28 @@ impl<T: fmt::Debug> fmt::Debug for OctetStringEncoded<T> {
 impl<T> OctetStringEncoded<T> {
     /// The value in an octet string.
     pub fn new(inner: T) -> Self
-        ensures { result.inner ≡ inner }
+        ensures { octet_string_inner result ≡ inner }
     {
         OctetStringEncoded { inner }
     }
 
     /// The value.
     pub fn get(&self) -> &T
-        ensures { result.now ≡ self.now.inner }
+        ensures { result.now ≡ octet_string_inner self.now }
     {
         &self.inner
     }
 
     /// The value.
     pub fn into_inner(self) -> T
-        ensures { result ≡ self.inner }
+        ensures { result ≡ octet_string_inner self }
     {
         self.inner
     }
 }
 
 impl<T: Asn1Type> Asn1Type for OctetStringEncoded<T> {
-    ghost der = { simple_der (λ x. T.der.meaning x.inner) (one_inside (universal 4) T.der) };
+    ghost der = { simple_der (λ x. T.der.meaning (octet_string_inner x)) (one_inside (universal 4) T.der) };
 
     fn known(&self) {
         self.inner.known()
@@ -222,7 +223,7 @@ impl<'a, T: Asn1Readable<'a>> SimpleAsn1Readable<'a> for OctetStringEncoded<T> {
 impl<T: Asn1Writable> SimpleAsn1Writable for OctetStringEncoded<T> {
     type Error = T::Error;
 
-    ghost write_errors = { λ x. T.write_errors x.inner };
+    ghost write_errors = { λ x. T.write_errors (octet_string_inner x) };
 
     fn tag() -> Tag {
         Tag::primitive(0x04)
