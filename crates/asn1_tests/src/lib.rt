@@ -17,3 +17,5 @@ mod same;
 mod sets;
 #[cfg(test)]
 mod wrappers;
+#[cfg(test)]
+mod written_sets;

@@ -1,0 +1,60 @@
+//! How elements, wrappers and choices compare. Lists and sets of items compare by the octets left, which
+//! [`crate::laws::equal_items`] tells of. Each law is the contract of a function that does nothing.
+
+ghost use Rattle.asn1_core.specs.Tlv.{element_of};
+ghost use Rattle.asn1_values.specs.Comparisons.{ClonesAreEqual, HashesAlike, IsEqualityOf, NeverFails};
+ghost use Rattle.asn1.specs.InHand.{octets_of_set};
+ghost use Rattle.asn1.specs.Sequences.{sequence_octets};
+
+use crate::{
+    Choice1, Choice2, Choice3, Explicit, Implicit, OctetStringEncoded, Sequence, Set, Tlv,
+};
+use asn1_core::Asn1Type;
+use std::hash::Hash;
+
+/// Elements as they stand are equal exactly where tag and contents octets are, and then hash alike. A clone never fails,
+/// and equals its source.
+pub fn elements_compare()
+    ensures equality { IsEqualityOf element_of ⟦<Tlv<'static> as PartialEq>⟧.eq }
+    ensures hash { HashesAlike element_of ⟦<Tlv<'static> as Hash>⟧.hash_input }
+    ensures infallible { NeverFails ⟦<Tlv<'static> as Clone>⟧.is_infallible }
+    ensures clone { ClonesAreEqual ⟦<Tlv<'static> as Clone>⟧.is_clone
+        ⟦<Tlv<'static> as PartialEq>⟧.eq }
+{}
+
+/// Sequences and sets as they stand are equal exactly where their contents octets are, and then hash alike.
+pub fn contents_compare()
+    ensures sequence { IsEqualityOf sequence_octets ⟦<Sequence<'static> as PartialEq>⟧.eq }
+    ensures sequence_hash { HashesAlike sequence_octets ⟦<Sequence<'static> as Hash>⟧.hash_input }
+    ensures set { IsEqualityOf octets_of_set ⟦<Set<'static> as PartialEq>⟧.eq }
+    ensures set_hash { HashesAlike octets_of_set ⟦<Set<'static> as Hash>⟧.hash_input }
+{}
+
+/// Where the equality of a type is that of what its values mean, so is that of its wrappers.
+pub fn wrappers_compare<T: Asn1Type + PartialEq, const TAG: u32>()
+    ensures explicit { IsEqualityOf T.der.meaning T.eq
+        → IsEqualityOf ⟦<Explicit<T, TAG> as Asn1Type>⟧.der.meaning ⟦<Explicit<T, TAG> as PartialEq>⟧.eq }
+    ensures implicit { IsEqualityOf T.der.meaning T.eq
+        → IsEqualityOf ⟦<Implicit<T, TAG> as Asn1Type>⟧.der.meaning ⟦<Implicit<T, TAG> as PartialEq>⟧.eq }
+    ensures octet_string { IsEqualityOf T.der.meaning T.eq
+        → IsEqualityOf ⟦<OctetStringEncoded<T> as Asn1Type>⟧.der.meaning
+        ⟦<OctetStringEncoded<T> as PartialEq>⟧.eq }
+    ensures option { IsEqualityOf T.der.meaning T.eq
+        → IsEqualityOf ⟦<Option<T> as Asn1Type>⟧.der.meaning ⟦<Option<T> as PartialEq>⟧.eq }
+    ensures choice { IsEqualityOf T.der.meaning T.eq
+        → IsEqualityOf ⟦<Choice1<T> as Asn1Type>⟧.der.meaning ⟦<Choice1<T> as PartialEq>⟧.eq }
+{}
+
+/// So is that of choices, where it is so of each alternative.
+pub fn choices_compare<
+    T1: Asn1Type + PartialEq,
+    T2: Asn1Type + PartialEq,
+    T3: Asn1Type + PartialEq,
+>()
+    ensures choice2 { IsEqualityOf T1.der.meaning T1.eq → IsEqualityOf T2.der.meaning T2.eq
+        → IsEqualityOf ⟦<Choice2<T1, T2> as Asn1Type>⟧.der.meaning ⟦<Choice2<T1, T2> as PartialEq>⟧.eq }
+    ensures choice3 { IsEqualityOf T1.der.meaning T1.eq → IsEqualityOf T2.der.meaning T2.eq
+        → IsEqualityOf T3.der.meaning T3.eq
+        → IsEqualityOf ⟦<Choice3<T1, T2, T3> as Asn1Type>⟧.der.meaning
+        ⟦<Choice3<T1, T2, T3> as PartialEq>⟧.eq }
+{}
