@@ -2,3 +2,4 @@ mod Bits
 mod PlainTexts
 mod FractionDigits
 mod SameIdentifiers
+mod SameNumbers

@@ -30,3 +30,11 @@ OneBitString = (list : List Bool) (b other : Bits) → IsText b.octets → IsTex
 -- A bit is set exactly where its place is in the list, and set there.
 abbrev pub SetBits : Type 0
 SetBits = (list : List Bool) (b : Bits) → IsBitsOf list b → (n : ℕ) → has_bit b n ≡ slice_index_or list n false
+
+-- Octets that are filled by a list of bits and the padding are a bit string.
+abbrev pub FilledOctetsAreBits : Type 0
+FilledOctetsAreBits = (list : List Bool) (b : Bits) → IsBitsOf list b → IsBits b
+
+-- Each list of bits has a bit string.
+abbrev pub EachListHasBits : Type 0
+EachListHasBits = (list : List Bool) → (b : Bits) × IsText b.octets × IsBitsOf list b

@@ -17,16 +17,16 @@ use std::alloc::{AllocError, Global};
 use std::fmt;
 
 /// Whether the padding is right: at most 7 bits, none where there is no octet, and those bits of the last octet are zero.
-fn has_padding(octets: &[u8], padding: u8) -> bool
+const fn has_padding(octets: &[u8], padding: u8) -> bool
     ensures { result ≡ is_padded padding octets.now }
 {
     if padding > 7 {
         return false;
     }
-    if octets.is_empty() {
-        return padding == 0;
+    match octets {
+        [] => padding == 0,
+        [.., last] => *last % (1 << padding) == 0,
     }
-    octets[octets.len() - 1] % (1 << padding) == 0
 }
 
 /// Bits, in octets that a read lends.
@@ -42,7 +42,7 @@ impl<'a> BitString<'a> {
 
     /// The bits of these octets but for the padding, the low bits of the last. `None` where the padding is above 7 bits,
     /// or not all zero, or there is some and no octet.
-    pub fn new(octets: &'a [u8], padding: u8) -> Option<BitString<'a>>
+    pub const fn new(octets: &'a [u8], padding: u8) -> Option<BitString<'a>>
         ensures { MatchOption result (¬ IsBits (bits octets.entry.now padding)) (λ b. bits_of b ≡ bits octets.entry.now padding) }
     {
         if !has_padding(octets, padding) {

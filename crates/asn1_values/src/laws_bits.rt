@@ -1,10 +1,36 @@
 //! Laws of bit strings, each the contract of a function that does nothing.
 
-ghost use Rattle.asn1_values.specs.BitLists.{BitsAreAList, OneBitString, SetBits};
+ghost use Rattle.asn1_values.specs.BitLists.{
+  BitsAreAList,
+  EachListHasBits,
+  FilledOctetsAreBits,
+  OneBitString,
+  SetBits,
+};
+ghost use Rattle.asn1_values.specs.BitStrings.{bits_of, owned_bits_of};
+ghost use Rattle.asn1_values.specs.Comparisons.{
+  ClonesAreEqual,
+  HashesAlike,
+  IsEqualityOf,
+  NeverFails,
+};
+
+use crate::bit_string::{BitString, OwnedBitString};
+use std::hash::Hash;
 
 /// A bit string means a list of bits.
 pub fn bits_are_a_list()
     ensures { BitsAreAList }
+{}
+
+/// Octets that are filled by a list of bits and the padding are a bit string.
+pub fn filled_octets_are_bits()
+    ensures { FilledOctetsAreBits }
+{}
+
+/// Each list of bits has a bit string.
+pub fn each_list_has_bits()
+    ensures { EachListHasBits }
 {}
 
 /// A list of bits has one bit string.
@@ -15,4 +41,23 @@ pub fn one_bit_string()
 /// A bit is set exactly where its place is in the list, and set there.
 pub fn set_bits()
     ensures { SetBits }
+{}
+
+/// A `BitString` is equal to another exactly where both their octets and their paddings are the same, and then both
+/// hash alike. A clone never fails, and equals its source.
+pub fn bit_strings_compare()
+    ensures equality { IsEqualityOf bits_of ⟦<BitString<'static> as PartialEq>⟧.eq }
+    ensures hash { HashesAlike bits_of ⟦<BitString<'static> as Hash>⟧.hash_input }
+    ensures clone { ClonesAreEqual ⟦<BitString<'static> as Clone>⟧.is_clone
+        ⟦<BitString<'static> as PartialEq>⟧.eq }
+    ensures infallible { NeverFails ⟦<BitString<'static> as Clone>⟧.is_infallible }
+{}
+
+/// An `OwnedBitString` is equal to another exactly where both their octets and their paddings are the same, and then
+/// both hash alike. A clone equals its source.
+pub fn owned_bit_strings_compare()
+    ensures equality { IsEqualityOf owned_bits_of ⟦<OwnedBitString as PartialEq>⟧.eq }
+    ensures hash { HashesAlike owned_bits_of ⟦<OwnedBitString as Hash>⟧.hash_input }
+    ensures clone { ClonesAreEqual ⟦<OwnedBitString as Clone>⟧.is_clone
+        ⟦<OwnedBitString as PartialEq>⟧.eq }
 {}

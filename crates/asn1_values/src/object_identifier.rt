@@ -231,9 +231,21 @@ impl fmt::Display for ObjectIdentifier {
     }
 }
 
+/// The numbers of an identifier, as its Debug text has them.
+#[derive(Drop)]
+struct Numbers<'a>(&'a ObjectIdentifier);
+
+impl fmt::Debug for Numbers<'_> {
+    fn fmt<W: fmt::Write>(&self, f: &mut fmt::Formatter<W>) -> fmt::Result {
+        fmt::Display::fmt(self.0, f)
+    }
+}
+
 impl fmt::Debug for ObjectIdentifier {
     fn fmt<W: fmt::Write>(&self, f: &mut fmt::Formatter<W>) -> fmt::Result {
-        write!(f, "ObjectIdentifier {{ oid: {self} }}")
+        f.debug_struct("ObjectIdentifier")
+            .field("oid", &Numbers(self))
+            .finish()
     }
 }
 

@@ -1,12 +1,11 @@
 //! Bit strings: the original's cases, texts from outside, and what is refused.
 
-use crate::same::{same, same_octets, same_text};
+use crate::same::{compare_laid_out, compare_shown, different, hash_of, same, same_octets};
 use asn1_core::{
     Asn1Readable, Asn1Writable, ParseErrorKind, WriteError, parse_single, write_single,
 };
 use asn1_values::bit_string::{BitString, OwnedBitString};
 use std::alloc::Global;
-use std::hash::{DefaultHasher, Hash, Hasher};
 use std::process::Abort;
 use std::test::Fail;
 
@@ -33,12 +32,6 @@ fn compare_written<T: Asn1Writable<Error = WriteError>>(
 {
     same_octets(rt, write_single(alloc, value)?.as_slice(), octets);
     Ok(())
-}
-
-fn hash_of<T: Hash>(value: &T) -> u64 {
-    let mut hasher = DefaultHasher::new();
-    value.hash(&mut hasher);
-    hasher.finish()
 }
 
 #[test]
@@ -125,11 +118,12 @@ fn other_contents_are_no_bit_strings(rt: HostRuntime) {
 fn bit_strings_are_shown_cloned_and_hashed(rt: HostRuntime) -> Result<(), Fail> {
     let alloc = rt.alloc();
     let bits = BitString::new(&[0x81, 0xf0], 4).expect(&rt, "a right padding");
-    same_text(
+    compare_shown(
         &rt,
-        format!(in alloc; "{bits:?}")?.as_str(),
+        alloc,
+        &bits,
         "BitString { data: [129, 240], padding_bits: 4 }",
-    );
+    )?;
     let text: [u8; 5] = [0x03, 0x03, 0x04, 0x81, 0xf0];
     let read = parse_single::<BitString<'_>>(alloc, &text)?;
     same(&rt, &bits.clone()?, &read);
@@ -142,13 +136,61 @@ fn owned_bit_strings_are_shown_cloned_and_hashed(rt: HostRuntime) -> Result<(), 
     let alloc = rt.alloc();
     let text: [u8; 5] = [0x03, 0x03, 0x04, 0x81, 0xf0];
     let owned = parse_single::<OwnedBitString>(alloc, &text)?;
-    same_text(
+    compare_shown(
         &rt,
-        format!(in alloc; "{owned:?}")?.as_str(),
+        alloc,
+        &owned,
         "OwnedBitString { data: [129, 240], padding_bits: 4 }",
-    );
+    )?;
     let copy = owned.clone()?;
     same(&rt, &hash_of(&copy), &hash_of(&owned));
     same(&rt, &copy, &owned);
+    let made = OwnedBitString::new(Vec::from_slice(alloc, &[0x81, 0xf0])?, 4);
+    same(&rt, &made, &Some(owned));
+    Ok(())
+}
+
+#[test]
+fn bit_strings_are_laid_out(rt: HostRuntime) -> Result<(), Fail> {
+    let alloc = rt.alloc();
+    let bits = BitString::new(&[0x81, 0xf0], 4).expect(&rt, "a right padding");
+    compare_laid_out(
+        &rt,
+        alloc,
+        &bits,
+        "BitString {\n    data: [\n        129,\n        240,\n    ],\n    padding_bits: 4,\n}",
+    )?;
+    let owned = OwnedBitString::new(Vec::from_slice(alloc, &[0xfe])?, 1);
+    compare_laid_out(
+        &rt,
+        alloc,
+        &owned.expect(&rt, "a right padding"),
+        "OwnedBitString {\n    data: [\n        254,\n    ],\n    padding_bits: 1,\n}",
+    )
+}
+
+const PADDING: &str = "a wrong padding";
+
+#[test]
+fn other_bit_strings_are_unequal(rt: HostRuntime) -> Result<(), Fail> {
+    let alloc = rt.alloc();
+    let rows: [((&[u8], u8), (&[u8], u8)); 6] = [
+        ((&[0x80], 0), (&[0x80], 7)),
+        ((&[0x80], 6), (&[0x80], 7)),
+        ((&[0x81, 0xf0], 4), (&[0x81, 0xe0], 4)),
+        ((&[0x81, 0xf0], 4), (&[0x01, 0xf0], 4)),
+        ((&[0x00], 0), (&[0x00, 0x00], 0)),
+        ((&[], 0), (&[0x00], 0)),
+    ];
+    for ((octets, padding), (other_octets, other_padding)) in rows {
+        let bits = BitString::new(octets, padding).ok_or(PADDING)?;
+        let other = BitString::new(other_octets, other_padding).ok_or(PADDING)?;
+        different(&rt, &bits, &other);
+        let octets = Vec::from_slice(alloc, octets)?;
+        let owned = OwnedBitString::new(octets, padding).ok_or(PADDING)?;
+        let octets = Vec::from_slice(alloc, other_octets)?;
+        let other = OwnedBitString::new(octets, other_padding).ok_or(PADDING)?;
+        different(&rt, &owned, &other);
+    }
     Ok(())
 }

@@ -1,6 +1,8 @@
 //! Identifiers: values from outside.
 
-use crate::same::{same, same_octets, same_text};
+use crate::same::{
+    compare_laid_out, compare_shown, different, hash_of, same, same_octets, same_text,
+};
 use asn1_core::{ParseErrorKind, parse_single, write_single};
 use asn1_values::ObjectIdentifier;
 use std::test::Fail;
@@ -60,9 +62,44 @@ fn other_texts_of_an_identifier(rt: HostRuntime) -> Result<(), Fail> {
     same_octets(&rt, identifier.as_der(), &[0x2a, 0x03]);
     let shown = String::format(alloc, format_args!("{identifier}"))?;
     same_text(&rt, shown.as_str(), "1.2.3");
+    Ok(())
+}
+
+#[test]
+fn identifiers_are_shown(rt: HostRuntime) -> Result<(), Fail> {
+    let alloc = rt.alloc();
     let identifier = ObjectIdentifier::from_string("1.2.3.4").expect(&rt, "an identifier");
-    let shown = String::format(alloc, format_args!("{identifier:?}"))?;
-    same_text(&rt, shown.as_str(), "ObjectIdentifier { oid: 1.2.3.4 }");
+    compare_shown(&rt, alloc, &identifier, "ObjectIdentifier { oid: 1.2.3.4 }")?;
+    compare_laid_out(
+        &rt,
+        alloc,
+        &identifier,
+        "ObjectIdentifier {\n    oid: 1.2.3.4,\n}",
+    )
+}
+
+#[test]
+fn other_identifiers_are_unequal(rt: HostRuntime) {
+    let rows = [
+        ("1.2.3.4", "1.2.3.5"),
+        ("1.2.3.4", "1.2.3"),
+        ("1.2.3.4", "1.3.3.4"),
+        ("1.2.3", "1.2.3.0"),
+        ("2.5.129", "2.5.1.1"),
+    ];
+    for (text, other) in rows {
+        let identifier = ObjectIdentifier::from_string(text).expect(&rt, "an identifier");
+        let other = ObjectIdentifier::from_string(other).expect(&rt, "an identifier");
+        different(&rt, &identifier, &other);
+    }
+}
+
+#[test]
+fn equal_identifiers_hash_alike(rt: HostRuntime) -> Result<(), Fail> {
+    let identifier = ObjectIdentifier::from_string("1.+2.03").expect(&rt, "an identifier");
+    let other = ObjectIdentifier::from_der(&[0x2a, 0x03])?;
+    same(&rt, &other, &identifier);
+    same(&rt, &hash_of(&other), &hash_of(&identifier));
     Ok(())
 }
 

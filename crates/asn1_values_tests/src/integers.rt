@@ -1,10 +1,9 @@
-use crate::same::{same, same_octets, same_text};
+use crate::same::{compare_laid_out, compare_shown, different, hash_of, same, same_octets};
 use asn1_core::{
     Asn1Readable, Asn1Writable, ParseErrorKind, WriteError, parse_single, write_single,
 };
 use asn1_values::values::{BigInt, BigUint, Enumerated, OwnedBigInt, OwnedBigUint};
 use std::alloc::Global;
-use std::fmt::Debug;
 use std::process::Abort;
 use std::test::Fail;
 
@@ -50,18 +49,6 @@ fn compare_written<T: Asn1Writable<Error = WriteError>>(
     requires { T.der.closures (T.der.meaning value.now) }
 {
     same_octets(rt, write_single(alloc, value)?.as_slice(), octets);
-    Ok(())
-}
-
-/// The value is shown so.
-fn compare_shown<T: Debug>(
-    rt: &impl Abort,
-    alloc: Global,
-    value: &T,
-    text: &str,
-) -> Result<(), Fail> {
-    let shown = format!(in alloc; "{value:?}")?;
-    same_text(rt, shown.as_str(), text);
     Ok(())
 }
 
@@ -251,9 +238,8 @@ fn copies_are_equal(rt: HostRuntime) -> Result<(), Fail> {
     let alloc = rt.alloc();
     let text = integer_text(alloc, &[0x00, 0x80])?;
     let signed = parse_single::<OwnedBigInt>(alloc, text.as_slice())?;
-    let other = parse_single::<OwnedBigInt>(alloc, &[0x02, 0x01, 0x7f])?;
     same(&rt, &signed.clone()?, &signed);
-    assert_ne!(rt; signed, other);
+    same_octets(&rt, signed.as_bytes(), &[0x00, 0x80]);
     Ok(())
 }
 
@@ -319,4 +305,124 @@ fn owned_integers_are_shown(rt: HostRuntime) -> Result<(), Fail> {
     compare_shown(&rt, alloc, &signed, "OwnedBigInt { data: [0, 255] }")?;
     let unsigned = parse_single::<OwnedBigUint>(alloc, text.as_slice())?;
     compare_shown(&rt, alloc, &unsigned, "OwnedBigUint { data: [0, 255] }")
+}
+
+const NONE: &str = "no content";
+
+/// Contents of unequal integers: they differ in sign, in one octet, in length.
+const DIFFERENT: [(&[u8], &[u8]); 6] = [
+    (&[0x01], &[0xff]),
+    (&[0x00, 0x80], &[0x80]),
+    (&[0x01, 0x00], &[0x01, 0x01]),
+    (&[0x01, 0x00], &[0x02, 0x00]),
+    (&[0x00], &[0x01]),
+    (&[0x7f], &[0x7f, 0x7f]),
+];
+
+#[test]
+fn other_signed_integers_are_unequal(rt: HostRuntime) -> Result<(), Fail> {
+    let alloc = rt.alloc();
+    for (content, other) in DIFFERENT {
+        let number = BigInt::new(content).ok_or(NONE)?;
+        different(&rt, &number, &BigInt::new(other).ok_or(NONE)?);
+        let owned = OwnedBigInt::new(Vec::from_slice(alloc, content)?).ok_or(NONE)?;
+        let other = OwnedBigInt::new(Vec::from_slice(alloc, other)?).ok_or(NONE)?;
+        different(&rt, &owned, &other);
+    }
+    Ok(())
+}
+
+#[test]
+fn other_unsigned_integers_are_unequal(rt: HostRuntime) -> Result<(), Fail> {
+    let alloc = rt.alloc();
+    let rows: [(&[u8], &[u8]); 4] = [
+        (&[0x00, 0x80], &[0x7f]),
+        (&[0x01, 0x00], &[0x01, 0x01]),
+        (&[0x00], &[0x01]),
+        (&[0x7f], &[0x7f, 0x7f]),
+    ];
+    for (content, other) in rows {
+        let number = BigUint::new(content).ok_or(NONE)?;
+        different(&rt, &number, &BigUint::new(other).ok_or(NONE)?);
+        let owned = OwnedBigUint::new(Vec::from_slice(alloc, content)?).ok_or(NONE)?;
+        let other = OwnedBigUint::new(Vec::from_slice(alloc, other)?).ok_or(NONE)?;
+        different(&rt, &owned, &other);
+    }
+    Ok(())
+}
+
+#[test]
+fn other_enumerated_values_are_unequal(rt: HostRuntime) {
+    for (value, other) in [(0, 1), (4, 5), (1, 257), (0, 4294967295)] {
+        different(&rt, &Enumerated::new(value), &Enumerated::new(other));
+    }
+}
+
+#[test]
+fn equal_integers_hash_alike(rt: HostRuntime) -> Result<(), Fail> {
+    let alloc = rt.alloc();
+    for content in UNSIGNED {
+        let text = integer_text(alloc, content)?;
+        let read = parse_single::<BigInt<'_>>(alloc, text.as_slice())?;
+        let made = BigInt::new(content).ok_or(NONE)?;
+        same(&rt, &hash_of(&read), &hash_of(&made));
+        let read = parse_single::<BigUint<'_>>(alloc, text.as_slice())?;
+        let made = BigUint::new(content).ok_or(NONE)?;
+        same(&rt, &hash_of(&read), &hash_of(&made));
+    }
+    Ok(())
+}
+
+#[test]
+fn equal_owned_integers_hash_alike(rt: HostRuntime) -> Result<(), Fail> {
+    let alloc = rt.alloc();
+    for content in UNSIGNED {
+        let text = integer_text(alloc, content)?;
+        let read = parse_single::<OwnedBigInt>(alloc, text.as_slice())?;
+        let made = OwnedBigInt::new(Vec::from_slice(alloc, content)?).ok_or(NONE)?;
+        same(&rt, &hash_of(&read), &hash_of(&made));
+        let read = parse_single::<OwnedBigUint>(alloc, text.as_slice())?;
+        let made = OwnedBigUint::new(Vec::from_slice(alloc, content)?).ok_or(NONE)?;
+        same(&rt, &hash_of(&read), &hash_of(&made));
+    }
+    Ok(())
+}
+
+#[test]
+fn integers_are_laid_out(rt: HostRuntime) -> Result<(), Fail> {
+    let alloc = rt.alloc();
+    let content = [0x00, 0xff];
+    let signed = BigInt::new(&content).ok_or("no content")?;
+    compare_laid_out(
+        &rt,
+        alloc,
+        &signed,
+        "BigInt {\n    data: [\n        0,\n        255,\n    ],\n}",
+    )?;
+    let unsigned = BigUint::new(&content).ok_or("no content")?;
+    compare_laid_out(
+        &rt,
+        alloc,
+        &unsigned,
+        "BigUint {\n    data: [\n        0,\n        255,\n    ],\n}",
+    )
+}
+
+#[test]
+fn owned_integers_are_laid_out(rt: HostRuntime) -> Result<(), Fail> {
+    let alloc = rt.alloc();
+    let signed = parse_single::<OwnedBigInt>(alloc, &[0x02, 0x01, 0x80])?;
+    compare_laid_out(
+        &rt,
+        alloc,
+        &signed,
+        "OwnedBigInt {\n    data: [\n        128,\n    ],\n}",
+    )?;
+    let unsigned = parse_single::<OwnedBigUint>(alloc, &[0x02, 0x01, 0x7f])?;
+    compare_laid_out(
+        &rt,
+        alloc,
+        &unsigned,
+        "OwnedBigUint {\n    data: [\n        127,\n    ],\n}",
+    )
 }

@@ -1,6 +1,6 @@
 //! Texts: the original's cases, values from outside, and what is refused.
 
-use crate::same::{same, same_octets, same_text};
+use crate::same::{compare_shown, different, hash_of, same, same_octets, same_text};
 use asn1_core::{
     Asn1Readable, Asn1Writable, ParseErrorKind, WriteError, parse_single, write_single,
 };
@@ -9,7 +9,6 @@ use asn1_values::values::{
 };
 use std::alloc::Global;
 use std::fmt::Debug;
-use std::hash::{DefaultHasher, Hash, Hasher};
 use std::process::Abort;
 use std::test::Fail;
 
@@ -28,12 +27,6 @@ fn fault<'a, T: Asn1Readable<'a> + Drop>(
         Ok(_value) => None,
         Err(error) => Some(error.kind()),
     }
-}
-
-fn hash_of<T: Hash>(value: &T) -> u64 {
-    let mut hasher = DefaultHasher::new();
-    value.hash(&mut hasher);
-    hasher.finish()
 }
 
 /// The value is written so.
@@ -56,8 +49,7 @@ fn compare_shown_and_copied<T: Debug + Clone + PartialEq + Drop>(
     value: &T,
     text: &str,
 ) -> Result<(), Fail> {
-    let shown = format!(in alloc; "{value:?}")?;
-    same_text(rt, shown.as_str(), text);
+    compare_shown(rt, alloc, value, text)?;
     assert!(rt; value.clone()? == *value);
     Ok(())
 }
@@ -323,5 +315,76 @@ fn equal_wide_texts_hash_alike(rt: HostRuntime) -> Result<(), Fail> {
     let universal = parse_single::<UniversalString<'_>>(alloc, &text)?;
     let other = UniversalString::new(&[0x00, 0x00, 0x00, 0x61]).expect(&rt, "UTF-32");
     same(&rt, &hash_of(&universal), &hash_of(&other));
+    Ok(())
+}
+
+/// Texts that differ: in one character, in letters' case, in length, in the order of characters.
+const DIFFERENT: [(&str, &str); 5] = [
+    ("abc", "abd"),
+    ("abc", "aBc"),
+    ("abc", "ab"),
+    ("", " "),
+    ("ab", "ba"),
+];
+
+#[test]
+fn other_texts_are_unequal(rt: HostRuntime) -> Result<(), Fail> {
+    for (text, other) in DIFFERENT {
+        let printable = PrintableString::new(text).ok_or("characters of the type")?;
+        different(
+            &rt,
+            &printable,
+            &PrintableString::new(other).ok_or("characters of the type")?,
+        );
+        let ia5 = IA5String::new(text).ok_or("characters of the type")?;
+        different(
+            &rt,
+            &ia5,
+            &IA5String::new(other).ok_or("characters of the type")?,
+        );
+    }
+    Ok(())
+}
+
+#[test]
+fn other_visible_and_utf8_texts_are_unequal(rt: HostRuntime) -> Result<(), Fail> {
+    for (text, other) in DIFFERENT {
+        let visible = VisibleString::new(text).ok_or("characters of the type")?;
+        different(
+            &rt,
+            &visible,
+            &VisibleString::new(other).ok_or("characters of the type")?,
+        );
+        different(&rt, &Utf8String::new(text), &Utf8String::new(other));
+    }
+    different(&rt, &Utf8String::new("ü"), &Utf8String::new("u"));
+    Ok(())
+}
+
+#[test]
+fn other_wide_texts_are_unequal(rt: HostRuntime) -> Result<(), Fail> {
+    let rows: [(&[u8], &[u8]); 4] = [
+        (&[0x00, 0x00, 0x00, 0x61], &[0x00, 0x00, 0x00, 0x62]),
+        (&[0x00, 0x00, 0x00, 0x61], &[0x00, 0x01, 0x00, 0x61]),
+        (&[0x00, 0x00, 0x00, 0x61], &[]),
+        (
+            &[0x00, 0x00, 0x00, 0x61],
+            &[0x00, 0x00, 0x00, 0x61, 0x00, 0x00, 0x00, 0x61],
+        ),
+    ];
+    for (octets, other) in rows {
+        let bmp = BMPString::new(octets).ok_or("octets of the type")?;
+        different(
+            &rt,
+            &bmp,
+            &BMPString::new(other).ok_or("octets of the type")?,
+        );
+        let universal = UniversalString::new(octets).ok_or("octets of the type")?;
+        different(
+            &rt,
+            &universal,
+            &UniversalString::new(other).ok_or("octets of the type")?,
+        );
+    }
     Ok(())
 }

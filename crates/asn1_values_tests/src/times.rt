@@ -1,12 +1,11 @@
 //! Times: elements from outside, and what is refused.
 
-use crate::same::{same, same_octets, same_text};
+use crate::same::{compare_shown, different, same, same_octets};
 use asn1_core::{
     Asn1Readable, Asn1Writable, ParseErrorKind, ParseResult, WriteError, parse_single, write_single,
 };
 use asn1_values::values::{DateTime, GeneralizedTime, UtcTime, X509GeneralizedTime};
 use std::alloc::Global;
-use std::fmt::Debug;
 use std::process::Abort;
 use std::test::Fail;
 
@@ -30,18 +29,6 @@ fn compare_written<T: Asn1Writable<Error = WriteError>>(
     requires { T.der.closures (T.der.meaning value.now) }
 {
     same_octets(rt, write_single(alloc, value)?.as_slice(), octets);
-    Ok(())
-}
-
-/// The value is shown so.
-fn compare_shown<T: Debug>(
-    rt: &impl Abort,
-    alloc: Global,
-    value: &T,
-    text: &str,
-) -> Result<(), Fail> {
-    let shown = format!(in alloc; "{value:?}")?;
-    same_text(rt, shown.as_str(), text);
     Ok(())
 }
 
@@ -71,6 +58,129 @@ fn other_numbers_are_no_dates(rt: HostRuntime) {
             &kind,
         );
     }
+}
+
+/// Years, and whether each is a leap year.
+const YEARS: [(u16, bool); 6] = [
+    (1900, false),
+    (1999, false),
+    (2000, true),
+    (2004, true),
+    (2100, false),
+    (2400, true),
+];
+
+/// Each month of a common year, its last day, and the day behind that.
+const COMMON: [(u8, u8, u8); 12] = [
+    (1, 31, 32),
+    (2, 28, 29),
+    (3, 31, 32),
+    (4, 30, 31),
+    (5, 31, 32),
+    (6, 30, 31),
+    (7, 31, 32),
+    (8, 31, 32),
+    (9, 30, 31),
+    (10, 31, 32),
+    (11, 30, 31),
+    (12, 31, 32),
+];
+
+/// The same of a leap year.
+const LEAP: [(u8, u8, u8); 12] = [
+    (1, 31, 32),
+    (2, 29, 30),
+    (3, 31, 32),
+    (4, 30, 31),
+    (5, 31, 32),
+    (6, 30, 31),
+    (7, 31, 32),
+    (8, 31, 32),
+    (9, 30, 31),
+    (10, 31, 32),
+    (11, 30, 31),
+    (12, 31, 32),
+];
+
+#[test]
+fn dates_at_the_end_of_a_month(rt: HostRuntime) {
+    for (year, is_leap) in YEARS {
+        for (month, last, behind) in if is_leap { LEAP } else { COMMON } {
+            same(
+                &rt,
+                &refusal(DateTime::new(year, month, last, 0, 0, 0)),
+                &None,
+            );
+            same(
+                &rt,
+                &refusal(DateTime::new(year, month, behind, 0, 0, 0)),
+                &INVALID,
+            );
+        }
+    }
+}
+
+/// The element of a time with a year of four digits, at midnight.
+fn general_text(alloc: Global, year: u16, month: u8, day: u8) -> Result<Vec<u8>, Fail> {
+    let content = format!(in alloc; "{year:04}{month:02}{day:02}000000Z")?;
+    let mut text = Vec::from_slice(alloc, &[0x18, 0x0f])?;
+    text.extend_from_slice(content.as_bytes())?;
+    Ok(text)
+}
+
+/// The same with a year of two digits.
+fn utc_text(alloc: Global, year: u16, month: u8, day: u8) -> Result<Vec<u8>, Fail> {
+    let digits = year % 100;
+    let content = format!(in alloc; "{digits:02}{month:02}{day:02}000000Z")?;
+    let mut text = Vec::from_slice(alloc, &[0x17, 0x0d])?;
+    text.extend_from_slice(content.as_bytes())?;
+    Ok(text)
+}
+
+#[test]
+fn times_at_the_end_of_a_month(rt: HostRuntime) -> Result<(), Fail> {
+    let alloc = rt.alloc();
+    for (year, is_leap) in YEARS {
+        for (month, last, behind) in if is_leap { LEAP } else { COMMON } {
+            let text = general_text(alloc, year, month, last)?;
+            let other = general_text(alloc, year, month, behind)?;
+            same(
+                &rt,
+                &fault::<X509GeneralizedTime>(alloc, text.as_slice()),
+                &None,
+            );
+            same(
+                &rt,
+                &fault::<X509GeneralizedTime>(alloc, other.as_slice()),
+                &INVALID,
+            );
+            same(
+                &rt,
+                &fault::<GeneralizedTime>(alloc, text.as_slice()),
+                &None,
+            );
+            same(
+                &rt,
+                &fault::<GeneralizedTime>(alloc, other.as_slice()),
+                &INVALID,
+            );
+        }
+    }
+    Ok(())
+}
+
+#[test]
+fn utc_times_at_the_end_of_a_month(rt: HostRuntime) -> Result<(), Fail> {
+    let alloc = rt.alloc();
+    for (year, is_leap) in [(1999, false), (2000, true), (2004, true)] {
+        for (month, last, behind) in if is_leap { LEAP } else { COMMON } {
+            let text = utc_text(alloc, year, month, last)?;
+            let other = utc_text(alloc, year, month, behind)?;
+            same(&rt, &fault::<UtcTime>(alloc, text.as_slice()), &None);
+            same(&rt, &fault::<UtcTime>(alloc, other.as_slice()), &INVALID);
+        }
+    }
+    Ok(())
 }
 
 #[test]
@@ -400,6 +510,41 @@ fn fractions_in_order(rt: HostRuntime) -> Result<(), Fail> {
     assert!(rt; point < GeneralizedTime::new(other_year, Some(1234))?);
     assert!(rt; point < GeneralizedTime::new(date.clone()?, Some(1235))?);
     assert!(rt; point > GeneralizedTime::new(date, None)?);
+    Ok(())
+}
+
+#[test]
+fn other_times_are_unequal(rt: HostRuntime) -> Result<(), Fail> {
+    let point = DateTime::new(2023, 6, 15, 14, 26, 5)?;
+    let others: [(u16, u8, u8, u8, u8, u8); 6] = [
+        (2024, 6, 15, 14, 26, 5),
+        (2023, 7, 15, 14, 26, 5),
+        (2023, 6, 16, 14, 26, 5),
+        (2023, 6, 15, 15, 26, 5),
+        (2023, 6, 15, 14, 27, 5),
+        (2023, 6, 15, 14, 26, 6),
+    ];
+    let utc = UtcTime::new(point.clone()?)?;
+    let x509 = X509GeneralizedTime::new(point.clone()?)?;
+    for (year, month, day, hour, minute, second) in others {
+        let other = DateTime::new(year, month, day, hour, minute, second)?;
+        different(&rt, &other, &point);
+        different(&rt, &UtcTime::new(other.clone()?)?, &utc);
+        different(&rt, &X509GeneralizedTime::new(other)?, &x509);
+    }
+    Ok(())
+}
+
+#[test]
+fn other_fractions_are_unequal(rt: HostRuntime) -> Result<(), Fail> {
+    let date = DateTime::new(2023, 6, 15, 14, 26, 5)?;
+    let point = GeneralizedTime::new(date.clone()?, Some(1234))?;
+    for nanoseconds in [None, Some(1), Some(1235), Some(123_400_000)] {
+        let other = GeneralizedTime::new(date.clone()?, nanoseconds)?;
+        different(&rt, &other, &point);
+    }
+    let later = DateTime::new(2023, 6, 15, 14, 26, 6)?;
+    different(&rt, &GeneralizedTime::new(later, Some(1234))?, &point);
     Ok(())
 }
 

@@ -1,8 +1,9 @@
 -- Bit strings as lists of bits.
-use Rattle.std.proofs.lemmas.Bool.{and_parts, cases_Bool, cases_eq, lt-ltb, le-ltb, ltb-true, ltb-false, leb-true, eqb-true, ne_eqb}
+use Rattle.std.proofs.lemmas.Bool.{and_parts, cases_Bool, cases_eq, lt-ltb, le-ltb, le-leb, ltb-true, ltb-false, leb-true, eqb-true, eqb-false, eq-eqb, ne_eqb}
+use Rattle.std.proofs.lemmas.List.{get_or_past}
 use Rattle.asn1_core.specs.Text.{IsText}
-use Rattle.asn1_values.specs.Bits.{is_padded, bits}
-use Rattle.asn1_values.specs.BitLists.{bit_at, octet_bits, all_bits, BitsAreAList, OneBitString, SetBits}
+use Rattle.asn1_values.specs.Bits.{Bits, IsBits, is_padded, bits, has_bit}
+use Rattle.asn1_values.specs.BitLists.{bit_at, octet_bits, all_bits, IsBitsOf, BitsAreAList, OneBitString, SetBits, FilledOctetsAreBits, EachListHasBits}
 use Rattle.std.proofs.Common.{◌≡◌, ◌∙◌, ℕ, zero, suc, ◌+◌, ◌-◌, ◌*◌, ◌/◌, ◌%◌, ◌^◌, ◌<◌, ◌≤◌, inl, inr, Bool, true, false, cond, ◌&&◌, eqb, nat_eq, nat_lt, nat_le, List, [], ◌∷◌, ◌++◌, length, replicate, take, get_or, slice_index, refl, sym, ap, subst, arith}
 
 -- ---- which bit is set
@@ -150,13 +151,16 @@ bits_are_a_list b h =
 abbrev weight : Bool → ℕ → ℕ
 weight b n = cond b n 0
 
+abbrev octet_of : Bool → Bool → Bool → Bool → Bool → Bool → Bool → Bool → ℕ
+octet_of a b c d e f g h = weight a 128 + weight b 64 + weight c 32 + weight d 16 + weight e 8 + weight f 4 + weight g 2 + weight h 1
+
 -- the octets of as many bits as fill them
 octets_from : List Bool → List ℕ
-octets_from (a ∷ b ∷ c ∷ d ∷ e ∷ f ∷ g ∷ h ∷ list) = (weight a 128 + weight b 64 + weight c 32 + weight d 16 + weight e 8 + weight f 4 + weight g 2 + weight h 1) ∷ octets_from list
+octets_from (a ∷ b ∷ c ∷ d ∷ e ∷ f ∷ g ∷ h ∷ list) = octet_of a b c d e f g h ∷ octets_from list
 octets_from list = []
 
 abbrev octet_back : ℕ → ℕ
-octet_back o = weight (bit_at o 0) 128 + weight (bit_at o 1) 64 + weight (bit_at o 2) 32 + weight (bit_at o 3) 16 + weight (bit_at o 4) 8 + weight (bit_at o 5) 4 + weight (bit_at o 6) 2 + weight (bit_at o 7) 1
+octet_back o = octet_of (bit_at o 0) (bit_at o 1) (bit_at o 2) (bit_at o 3) (bit_at o 4) (bit_at o 5) (bit_at o 6) (bit_at o 7)
 
 below : (ℕ → Bool) → ℕ → Bool
 below p zero = true
@@ -198,3 +202,135 @@ one_bit_string list b other is are h g =
     let full : all_bits b.octets ≡ all_bits other.octets = h.filled ∙ ap (λ (k : ℕ). list ++ replicate k false) same ∙ sym g.filled in
     let octets : b.octets ≡ other.octets = sym (octets_back b.octets is) ∙ ap octets_from full ∙ octets_back other.octets are in
     ap (λ (t : List ℕ). bits t b.padding) octets ∙ ap (bits other.octets) same
+
+-- ---- octets that a list fills are padded
+
+-- a bit of the padding, the least significant at place 0
+padding_bit : (list : List Bool) (b : Bits) → IsBitsOf list b → (k : ℕ) → k < b.padding → slice_index b.octets (length b.octets - 1) / 2 ^ k % 2 ≡ 0
+padding_bit list b h k inside =
+    let count : 8 * length b.octets ≡ length list + b.padding = sym (bits_count b.octets) ∙ ap length h.filled ∙ joined_count list b.padding in
+    let n = 8 * length b.octets - 1 - k in
+    let octet : n / 8 ≡ length b.octets - 1 = omega (arith, count, inside, h.few) in
+    let place : 7 - n % 8 ≡ k = omega (arith, count, inside, h.few) in
+    let behind : has_bit b n ≡ false = set_bits list b h n ∙ get_or_past list n false (omega (arith, count, inside)) in
+    let within : nat_lt (n / 8) (length b.octets) ≡ true = lt-ltb (n / 8) (length b.octets) (omega (arith, count, inside, h.few)) in
+    let bit : nat_eq (slice_index b.octets (n / 8) / 2 ^ (7 - n % 8) % 2) 1 ≡ false = sym (ap (λ (x : Bool). x && nat_eq (slice_index b.octets (n / 8) / 2 ^ (7 - n % 8) % 2) 1) within) ∙ behind in
+    let zero : nat_eq (slice_index b.octets (length b.octets - 1) / 2 ^ k % 2) 1 ≡ false = sym (ap (λ (x : ℕ). nat_eq (slice_index b.octets x / 2 ^ k % 2) 1) octet) ∙ sym (ap (λ (x : ℕ). nat_eq (slice_index b.octets (n / 8) / 2 ^ x % 2) 1) place) ∙ bit in
+    omega (arith, eqb-false (slice_index b.octets (length b.octets - 1) / 2 ^ k % 2) 1 zero)
+
+clear_low : (p o : ℕ) → p < 8 → ((k : ℕ) → k < p → o / 2 ^ k % 2 ≡ 0) → o % 2 ^ p ≡ 0
+clear_low zero o few h = omega arith
+clear_low (suc zero) o few h = omega (arith, h 0 (omega arith))
+clear_low (suc (suc zero)) o few h = omega (arith, h 0 (omega arith), h 1 (omega arith))
+clear_low (suc (suc (suc zero))) o few h = omega (arith, h 0 (omega arith), h 1 (omega arith), h 2 (omega arith))
+clear_low (suc (suc (suc (suc zero)))) o few h = omega (arith, h 0 (omega arith), h 1 (omega arith), h 2 (omega arith), h 3 (omega arith))
+clear_low (suc (suc (suc (suc (suc zero))))) o few h = omega (arith, h 0 (omega arith), h 1 (omega arith), h 2 (omega arith), h 3 (omega arith), h 4 (omega arith))
+clear_low (suc (suc (suc (suc (suc (suc zero)))))) o few h = omega (arith, h 0 (omega arith), h 1 (omega arith), h 2 (omega arith), h 3 (omega arith), h 4 (omega arith), h 5 (omega arith))
+clear_low (suc (suc (suc (suc (suc (suc (suc zero))))))) o few h = omega (arith, h 0 (omega arith), h 1 (omega arith), h 2 (omega arith), h 3 (omega arith), h 4 (omega arith), h 5 (omega arith), h 6 (omega arith))
+clear_low (suc (suc (suc (suc (suc (suc (suc (suc p)))))))) o few h = absurd (omega (arith, few))
+
+filled_padded : (list : List Bool) (octets : List ℕ) (p : ℕ) → IsBitsOf list (bits octets p) → is_padded p octets ≡ true
+filled_padded list [] p h =
+    let none : p ≡ 0 = omega (arith, bits_count [], ap length h.filled, joined_count list p) in
+    ap (λ (x : Bool). x && nat_eq p 0) (le-leb p 7 (omega (arith, h.few))) ∙ eq-eqb p 0 none
+filled_padded list (o ∷ octets) p h =
+    let last = slice_index (o ∷ octets) (length (o ∷ octets) - 1) in
+    let some : nat_eq (length (o ∷ octets)) 0 ≡ false = ne_eqb (length (o ∷ octets)) 0 (λ e. omega (arith, e)) in
+    let clear : nat_eq (last % 2 ^ p) 0 ≡ true = eq-eqb (last % 2 ^ p) 0 (clear_low p last h.few (padding_bit list (bits (o ∷ octets) p) h)) in
+    ap (λ (x : Bool). x && cond (nat_eq (length (o ∷ octets)) 0) (nat_eq p 0) (nat_eq (last % 2 ^ p) 0)) (le-leb p 7 (omega (arith, h.few)))
+    ∙ ap (λ (x : Bool). cond x (nat_eq p 0) (nat_eq (last % 2 ^ p) 0)) some
+    ∙ clear
+
+pub filled_octets_are_bits : FilledOctetsAreBits
+filled_octets_are_bits list b h = filled_padded list b.octets b.padding h
+
+-- ---- each list fills octets
+
+weight_most : (b : Bool) (n : ℕ) → weight b n ≤ n
+weight_most true n = omega arith
+weight_most false n = omega arith
+
+octet_small : (a b c d e f g h : Bool) → octet_of a b c d e f g h < 256
+octet_small a b c d e f g h = omega (arith, weight_most a 128, weight_most b 64, weight_most c 32, weight_most d 16, weight_most e 8, weight_most f 4, weight_most g 2, weight_most h 1)
+
+-- whether a test holds of both bits
+abbrev each : (Bool → Bool) → Bool
+each p = p true && p false
+
+each_at : (p : Bool → Bool) → each p ≡ true → (b : Bool) → p b ≡ true
+each_at p e true = (and_parts (p true) (p false) e).0
+each_at p e false = (and_parts (p true) (p false) e).1
+
+abbrev alike : Bool → Bool → Bool
+alike true y = y
+alike false y = cond y false true
+
+alike_is : (x y : Bool) → alike x y ≡ true → x ≡ y
+alike_is true true e = refl
+alike_is true false e = sym e
+alike_is false true e = e
+alike_is false false e = refl
+
+abbrev all_alike : List Bool → List Bool → Bool
+all_alike [] [] = true
+all_alike [] (y ∷ ys) = false
+all_alike (x ∷ xs) [] = false
+all_alike (x ∷ xs) (y ∷ ys) = alike x y && all_alike xs ys
+
+all_alike_are : (xs ys : List Bool) → all_alike xs ys ≡ true → xs ≡ ys
+all_alike_are [] [] e = refl
+all_alike_are [] (y ∷ ys) e = absurd cc
+all_alike_are (x ∷ xs) [] e = absurd cc
+all_alike_are (x ∷ xs) (y ∷ ys) e =
+    let parts = and_parts (alike x y) (all_alike xs ys) e in
+    ap (λ (z : Bool). z ∷ xs) (alike_is x y parts.0) ∙ ap (λ (zs : List Bool). y ∷ zs) (all_alike_are xs ys parts.1)
+
+abbrev is_back : Bool → Bool → Bool → Bool → Bool → Bool → Bool → Bool → Bool
+is_back a b c d e f g h = all_alike (octet_bits (octet_of a b c d e f g h)) (a ∷ b ∷ c ∷ d ∷ e ∷ f ∷ g ∷ h ∷ [])
+
+all_are_back : each (λ a. each (λ b. each (λ c. each (λ d. each (λ e. each (λ f. each (λ g. each (λ h. is_back a b c d e f g h)))))))) ≡ true
+all_are_back = refl
+
+octet_bits_of : (a b c d e f g h : Bool) → octet_bits (octet_of a b c d e f g h) ≡ a ∷ b ∷ c ∷ d ∷ e ∷ f ∷ g ∷ h ∷ []
+octet_bits_of a b c d e f g h =
+    let at_a = each_at (λ (a : Bool). each (λ b. each (λ c. each (λ d. each (λ e. each (λ f. each (λ g. each (λ h. is_back a b c d e f g h)))))))) all_are_back a in
+    let at_b = each_at (λ (b : Bool). each (λ c. each (λ d. each (λ e. each (λ f. each (λ g. each (λ h. is_back a b c d e f g h))))))) at_a b in
+    let at_c = each_at (λ (c : Bool). each (λ d. each (λ e. each (λ f. each (λ g. each (λ h. is_back a b c d e f g h)))))) at_b c in
+    let at_d = each_at (λ (d : Bool). each (λ e. each (λ f. each (λ g. each (λ h. is_back a b c d e f g h))))) at_c d in
+    let at_e = each_at (λ (e : Bool). each (λ f. each (λ g. each (λ h. is_back a b c d e f g h)))) at_d e in
+    let at_f = each_at (λ (f : Bool). each (λ g. each (λ h. is_back a b c d e f g h))) at_e f in
+    let at_g = each_at (λ (g : Bool). each (λ h. is_back a b c d e f g h)) at_f g in
+    let at_h = each_at (λ (h : Bool). is_back a b c d e f g h) at_g h in
+    all_alike_are _ _ at_h
+
+abbrev Listed : List Bool → Type 0
+Listed list = (b : Bits) × IsText b.octets × IsBitsOf list b
+
+one_more : (a b c d e f g h : Bool) (list : List Bool) → Listed list → Listed (a ∷ b ∷ c ∷ d ∷ e ∷ f ∷ g ∷ h ∷ list)
+one_more a b c d e f g h list rest = (
+  bits (octet_of a b c d e f g h ∷ rest.0.octets) rest.0.padding,
+  (octet_small a b c d e f g h, rest.1),
+  record {
+    filled = ap (λ (t : List Bool). t ++ all_bits rest.0.octets) (octet_bits_of a b c d e f g h) ∙ ap (λ (t : List Bool). a ∷ b ∷ c ∷ d ∷ e ∷ f ∷ g ∷ h ∷ t) rest.2.filled;
+    few = rest.2.few;
+  },
+)
+
+-- the last octet, with this many bits of padding
+last : (a b c d e f g h : Bool) (list : List Bool) (p : ℕ) → p < 8 → (a ∷ b ∷ c ∷ d ∷ e ∷ f ∷ g ∷ h ∷ []) ≡ list ++ replicate p false → Listed list
+last a b c d e f g h list p few is = (
+  bits (octet_of a b c d e f g h ∷ []) p,
+  (octet_small a b c d e f g h, tt),
+  record { filled = octet_bits_of a b c d e f g h ∙ is; few = few },
+)
+
+pub each_list_has_bits : EachListHasBits
+each_list_has_bits [] = (bits [] 0, tt, record { filled = refl; few = omega arith })
+each_list_has_bits (a ∷ []) = last a false false false false false false false (a ∷ []) 7 (omega arith) refl
+each_list_has_bits (a ∷ b ∷ []) = last a b false false false false false false (a ∷ b ∷ []) 6 (omega arith) refl
+each_list_has_bits (a ∷ b ∷ c ∷ []) = last a b c false false false false false (a ∷ b ∷ c ∷ []) 5 (omega arith) refl
+each_list_has_bits (a ∷ b ∷ c ∷ d ∷ []) = last a b c d false false false false (a ∷ b ∷ c ∷ d ∷ []) 4 (omega arith) refl
+each_list_has_bits (a ∷ b ∷ c ∷ d ∷ e ∷ []) = last a b c d e false false false (a ∷ b ∷ c ∷ d ∷ e ∷ []) 3 (omega arith) refl
+each_list_has_bits (a ∷ b ∷ c ∷ d ∷ e ∷ f ∷ []) = last a b c d e f false false (a ∷ b ∷ c ∷ d ∷ e ∷ f ∷ []) 2 (omega arith) refl
+each_list_has_bits (a ∷ b ∷ c ∷ d ∷ e ∷ f ∷ g ∷ []) = last a b c d e f g false (a ∷ b ∷ c ∷ d ∷ e ∷ f ∷ g ∷ []) 1 (omega arith) refl
+each_list_has_bits (a ∷ b ∷ c ∷ d ∷ e ∷ f ∷ g ∷ h ∷ list) = one_more a b c d e f g h list (each_list_has_bits list)

@@ -49,7 +49,9 @@ impl<'a> BigUint<'a> {
 
 impl fmt::Debug for BigUint<'_> {
     fn fmt<W: fmt::Write>(&self, f: &mut fmt::Formatter<W>) -> fmt::Result {
-        write!(f, "BigUint {{ data: {:?} }}", self.octets)
+        f.debug_struct("BigUint")
+            .field("data", &self.octets)
+            .finish()
     }
 }
 
@@ -156,7 +158,9 @@ impl<'a> BigInt<'a> {
 
 impl fmt::Debug for BigInt<'_> {
     fn fmt<W: fmt::Write>(&self, f: &mut fmt::Formatter<W>) -> fmt::Result {
-        write!(f, "BigInt {{ data: {:?} }}", self.octets)
+        f.debug_struct("BigInt")
+            .field("data", &self.octets)
+            .finish()
     }
 }
 

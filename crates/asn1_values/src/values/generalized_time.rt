@@ -1,6 +1,6 @@
 //! Times with a fraction of a second, or without (X.690 11.7).
 
-ghost use Rattle.std.specs.Prelude.{◌≡◌, ◌≤◌, Some, length, MatchResult};
+ghost use Rattle.std.specs.Prelude.{◌≡◌, ◌≤◌, ⊤, Some, length, MatchResult};
 ghost use Rattle.std.proofs.Props.{props};
 ghost use Rattle.asn1_core.specs.declared.parser.ParseErrorKind.TheVariants.{InvalidValue};
 ghost use Rattle.asn1_core.specs.Fault.{fault};
@@ -64,6 +64,8 @@ impl Clone for GeneralizedTime {
     ghost use Rattle.asn1_values.specs.GeneralizedTimes.{instant_of};
 
     ghost is_clone = { λ x y. instant_of y ≡ instant_of x };
+
+    ghost is_infallible = { λ _. ⊤ };
 
     fn clone(&self) -> Result<GeneralizedTime, AllocError> {
         let datetime = self.datetime.clone()?;

@@ -58,7 +58,9 @@ impl Clone for OwnedBigUint {
 
 impl fmt::Debug for OwnedBigUint {
     fn fmt<W: fmt::Write>(&self, f: &mut fmt::Formatter<W>) -> fmt::Result {
-        write!(f, "OwnedBigUint {{ data: {:?} }}", self.octets)
+        f.debug_struct("OwnedBigUint")
+            .field("data", &self.octets)
+            .finish()
     }
 }
 
@@ -167,7 +169,9 @@ impl Clone for OwnedBigInt {
 
 impl fmt::Debug for OwnedBigInt {
     fn fmt<W: fmt::Write>(&self, f: &mut fmt::Formatter<W>) -> fmt::Result {
-        write!(f, "OwnedBigInt {{ data: {:?} }}", self.octets)
+        f.debug_struct("OwnedBigInt")
+            .field("data", &self.octets)
+            .finish()
     }
 }
 

@@ -1,6 +1,6 @@
 //! Times without a fraction of a second: years of two digits, and of four (X.690 11.7, 11.8; RFC 5280 4.1.2.5).
 
-ghost use Rattle.std.specs.Prelude.{◌≡◌, ◌≤◌, Some, MatchResult};
+ghost use Rattle.std.specs.Prelude.{◌≡◌, ◌≤◌, ⊤, Some, MatchResult};
 ghost use Rattle.asn1_core.specs.declared.parser.ParseErrorKind.TheVariants.{InvalidValue};
 ghost use Rattle.asn1_core.specs.Fault.{fault};
 ghost use Rattle.asn1_core.specs.Der.{simple_der};
@@ -49,6 +49,8 @@ impl Clone for UtcTime {
     ghost use Rattle.asn1_values.specs.TimeValues.{utc_moment};
 
     ghost is_clone = { λ x y. utc_moment y ≡ utc_moment x };
+
+    ghost is_infallible = { λ _. ⊤ };
 
     fn clone(&self) -> Result<UtcTime, AllocError> {
         let datetime = self.datetime.clone()?;
@@ -137,6 +139,8 @@ impl Clone for X509GeneralizedTime {
     ghost use Rattle.asn1_values.specs.TimeValues.{x509_moment};
 
     ghost is_clone = { λ x y. x509_moment y ≡ x509_moment x };
+
+    ghost is_infallible = { λ _. ⊤ };
 
     fn clone(&self) -> Result<X509GeneralizedTime, AllocError> {
         let datetime = self.datetime.clone()?;

@@ -1,0 +1,15 @@
+-- Contents of the same number are the same octets.
+use Rattle.std.proofs.Common.{◌≡◌, ◌↔◌, IsTrue, ℕ, List, nat_eq, sym, ap, ◌∙◌}
+use Rattle.std.specs.Cmp.Lexicographic.{pointwise}
+use Rattle.std.proofs.lemmas.Bool.Decides.{Decides-like}
+use Rattle.std.proofs.lemmas.Slice.Eq.{bytes_eq-Decides}
+use Rattle.asn1_core.specs.Text.{signed_number}
+use Rattle.asn1_core.specs.Integer.{integer_content}
+use Rattle.asn1_values.specs.Big.{IsSignedForm}
+use Rattle.asn1_values.specs.Lemmas.Big.{content_of_signed, signed_form}
+
+pub same_contents : (a b : List ℕ) → IsSignedForm a → IsSignedForm b → signed_number a ≡ signed_number b → a ≡ b
+same_contents a b f g same = content_of_signed a (signed_form a f) ∙ ap integer_content same ∙ sym (content_of_signed b (signed_form b g))
+
+pub equal_contents : (a b : List ℕ) → IsSignedForm a → IsSignedForm b → IsTrue (pointwise nat_eq a b) ↔ (signed_number a ≡ signed_number b)
+equal_contents a b f g = Decides-like (pointwise nat_eq a b) (ap signed_number) (same_contents a b f g) (bytes_eq-Decides a b)
