@@ -14,9 +14,9 @@ use std::alloc::Global;
 use std::process::Abort;
 use std::test::Fail;
 
-/// A set of a Boolean and, where there is one, a number. The closure says that it keeps elements in the order of their
+/// A set of a Boolean and a number. The closure says that it keeps elements in the order of their
 /// tags, and so a `Set` reads what is written.
-fn written_set(alloc: Global, number: Option<u64>) -> WriteResult<Vec<u8>>
+fn written_set(alloc: Global, number: u64) -> WriteResult<Vec<u8>>
     ensures { IfOk result (λ v. IsElementOf set_tag (λ c. length c < 2 ^ 32 → IsSetContent c) v.items) }
 {
     let writes = |set: &mut SetElementWriter<'_>| -> WriteResult<()>
@@ -31,14 +31,14 @@ fn written_set(alloc: Global, number: Option<u64>) -> WriteResult<Vec<u8>>
 }
 
 /// The Boolean and the number of such a set.
-fn read_set(alloc: Global, octets: &[u8]) -> ParseResult<(bool, Option<u64>)> {
+fn read_set(alloc: Global, octets: &[u8]) -> ParseResult<(bool, u64)> {
     let set = parse_single::<Set<'_>>(alloc, octets)?;
     set.parse(
         alloc,
-        |parser: &mut Parser<'_>| -> ParseResult<(bool, Option<u64>)> {
+        |parser: &mut Parser<'_>| -> ParseResult<(bool, u64)> {
             Ok((
                 parser.read_element::<bool>()?,
-                parser.read_element::<Option<u64>>()?,
+                parser.read_element::<u64>()?,
             ))
         },
     )
@@ -47,11 +47,8 @@ fn read_set(alloc: Global, octets: &[u8]) -> ParseResult<(bool, Option<u64>)> {
 #[test]
 fn written_sets_are_read(rt: HostRuntime) -> Result<(), Fail> {
     let alloc = rt.alloc();
-    let octets = written_set(alloc, Some(5))?;
+    let octets = written_set(alloc, 5)?;
     assert_eq!(rt; octets.as_slice(), &[0x31, 6, 1, 1, 0xff, 2, 1, 5][..]);
-    assert_eq!(rt; read_set(alloc, octets.as_slice())?, (true, Some(5)));
-    let octets = written_set(alloc, None)?;
-    assert_eq!(rt; octets.as_slice(), &[0x31, 3, 1, 1, 0xff][..]);
-    assert_eq!(rt; read_set(alloc, octets.as_slice())?, (true, None));
+    assert_eq!(rt; read_set(alloc, octets.as_slice())?, (true, 5));
     Ok(())
 }
