@@ -11,236 +11,506 @@ use std::alloc::Global;
 use std::process::Abort;
 use std::test::Fail;
 
-/// The text with each of its octets replaced by each of the 256 values.
-fn changes<const N: usize>(alloc: Global, text: [u8; N]) -> Result<Vec<[u8; N]>, Fail> {
+/// A text, and it again and again with each of its octets replaced by each of the 256 values.
+#[derive(Drop)]
+struct Text {
+    whole: Vec<u8>,
+    changed: Vec<u8>,
+}
+
+fn changes_of(alloc: Global, text: &[u8]) -> Result<Vec<u8>, Fail> {
     let mut changed = Vec::new(alloc);
-    for place in 0..N {
+    for place in 0..text.len() {
         for octet in 0..=255 {
-            let mut other = text;
-            other[place] = octet;
-            changed.push(other)?;
+            changed.extend_from_slice(&text[..place])?;
+            changed.push(octet)?;
+            changed.extend_from_slice(&text[place + 1..])?;
         }
     }
     Ok(changed)
 }
 
-/// Each proper front of the text, an element whose tag and length have one octet each, is too short, and by so much.
-fn fronts_are_short<'a, T: Asn1Readable<'a>>(rt: &impl Abort, alloc: Global, text: &'a [u8]) {
-    for end in 0..text.len() {
-        let needed = if end < 2 { 1 } else { text.len() - end };
-        let short = ParseError::new(ParseErrorKind::ShortData { needed });
-        match parse_single::<T>(alloc, &text[..end]) {
-            Ok(_value) => assert!(rt; false),
-            Err(error) => assert_eq!(rt; error, short, "{end} of {text:?}"),
-        }
+fn texts_of(alloc: Global, wholes: &[&[u8]]) -> Result<Vec<Text>, Fail> {
+    let mut texts = Vec::new(alloc);
+    for text in wholes {
+        let whole = Vec::from_slice(alloc, text)?;
+        let changed = changes_of(alloc, text)?;
+        texts.push(Text { whole, changed })?;
+    }
+    Ok(texts)
+}
+
+/// The text is a value's, and written again as it was.
+fn is_accepted<'a, T: Asn1Readable<'a> + Asn1Writable<Error = WriteError>>(
+    rt: &impl Abort,
+    alloc: Global,
+    text: &'a [u8],
+) -> Result<(), Fail>
+    requires { T.der.plain }
+{
+    let value = parse_single::<T>(alloc, text)?;
+    assert_eq!(rt; write_single(alloc, &value)?.as_slice(), text);
+    Ok(())
+}
+
+/// The front of that many octets is too short, and by so much.
+fn is_short<'a, T: Asn1Readable<'a>>(
+    rt: &impl Abort,
+    alloc: Global,
+    text: &'a [u8],
+    end: usize,
+    needed: usize,
+) {
+    let short = ParseError::new(ParseErrorKind::ShortData { needed });
+    match parse_single::<T>(alloc, text.get(..end).unwrap_or(text)) {
+        Ok(_value) => assert!(rt; false, "{end} of {text:?}"),
+        Err(error) => assert_eq!(rt; error, short, "{end} of {text:?}"),
     }
 }
 
-/// Each of the texts is refused, or is a value's and written again as it was.
-fn written_again<'a, T: Asn1Readable<'a> + Asn1Writable<Error = WriteError>, const N: usize>(
+/// How many octets a text with a header of two lacks, where it is cut before the first and before the second.
+const TWO_OCTETS: &[usize] = &[1, 1];
+
+/// Each text is accepted, each of its proper fronts is too short, and each of the changed texts is refused or accepted.
+/// A front that ends in the header lacks so many octets, and any other the rest of the text.
+fn check<'a, T: Asn1Readable<'a> + Asn1Writable<Error = WriteError>>(
     rt: &impl Abort,
     alloc: Global,
-    texts: &'a [[u8; N]],
+    header: &[usize],
+    texts: &'a [Text],
 ) -> Result<(), Fail>
     requires { T.der.plain }
 {
     for text in texts {
-        if let Ok(value) = parse_single::<T>(alloc, text) {
-            assert_eq!(rt; write_single(alloc, &value)?.as_slice(), text.as_slice());
+        let whole = text.whole.as_slice();
+        is_accepted::<T>(rt, alloc, whole)?;
+        for end in 0..whole.len() {
+            let needed = header.get(end).copied().unwrap_or(whole.len() - end);
+            is_short::<T>(rt, alloc, whole, end, needed);
+        }
+        for other in text.changed.chunks(whole.len().max(1)) {
+            if parse_single::<T>(alloc, other).is_ok() {
+                is_accepted::<T>(rt, alloc, other)?;
+            }
         }
     }
     Ok(())
 }
 
-/// Each proper front of the text is too short, and each of the changed texts is refused or written again as it was.
-fn fronts_and_changes<'a, T: Asn1Readable<'a> + Asn1Writable<Error = WriteError>, const N: usize>(
-    rt: &impl Abort,
-    alloc: Global,
-    text: &'a [u8; N],
-    changed: &'a [[u8; N]],
-) -> Result<(), Fail>
-    requires { T.der.plain }
-{
-    fronts_are_short::<T>(rt, alloc, text);
-    written_again::<T, N>(rt, alloc, changed)
-}
+/// A list of any count of items.
+type List<'a, T> = SequenceOf<'a, T, 0, { usize::MAX }>;
 
 #[test]
 fn truth_values_and_null(rt: HostRuntime) -> Result<(), Fail> {
     let alloc = rt.alloc();
-    let text = [0x01, 0x01, 0xff];
-    let changed = changes(alloc, text)?;
-    fronts_and_changes::<bool, 3>(&rt, alloc, &text, changed.as_slice())?;
-    let text = [0x05, 0x00];
-    let changed = changes(alloc, text)?;
-    fronts_and_changes::<Null, 2>(&rt, alloc, &text, changed.as_slice())
+    let texts = texts_of(alloc, &[&[0x01, 0x01, 0xff], &[0x01, 0x01, 0x00]])?;
+    check::<bool>(&rt, alloc, TWO_OCTETS, texts.as_slice())?;
+    let texts = texts_of(alloc, &[&[0x05, 0x00]])?;
+    check::<Null>(&rt, alloc, TWO_OCTETS, texts.as_slice())?;
+    Ok(())
 }
 
 #[test]
 fn signed_integers(rt: HostRuntime) -> Result<(), Fail> {
     let alloc = rt.alloc();
-    let text = [0x02, 0x01, 0x80];
-    let changed = changes(alloc, text)?;
-    fronts_and_changes::<i8, 3>(&rt, alloc, &text, changed.as_slice())?;
-    let text = [0x02, 0x02, 0xff, 0x7f];
-    let changed = changes(alloc, text)?;
-    fronts_and_changes::<i16, 4>(&rt, alloc, &text, changed.as_slice())?;
-    fronts_and_changes::<i32, 4>(&rt, alloc, &text, changed.as_slice())?;
-    fronts_and_changes::<i64, 4>(&rt, alloc, &text, changed.as_slice())
+    let texts = texts_of(alloc, &[&[0x02, 0x01, 0x80], &[0x02, 0x01, 0x05]])?;
+    check::<i8>(&rt, alloc, TWO_OCTETS, texts.as_slice())?;
+    let texts = texts_of(
+        alloc,
+        &[
+            &[0x02, 0x02, 0x80, 0x00],
+            &[0x02, 0x02, 0xff, 0x7f],
+            &[0x02, 0x02, 0x00, 0x80],
+        ],
+    )?;
+    check::<i16>(&rt, alloc, TWO_OCTETS, texts.as_slice())?;
+    check::<i32>(&rt, alloc, TWO_OCTETS, texts.as_slice())?;
+    check::<i64>(&rt, alloc, TWO_OCTETS, texts.as_slice())?;
+    Ok(())
 }
 
 #[test]
 fn unsigned_integers(rt: HostRuntime) -> Result<(), Fail> {
     let alloc = rt.alloc();
-    let text = [0x02, 0x02, 0x00, 0x80];
-    let changed = changes(alloc, text)?;
-    fronts_and_changes::<u8, 4>(&rt, alloc, &text, changed.as_slice())?;
-    fronts_and_changes::<u16, 4>(&rt, alloc, &text, changed.as_slice())?;
-    fronts_and_changes::<u32, 4>(&rt, alloc, &text, changed.as_slice())?;
-    fronts_and_changes::<u64, 4>(&rt, alloc, &text, changed.as_slice())
+    let texts = texts_of(
+        alloc,
+        &[
+            &[0x02, 0x02, 0x00, 0xff],
+            &[0x02, 0x02, 0x00, 0x80],
+            &[0x02, 0x01, 0x0c],
+            &[0x02, 0x01, 0x05],
+        ],
+    )?;
+    check::<u8>(&rt, alloc, TWO_OCTETS, texts.as_slice())?;
+    let texts = texts_of(
+        alloc,
+        &[&[0x02, 0x03, 0x00, 0xff, 0xff], &[0x02, 0x02, 0x01, 0x00]],
+    )?;
+    check::<u16>(&rt, alloc, TWO_OCTETS, texts.as_slice())?;
+    check::<u32>(&rt, alloc, TWO_OCTETS, texts.as_slice())?;
+    let texts = texts_of(
+        alloc,
+        &[
+            &[
+                0x02, 0x09, 0x00, 0xab, 0x7c, 0x95, 0x42, 0xbd, 0xdd, 0x89, 0x21,
+            ],
+            &[
+                0x02, 0x09, 0x00, 0xff, 0xff, 0xff, 0xff, 0xff, 0xff, 0xff, 0xff,
+            ],
+        ],
+    )?;
+    check::<u64>(&rt, alloc, TWO_OCTETS, texts.as_slice())?;
+    Ok(())
 }
 
 #[test]
 fn octets_and_elements(rt: HostRuntime) -> Result<(), Fail> {
     let alloc = rt.alloc();
-    let text = [0x04, 0x01, 0x61];
-    let changed = changes(alloc, text)?;
-    fronts_and_changes::<&[u8], 3>(&rt, alloc, &text, changed.as_slice())?;
-    fronts_and_changes::<[u8; 1], 3>(&rt, alloc, &text, changed.as_slice())?;
-    fronts_and_changes::<Tlv<'_>, 3>(&rt, alloc, &text, changed.as_slice())?;
-    let changed = changes(alloc, [0x1f, 0x81, 0x80, 0x01, 0x00])?;
-    written_again::<Tlv<'_>, 5>(&rt, alloc, changed.as_slice())
+    let texts = texts_of(
+        alloc,
+        &[
+            &[0x04, 0x00],
+            &[0x04, 0x01, 0x61],
+            &[0x04, 0x03, 0x61, 0x62, 0x63],
+        ],
+    )?;
+    check::<&[u8]>(&rt, alloc, TWO_OCTETS, texts.as_slice())?;
+    check::<Tlv<'_>>(&rt, alloc, TWO_OCTETS, texts.as_slice())?;
+    let texts = texts_of(alloc, &[&[0x04, 0x01, 0x61]])?;
+    check::<[u8; 1]>(&rt, alloc, TWO_OCTETS, texts.as_slice())?;
+    let texts = texts_of(alloc, &[&[0x04, 0x03, 0x61, 0x62, 0x63]])?;
+    check::<[u8; 3]>(&rt, alloc, TWO_OCTETS, texts.as_slice())?;
+    Ok(())
 }
 
 #[test]
 fn boxes_and_options(rt: HostRuntime) -> Result<(), Fail> {
     let alloc = rt.alloc();
-    let text = [0x02, 0x01, 0x0c];
-    let changed = changes(alloc, text)?;
-    fronts_and_changes::<Box<u8>, 3>(&rt, alloc, &text, changed.as_slice())?;
+    let texts = texts_of(alloc, &[&[0x02, 0x01, 0x0c], &[0x02, 0x02, 0x00, 0x80]])?;
+    check::<Box<u8>>(&rt, alloc, TWO_OCTETS, texts.as_slice())?;
     // The front without octets is the option's text without a value.
-    assert!(rt; parse_single::<Option<u8>>(alloc, &[])?.is_none());
-    for end in 1..3usize {
-        let error = parse_single::<Option<u8>>(alloc, &text[..end]).err();
-        let short = ParseError::new(ParseErrorKind::ShortData { needed: 1 });
-        assert_eq!(rt; error, Some(short));
+    is_accepted::<Option<u8>>(&rt, alloc, &[])?;
+    for text in &texts {
+        let whole = text.whole.as_slice();
+        is_accepted::<Option<u8>>(&rt, alloc, whole)?;
+        for end in 1..whole.len() {
+            let needed = if end < 2 { 1 } else { whole.len() - end };
+            is_short::<Option<u8>>(&rt, alloc, whole, end, needed);
+        }
+        for other in text.changed.chunks(whole.len().max(1)) {
+            if parse_single::<Option<u8>>(alloc, other).is_ok() {
+                is_accepted::<Option<u8>>(&rt, alloc, other)?;
+            }
+        }
     }
-    written_again::<Option<u8>, 3>(&rt, alloc, changed.as_slice())
+    Ok(())
 }
 
 #[test]
 fn integers_of_any_length(rt: HostRuntime) -> Result<(), Fail> {
     let alloc = rt.alloc();
-    let text = [0x02, 0x02, 0x00, 0x80];
-    let changed = changes(alloc, text)?;
-    fronts_and_changes::<BigInt<'_>, 4>(&rt, alloc, &text, changed.as_slice())?;
-    fronts_and_changes::<BigUint<'_>, 4>(&rt, alloc, &text, changed.as_slice())?;
-    fronts_and_changes::<OwnedBigInt, 4>(&rt, alloc, &text, changed.as_slice())?;
-    fronts_and_changes::<OwnedBigUint, 4>(&rt, alloc, &text, changed.as_slice())
+    let texts = texts_of(
+        alloc,
+        &[
+            &[0x02, 0x01, 0x00],
+            &[0x02, 0x02, 0x00, 0x80],
+            &[0x02, 0x03, 0x00, 0xff, 0xff],
+        ],
+    )?;
+    check::<BigUint<'_>>(&rt, alloc, TWO_OCTETS, texts.as_slice())?;
+    check::<OwnedBigUint>(&rt, alloc, TWO_OCTETS, texts.as_slice())?;
+    let texts = texts_of(
+        alloc,
+        &[
+            &[0x02, 0x01, 0x80],
+            &[0x02, 0x02, 0xff, 0x7f],
+            &[0x02, 0x02, 0xff, 0x00],
+            &[0x02, 0x01, 0xff],
+            &[
+                0x02, 0x0c, 0xff, 0x7f, 0xff, 0xff, 0xff, 0xff, 0xff, 0xff, 0xff, 0xff, 0xff, 0xff,
+            ],
+        ],
+    )?;
+    check::<BigInt<'_>>(&rt, alloc, TWO_OCTETS, texts.as_slice())?;
+    check::<OwnedBigInt>(&rt, alloc, TWO_OCTETS, texts.as_slice())?;
+    Ok(())
 }
 
 #[test]
 fn enumerated_values_and_identifiers(rt: HostRuntime) -> Result<(), Fail> {
     let alloc = rt.alloc();
-    let text = [0x0a, 0x02, 0x00, 0x80];
-    let changed = changes(alloc, text)?;
-    fronts_and_changes::<Enumerated, 4>(&rt, alloc, &text, changed.as_slice())?;
-    let text = [0x06, 0x03, 0x2a, 0x03, 0x04];
-    let changed = changes(alloc, text)?;
-    fronts_and_changes::<ObjectIdentifier, 5>(&rt, alloc, &text, changed.as_slice())
+    let texts = texts_of(
+        alloc,
+        &[
+            &[0x0a, 0x01, 0x0c],
+            &[0x0a, 0x02, 0x00, 0x80],
+            &[0x0a, 0x05, 0x00, 0xff, 0xff, 0xff, 0xff],
+        ],
+    )?;
+    check::<Enumerated>(&rt, alloc, TWO_OCTETS, texts.as_slice())?;
+    let texts = texts_of(
+        alloc,
+        &[
+            &[0x06, 0x02, 0x2a, 0x03],
+            &[0x06, 0x03, 0x2a, 0x03, 0x04],
+            &[0x06, 0x03, 0x81, 0x34, 0x03],
+            &[0x06, 0x06, 0x2a, 0x86, 0x48, 0x86, 0xf7, 0x0d],
+            &[
+                0x06, 0x13, 0x83, 0xff, 0xff, 0xff, 0xff, 0xff, 0xff, 0xff, 0xff, 0xff, 0xff, 0xff,
+                0xff, 0xff, 0xff, 0xff, 0xff, 0xff, 0x7f,
+            ],
+        ],
+    )?;
+    check::<ObjectIdentifier>(&rt, alloc, TWO_OCTETS, texts.as_slice())?;
+    Ok(())
 }
 
 #[test]
 fn bit_strings(rt: HostRuntime) -> Result<(), Fail> {
     let alloc = rt.alloc();
-    let text = [0x03, 0x03, 0x04, 0x81, 0xf0];
-    let changed = changes(alloc, text)?;
-    fronts_and_changes::<BitString<'_>, 5>(&rt, alloc, &text, changed.as_slice())?;
-    fronts_and_changes::<OwnedBitString, 5>(&rt, alloc, &text, changed.as_slice())
+    let texts = texts_of(
+        alloc,
+        &[
+            &[0x03, 0x01, 0x00],
+            &[0x03, 0x02, 0x01, 0x7e],
+            &[0x03, 0x03, 0x04, 0x81, 0xf0],
+        ],
+    )?;
+    check::<BitString<'_>>(&rt, alloc, TWO_OCTETS, texts.as_slice())?;
+    check::<OwnedBitString>(&rt, alloc, TWO_OCTETS, texts.as_slice())?;
+    Ok(())
 }
 
 #[test]
 fn texts_of_single_octets(rt: HostRuntime) -> Result<(), Fail> {
     let alloc = rt.alloc();
-    let text = [0x13, 0x03, 0x61, 0x20, 0x31];
-    let changed = changes(alloc, text)?;
-    fronts_and_changes::<PrintableString<'_>, 5>(&rt, alloc, &text, changed.as_slice())?;
-    let text = [0x16, 0x02, 0x0a, 0x7f];
-    let changed = changes(alloc, text)?;
-    fronts_and_changes::<IA5String<'_>, 4>(&rt, alloc, &text, changed.as_slice())?;
-    let text = [0x1a, 0x02, 0x20, 0x7e];
-    let changed = changes(alloc, text)?;
-    fronts_and_changes::<VisibleString<'_>, 4>(&rt, alloc, &text, changed.as_slice())
+    let texts = texts_of(alloc, &[b"\x13\x0bTest User 1"])?;
+    check::<PrintableString<'_>>(&rt, alloc, TWO_OCTETS, texts.as_slice())?;
+    let texts = texts_of(alloc, &[&[0x16, 0x01, 0x7f], &[0x16, 0x02, 0x0a, 0x7f]])?;
+    check::<IA5String<'_>>(&rt, alloc, TWO_OCTETS, texts.as_slice())?;
+    let texts = texts_of(alloc, &[&[0x1a, 0x02, 0x20, 0x7e]])?;
+    check::<VisibleString<'_>>(&rt, alloc, TWO_OCTETS, texts.as_slice())?;
+    Ok(())
 }
 
 #[test]
 fn texts_of_several_octets(rt: HostRuntime) -> Result<(), Fail> {
     let alloc = rt.alloc();
-    let text = [0x0c, 0x05, 0xe2, 0x82, 0xac, 0xc3, 0xa9];
-    let changed = changes(alloc, text)?;
-    fronts_and_changes::<Utf8String<'_>, 7>(&rt, alloc, &text, changed.as_slice())?;
-    let text = [0x1e, 0x04, 0xd8, 0x00, 0xdc, 0x00];
-    let changed = changes(alloc, text)?;
-    fronts_and_changes::<BMPString<'_>, 6>(&rt, alloc, &text, changed.as_slice())?;
-    let text = [0x1c, 0x04, 0x00, 0x10, 0xff, 0xff];
-    let changed = changes(alloc, text)?;
-    fronts_and_changes::<UniversalString<'_>, 6>(&rt, alloc, &text, changed.as_slice())
+    let texts = texts_of(alloc, &[&[0x0c, 0x05, 0xe2, 0x82, 0xac, 0xc3, 0xa9]])?;
+    check::<Utf8String<'_>>(&rt, alloc, TWO_OCTETS, texts.as_slice())?;
+    let texts = texts_of(
+        alloc,
+        &[
+            &[0x1e, 0x04, 0xd8, 0x00, 0xdc, 0x00],
+            &[0x1e, 0x06, 0x00, 0x61, 0x00, 0x62, 0x00, 0x63],
+        ],
+    )?;
+    check::<BMPString<'_>>(&rt, alloc, TWO_OCTETS, texts.as_slice())?;
+    let texts = texts_of(alloc, &[&[0x1c, 0x04, 0x00, 0x10, 0xff, 0xff]])?;
+    check::<UniversalString<'_>>(&rt, alloc, TWO_OCTETS, texts.as_slice())?;
+    Ok(())
 }
 
 #[test]
 fn times(rt: HostRuntime) -> Result<(), Fail> {
     let alloc = rt.alloc();
-    let text = *b"\x17\x0d910506234540Z";
-    let changed = changes(alloc, text)?;
-    fronts_and_changes::<UtcTime, 15>(&rt, alloc, &text, changed.as_slice())?;
-    let text = *b"\x18\x0f20100102030405Z";
-    let changed = changes(alloc, text)?;
-    fronts_and_changes::<X509GeneralizedTime, 17>(&rt, alloc, &text, changed.as_slice())?;
-    let text = *b"\x18\x1120090101000000.5Z";
-    let changed = changes(alloc, text)?;
-    fronts_and_changes::<GeneralizedTime, 19>(&rt, alloc, &text, changed.as_slice())
+    let texts = texts_of(
+        alloc,
+        &[
+            b"\x17\x0d910506234540Z",
+            b"\x17\x0d500101000000Z",
+            b"\x17\x0d491231235959Z",
+            b"\x17\x0d091115225616Z",
+        ],
+    )?;
+    check::<UtcTime>(&rt, alloc, TWO_OCTETS, texts.as_slice())?;
+    let texts = texts_of(
+        alloc,
+        &[
+            b"\x18\x0f20100102030405Z",
+            b"\x18\x0f20000229000000Z",
+            b"\x18\x0f19700101000000Z",
+        ],
+    )?;
+    check::<X509GeneralizedTime>(&rt, alloc, TWO_OCTETS, texts.as_slice())?;
+    check::<GeneralizedTime>(&rt, alloc, TWO_OCTETS, texts.as_slice())?;
+    let texts = texts_of(
+        alloc,
+        &[
+            b"\x18\x1120090101000000.5Z",
+            b"\x18\x1120091115225616.1Z",
+            b"\x18\x1920091115225616.999999999Z",
+            b"\x18\x1919910506234540.000001234Z",
+        ],
+    )?;
+    check::<GeneralizedTime>(&rt, alloc, TWO_OCTETS, texts.as_slice())?;
+    Ok(())
 }
 
 #[test]
-fn values_in_tags(rt: HostRuntime) -> Result<(), Fail> {
+fn values_in_explicit_tags(rt: HostRuntime) -> Result<(), Fail> {
     let alloc = rt.alloc();
-    let text = [0xa2, 0x03, 0x01, 0x01, 0xff];
-    let changed = changes(alloc, text)?;
-    fronts_and_changes::<Explicit<bool, 2>, 5>(&rt, alloc, &text, changed.as_slice())?;
-    let text = [0x82, 0x01, 0xff];
-    let changed = changes(alloc, text)?;
-    fronts_and_changes::<Implicit<bool, 2>, 3>(&rt, alloc, &text, changed.as_slice())?;
-    let text = [0x04, 0x03, 0x01, 0x01, 0xff];
-    let changed = changes(alloc, text)?;
-    fronts_and_changes::<OctetStringEncoded<bool>, 5>(&rt, alloc, &text, changed.as_slice())
+    let texts = texts_of(alloc, &[&[0xa2, 0x03, 0x01, 0x01, 0xff]])?;
+    check::<Explicit<bool, 2>>(&rt, alloc, TWO_OCTETS, texts.as_slice())?;
+    let texts = texts_of(alloc, &[&[0xa0, 0x00], &[0xa0, 0x03, 0x01, 0x01, 0xff]])?;
+    check::<Explicit<Option<bool>, 0>>(&rt, alloc, TWO_OCTETS, texts.as_slice())?;
+    Ok(())
+}
+
+#[test]
+fn values_in_implicit_tags(rt: HostRuntime) -> Result<(), Fail> {
+    let alloc = rt.alloc();
+    let texts = texts_of(alloc, &[&[0x82, 0x01, 0xff]])?;
+    check::<Implicit<bool, 2>>(&rt, alloc, TWO_OCTETS, texts.as_slice())?;
+    let texts = texts_of(alloc, &[&[0xa2, 0x00], &[0xa2, 0x02, 0x05, 0x00]])?;
+    check::<Implicit<Sequence<'_>, 2>>(&rt, alloc, TWO_OCTETS, texts.as_slice())?;
+    let texts = texts_of(alloc, &[&[0x04, 0x03, 0x01, 0x01, 0xff]])?;
+    check::<OctetStringEncoded<bool>>(&rt, alloc, TWO_OCTETS, texts.as_slice())?;
+    Ok(())
 }
 
 #[test]
 fn choices(rt: HostRuntime) -> Result<(), Fail> {
     let alloc = rt.alloc();
-    let text = [0x01, 0x01, 0xff];
-    let changed = changes(alloc, text)?;
-    fronts_and_changes::<Choice1<bool>, 3>(&rt, alloc, &text, changed.as_slice())?;
-    fronts_and_changes::<Choice2<bool, i64>, 3>(&rt, alloc, &text, changed.as_slice())?;
-    fronts_and_changes::<Choice3<bool, i64, ()>, 3>(&rt, alloc, &text, changed.as_slice())
+    let texts = texts_of(alloc, &[&[0x01, 0x01, 0xff]])?;
+    check::<Choice1<bool>>(&rt, alloc, TWO_OCTETS, texts.as_slice())?;
+    let texts = texts_of(alloc, &[&[0x01, 0x01, 0xff], &[0x02, 0x01, 0x12]])?;
+    check::<Choice2<bool, i64>>(&rt, alloc, TWO_OCTETS, texts.as_slice())?;
+    let texts = texts_of(alloc, &[&[0x02, 0x01, 0x05]])?;
+    check::<Choice2<u8, u64>>(&rt, alloc, TWO_OCTETS, texts.as_slice())?;
+    let texts = texts_of(
+        alloc,
+        &[&[0x01, 0x01, 0xff], &[0x02, 0x01, 0x12], &[0x05, 0x00]],
+    )?;
+    check::<Choice3<bool, i64, ()>>(&rt, alloc, TWO_OCTETS, texts.as_slice())?;
+    Ok(())
 }
 
 #[test]
-fn sequences_and_lists(rt: HostRuntime) -> Result<(), Fail> {
+fn sequences(rt: HostRuntime) -> Result<(), Fail> {
     let alloc = rt.alloc();
-    let text = [0x30, 0x02, 0x05, 0x00];
-    let changed = changes(alloc, text)?;
-    fronts_and_changes::<Sequence<'_>, 4>(&rt, alloc, &text, changed.as_slice())?;
-    let text = [0x30, 0x06, 0x02, 0x01, 0x05, 0x02, 0x01, 0x07];
-    let changed = changes(alloc, text)?;
-    fronts_and_changes::<SequenceOf<'_, u64, 2, 3>, 8>(&rt, alloc, &text, changed.as_slice())
+    let texts = texts_of(
+        alloc,
+        &[
+            &[0x30, 0x00],
+            &[0x30, 0x02, 0x05, 0x00],
+            &[0x30, 0x06, 0x01, 0x01, 0xff, 0x02, 0x01, 0x06],
+            &[
+                0x30, 0x09, 0x02, 0x01, 0x01, 0x02, 0x01, 0x02, 0x02, 0x01, 0x03,
+            ],
+        ],
+    )?;
+    check::<Sequence<'_>>(&rt, alloc, TWO_OCTETS, texts.as_slice())?;
+    Ok(())
+}
+
+#[test]
+fn lists(rt: HostRuntime) -> Result<(), Fail> {
+    let alloc = rt.alloc();
+    let texts = texts_of(alloc, &[&[0x30, 0x06, 0x02, 0x01, 0x05, 0x02, 0x01, 0x07]])?;
+    check::<SequenceOf<'_, u64, 2, 3>>(&rt, alloc, TWO_OCTETS, texts.as_slice())?;
+    let texts = texts_of(
+        alloc,
+        &[
+            &[0x30, 0x00],
+            &[0x30, 0x03, 0x02, 0x01, 0x05],
+            &[
+                0x30, 0x09, 0x02, 0x01, 0x01, 0x02, 0x01, 0x02, 0x02, 0x01, 0x03,
+            ],
+        ],
+    )?;
+    check::<List<'_, Option<u8>>>(&rt, alloc, TWO_OCTETS, texts.as_slice())?;
+    check::<List<'_, BigInt<'_>>>(&rt, alloc, TWO_OCTETS, texts.as_slice())?;
+    Ok(())
 }
 
 #[test]
 fn sets(rt: HostRuntime) -> Result<(), Fail> {
     let alloc = rt.alloc();
-    let text = [0x31, 0x06, 0x02, 0x01, 0x05, 0x02, 0x01, 0x07];
-    let changed = changes(alloc, text)?;
-    fronts_and_changes::<Set<'_>, 8>(&rt, alloc, &text, changed.as_slice())?;
-    fronts_and_changes::<SetOf<'_, u64>, 8>(&rt, alloc, &text, changed.as_slice())
+    let texts = texts_of(
+        alloc,
+        &[
+            &[0x31, 0x00],
+            &[0x31, 0x03, 0x01, 0x01, 0xff],
+            &[0x31, 0x06, 0x02, 0x01, 0x01, 0x02, 0x01, 0x02],
+            &[0x31, 0x06, 0x02, 0x01, 0x07, 0x02, 0x01, 0x05],
+            &[0x31, 0x04, 0xa0, 0x00, 0x81, 0x00],
+            &[
+                0x31, 0x09, 0x9f, 0xff, 0x7f, 0x00, 0x9f, 0x81, 0x80, 0x00, 0x00,
+            ],
+            &[0x31, 0x08, 0xa0, 0x03, 0x01, 0x01, 0xff, 0x81, 0x01, 0xff],
+        ],
+    )?;
+    check::<Set<'_>>(&rt, alloc, TWO_OCTETS, texts.as_slice())?;
+    Ok(())
+}
+
+#[test]
+fn sets_of_one_type(rt: HostRuntime) -> Result<(), Fail> {
+    let alloc = rt.alloc();
+    let texts = texts_of(
+        alloc,
+        &[
+            &[0x31, 0x00],
+            &[0x31, 0x06, 0x02, 0x01, 0x05, 0x02, 0x01, 0x07],
+            &[0x31, 0x06, 0x02, 0x01, 0x05, 0x02, 0x01, 0x05],
+            &[
+                0x31, 0x09, 0x02, 0x01, 0x01, 0x02, 0x01, 0x02, 0x02, 0x01, 0x03,
+            ],
+            &[
+                0x31, 0x0e, 0x02, 0x01, 0x01, 0x02, 0x01, 0x01, 0x02, 0x02, 0x00, 0xff, 0x02, 0x02,
+                0x01, 0x00,
+            ],
+        ],
+    )?;
+    check::<SetOf<'_, u64>>(&rt, alloc, TWO_OCTETS, texts.as_slice())?;
+    check::<SetOf<'_, BigInt<'_>>>(&rt, alloc, TWO_OCTETS, texts.as_slice())?;
+    let texts = texts_of(
+        alloc,
+        &[&[
+            0x31, 0x0d, 0x31, 0x03, 0x02, 0x01, 0x01, 0x31, 0x06, 0x02, 0x01, 0x01, 0x02, 0x01,
+            0x02,
+        ]],
+    )?;
+    check::<SetOf<'_, SetOf<'_, u8>>>(&rt, alloc, TWO_OCTETS, texts.as_slice())?;
+    Ok(())
+}
+
+#[test]
+fn elements_with_long_tags(rt: HostRuntime) -> Result<(), Fail> {
+    let alloc = rt.alloc();
+    let texts = texts_of(alloc, &[&[0x1f, 0x81, 0x80, 0x01, 0x00]])?;
+    check::<Tlv<'_>>(&rt, alloc, &[1, 1, 1, 1, 1], texts.as_slice())?;
+    let texts = texts_of(alloc, &[&[0x1f, 0x8f, 0xff, 0xff, 0xff, 0x7f, 0x00]])?;
+    check::<Tlv<'_>>(&rt, alloc, &[1; 7], texts.as_slice())
+}
+
+/// A text of so many letters, which isn't changed.
+fn long_text(alloc: Global, tag: u8, length: &[u8], count: usize) -> Result<Text, Fail> {
+    let mut whole = Vec::from_slice(alloc, &[tag])?;
+    whole.extend_from_slice(length)?;
+    whole.extend_from_slice(vec![in alloc; b'a'; count]?.as_slice())?;
+    let changed = Vec::new(alloc);
+    Ok(Text { whole, changed })
+}
+
+/// The fronts alone of octet strings, and of sequences with these headers.
+#[test]
+fn long_texts(rt: HostRuntime) -> Result<(), Fail> {
+    let alloc = rt.alloc();
+    let headers: [(usize, &[u8], &[usize]); 6] = [
+        (127, &[0x7f], TWO_OCTETS),
+        (128, &[0x81, 0x80], &[1, 1, 1]),
+        (255, &[0x81, 0xff], &[1, 1, 1]),
+        (256, &[0x82, 0x01, 0x00], &[1, 1, 2, 1]),
+        (65535, &[0x82, 0xff, 0xff], &[1, 1, 2, 1]),
+        (65536, &[0x83, 0x01, 0x00, 0x00], &[1, 1, 3, 2, 1]),
+    ];
+    for (count, length, needed) in headers {
+        let octets = [long_text(alloc, 0x04, length, count)?];
+        check::<&[u8]>(&rt, alloc, needed, &octets)?;
+        let sequence = [long_text(alloc, 0x30, length, count)?];
+        check::<Sequence<'_>>(&rt, alloc, needed, &sequence)?;
+    }
+    Ok(())
 }

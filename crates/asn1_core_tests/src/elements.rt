@@ -2,7 +2,7 @@ use crate::same::{same, same_octets, same_text};
 use asn1_core::parser::{
     ParseError, ParseErrorKind, ParseLocation, Parser, parse_single, strip_tlv,
 };
-use asn1_core::tag::{Tag, TagClass, explicit_tag, implicit_tag};
+use asn1_core::tag::{Tag, TagClass, implicit_tag};
 use asn1_core::types::{Asn1Readable, Tlv};
 use asn1_core::writer::{WriteError, Writer, write, write_single};
 use std::alloc::Global;
@@ -31,12 +31,14 @@ fn short(needed: usize) -> Option<ParseErrorKind> {
 #[test]
 fn elements_in_front(rt: HostRuntime) -> Result<(), Fail> {
     let octets = [0x04, 0x03, 0x61, 0x62, 0x63, 0x00, 0x00, 0x00];
-    let (tlv, rest) = strip_tlv(&octets)?;
-    same(&rt, &tlv.tag(), &Tag::primitive(4));
-    same_octets(&rt, tlv.tag_bytes(), &[0x04]);
-    same_octets(&rt, tlv.data(), &[0x61, 0x62, 0x63]);
-    same_octets(&rt, tlv.full_data(), &[0x04, 0x03, 0x61, 0x62, 0x63]);
-    same_octets(&rt, rest, &[0x00, 0x00, 0x00]);
+    for end in [6, 8usize] {
+        let (tlv, rest) = strip_tlv(&octets[..end])?;
+        same(&rt, &tlv.tag(), &Tag::primitive(4));
+        same_octets(&rt, tlv.tag_bytes(), &[0x04]);
+        same_octets(&rt, tlv.data(), &[0x61, 0x62, 0x63]);
+        same_octets(&rt, tlv.full_data(), &[0x04, 0x03, 0x61, 0x62, 0x63]);
+        same_octets(&rt, rest, &octets[5..end]);
+    }
     Ok(())
 }
 
@@ -138,10 +140,15 @@ fn parts_of_an_element(rt: HostRuntime) -> Result<(), Fail> {
 }
 
 #[test]
-fn a_tag_of_two_octets(rt: HostRuntime) -> Result<(), Fail> {
-    let octets = [0x1f, 0x1f, 0x03, 0x61, 0x62, 0x63];
-    let tlv = parse_single::<Tlv<'_>>(rt.alloc(), &octets)?;
-    same_octets(&rt, tlv.tag_bytes(), &[0x1f, 0x1f]);
+fn tags_of_several_octets(rt: HostRuntime) -> Result<(), Fail> {
+    let elements: [(&[u8], &[u8]); 2] = [
+        (&[0x1f, 0x1f, 0x03, 0x61, 0x62, 0x63], &[0x1f, 0x1f]),
+        (&[0x1f, 0x81, 0x80, 0x01, 0x00], &[0x1f, 0x81, 0x80, 0x01]),
+    ];
+    for (octets, tag) in elements {
+        let tlv = parse_single::<Tlv<'_>>(rt.alloc(), octets)?;
+        same_octets(&rt, tlv.tag_bytes(), tag);
+    }
     Ok(())
 }
 
@@ -227,7 +234,7 @@ fn an_element_is_no_value_of_another_type(rt: HostRuntime) -> Result<(), Fail> {
     let unexpected = ParseErrorKind::UnexpectedTag {
         actual: Tag::primitive(2),
     };
-    match tlv.parse::<bool>(rt.alloc()) {
+    match tlv.parse::<&[u8]>(rt.alloc()) {
         Ok(_value) => assert!(rt; false),
         Err(error) => same(&rt, &error, &ParseError::new(unexpected)),
     }
@@ -253,7 +260,11 @@ fn implicit_tags_keep_the_form(rt: HostRuntime) {
         &implicit_tag(3, Tag::primitive(2)).as_u8(),
         &Some(0x83),
     );
-    same(&rt, &implicit_tag(3, explicit_tag(2)).as_u8(), &Some(0xa3));
+    same(
+        &rt,
+        &implicit_tag(3, Tag::constructed(2)).as_u8(),
+        &Some(0xa3),
+    );
 }
 
 #[test]
@@ -302,6 +313,19 @@ fn compare_displayed(
     Ok(())
 }
 
+/// An error with no place, with a field, or with an index and then a field.
+fn with_places(kind: ParseErrorKind, places: usize) -> ParseError {
+    let error = ParseError::new(kind);
+    let field = ParseLocation::Field("Abc::123");
+    match places {
+        0 => error,
+        1 => error.add_location(field),
+        _ => error
+            .add_location(ParseLocation::Index(12))
+            .add_location(field),
+    }
+}
+
 #[test]
 fn errors_displayed(rt: HostRuntime) -> Result<(), Fail> {
     let actual = Tag::primitive(12);
@@ -346,13 +370,11 @@ fn errors_displayed(rt: HostRuntime) -> Result<(), Fail> {
         (ParseErrorKind::AllocationError, "allocation error"),
     ];
     for (kind, text) in texts {
-        let error = ParseError::new(kind);
-        same(&rt, &error.kind(), &kind);
-        compare_displayed(&rt, rt.alloc(), &error, text)?;
-        let error = error
-            .add_location(ParseLocation::Index(12))
-            .add_location(ParseLocation::Field("Abc::123"));
-        compare_displayed(&rt, rt.alloc(), &error, text)?;
+        same(&rt, &ParseError::new(kind).kind(), &kind);
+        for places in 0..3 {
+            let error = with_places(kind, places);
+            compare_displayed(&rt, rt.alloc(), &error, text)?;
+        }
     }
     Ok(())
 }

@@ -365,7 +365,8 @@ fn signed_numbers_other_than_zero(rt: HostRuntime) -> Result<(), Fail> {
         let other = NonZeroI64::new(number).ok_or("zero")?;
         compare_texts(&rt, alloc, &number, &other)?;
     }
-    Ok(())
+    let lowest = NonZeroI8::new(-128).ok_or("zero")?;
+    compare_written(&rt, alloc, &[(lowest, &[0x02, 0x01, 0x80])])
 }
 
 #[test]
@@ -408,12 +409,14 @@ fn boxes_hold_values(rt: HostRuntime) -> Result<(), Fail> {
 
 #[test]
 fn other_boxes_hold_values(rt: HostRuntime) -> Result<(), Fail> {
-    let zero = Box::new(rt.alloc(), 0i32)?;
-    same_octets(
-        &rt,
-        write_single(rt.alloc(), &zero)?.as_slice(),
-        &[0x02, 0x01, 0x00],
-    );
+    for number in [12, 0u8] {
+        let boxed = Box::new(rt.alloc(), number)?;
+        same_octets(
+            &rt,
+            write_single(rt.alloc(), &boxed)?.as_slice(),
+            &[0x02, 0x01, number],
+        );
+    }
     assert!(rt; *parse_single::<Box<bool>>(rt.alloc(), &[0x01, 0x01, 0xff])?);
     Ok(())
 }

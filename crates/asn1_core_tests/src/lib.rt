@@ -18,6 +18,8 @@ mod sets;
 #[cfg(test)]
 mod slow;
 #[cfg(test)]
+mod slow_integers;
+#[cfg(test)]
 mod tags;
 #[cfg(test)]
 mod writing;

@@ -1,5 +1,5 @@
 use crate::same::{same, same_octets};
-use asn1_core::parser::{ParseErrorKind, ParseResult, Parser, parse_single};
+use asn1_core::parser::{ParseErrorKind, ParseResult, Parser, parse, parse_single};
 use asn1_core::types::Null;
 use asn1_core::writer::write_single;
 use std::alloc::Global;
@@ -189,6 +189,21 @@ fn octets_outlive_their_parser(rt: HostRuntime) -> Result<(), Fail> {
     let mut parser = Parser::new(rt.alloc(), &text);
     let octets = parser.read_element::<&[u8]>()?;
     std::mem::drop(parser);
+    same_octets(&rt, octets, &[0x00]);
+    Ok(())
+}
+
+/// It outlives the closure too. That has a clause, which says nothing, since what is told without one isn't proved.
+#[test]
+fn octets_outlive_a_closure(rt: HostRuntime) -> Result<(), Fail> {
+    let text: &'static [u8] = &[0x04, 0x01, 0x00];
+    let octets: &'static [u8] = parse(
+        rt.alloc(),
+        text,
+        |parser: &mut Parser<'_>| -> ParseResult<&[u8]>
+            ensures { Unit {0} }
+        { parser.read_element::<&[u8]>() },
+    )?;
     same_octets(&rt, octets, &[0x00]);
     Ok(())
 }

@@ -25,6 +25,16 @@ fn truth_values_are_written(rt: HostRuntime) -> Result<(), Fail> {
     Ok(())
 }
 
+#[test]
+fn null_is_written(rt: HostRuntime) -> Result<(), Fail> {
+    let octets = write(
+        rt.alloc(),
+        |writer: &mut Writer<'_>| writer.write_element(&()),
+    )?;
+    same_octets(&rt, octets.as_slice(), &[0x05, 0x00]);
+    Ok(())
+}
+
 /// Pushes octets: one, and then the others.
 fn push_all(dest: &mut WriteBuf, octets: &[u8]) -> WriteResult<()>
     ensures ok { OnOk result (dest.new.bytes ≡ dest.old.bytes ++ octets.now) }

@@ -2,6 +2,12 @@
 #![tactic(auto)]
 
 #[cfg(test)]
+mod examples;
+#[cfg(test)]
+mod lengths;
+#[cfg(test)]
+mod lifetimes;
+#[cfg(test)]
 mod lists;
 #[cfg(test)]
 mod memory;
@@ -15,6 +21,10 @@ mod readme;
 mod same;
 #[cfg(test)]
 mod sets;
+#[cfg(test)]
+mod slow;
+#[cfg(test)]
+mod values;
 #[cfg(test)]
 mod wrappers;
 #[cfg(test)]

@@ -4,6 +4,7 @@ ghost use Rattle.std.specs.Prelude.{◌≡◌, []};
 ghost use Rattle.asn1.specs.Tag.{universal};
 ghost use Rattle.asn1.specs.Buffer.{KeepsFront};
 ghost use Rattle.asn1.specs.Writers.{buffer_name, octets_of};
+ghost use Rattle.asn1.specs.Items.{sequence_tag};
 ghost use Rattle.asn1.specs.Der.{simple_der};
 ghost use Rattle.asn1.specs.Written.{written};
 ghost use Rattle.asn1_tests.specs.declared.lists.Custom.TheVariants.{Memory, Refused};
@@ -353,26 +354,80 @@ fn two_sequences_around(alloc: Global, octets: &[u8]) -> WriteResult<Vec<u8>> {
 
 const LETTERS: [u8; 65532] = [0x61; 65532];
 
+/// A sequence of these contents octets, which says their length.
+#[derive(Drop)]
+struct Announced(Vec<u8>);
+
+impl Asn1Type for Announced {
+    ghost der = { simple_der (λ v. v.0.items) (written (record { tag = sequence_tag; text = λ m. m; texts = λ m t. t ≡ m; closures = λ m. Unit {0}; valid = λ m. Unit {0}; plain = Unit {0}; lawful = ⊥; one_text = λ p m t e. e; no_closures = λ p m. tt })) };
+
+    fn known(&self) {}
+}
+
+impl SimpleAsn1Writable for Announced {
+    type Error = WriteError;
+
+    ghost write_errors = { λ _ _. ⊥ };
+
+    fn tag() -> Tag {
+        Tag::constructed(0x10)
+    }
+
+    fn write_data(&self, dest: &mut WriteBuf) -> WriteResult<()> {
+        dest.push_slice(self.0.as_slice())
+    }
+
+    fn data_length(&self) -> Option<usize> {
+        Some(self.0.len())
+    }
+}
+
+/// A sequence of one octet string, the second header in front of it, by a type that announces its length.
+fn announced_around(alloc: Global, header: &[u8], octets: &[u8]) -> Result<Vec<u8>, Fail> {
+    let mut content = Vec::from_slice(alloc, header)?;
+    content.extend_from_slice(octets)?;
+    Ok(write_single(alloc, &Announced(content))?)
+}
+
+/// A sequence of one octet string, with these headers, three times: its length is patched, counted by the slice's writer,
+/// and announced by a type of one's own.
+fn compare_patched(
+    rt: &impl Abort,
+    alloc: Global,
+    octets: &[u8],
+    header: &[u8],
+    inner_header: &[u8],
+) -> Result<(), Fail> {
+    let patched = sequence_around(alloc, octets)?;
+    assert!(rt; patched.as_slice().starts_with(header), "{header:?}");
+    let listed = write_single(alloc, &SequenceOfWriter::new(&[octets]))?;
+    same_octets(rt, patched.as_slice(), listed.as_slice());
+    let announced = announced_around(alloc, inner_header, octets)?;
+    same_octets(rt, patched.as_slice(), announced.as_slice());
+    let (tlv, _rest) = strip_tlv(patched.as_slice())?;
+    let inner = parse_single::<&[u8]>(alloc, tlv.data())?;
+    same_octets(rt, inner, octets);
+    Ok(())
+}
+
 #[test]
 fn patched_lengths(rt: HostRuntime) -> Result<(), Fail> {
-    let cases: [(usize, &[u8]); 7] = [
-        (125, &[0x30, 0x7f]),
-        (126, &[0x30, 0x81, 0x80]),
-        (129, &[0x30, 0x81, 0x84, 0x04, 0x81, 0x81]),
-        (252, &[0x30, 0x81, 0xff]),
-        (253, &[0x30, 0x82, 0x01, 0x00]),
-        (65531, &[0x30, 0x82, 0xff, 0xff]),
-        (65532, &[0x30, 0x83, 0x01, 0x00, 0x00]),
+    let cases: [(usize, &[u8], &[u8]); 7] = [
+        (125, &[0x30, 0x7f], &[0x04, 0x7d]),
+        (126, &[0x30, 0x81, 0x80], &[0x04, 0x7e]),
+        (129, &[0x30, 0x81, 0x84], &[0x04, 0x81, 0x81]),
+        (252, &[0x30, 0x81, 0xff], &[0x04, 0x81, 0xfc]),
+        (253, &[0x30, 0x82, 0x01, 0x00], &[0x04, 0x81, 0xfd]),
+        (65531, &[0x30, 0x82, 0xff, 0xff], &[0x04, 0x82, 0xff, 0xfb]),
+        (
+            65532,
+            &[0x30, 0x83, 0x01, 0x00, 0x00],
+            &[0x04, 0x82, 0xff, 0xfc],
+        ),
     ];
-    for (count, header) in cases {
-        let octets = &LETTERS[..count];
-        let patched = sequence_around(rt.alloc(), octets)?;
-        assert!(rt; patched.as_slice().starts_with(header), "{count}");
-        let announced = write_single(rt.alloc(), &SequenceOfWriter::new(&[octets]))?;
-        assert_eq!(rt; patched.as_slice(), announced.as_slice(), "{count}");
-        let (tlv, _rest) = strip_tlv(patched.as_slice())?;
-        let inner = parse_single::<&[u8]>(rt.alloc(), tlv.data())?;
-        assert_eq!(rt; inner, octets, "{count}");
+    for (count, header, inner_header) in cases {
+        let octets = LETTERS.get(..count).ok_or("too few letters")?;
+        compare_patched(&rt, rt.alloc(), octets, header, inner_header)?;
     }
     Ok(())
 }

@@ -1,6 +1,7 @@
 //! Memory that runs out in the midst: at an item that is read or walked over, or at an element in a closure.
 //!
-//! Run again with one request for memory refused, these end with that want where the refusal was right.
+//! Run again with one request for memory refused, or with all from one on, these end with that want where the refusal
+//! was right.
 
 ghost use Rattle.std.specs.Prelude.{◌≡◌};
 ghost use Rattle.asn1.specs.Buffer.{KeepsFront};
@@ -9,9 +10,10 @@ ghost use Rattle.asn1.specs.Writers.{buffer_name, octets_of};
 use crate::lists::{at, refusal};
 use crate::same::{same, same_octets};
 use asn1::{
-    Choice3, OwnedBigInt, ParseError, ParseErrorKind, SequenceOf, SequenceWriter, SetOf,
-    WriteError, WriteResult, Writer, parse_single, strip_tlv, write,
+    Choice3, OwnedBigInt, OwnedBigUint, OwnedBitString, ParseError, ParseErrorKind, SequenceOf,
+    SequenceWriter, SetOf, WriteError, WriteResult, Writer, parse_single, strip_tlv, write,
 };
+use std::alloc::Global;
 use std::process::Abort;
 use std::test::Fail;
 
@@ -21,15 +23,24 @@ type List<'a, T> = SequenceOf<'a, T, 0, { usize::MAX }>;
 /// Of these items only the integer takes memory.
 type Item = Choice3<bool, Box<u8>, ()>;
 
+/// Of these only the integer, and the bit string.
+type OwnedItem = Choice3<bool, OwnedBigUint, OwnedBitString>;
+
 const LIST: &[u8] = &[0x30, 9, 2, 1, 1, 2, 1, 2, 2, 1, 3];
 
 const SET: &[u8] = &[0x31, 9, 2, 1, 1, 2, 1, 2, 2, 1, 3];
 
 const NO_MEMORY: ParseErrorKind = ParseErrorKind::AllocationError;
 
-/// The number that stands next in order, or want of memory without a place, and that but once.
+/// Whether there is memory now.
+fn is_memory_there(alloc: Global) -> bool {
+    Vec::<u8>::with_capacity(alloc, 64).is_ok()
+}
+
+/// The number that stands next in order, or want of memory without a place, and a second time only where there is none.
 fn is_next<A: Abort>(
     rt: &A,
+    alloc: Global,
     item: Option<Result<Box<u8>, ParseError>>,
     number: u8,
     found: Result<(), ParseError>,
@@ -40,7 +51,7 @@ fn is_next<A: Abort>(
             return found;
         }
         item => {
-            same(rt, &found, &Ok(()));
+            assert!(rt; found.is_ok() || !is_memory_there(alloc));
             assert!(rt; item == Some(Err(ParseError::new(NO_MEMORY))));
         }
     }
@@ -52,14 +63,14 @@ fn walks_go_on_behind_an_item_without_memory(rt: HostRuntime) -> Result<(), Fail
     let mut list = parse_single::<List<'_, Box<u8>>>(rt.alloc(), LIST)?;
     let mut found = Ok(());
     for (number, left) in [(1, 2), (2, 1), (3, 0)] {
-        found = is_next(&rt, list.next(), number, found);
+        found = is_next(&rt, rt.alloc(), list.next(), number, found);
         same(&rt, &list.len(), &left);
     }
     assert!(rt; list.next().is_none());
     same(&rt, &list.len(), &0);
     let mut set = parse_single::<SetOf<'_, Box<u8>>>(rt.alloc(), SET)?;
     for number in 1..=3 {
-        found = is_next(&rt, set.next(), number, found);
+        found = is_next(&rt, rt.alloc(), set.next(), number, found);
     }
     assert!(rt; set.next().is_none());
     found?;
@@ -76,6 +87,27 @@ const ONE_BOX: [(usize, &[u8]); 6] = [
     (2, &[0x31, 9, 1, 1, 0, 1, 1, 0xff, 2, 1, 5]),
 ];
 
+/// The same of items that own octets.
+const ONE_OWNED: [(usize, &[u8]); 8] = [
+    (0, &[0x30, 6, 2, 1, 5, 1, 1, 0]),
+    (1, &[0x30, 6, 1, 1, 0, 2, 1, 5]),
+    (0, &[0x30, 7, 3, 2, 4, 0xf0, 1, 1, 0]),
+    (2, &[0x30, 10, 1, 1, 0, 1, 1, 0, 3, 2, 4, 0xf0]),
+    (1, &[0x31, 6, 1, 1, 0, 2, 1, 5]),
+    (2, &[0x31, 9, 1, 1, 0, 1, 1, 0, 2, 1, 5]),
+    (1, &[0x31, 7, 1, 1, 0, 3, 2, 4, 0xf0]),
+    (2, &[0x31, 10, 1, 1, 0, 1, 1, 0, 3, 2, 4, 0xf0]),
+];
+
+/// All was read, or this item found no memory; then all ends for want of it.
+fn is_read_or_named<A: Abort>(rt: &A, fault: Option<ParseError>, index: usize) -> WriteResult<()> {
+    if fault.is_none() {
+        return Ok(());
+    }
+    same(rt, &fault, &at(index, NO_MEMORY));
+    Err(WriteError::AllocationError)
+}
+
 #[test]
 fn reading_names_the_item_without_memory(rt: HostRuntime) -> Result<(), Fail> {
     for (index, octets) in ONE_BOX {
@@ -84,10 +116,20 @@ fn reading_names_the_item_without_memory(rt: HostRuntime) -> Result<(), Fail> {
         } else {
             refusal(parse_single::<SetOf<'_, Item>>(rt.alloc(), octets))
         };
-        if fault.is_some() {
-            same(&rt, &fault, &at(index, NO_MEMORY));
-            return Err(WriteError::AllocationError.into());
-        }
+        is_read_or_named(&rt, fault, index)?;
+    }
+    Ok(())
+}
+
+#[test]
+fn reading_names_the_owned_item_without_memory(rt: HostRuntime) -> Result<(), Fail> {
+    for (index, octets) in ONE_OWNED {
+        let fault = if octets[0] == 0x30 {
+            refusal(parse_single::<List<'_, OwnedItem>>(rt.alloc(), octets))
+        } else {
+            refusal(parse_single::<SetOf<'_, OwnedItem>>(rt.alloc(), octets))
+        };
+        is_read_or_named(&rt, fault, index)?;
     }
     Ok(())
 }
@@ -104,13 +146,65 @@ fn lists_of_owned_integers(rt: HostRuntime) -> Result<(), Fail> {
 }
 
 #[test]
+fn lists_of_owned_naturals(rt: HostRuntime) -> Result<(), Fail> {
+    let mut list = parse_single::<List<'_, OwnedBigUint>>(rt.alloc(), LIST)?;
+    for number in 1..=3u8 {
+        let item = list.next().ok_or("no item")??;
+        same_octets(&rt, item.as_bytes(), &[number]);
+    }
+    assert!(rt; list.next().is_none());
+    Ok(())
+}
+
+#[test]
+fn lists_of_owned_bit_strings(rt: HostRuntime) -> Result<(), Fail> {
+    let octets: &[u8] = &[0x30, 11, 3, 2, 4, 0x10, 3, 2, 0, 2, 3, 1, 0];
+    let mut list = parse_single::<List<'_, OwnedBitString>>(rt.alloc(), octets)?;
+    for bits in [[0x10u8].as_slice(), &[2], &[]] {
+        let item = list.next().ok_or("no item")??;
+        same_octets(&rt, item.as_bitstring().as_bytes(), bits);
+    }
+    assert!(rt; list.next().is_none());
+    Ok(())
+}
+
+/// What is refused for its contents is refused so whether or not there is memory: none is asked for.
+#[test]
+fn faulty_contents_ask_for_no_memory(rt: HostRuntime) {
+    let alloc = rt.alloc();
+    let invalid = Some(ParseError::new(ParseErrorKind::InvalidValue));
+    let integer = refusal(parse_single::<OwnedBigInt>(alloc, &[2, 2, 0, 1]));
+    same(&rt, &integer, &invalid);
+    let natural = refusal(parse_single::<OwnedBigUint>(alloc, &[2, 1, 0x80]));
+    same(&rt, &natural, &invalid);
+    let bits = refusal(parse_single::<OwnedBitString>(alloc, &[3, 2, 7, 1]));
+    same(&rt, &bits, &invalid);
+    let boxed = refusal(parse_single::<Box<u8>>(alloc, &[2, 1, 0x80]));
+    same(&rt, &boxed, &invalid);
+}
+
+/// Where a first write found no memory, and there is some again, a second one succeeds.
+fn second_succeeds<A: Abort>(
+    rt: &A,
+    first: &WriteResult<()>,
+    second: &WriteResult<()>,
+    alloc: Global,
+) {
+    if first.is_err() && is_memory_there(alloc) {
+        assert!(rt; second.is_ok());
+    }
+}
+
+#[test]
 fn an_element_without_memory_is_left_out(rt: HostRuntime) -> Result<(), Fail> {
     let goes_on = |writer: &mut Writer<'_>| -> WriteResult<()>
         ensures same_buffer { buffer_name writer.new ≡ buffer_name writer.old }
         ensures front { KeepsFront (octets_of writer.old) (octets_of writer.new) }
     {
-        let _refused = writer.write_element(&5u8);
-        writer.write_element(&true)
+        let first = writer.write_element(&5u8);
+        let second = writer.write_element(&true);
+        second_succeeds(&rt, &first, &second, rt.alloc());
+        second
     };
     // With these six octets in front the buffer has to grow for the number.
     let octets = write(rt.alloc(), |writer: &mut Writer<'_>| -> WriteResult<()> {

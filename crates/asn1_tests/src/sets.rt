@@ -93,6 +93,8 @@ fn sets_whose_items_take_memory(rt: HostRuntime) -> Result<(), Fail> {
 #[test]
 fn sets_in_a_tag(rt: HostRuntime) -> Result<(), Fail> {
     let octets: &[u8] = &[0xa0, 0x08, 0x31, 0x06, 0x02, 0x01, 0x05, 0x02, 0x01, 0x07];
+    let plain = parse_single::<SetOf<'_, u64>>(rt.alloc(), &octets[2..])?;
+    is_written(&rt, rt.alloc(), &plain, &octets[2..])?;
     let explicit = parse_single::<Explicit<SetOf<'_, u64>, 0>>(rt.alloc(), octets)?;
     is_written(&rt, rt.alloc(), &explicit, octets)?;
     let mut set = explicit.into_inner();

@@ -2,7 +2,7 @@
 
 ghost use Rattle.std.specs.Prelude.{false};
 
-use crate::same::{same, same_octets};
+use crate::same::{same, same_octets, same_text};
 use asn1::{
     Asn1Readable, Asn1Writable, Choice1, Choice2, Choice3, DefaultValue, Defaulted,
     DefinedByMarker, Explicit, Implicit, ObjectIdentifier, OctetStringEncoded, ParseErrorKind,
@@ -10,6 +10,7 @@ use asn1::{
     from_optional_default, parse_single, to_optional_default, write, write_single,
 };
 use std::alloc::Global;
+use std::fmt::Debug;
 use std::process::Abort;
 use std::test::Fail;
 
@@ -293,5 +294,46 @@ fn defaults(rt: HostRuntime) {
 fn markers(rt: HostRuntime) -> Result<(), Fail> {
     let marker: DefinedByMarker<ObjectIdentifier> = DefinedByMarker::marker();
     assert!(rt; marker.clone()? == DefinedByMarker::marker());
+    Ok(())
+}
+
+/// The value is shown so.
+fn is_shown<A: Abort, T: Debug>(rt: &A, alloc: Global, value: &T, text: &str) -> Result<(), Fail> {
+    let shown = format!(in alloc; "{value:?}")?;
+    same_text(rt, shown.as_str(), text);
+    Ok(())
+}
+
+#[test]
+fn wrappers_are_shown(rt: HostRuntime) -> Result<(), Fail> {
+    let alloc = rt.alloc();
+    let explicit = Explicit::<bool, 2>::new(true);
+    is_shown(&rt, alloc, &explicit, "Explicit { inner: true }")?;
+    let implicit = Implicit::<bool, 2>::new(true);
+    is_shown(&rt, alloc, &implicit, "Implicit { inner: true }")
+}
+
+#[test]
+fn wrappers_without_names_of_fields_are_shown(rt: HostRuntime) -> Result<(), Fail> {
+    let alloc = rt.alloc();
+    let encoded = OctetStringEncoded::new(true);
+    is_shown(&rt, alloc, &encoded, "OctetStringEncoded(true)")?;
+    let marker = DefinedByMarker::<bool>::marker();
+    is_shown(&rt, alloc, &marker, "DefinedByMarker(PhantomData<bool>)")
+}
+
+#[test]
+fn choices_are_shown(rt: HostRuntime) -> Result<(), Fail> {
+    let alloc = rt.alloc();
+    is_shown(&rt, alloc, &Choice1::ChoiceA(true), "ChoiceA(true)")?;
+    let second = Choice2::<bool, i64>::ChoiceB(18);
+    is_shown(&rt, alloc, &second, "ChoiceB(18)")?;
+    for (choice, text) in [
+        (Three::ChoiceA(true), "ChoiceA(true)"),
+        (Three::ChoiceB(18), "ChoiceB(18)"),
+        (Three::ChoiceC(()), "ChoiceC(())"),
+    ] {
+        is_shown(&rt, alloc, &choice, text)?;
+    }
     Ok(())
 }

@@ -1,0 +1,94 @@
+//! The worked examples of X.690 that are DER, in both directions.
+
+ghost use Rattle.std.specs.Prelude.{◌≡◌};
+ghost use Rattle.asn1.specs.Buffer.{KeepsFront};
+ghost use Rattle.asn1.specs.Writers.{buffer_name, octets_of};
+
+use crate::lists::is_written;
+use crate::same::{same, same_octets, same_text};
+use asn1::{
+    Explicit, IA5String, Implicit, ParseResult, Parser, Sequence, SequenceWriter, Tag, TagClass,
+    Tlv, VisibleString, WriteResult, Writer, parse_single, write,
+};
+use std::test::Fail;
+
+/// 8.2.2 and 8.8.2: a Boolean that is true, and null.
+#[test]
+fn true_and_null(rt: HostRuntime) -> Result<(), Fail> {
+    assert!(rt; parse_single::<bool>(rt.alloc(), &[0x01, 0x01, 0xff])?);
+    is_written(&rt, rt.alloc(), &true, &[0x01, 0x01, 0xff])?;
+    parse_single::<()>(rt.alloc(), &[0x05, 0x00])?;
+    is_written(&rt, rt.alloc(), &(), &[0x05, 0x00])
+}
+
+/// 8.9.3: `SEQUENCE {name IA5String, ok BOOLEAN}` with `{name "Smith", ok TRUE}`.
+const SMITH: &[u8] = b"\x30\x0a\x16\x05Smith\x01\x01\xff";
+
+#[test]
+fn a_sequence_is_read(rt: HostRuntime) -> Result<(), Fail> {
+    let fields = parse_single::<Sequence<'_>>(rt.alloc(), SMITH)?.parse(
+        rt.alloc(),
+        |parser: &mut Parser<'_>| -> ParseResult<(bool, bool)> {
+            let name = parser.read_element::<IA5String<'_>>()?;
+            Ok((name.as_str() == "Smith", parser.read_element::<bool>()?))
+        },
+    );
+    same(&rt, &fields, &Ok((true, true)));
+    Ok(())
+}
+
+#[test]
+fn a_sequence_is_written(rt: HostRuntime) -> Result<(), Fail> {
+    let name = IA5String::new("Smith").ok_or("no text")?;
+    let fields = |writer: &mut Writer<'_>| -> WriteResult<()>
+        ensures same_buffer { buffer_name writer.new ≡ buffer_name writer.old }
+        ensures front { KeepsFront (octets_of writer.old) (octets_of writer.new) }
+    {
+        writer.write_element(&name)?;
+        writer.write_element(&true)
+    };
+    is_written(&rt, rt.alloc(), &SequenceWriter::new(&fields), SMITH)
+}
+
+/// 8.14.3: a `VisibleString` and the same under tags, `Type1` to `Type5`.
+const JONES: [&[u8]; 5] = [
+    b"\x1a\x05Jones",
+    b"\x43\x05Jones",
+    b"\xa2\x07\x43\x05Jones",
+    b"\x67\x07\x43\x05Jones",
+    b"\x82\x05Jones",
+];
+
+#[test]
+fn texts_under_tags(rt: HostRuntime) -> Result<(), Fail> {
+    let alloc = rt.alloc();
+    let text = parse_single::<VisibleString<'_>>(alloc, JONES[0])?;
+    same_text(&rt, text.as_str(), "Jones");
+    is_written(&rt, alloc, &text, JONES[0])?;
+    let implicit = parse_single::<Implicit<VisibleString<'_>, 2>>(alloc, JONES[4])?;
+    same_text(&rt, implicit.as_inner().as_str(), "Jones");
+    is_written(&rt, alloc, &implicit, JONES[4])?;
+    let explicit = parse_single::<Explicit<Tlv<'_>, 2>>(alloc, JONES[2])?;
+    same_octets(&rt, explicit.as_inner().full_data(), JONES[1]);
+    is_written(&rt, alloc, &explicit, JONES[2])
+}
+
+/// Tags of the application class, which no wrapper has: as any element.
+#[test]
+fn texts_under_tags_of_an_application(rt: HostRuntime) -> Result<(), Fail> {
+    let alloc = rt.alloc();
+    for (text, number, content) in [(JONES[1], 3, b"Jones".as_slice()), (JONES[3], 7, JONES[1])] {
+        let tlv = parse_single::<Tlv<'_>>(alloc, text)?;
+        same(&rt, &tlv.tag().class(), &TagClass::Application);
+        same(&rt, &tlv.tag().value(), &number);
+        assert!(rt; tlv.tag().is_constructed() == (number == 7));
+        same_octets(&rt, tlv.data(), content);
+        is_written(&rt, alloc, &tlv, text)?;
+        let (tag, _rest) = Tag::from_bytes(text)?;
+        let written = write(alloc, |writer: &mut Writer<'_>| {
+            writer.write_tlv(tag, None, |dest| dest.push_slice(content))
+        })?;
+        same_octets(&rt, written.as_slice(), text);
+    }
+    Ok(())
+}
