@@ -8,6 +8,8 @@ mod identifiers;
 #[cfg(test)]
 mod integers;
 #[cfg(test)]
+mod laws;
+#[cfg(test)]
 mod same;
 #[cfg(test)]
 mod texts;
