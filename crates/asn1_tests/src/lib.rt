@@ -18,6 +18,8 @@ mod page;
 #[cfg(test)]
 mod readme;
 #[cfg(test)]
+mod round_trips;
+#[cfg(test)]
 mod same;
 #[cfg(test)]
 mod sets;

@@ -5,7 +5,7 @@ use crate::certificate::whole::Certificate;
 use crate::tests::own_types::refused;
 use asn1::{
     Asn1Readable, DateTime, Explicit, ParseError, ParseErrorKind, ParseLocation, SetOf,
-    parse_single, write_single,
+    parse_single, write_readable,
 };
 use dercheck::own_types::time::Time;
 use std::alloc::Global;
@@ -67,7 +67,7 @@ const CURVE_EXTENSIONS: &str = "2.5.29.19 critical 3000;\
 /// Reads a certificate and writes it again.
 fn again(alloc: Global, octets: &[u8]) -> Result<Vec<u8>, Fail> {
     let certificate = parse_single::<Certificate<'_>>(alloc, octets)?;
-    let text = write_single(alloc, &certificate)?;
+    let text = write_readable(alloc, &certificate)?;
     Ok(text)
 }
 

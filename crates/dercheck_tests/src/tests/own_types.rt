@@ -7,12 +7,11 @@ use asn1::fields::{DefinedLast, FieldNames, RowReadable, RowWritable};
 use asn1::{
     Asn1DefinedByReadable, Asn1DefinedByWritable, Asn1Readable, Asn1Writable, DefinedByMarker,
     Explicit, ObjectIdentifier, ParseError, ParseErrorKind, ParseLocation, ParseResult, Parser,
-    Tag, WriteError, Writer, parse_single, write, write_single,
+    Tag, WriteError, Writer, parse_single, read_and_write_back, write, write_single,
 };
 use dercheck::own_types::entry::Entry;
 use dercheck::own_types::my_sequence::{Content, MySequence, some_oid};
 use dercheck::own_types::reason::Reason;
-use dercheck::own_types::round_trips::read_and_write_back;
 use dercheck::own_types::sealable::{SealError, Sealable};
 use dercheck::own_types::signature::Signature;
 use dercheck::own_types::some_sequence::SomeSequence;
