@@ -54,9 +54,12 @@ fn signed_number(octets: &[u8]) -> i128
     requires few { length octets.now ≤ MAX_CONTENT_OCTETS }
     ensures { result ≡ signed_number octets.now }
 {
+    // Most numbers are small, and these need no array.
     if let [octet] = octets {
-        // Most numbers are small, and these need no array.
         return i128::from(octet.cast_signed());
+    }
+    if let [octet, next] = octets {
+        return i128::from(octet.cast_signed()) * 0x100 + i128::from(*next);
     }
     let sign = sign_octet(octets[0] >= 0x80);
     let mut extended = [sign; OCTETS];
