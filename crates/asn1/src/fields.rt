@@ -57,7 +57,8 @@ pub trait RowWritable: Row + Sized {
     fn write(&self, dest: &mut Writer<'_>) -> Result<(), Self::Error>
         requires { Self.list.fields.closures (Self.list.meaning self.now) }
         ensures same_buffer { buffer_name dest.new ≡ buffer_name dest.old }
-        ensures ok { OnOk result (Appends (Self.list.fields.texts (Self.list.meaning self.now)) (octets_of dest.old) (octets_of dest.new)) }
+        ensures ok { OnOk result (Appends (Self.list.fields.texts (Self.list.meaning self.now))
+            (octets_of dest.old) (octets_of dest.new)) }
         ensures err { OnErr result (KeepsFront (octets_of dest.old) (octets_of dest.new)) }
         ensures error { IfErr result (Refuses Self.Error.from_gives (write_errors self.now)) };
 

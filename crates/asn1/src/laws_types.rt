@@ -72,14 +72,18 @@ pub fn references_are_lawful<'a, T: Asn1Type + 'a>()
 /// Lists and sets of lawful elements are lawful, read or written. A list that is read has bounds; a slice is only
 /// written.
 pub fn lists_are_lawful<'a, T: Asn1Type + 'a, const MIN: usize, const MAX: usize>()
-    ensures list { T.der.lawful → T.der.is_element → ⟦<SequenceOf<'a, T, MIN, MAX> as Asn1Type>⟧.der.lawful }
+    ensures list { T.der.lawful → T.der.is_element →
+        ⟦<SequenceOf<'a, T, MIN, MAX> as Asn1Type>⟧.der.lawful }
     ensures list_plain { T.der.plain → ⟦<SequenceOf<'a, T, MIN, MAX> as Asn1Type>⟧.der.plain }
-    ensures list_takes_none { (T.der.takes_memory → ⊥) → ⟦<SequenceOf<'a, T, MIN, MAX> as Asn1Type>⟧.der.takes_memory → ⊥ }
+    ensures list_takes_none { (T.der.takes_memory → ⊥) →
+        ⟦<SequenceOf<'a, T, MIN, MAX> as Asn1Type>⟧.der.takes_memory → ⊥ }
     ensures set { T.der.lawful → T.der.is_element → ⟦<SetOf<'a, T> as Asn1Type>⟧.der.lawful }
     ensures set_as_items { Inherits T.der ⟦<SetOf<'a, T> as Asn1Type>⟧.der }
-    ensures slice { T.der.lawful → T.der.is_element → ⟦<SequenceOfWriter<'a, T> as Asn1Type>⟧.der.lawful }
+    ensures slice { T.der.lawful → T.der.is_element →
+        ⟦<SequenceOfWriter<'a, T> as Asn1Type>⟧.der.lawful }
     ensures slice_plain { T.der.plain → ⟦<SequenceOfWriter<'a, T> as Asn1Type>⟧.der.plain }
-    ensures set_slice { T.der.lawful → T.der.is_element → ⟦<SetOfWriter<'a, T> as Asn1Type>⟧.der.lawful }
+    ensures set_slice { T.der.lawful → T.der.is_element →
+        ⟦<SetOfWriter<'a, T> as Asn1Type>⟧.der.lawful }
     ensures set_slice_plain { T.der.plain → ⟦<SetOfWriter<'a, T> as Asn1Type>⟧.der.plain }
 {}
 
@@ -99,5 +103,6 @@ pub fn defaults_inherit<T: MeaningEq, D: DefaultValue<T>>()
 /// Choices do so, by each of their alternatives.
 pub fn choices_inherit<T1: Asn1Type, T2: Asn1Type, T3: Asn1Type>()
     ensures choice2 { InheritsBoth T1.der T2.der ⟦<Choice2<T1, T2> as Asn1Type>⟧.der }
-    ensures choice3 { InheritsBoth T1.der ⟦<Choice2<T2, T3> as Asn1Type>⟧.der ⟦<Choice3<T1, T2, T3> as Asn1Type>⟧.der }
+    ensures choice3 { InheritsBoth T1.der ⟦<Choice2<T2, T3> as Asn1Type>⟧.der
+        ⟦<Choice3<T1, T2, T3> as Asn1Type>⟧.der }
 {}

@@ -48,8 +48,11 @@ pub fn choices_are_elements<T1: Asn1Type, T2: Asn1Type, T3: Asn1Type>()
 /// A type that an item defines is lawful under an explicit tag where it is lawful and its text is an element, and is as it
 /// otherwise.
 pub fn defined_types_are_lawful<T: Asn1Type, U: Asn1DefinedBy<T>, const TAG: u32>()
-    ensures lawful { U.by.means.lawful → U.by.means.is_element → ⟦<Explicit<U, TAG> as Asn1DefinedBy<T>>⟧.by.means.lawful }
+    ensures lawful { U.by.means.lawful → U.by.means.is_element →
+        ⟦<Explicit<U, TAG> as Asn1DefinedBy<T>>⟧.by.means.lawful }
     ensures plain { U.by.means.plain → ⟦<Explicit<U, TAG> as Asn1DefinedBy<T>>⟧.by.means.plain }
-    ensures takes_none { (U.by.means.takes_memory → ⊥) → ⟦<Explicit<U, TAG> as Asn1DefinedBy<T>>⟧.by.means.takes_memory → ⊥ }
-    ensures unbounded { (U.by.means.bounded → ⊥) → ⟦<Explicit<U, TAG> as Asn1DefinedBy<T>>⟧.by.means.bounded → ⊥ }
+    ensures takes_none { (U.by.means.takes_memory → ⊥) →
+        ⟦<Explicit<U, TAG> as Asn1DefinedBy<T>>⟧.by.means.takes_memory → ⊥ }
+    ensures unbounded { (U.by.means.bounded → ⊥) →
+        ⟦<Explicit<U, TAG> as Asn1DefinedBy<T>>⟧.by.means.bounded → ⊥ }
 {}

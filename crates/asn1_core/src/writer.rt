@@ -374,7 +374,8 @@ impl<'a> Writer<'a> {
         requires front { LeavesFront F.FnOnce body }
         requires announced { Announces F.FnOnce body content_length }
         ensures same_buffer { buffer_name self.new ≡ buffer_name self.old }
-        ensures ok { OnOk result (Appended F.FnOnce body tag (octets_of self.old) (octets_of self.new)) }
+        ensures ok { OnOk result (Appended F.FnOnce body tag (octets_of self.old)
+            (octets_of self.new)) }
         ensures err { OnErr result (octets_of self.new ≡ octets_of self.old) }
         ensures error { IfErr result (Refused F.FnOnce body E.From.from_gives) }
     {
@@ -394,7 +395,8 @@ impl<'a> Writer<'a> {
     pub fn write_element<T: Asn1Writable>(&mut self, val: &T) -> Result<(), T::Error>
         requires { IsWritable T.der (T.der.meaning val.now) }
         ensures same_buffer { buffer_name self.new ≡ buffer_name self.old }
-        ensures ok { OnOk result (Appends (T.der.texts (T.der.meaning val.now)) (octets_of self.old) (octets_of self.new)) }
+        ensures ok { OnOk result (Appends (T.der.texts (T.der.meaning val.now))
+            (octets_of self.old) (octets_of self.new)) }
         ensures err { OnErr result (octets_of self.new ≡ octets_of self.old) }
         ensures error { IfErr result (Refuses T.Error.from_gives (T.write_errors val.now)) }
     {
@@ -416,7 +418,8 @@ impl<'a> Writer<'a> {
     ) -> Result<(), T::Error>
         requires { IsWritable T.der (T.der.meaning val.now) }
         ensures same_buffer { buffer_name self.new ≡ buffer_name self.old }
-        ensures ok { OnOk result (Appends (IsElementOf (explicit_tag_of tag) (T.der.texts (T.der.meaning val.now))) (octets_of self.old) (octets_of self.new)) }
+        ensures ok { OnOk result (Appends (IsElementOf (explicit_tag_of tag)
+            (T.der.texts (T.der.meaning val.now))) (octets_of self.old) (octets_of self.new)) }
         ensures err { OnErr result (octets_of self.new ≡ octets_of self.old) }
         ensures error { IfErr result (Refuses T.Error.from_gives (T.write_errors val.now)) }
     {
@@ -439,7 +442,10 @@ impl<'a> Writer<'a> {
     ) -> Result<(), T::Error>
         requires { IsWritableContent T.der.content (T.der.meaning val.now) }
         ensures same_buffer { buffer_name self.new ≡ buffer_name self.old }
-        ensures ok { OnOk result (Appends (IsElementOf (implicit_tag_of tag T.der.content.tag) (T.der.content.texts (T.der.meaning val.now))) (octets_of self.old) (octets_of self.new)) }
+        ensures ok { OnOk result (Appends
+            (IsElementOf (implicit_tag_of tag T.der.content.tag)
+            (T.der.content.texts (T.der.meaning val.now))) (octets_of self.old)
+            (octets_of self.new)) }
         ensures err { OnErr result (octets_of self.new ≡ octets_of self.old) }
         ensures error { IfErr result (Refuses T.Error.from_gives (T.write_errors val.now)) }
     {
@@ -450,7 +456,8 @@ impl<'a> Writer<'a> {
     fn write_element_or_part<T: Asn1Writable>(&mut self, val: &T) -> Result<(), T::Error>
         requires { T.der.closures (T.der.meaning val.now) }
         ensures same_buffer { buffer_name self.new ≡ buffer_name self.old }
-        ensures ok { OnOk result (Appends (T.der.texts (T.der.meaning val.now)) (octets_of self.old) (octets_of self.new)) }
+        ensures ok { OnOk result (Appends (T.der.texts (T.der.meaning val.now))
+            (octets_of self.old) (octets_of self.new)) }
         ensures err { OnErr result (KeepsFront (octets_of self.old) (octets_of self.new)) }
         ensures error { IfErr result (Refuses T.Error.from_gives (T.write_errors val.now)) }
     {
@@ -470,7 +477,8 @@ impl<'a> Writer<'a> {
         requires front { LeavesFront F.FnOnce body }
         requires announced { Announces F.FnOnce body content_length }
         ensures same_buffer { buffer_name self.new ≡ buffer_name self.old }
-        ensures ok { OnOk result (Appended F.FnOnce body tag (octets_of self.old) (octets_of self.new)) }
+        ensures ok { OnOk result (Appended F.FnOnce body tag (octets_of self.old)
+            (octets_of self.new)) }
         ensures err { OnErr result (KeepsFront (octets_of self.old) (octets_of self.new)) }
         ensures error { IfErr result (Refused F.FnOnce body E.From.from_gives) }
     {

@@ -17,7 +17,8 @@ use std::test::Fail;
 /// A set of a Boolean and a number. The closure says that it keeps elements in the order of their
 /// tags, and so a `Set` reads what is written.
 fn written_set(alloc: Global, number: u64) -> WriteResult<Vec<u8>>
-    ensures { IfOk result (λ v. IsElementOf set_tag (λ c. length c < 2 ^ 32 → IsSetContent c) v.items) }
+    ensures { IfOk result (λ v. IsElementOf set_tag (λ c. length c < 2 ^ 32
+        → IsSetContent c) v.items) }
 {
     let writes = |set: &mut SetElementWriter<'_>| -> WriteResult<()>
         ensures front { set.new.front ≡ set.old.front }

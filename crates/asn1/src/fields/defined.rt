@@ -166,7 +166,8 @@ fn write_item<T: Asn1Writable + Drop, C: DefinedField<T> + Asn1DefinedByWritable
 ) -> Result<(), T::Error>
     requires { C.both.item.closures (C.both.value.item (C.both.value.meaning value.now)) }
     ensures same_buffer { buffer_name dest.new ≡ buffer_name dest.old }
-    ensures ok { OnOk result (Appends (C.both.item.texts (C.both.value.item (C.both.value.meaning value.now))) (octets_of dest.old) (octets_of dest.new)) }
+    ensures ok { OnOk result (Appends (C.both.item.texts (C.both.value.item (C.both.value.meaning value.now)))
+        (octets_of dest.old) (octets_of dest.new)) }
     ensures err { OnErr result (KeepsFront (octets_of dest.old) (octets_of dest.new)) }
     ensures error { IfErr result (Refuses T.Error.from_gives (ItemOf C.both value.now T.write_errors)) }
 {
@@ -181,7 +182,8 @@ fn write_value<T: Asn1Writable, C: DefinedField<T> + Asn1DefinedByWritable<T>>(
 ) -> Result<(), C::Error>
     requires { C.both.value.closures (C.both.value.meaning value.now) }
     ensures same_buffer { buffer_name dest.new ≡ buffer_name dest.old }
-    ensures ok { OnOk result (Appends (C.both.value.texts (C.both.value.meaning value.now)) (octets_of dest.old) (octets_of dest.new)) }
+    ensures ok { OnOk result (Appends (C.both.value.texts (C.both.value.meaning value.now))
+        (octets_of dest.old) (octets_of dest.new)) }
     ensures err { OnErr result (KeepsFront (octets_of dest.old) (octets_of dest.new)) }
     ensures error { IfErr result (Refuses C.Error.from_gives (C.write_errors_by value.now)) }
 {

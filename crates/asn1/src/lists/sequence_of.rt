@@ -255,7 +255,9 @@ fn write_items<'a, T: Asn1Readable<'a> + Asn1Writable>(
     requires are_items { AreItems T.der.read items.now number }
     requires closures { Each T.der.closures (left T.der.read items.now) }
     ensures same_buffer { buffer_name writer.new ≡ buffer_name writer.old }
-    ensures ok { OnOk result (Appends (Joins T.der.texts (left T.der.read items.entry.now)) (octets_of writer.old) (octets_of writer.new)) }
+    ensures ok { OnOk result (Appends
+        (Joins T.der.texts (left T.der.read items.entry.now)) (octets_of writer.old)
+        (octets_of writer.new)) }
     ensures err { OnErr result (KeepsFront (octets_of writer.old) (octets_of writer.new)) }
     ensures error { IfErr result (Refuses T.Error.from_gives (OneNames T.write_errors)) }
 {

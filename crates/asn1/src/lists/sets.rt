@@ -131,7 +131,9 @@ impl<'a> Set<'a> {
         f: F,
     ) -> Result<T, E>
         requires { F.IsAlwaysCallable f }
-        ensures { (rest : List ℕ) × (answer : Result T E) × FnOnceReturnsAtMut F.FnOnce f (octets_of_set self.entry) answer rest × IsHandedOn E.from_gives answer rest result }
+        ensures { (rest : List ℕ) × (answer : Result T E)
+            × FnOnceReturnsAtMut F.FnOnce f (octets_of_set self.entry) answer rest
+            × IsHandedOn E.from_gives answer rest result }
     {
         parse(alloc, self.data, f)
     }
@@ -342,7 +344,9 @@ fn write_set_items<'a, T: Asn1Readable<'a> + Asn1Writable>(
     requires are_ordered { AreOrdered text_less T.der.read items.now }
     requires closures { Each T.der.closures (set_left text_less T.der.read items.now) }
     ensures same_buffer { buffer_name writer.new ≡ buffer_name writer.old }
-    ensures ok { OnOk result (Appends (Joins T.der.texts (set_left text_less T.der.read items.entry.now)) (octets_of writer.old) (octets_of writer.new)) }
+    ensures ok { OnOk result (Appends
+        (Joins T.der.texts (set_left text_less T.der.read items.entry.now))
+        (octets_of writer.old) (octets_of writer.new)) }
     ensures err { OnErr result (KeepsFront (octets_of writer.old) (octets_of writer.new)) }
     ensures error { IfErr result (Refuses T.Error.from_gives (OneNames T.write_errors)) }
 {

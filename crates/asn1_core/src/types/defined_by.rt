@@ -51,7 +51,8 @@ pub trait Asn1DefinedByWritable<T: Asn1Writable>: Asn1DefinedBy<T> + Sized {
     fn write(&self, dest: &mut Writer<'_>) -> Result<(), Self::Error>
         requires { Self.by.means.closures (Self.by.means.meaning self.now) }
         ensures same_buffer { buffer_name dest.new ≡ buffer_name dest.old }
-        ensures ok { OnOk result (Appends (Self.by.means.texts (Self.by.means.meaning self.now)) (octets_of dest.old) (octets_of dest.new)) }
+        ensures ok { OnOk result (Appends (Self.by.means.texts (Self.by.means.meaning self.now))
+            (octets_of dest.old) (octets_of dest.new)) }
         ensures err { OnErr result (KeepsFront (octets_of dest.old) (octets_of dest.new)) }
         ensures error { IfErr result (Refuses Self.Error.from_gives (write_errors_by self.now)) };
 

@@ -241,7 +241,8 @@ impl<'a> SetElementWriter<'a> {
         ensures ok { OnOk result (AddsTo (T.der.texts (T.der.meaning val.now)) self.old self.new) }
 
         // A join of elements in the order of their tags stays one.
-        ensures elements { IsElementWritten T.der (T.der.meaning val.now) → OnOk result (KeepsElements self.old self.new) }
+        ensures elements { IsElementWritten T.der (T.der.meaning val.now)
+            → OnOk result (KeepsElements self.old self.new) }
         ensures err { OnErr result (self.new ≡ self.old) }
         ensures error { IfErr result (λ e. Refuses T.Error.from_gives (T.write_errors val.now) e ⊎ (IsOutOfOrder (T.der.texts (T.der.meaning val.now)) self.old × T.Error.from_gives InvalidSetOrdering e)) }
     {
