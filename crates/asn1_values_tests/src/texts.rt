@@ -18,7 +18,7 @@ const INVALID: Option<ParseErrorKind> = Some(ParseErrorKind::InvalidValue);
 const LONG: &str =
     "xxxxxxxxxxxxxxxxxxxxxxxxxxxxxxxxxxxxxxxxxxxxxxxxxxxxxxxxxxxxxxxxxxxxxxxxxxxxxxxxxxxxxxxxxxxxxxxxxxxxxxxxxxxxxxxxxxxxxxxxxxxxxxxx";
 
-/// The fault of a text. Want of memory is handed on.
+/// The kind of the fault, where the text is refused.
 fn fault<'a, T: Asn1Readable<'a> + Drop>(
     alloc: Global,
     octets: &'a [u8],
