@@ -12,6 +12,8 @@ mod laws;
 #[cfg(test)]
 mod same;
 #[cfg(test)]
+mod slow;
+#[cfg(test)]
 mod texts;
 #[cfg(test)]
 mod times;
