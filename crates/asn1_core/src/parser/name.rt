@@ -33,7 +33,7 @@ impl Lasting {
         (octets.as_ptr(), Lasting {})
     }
 
-    /// The octets, which are not copied.
+    /// The octets, which aren't copied.
     fn read(&self, start: *const u8, count: usize) -> &[u8]
         requires { (start ≡ self.now.start) × (count ≡ length self.now.octets) }
         ensures { result.now ≡ self.now.octets }
@@ -79,7 +79,7 @@ impl Name {
         }
     }
 
-    /// The name as a text.
+    /// The name.
     pub fn as_str(&self) -> &str
         ensures { result.now ≡ self.now }
     {
