@@ -17,7 +17,7 @@ pub fn write_readable<'a, T: Asn1Readable<'a> + Asn1Writable>(
     ensures text { IfOk result (λ v. v.items ≡ T.der.text (T.der.meaning value.now)) }
     ensures error { IfErr result (Refuses T.Error.from_gives (T.write_errors value.now)) }
 {
-    // The call tells that each value has one text.
+    // The call tells that each value has one encoding.
     let _accepted = T::can_parse(Tag::primitive(0));
     write_single(alloc, value)
 }

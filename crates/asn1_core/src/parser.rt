@@ -34,7 +34,7 @@ pub enum ParseErrorKind {
     /// The contents octets encode no value of the type. A constructor, such as that of a time, returns it for numbers
     /// that make no value.
     InvalidValue,
-    /// The number of a tag is encoded wrongly: in the long form (X.690 8.1.2.4.2) it begins with 0x80, is below 31, is
+    /// The number of a tag is encoded wrongly: in the long form (X.690 8.1.2.4) it begins with 0x80, is below 31, is
     /// 2^32 or more, or doesn't end within 19 octets.
     InvalidTag,
     /// The length octets are wrong: the length is indefinite (0x80), isn't in the fewest octets (X.690 8.1.3.5, 10.1),
@@ -486,8 +486,8 @@ fn read_length(octets: &[u8]) -> Result<(usize, &[u8]), ParseErrorKind>
 /// Cuts the element at the start of `data` off: returns it and the remaining octets. It takes no memory.
 ///
 /// The first of identifier octets, length octets and contents octets that is wrong or incomplete decides the error:
-/// `InvalidTag`, `InvalidLength`, or `ShortData` with the number of octets that this part lacks. It has no location. A
-/// result other than `ShortData` stays the same however the input goes on.
+/// `InvalidTag`, `InvalidLength`, or `ShortData` with the number of octets that this part lacks at least. It has no
+/// location. A result other than `ShortData` stays the same however the input goes on, but for longer remaining octets.
 #[inline]
 pub fn strip_tlv(data: &[u8]) -> ParseResult<(Tlv<'_>, &[u8])>
     // The result is the one that the definitions allow.

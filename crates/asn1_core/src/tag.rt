@@ -81,9 +81,9 @@ impl Tag {
 
     /// Reads the identifier octets at the start of `octets`: returns the tag and the remaining octets.
     ///
-    /// Errors, without a location: `InvalidTag` for a number in the long form (8.1.2.4.2) that begins with 0x80, is
-    /// below 31, is 2^32 or more, or doesn't end within 19 octets. `ShortData { needed: 1 }` where the octets end
-    /// before the tag does, also where there are none.
+    /// Errors, without a location: `InvalidTag` for a number in the long form (8.1.2.4) that begins with 0x80, is below
+    /// 31, is 2^32 or more, or doesn't end within 19 octets. `ShortData { needed: 1 }` where the octets end before the
+    /// tag does, also where there are none.
     pub fn from_bytes(octets: &[u8]) -> ParseResult<(Tag, &[u8])>
         ensures { AnswersError (λ x. (x.0, x.1.now)) result (tag_front octets.now) }
     {
@@ -201,7 +201,7 @@ impl Tag {
         }
     }
 
-    /// Whether an encoding with this tag is constructed: made of elements, and not primitive.
+    /// Whether an encoding with this tag is constructed, that is, made of elements (8.1.2.5).
     pub fn is_constructed(self) -> bool
         ensures { result ≡ tag_constructed self }
     {

@@ -168,7 +168,8 @@ impl SimpleAsn1Writable for BitString<'_> {
 }
 
 /// BIT STRING (X.690 8.6, 11.2; universal 3), which owns its octets. It is read and written as [`BitString`] is;
-/// reading allocates once the contents octets were found right, and returns `AllocationError` where out of memory.
+/// reading allocates only after the contents octets were found right, and returns `AllocationError` where out of
+/// memory.
 #[derive(PartialEq, Eq, Hash, Drop)]
 pub struct OwnedBitString {
     octets: Vec<u8>,

@@ -137,7 +137,7 @@ impl<
         ensures plain { T.der.plain }
     {
         let tag = Tag::constructed(0x10);
-        // The items' type says by this call that each value has one text.
+        // The items' type says by this call that each value has one encoding.
         let _accepted = T::can_parse(tag);
         tag
     }

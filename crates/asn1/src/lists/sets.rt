@@ -281,7 +281,7 @@ impl<'a, T: Asn1Readable<'a>> SimpleAsn1Readable<'a> for SetOf<'a, T> {
         ensures plain { T.der.plain }
     {
         let tag = Tag::constructed(0x11);
-        // The items' type says by this call that each value has one text.
+        // The items' type says by this call that each value has one encoding.
         let _accepted = T::can_parse(tag);
         tag
     }

@@ -97,7 +97,7 @@ impl<'a, T1: Asn1Readable<'a>, T2: Asn1Readable<'a>> Asn1Readable<'a> for Choice
     }
 
     fn can_parse(tag: Tag) -> bool {
-        // Each alternative is asked, since each tells that its values have one text.
+        // Each alternative is asked, since each tells that its values have one encoding.
         let first = T1::can_parse(tag);
         let second = T2::can_parse(tag);
         first || second
@@ -169,7 +169,7 @@ impl<'a, T1: Asn1Readable<'a>, T2: Asn1Readable<'a>, T3: Asn1Readable<'a>> Asn1R
     }
 
     fn can_parse(tag: Tag) -> bool {
-        // Each alternative is asked, since each tells that its values have one text.
+        // Each alternative is asked, since each tells that its values have one encoding.
         let first = T1::can_parse(tag);
         let second = T2::can_parse(tag);
         let third = T3::can_parse(tag);

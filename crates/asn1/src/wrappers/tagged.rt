@@ -65,7 +65,7 @@ impl<T: Asn1Type, const TAG: u32> Asn1Type for Explicit<T, TAG> {
 impl<'a, T: Asn1Readable<'a>, const TAG: u32> SimpleAsn1Readable<'a> for Explicit<T, TAG> {
     fn tag() -> Tag {
         let tag = explicit_tag(TAG);
-        // The call tells that each value of the type has one text.
+        // The call tells that each value of the type has one encoding.
         let _is_accepted = T::can_parse(tag);
         tag
     }
@@ -221,7 +221,7 @@ impl<T: Asn1Type> Asn1Type for OctetStringEncoded<T> {
 impl<'a, T: Asn1Readable<'a>> SimpleAsn1Readable<'a> for OctetStringEncoded<T> {
     fn tag() -> Tag {
         let tag = Tag::primitive(0x04);
-        // The call tells that each value of the type has one text.
+        // The call tells that each value of the type has one encoding.
         let _is_accepted = T::can_parse(tag);
         tag
     }

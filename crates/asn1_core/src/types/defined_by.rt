@@ -38,7 +38,7 @@ pub trait Asn1DefinedByReadable<'a, T: Asn1Readable<'a>>: Asn1DefinedBy<T> + Siz
 
 /// A type that is written after the item that defines it.
 pub trait Asn1DefinedByWritable<T: Asn1Writable>: Asn1DefinedBy<T> + Sized {
-    /// What a write that fails returns. It is made from [`WriteError`], as for `AllocationError`.
+    /// The error of a write that fails. It is made from a [`WriteError`], such as `AllocationError`.
     type Error: From<WriteError>;
 
     // The errors that a write may return, beside being out of memory.

@@ -12,8 +12,8 @@ use crate::types::{Asn1Type, Asn1Writable, SimpleAsn1Readable, SimpleAsn1Writabl
 use crate::writer::{WriteBuf, WriteError, WriteResult, Writer};
 use std::alloc::Global;
 
-/// A value on the heap. Reading allocates once the contents octets were found right; `AllocationError` where out of
-/// memory.
+/// A value on the heap. Reading allocates only after the contents octets were found right; `AllocationError` where out
+/// of memory.
 impl<T: Asn1Type> Asn1Type for Box<T> {
     ghost der = { boxed_der (λ b. b.value) T.der };
 

@@ -23,8 +23,9 @@ use std::alloc::{AllocError, Global};
 /// then by nanoseconds.
 ///
 /// The contents octets are `YYYYMMDDHHMMSSZ`, or `YYYYMMDDHHMMSS.fZ` with a fraction. DER demands the seconds, the `Z`,
-/// a point and no comma, and a last digit of the fraction that isn't 0. Reading rejects other contents octets with
-/// `InvalidValue`, also those with more than nine digits of a fraction, which aren't read here.
+/// a point and no comma, and a last digit of the fraction that isn't 0. Reading rejects other contents octets, those of
+/// no date or no time of day, and those with more than nine digits of a fraction, which aren't read here, with
+/// `InvalidValue`.
 #[derive(Debug, PartialEq, Eq, PartialOrd, Hash, Drop)]
 pub struct GeneralizedTime {
     datetime: DateTime,

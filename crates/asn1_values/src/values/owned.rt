@@ -16,7 +16,7 @@ use std::alloc::{AllocError, Global};
 use std::fmt;
 
 /// INTEGER (X.690 8.3; universal 2) that isn't negative, of any length, which owns its contents octets. It is read and
-/// written as [`crate::BigUint`] is; reading allocates once the contents octets were found right, and returns
+/// written as [`crate::BigUint`] is; reading allocates only after the contents octets were found right, and returns
 /// `AllocationError` where out of memory.
 #[derive(PartialEq, Eq, Hash, Drop)]
 pub struct OwnedBigUint {
@@ -116,8 +116,8 @@ impl SimpleAsn1Writable for OwnedBigUint {
 }
 
 /// INTEGER (X.690 8.3; universal 2) of any length, which owns its contents octets. It is read and written as
-/// [`crate::BigInt`] is; reading allocates once the contents octets were found right, and returns `AllocationError`
-/// where out of memory.
+/// [`crate::BigInt`] is; reading allocates only after the contents octets were found right, and returns
+/// `AllocationError` where out of memory.
 #[derive(PartialEq, Eq, Hash, Drop)]
 pub struct OwnedBigInt {
     octets: Vec<u8>,

@@ -20,8 +20,8 @@ use std::fmt;
 /// UTCTime (X.690 11.8; universal 23): a date and a time of day to the second, in UTC, of a year from 1950 to 2049.
 ///
 /// The contents octets are `YYMMDDHHMMSSZ`, where `YY` below 50 is of the years from 2000 on, and else of those from
-/// 1900 on (RFC 5280 4.1.2.5.1). DER demands the seconds and the `Z`. Reading rejects other contents octets with
-/// `InvalidValue`.
+/// 1900 on (RFC 5280 4.1.2.5.1). DER demands the seconds and the `Z`. Reading rejects other contents octets, and those
+/// of no date or no time of day, with `InvalidValue`.
 #[derive(PartialEq, Eq, Hash, Drop)]
 pub struct UtcTime {
     datetime: DateTime,
@@ -114,8 +114,8 @@ impl SimpleAsn1Writable for UtcTime {
 /// GeneralizedTime (X.690 11.7; universal 24) as certificates have it (RFC 5280 4.1.2.5.2): a date and a time of day to
 /// the second, in UTC, of a year from 0 to 9999.
 ///
-/// The contents octets are `YYYYMMDDHHMMSSZ`. Reading rejects others with `InvalidValue`, also those with a fraction of
-/// a second.
+/// The contents octets are `YYYYMMDDHHMMSSZ`. Reading rejects others, also those with a fraction of a second, and those
+/// of no date or no time of day, with `InvalidValue`.
 #[derive(PartialEq, Eq, Hash, Drop)]
 pub struct X509GeneralizedTime {
     datetime: DateTime,
