@@ -1,4 +1,4 @@
-//! How elements, wrappers and choices compare. Lists and sets of items compare by the octets left, which
+//! How elements, wrappers and choices compare. Lists and sets of items compare by the remaining octets, which
 //! [`crate::laws::equal_items`] tells of. Each law is the contract of a function that does nothing.
 
 ghost use Rattle.asn1_core.specs.Tlv.{element_of};
@@ -12,8 +12,8 @@ use crate::{
 use asn1_core::Asn1Type;
 use std::hash::Hash;
 
-/// Elements as they stand are equal exactly where tag and contents octets are, and then hash alike. A clone never fails,
-/// and equals its source.
+/// Elements are equal exactly where tag and contents octets are, and then hash alike. A clone never fails, and equals
+/// its source.
 pub fn elements_compare()
     ensures equality { IsEqualityOf element_of ⟦<Tlv<'static> as PartialEq>⟧.eq }
     ensures hash { HashesAlike element_of ⟦<Tlv<'static> as Hash>⟧.hash_input }
@@ -22,7 +22,7 @@ pub fn elements_compare()
         ⟦<Tlv<'static> as PartialEq>⟧.eq }
 {}
 
-/// Sequences and sets as they stand are equal exactly where their contents octets are, and then hash alike.
+/// `Sequence` and `Set` are equal exactly where their contents octets are, and then hash alike.
 pub fn contents_compare()
     ensures sequence { IsEqualityOf sequence_octets ⟦<Sequence<'static> as PartialEq>⟧.eq }
     ensures sequence_hash { HashesAlike sequence_octets ⟦<Sequence<'static> as Hash>⟧.hash_input }
@@ -45,7 +45,7 @@ pub fn wrappers_compare<T: Asn1Type + PartialEq, const TAG: u32>()
         → IsEqualityOf ⟦<Choice1<T> as Asn1Type>⟧.der.meaning ⟦<Choice1<T> as PartialEq>⟧.eq }
 {}
 
-/// So is that of choices, where it is so of each alternative.
+/// Where the equality of each alternative is that of what its values mean, so is that of the choice.
 pub fn choices_compare<
     T1: Asn1Type + PartialEq,
     T2: Asn1Type + PartialEq,

@@ -1,5 +1,5 @@
-//! Which types are lawful, have one text a value, take memory and have bounds, each the contract of a function that does
-//! nothing. A type with parts is as its parts are.
+//! Which types are lawful, have one encoding for each value, take memory and have bounds, each the contract of a
+//! function that does nothing. A type with parts is as its parts are.
 
 ghost use Rattle.asn1.specs.TypeLaws.{Inherits, InheritsBoth, IsSound, IsSoundOwned};
 
@@ -28,7 +28,7 @@ pub fn numbers_are_sound()
     ensures enumerated { IsSound ⟦<Enumerated as Asn1Type>⟧.der }
 {}
 
-/// Types of octets, bits, texts, identifiers and times.
+/// Types of octets, bits, characters, object identifiers and times.
 pub fn values_are_sound<const N: usize>()
     ensures null { IsSound ⟦<Null as Asn1Type>⟧.der }
     ensures octets { IsSound ⟦<&'static [u8] as Asn1Type>⟧.der }
@@ -46,7 +46,7 @@ pub fn values_are_sound<const N: usize>()
     ensures generalized { IsSound ⟦<GeneralizedTime as Asn1Type>⟧.der }
 {}
 
-/// Elements as they stand.
+/// Elements as they are encoded.
 pub fn elements_are_sound()
     ensures any { IsSound ⟦<Tlv<'static> as Asn1Type>⟧.der }
     ensures sequence { IsSound ⟦<Sequence<'static> as Asn1Type>⟧.der }
@@ -60,7 +60,7 @@ pub fn owned_types_are_sound()
     ensures bits { IsSoundOwned ⟦<OwnedBitString as Asn1Type>⟧.der }
 {}
 
-/// Boxes and references are lawful where what they hold is, and have its text.
+/// Boxes and references are lawful where what they hold is, and have its encoding.
 pub fn references_are_lawful<'a, T: Asn1Type + 'a>()
     ensures boxed { T.der.lawful → ⟦<Box<T> as Asn1Type>⟧.der.lawful }
     ensures box_plain { T.der.plain → ⟦<Box<T> as Asn1Type>⟧.der.plain }
@@ -87,7 +87,7 @@ pub fn lists_are_lawful<'a, T: Asn1Type + 'a, const MIN: usize, const MAX: usize
     ensures set_slice_plain { T.der.plain → ⟦<SetOfWriter<'a, T> as Asn1Type>⟧.der.plain }
 {}
 
-/// Wrappers have one text, take memory and have bounds as their parts do.
+/// Wrappers have one encoding for each value, take memory and have bounds as their parts do.
 pub fn wrappers_inherit<T: Asn1Type, const TAG: u32>()
     ensures option { Inherits T.der ⟦<Option<T> as Asn1Type>⟧.der }
     ensures explicit { Inherits T.der ⟦<Explicit<T, TAG> as Asn1Type>⟧.der }
@@ -95,12 +95,12 @@ pub fn wrappers_inherit<T: Asn1Type, const TAG: u32>()
     ensures choice { Inherits T.der ⟦<Choice1<T> as Asn1Type>⟧.der }
 {}
 
-/// A field with a default does so too.
+/// A field with a default does so too, by its type.
 pub fn defaults_inherit<T: MeaningEq, D: DefaultValue<T>>()
     ensures { Inherits T.der ⟦<Defaulted<T, D> as Asn1Type>⟧.der }
 {}
 
-/// Choices do so, by each of their alternatives.
+/// Choices do so too, by each of their alternatives.
 pub fn choices_inherit<T1: Asn1Type, T2: Asn1Type, T3: Asn1Type>()
     ensures choice2 { InheritsBoth T1.der T2.der ⟦<Choice2<T1, T2> as Asn1Type>⟧.der }
     ensures choice3 { InheritsBoth T1.der ⟦<Choice2<T2, T3> as Asn1Type>⟧.der

@@ -9,9 +9,9 @@ use crate::{
 };
 use asn1_core::{Asn1DefinedBy, Asn1Type};
 
-/// Each wrapper of a lawful part is lawful: what it is written as is read back, and means the same. An option's part is
-/// an element wherever it is there, since elsewhere nothing in front tells an option that is there from one that isn't;
-/// and a part under an implicit tag is a simple type. So the law goes over any nesting.
+/// Each wrapper of a lawful part is lawful: what is written is read back, and means the same. An option's part has to
+/// be an element wherever it is there, since else nothing tells an option that is there from one that isn't; and a part
+/// under an implicit tag has to be a type with a tag of its own. So the law goes over any nesting.
 pub fn wrappers_are_lawful<T: Asn1Type, const TAG: u32>()
     ensures option { T.der.lawful → T.der.is_element → ⟦<Option<T> as Asn1Type>⟧.der.lawful }
     ensures explicit { T.der.lawful → ⟦<Explicit<T, TAG> as Asn1Type>⟧.der.lawful }
@@ -31,22 +31,22 @@ pub fn choices_are_lawful<T1: Asn1Type, T2: Asn1Type, T3: Asn1Type>()
     ensures choice3 { T1.der.lawful → T1.der.is_element → ⟦<Choice2<T2, T3> as Asn1Type>⟧.der.lawful → Disjoint T1.der.accepts T2.der.accepts → Disjoint T1.der.accepts T3.der.accepts → ⟦<Choice3<T1, T2, T3> as Asn1Type>⟧.der.lawful }
 {}
 
-/// The wrappers, other than options, are elements: they may stand in an option or a choice.
+/// The wrappers other than options are elements: they may be the part of an option or an alternative of a choice.
 pub fn wrappers_are_elements<T: Asn1Type, const TAG: u32>()
     ensures explicit { ⟦<Explicit<T, TAG> as Asn1Type>⟧.der.is_element }
     ensures implicit { ⟦<Implicit<T, TAG> as Asn1Type>⟧.der.is_element }
     ensures octet_string { ⟦<OctetStringEncoded<T> as Asn1Type>⟧.der.is_element }
 {}
 
-/// So are choices.
+/// Choices are elements too.
 pub fn choices_are_elements<T1: Asn1Type, T2: Asn1Type, T3: Asn1Type>()
     ensures choice1 { ⟦<Choice1<T1> as Asn1Type>⟧.der.is_element }
     ensures choice2 { ⟦<Choice2<T1, T2> as Asn1Type>⟧.der.is_element }
     ensures choice3 { ⟦<Choice3<T1, T2, T3> as Asn1Type>⟧.der.is_element }
 {}
 
-/// A type that an item defines is lawful under an explicit tag where it is lawful and its text is an element, and is as it
-/// otherwise.
+/// A type that an item defines is lawful under an explicit tag where it is lawful and its encoding is an element, and
+/// is as it otherwise.
 pub fn defined_types_are_lawful<T: Asn1Type, U: Asn1DefinedBy<T>, const TAG: u32>()
     ensures lawful { U.by.means.lawful → U.by.means.is_element →
         ⟦<Explicit<U, TAG> as Asn1DefinedBy<T>>⟧.by.means.lawful }

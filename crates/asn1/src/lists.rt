@@ -1,4 +1,5 @@
-//! Sequences and sets (X.680 25 to 28): as they stand, as lists of items, and written by a closure.
+//! SEQUENCE, SEQUENCE OF, SET and SET OF (X.690 8.9 to 8.12, X.680 25 to 28): as they are encoded, as lists of items,
+//! and written by a closure.
 
 ghost use Rattle.std.specs.Prelude.{◌≡◌};
 ghost use Rattle.asn1_core.specs.declared.parser.Place.TheVariants.{Index};
@@ -16,14 +17,14 @@ pub use sequence_of::SequenceOf;
 pub use sets::{Set, SetOf};
 pub use writers::{SequenceOfWriter, SequenceWriter};
 
-/// What a slice of octets says of them. The body looks at the slice, whose type says so.
+/// States that a slice holds octets. The body looks at the slice, whose type says so.
 pub(crate) fn are_octets(octets: &[u8])
     ensures { IsText octets.now }
 {
     let _count = octets.len();
 }
 
-/// The error with the place of the item at an index. It stands apart from the readers, since few reads come here.
+/// The error with the location of the item at an index. It stands apart from the readers, since few reads come here.
 #[cold]
 pub(crate) fn at_item(error: ParseError, index: usize) -> ParseError
     ensures { result ≡ within (Index index) error }

@@ -1,5 +1,5 @@
-//! What is read is written back, and what is written is read back. A type that is read holds no closures, so writing asks
-//! nothing of its values.
+//! What is read is written back, and what is written is read back. A type that is read holds no closures, so writing
+//! asks nothing of its values.
 
 ghost use Rattle.std.specs.Prelude.{◌≡◌, Ok, IfOk, IfErr};
 ghost use Rattle.asn1_core.specs.Reading.{Answers, Fits, IsRefusal, whole};
@@ -8,8 +8,8 @@ ghost use Rattle.asn1_core.specs.Writing.{Refuses};
 use asn1_core::{Asn1Readable, Asn1Writable, ParseResult, Tag, parse_single, write_single};
 use std::alloc::Global;
 
-/// Writes a value of a type that is also read: exactly its one text. The error is want of memory, or one that the value
-/// names.
+/// Writes a value of a type that is also read, and returns its one encoding. Errors: `AllocationError` where out of
+/// memory, or one that the type names. The caller has nothing to prove.
 pub fn write_readable<'a, T: Asn1Readable<'a> + Asn1Writable>(
     alloc: Global,
     value: &T,
@@ -17,12 +17,13 @@ pub fn write_readable<'a, T: Asn1Readable<'a> + Asn1Writable>(
     ensures text { IfOk result (λ v. v.items ≡ T.der.text (T.der.meaning value.now)) }
     ensures error { IfErr result (Refuses T.Error.from_gives (T.write_errors value.now)) }
 {
-    // The call tells that each value has one text.
+    // The call tells that each value has one encoding.
     let _accepted = T::can_parse(Tag::primitive(0));
     write_single(alloc, value)
 }
 
-/// Reads one value and writes it back: the same octets, where both are Ok. A refusal is that of reading.
+/// Reads one value and writes it back: the same octets, where both succeed. The outer error is that of reading, as
+/// [`parse_single`] returns it, and the inner one that of writing.
 pub fn read_and_write_back<'a, T: Asn1Readable<'a> + Asn1Writable>(
     alloc: Global,
     data: &'a [u8],
@@ -35,8 +36,11 @@ pub fn read_and_write_back<'a, T: Asn1Readable<'a> + Asn1Writable>(
     Ok(write_readable(alloc, &value))
 }
 
-/// Writes a value into the store and reads it back: a value that means the same. The type has to be lawful, the value one
-/// that may be read back, and its text an element that is short enough to be read.
+/// Writes a value into `store` and reads it back: a value that means the same, or `AllocationError` where the type
+/// takes memory. The outer error is that of writing.
+///
+/// The caller has to prove (`requires`) that the type is lawful, that the value may be read back (a list has as many
+/// items as its bounds allow), and that its encoding is empty or an element that is short enough to be read.
 pub fn write_and_read_back<'a, T: Asn1Readable<'a> + Asn1Writable>(
     alloc: Global,
     value: &T,

@@ -1,5 +1,5 @@
 //! Numbers in base 128: groups of seven bits, the most significant first, where every octet but the last has its top
-//! bit set (X.690 8.1.2.4.2, 8.19.2). A number is below 2^128, so its text has at most 19 octets.
+//! bit set (X.690 8.1.2.4.2, 8.19.2). A number is below 2^128, so its encoding has 1 to 19 octets.
 
 ghost use Rattle.std.specs.Prelude.{◌≡◌, ℕ, ◌+◌, ◌<◌, ◌≤◌, ◌++◌, List, length, drop, IfNone, IfSome};
 ghost use Rattle.asn1_core.specs.Fault.{AnswersError, AnswersKind};
@@ -7,20 +7,21 @@ ghost use Rattle.asn1_core.specs.Base128.{number_text, number_front};
 
 use crate::parser::{ParseErrorKind, ParseResult, kind_as_error};
 
-/// How many octets the text of the largest number has.
+/// How many octets the encoding of the largest number has.
 const MAX_NUMBER_OCTETS: usize = 19;
 
-/// The number in front of the octets, and what follows it.
+/// Reads the number at the start of `octets`: returns it and the remaining octets.
 ///
-/// `InvalidValue` where the octets begin with no number, however they go on: the first is 0x80, 19 of them have their
-/// top bit set, or the number is 2^128 or more. `ShortData { needed: 1 }` where the number isn't finished.
+/// Errors, without a location: `InvalidValue` where no number is encoded so, however the octets go on: the first is
+/// 0x80, a leading group of zeros; or the number is 2^128 or more; or the first 19 octets all have their top bit set.
+/// `ShortData { needed: 1 }` where the octets end before the number does, also where there are none.
 pub fn read(octets: &[u8]) -> ParseResult<(u128, &[u8])>
     ensures { AnswersError (λ x. (x.0, x.1.now)) result (number_front octets.now) }
 {
     kind_as_error(read_number(octets))
 }
 
-/// What [`read`] answers, with no more than the kind of a refusal.
+/// What [`read`] returns, with the kind of the error alone.
 pub(crate) fn read_number(octets: &[u8]) -> Result<(u128, &[u8]), ParseErrorKind>
     ensures { AnswersKind (λ x. (x.0, x.1.now)) result (number_front octets.now) }
 {
@@ -41,7 +42,7 @@ pub(crate) fn read_number(octets: &[u8]) -> Result<(u128, &[u8]), ParseErrorKind
     Err(ParseErrorKind::InvalidValue)
 }
 
-/// How many octets the text of the number has: 1 to 19.
+/// How many octets the encoding of the number has: 1 to 19.
 pub fn length(n: u128) -> usize
     ensures text { result ≡ length (number_text n) }
     ensures some { 0 < result }
@@ -56,8 +57,8 @@ pub fn length(n: u128) -> usize
     count
 }
 
-/// Puts the text of the number in front of the octets, and answers how many octets it has. `None`, with the octets as
-/// they were, where they are fewer.
+/// Writes the encoding of the number over the first of `octets`, leaves those after it as they were, and returns how
+/// many octets it has: 1 to 19. `None`, with all octets as they were, where there are fewer than that.
 pub fn write(n: u128, octets: &mut [u8]) -> Option<usize>
     ensures short { IfNone result ((length octets.old < length (number_text n)) × (octets.new ≡ octets.old)) }
     ensures written { IfSome result (λ count. (count ≡ length (number_text n))

@@ -1,4 +1,4 @@
-//! Laws of the contents octets of integers, each the contract of a function that does nothing.
+//! Laws of the contents octets of INTEGER (X.690 8.3), each the contract of a function that does nothing.
 
 ghost use Rattle.asn1_core.specs.Integer.{
   NumbersHaveOneContent,
@@ -6,17 +6,17 @@ ghost use Rattle.asn1_core.specs.Integer.{
   NineBitsTell,
 };
 
-/// Each number has one content.
+/// Each number has exactly one encoding in contents octets.
 pub fn one_content()
     ensures { NumbersHaveOneContent }
 {}
 
-/// Reading answers the number of a content, and refuses every other text.
+/// Reading returns the number of contents octets, and rejects all other octets.
 pub fn contents_alone_are_read()
     ensures { ReadsContentsAlone }
 {}
 
-/// The first nine bits tell whether an octet is superfluous.
+/// The first nine bits tell whether the first octet is superfluous (X.690 8.3.2).
 pub fn nine_bits_tell()
     ensures { NineBitsTell }
 {}

@@ -1,4 +1,4 @@
-//! Reading: errors with their places, framing, and the parser.
+//! Reading: errors with their locations, framing, and the parser.
 
 ghost use Rattle.std.specs.Prelude.{◌≡◌, ◌↔◌, ℕ, ◌*◌, ◌^◌, ◌<◌, ◌≤◌, ◌==◌, ◌++◌, [], List, Result, length, IsTrue, IfOk, IfErr, OnErr, Ok};
 ghost use Rattle.std.specs.Fn.{FnOnceReturnsAtMut};
@@ -28,60 +28,64 @@ use std::error::Error;
 use std::fmt;
 use std::marker::Model;
 
-/// What is wrong with a text.
+/// Why input was rejected.
 #[derive(Clone, Copy, Debug, PartialEq, Eq)]
 pub enum ParseErrorKind {
-    /// The content stands for no value of the type.
+    /// The contents octets encode no value of the type. A constructor, such as that of a time, returns it for numbers
+    /// that make no value.
     InvalidValue,
-    /// The tag's number is faulty.
+    /// The number of a tag is encoded wrongly: in the long form (X.690 8.1.2.4) it begins with 0x80, is below 31, is
+    /// 2^32 or more, or doesn't end within 19 octets.
     InvalidTag,
-    /// The length is faulty: it is indefinite (0x80), isn't in the fewest octets, or has more than four behind the first.
+    /// The length octets are wrong: the length is indefinite (0x80), isn't in the fewest octets (X.690 8.1.3.5, 10.1),
+    /// or has more than four further octets, which aren't read here.
     InvalidLength,
-    /// A list has more or fewer items than its bounds allow.
+    /// A SEQUENCE OF has more or fewer items than its bounds allow.
     InvalidSize {
-        /// The least count of items.
+        /// The smallest count of items allowed.
         min: usize,
-        /// The greatest count of items.
+        /// The greatest count of items allowed.
         max: usize,
         /// How many items there are.
         actual: usize,
     },
-    /// Another tag stands there than the type has.
+    /// The element has another tag than the type.
     UnexpectedTag {
-        /// The tag that stands there.
+        /// The tag of the element.
         actual: Tag,
     },
-    /// The text ends too early.
+    /// The input ends too early.
     ShortData {
-        /// How many octets are missing at least. With them a read may still fail.
+        /// How many octets are missing at least. With them reading may still fail.
         needed: usize,
     },
-    /// A number is outside the range of its type.
+    /// The integer is outside the range of its type. (A negative one is `InvalidValue` for an unsigned type.)
     IntegerOverflow,
-    /// Something is left behind the value.
+    /// Octets remain after the value; or an item of a list has no octets.
     ExtraData,
-    /// The elements of a set aren't in order.
+    /// The elements of a SET aren't in the order of their tags (X.690 10.3), or those of a SET OF not in the order of
+    /// their encodings (11.6).
     InvalidSetOrdering,
-    /// A value that equals its default was encoded.
+    /// A value that equals its DEFAULT is encoded (X.690 11.5).
     EncodedDefault,
-    /// An object identifier has more octets than can be stored.
+    /// An OBJECT IDENTIFIER has more contents octets than can be stored: more than 63.
     OidTooLong,
-    /// A value defined by another has no variant for it.
+    /// The value that defines another field, as an OBJECT IDENTIFIER does, has no known variant.
     UnknownDefinedBy,
-    /// Memory ran out.
+    /// Out of memory. Only types that own memory, a box among them, return it.
     AllocationError,
 }
 
-/// Where a fault lies in the structure around it.
+/// A location of an error: where it lies in a structure around it.
 #[derive(Debug, PartialEq, Eq, Drop)]
 pub enum ParseLocation {
-    /// In the field of this name.
+    /// In the field with this name.
     Field(&'static str),
-    /// In the item at this index.
+    /// In the item with this index, counted from 0.
     Index(usize),
 }
 
-/// How many places an error keeps.
+/// How many locations an error keeps: the innermost ones.
 pub const MAX_PLACES: usize = 8;
 
 /// A location as an error keeps it, with no reference.
@@ -121,13 +125,13 @@ impl From<ParseLocation> for Place {
     }
 }
 
-/// Why a text could not be read, and the innermost places around the fault.
+/// Why input was rejected: the kind, and the innermost [`MAX_PLACES`] locations.
 #[derive(Drop)]
 pub struct ParseError {
     kind: ParseErrorKind,
-    // The places, innermost first, and behind them slots of which nothing is said.
+    // The locations, innermost first. Slots past `depth` hold anything.
     places: [Place; MAX_PLACES],
-    // How many places there are.
+    // How many locations there are.
     depth: usize,
 }
 
@@ -147,7 +151,7 @@ impl Model for ParseError {
 pub type ParseResult<T> = Result<T, ParseError>;
 
 impl ParseError {
-    /// An error of this kind, with no place.
+    /// An error of this kind, without a location.
     #[inline(always)]
     pub fn new(kind: ParseErrorKind) -> ParseError
         ensures { result ≡ fault kind }
@@ -175,7 +179,8 @@ impl ParseError {
         self.kind
     }
 
-    /// Adds a place around those that are kept. The innermost [`MAX_PLACES`] are kept, and later ones are dropped.
+    /// Adds a location around those that are there. The innermost [`MAX_PLACES`] are kept, and further ones are
+    /// dropped.
     pub fn add_location(mut self, location: ParseLocation) -> ParseError
         ensures { result ≡ within (place_of location) self }
     {
@@ -197,7 +202,7 @@ impl fmt::Debug for Place {
     }
 }
 
-/// Shows the kind; places aren't shown.
+/// Shows the kind, and no location.
 impl fmt::Display for ParseError {
     ghost output = { λ e. error_text e.kind };
 
@@ -233,7 +238,7 @@ impl fmt::Display for ParseError {
 
 impl Error for ParseError {}
 
-/// Shows the kind and the places, the outermost first.
+/// Shows the kind and the locations, the outermost first.
 impl fmt::Debug for ParseError {
     fn fmt<W: fmt::Write>(&self, f: &mut fmt::Formatter<W>) -> fmt::Result {
         let kind = self.kind;
@@ -252,7 +257,7 @@ impl fmt::Debug for ParseError {
     }
 }
 
-/// Equal exactly where the kinds are and the places that are kept.
+/// Equal exactly where the kinds are and the locations that are kept.
 impl PartialEq for ParseError {
     ghost eq = { fault_eq };
 
@@ -277,7 +282,8 @@ fn same_kind(a: ParseErrorKind, b: ParseErrorKind) -> bool
     a == b
 }
 
-/// Reads elements from octets, one after another.
+/// Reads elements from octets, one after another. What it reads borrows from these octets; only `Box` and the owned
+/// types allocate.
 #[derive(Drop)]
 pub struct Parser<'a> {
     data: &'a [u8],
@@ -293,7 +299,7 @@ impl<'a> Model for Parser<'a> {
 }
 
 impl<'a> Parser<'a> {
-    /// A parser over the octets. Where a value takes memory, it takes it from `alloc`.
+    /// A parser over `data`. Values that own memory take it from `alloc`.
     #[inline]
     pub fn new(alloc: Global, data: &'a [u8]) -> Parser<'a>
         ensures { result ≡ «data».entry.now }
@@ -301,8 +307,7 @@ impl<'a> Parser<'a> {
         Parser { data, alloc }
     }
 
-    /// The memory with which the parser was made. A `Global` holds nothing that tells it from another, as the clause
-    /// says.
+    /// The allocator given to `new`. All `Global`s are equal, so the clause says that it equals any.
     #[inline]
     pub fn alloc(&self) -> Global
         ensures { (handed : Global) → result ≡ handed }
@@ -310,7 +315,7 @@ impl<'a> Parser<'a> {
         self.alloc
     }
 
-    /// The octets that are not yet read.
+    /// The remaining octets: those that aren't read yet.
     #[inline]
     pub fn rest(&self) -> &'a [u8]
         ensures { result.now ≡ self.now }
@@ -318,7 +323,7 @@ impl<'a> Parser<'a> {
         self.data
     }
 
-    /// Whether all octets are read.
+    /// Whether no octets remain.
     #[inline]
     pub fn is_empty(&self) -> bool
         ensures { result ≡ (length self.now == 0) }
@@ -326,7 +331,8 @@ impl<'a> Parser<'a> {
         self.data.is_empty()
     }
 
-    /// The tag in front, which isn't read. `None` where no tag is finished there or its number is faulty.
+    /// The tag at the start of the remaining octets, which isn't read. `None` where the identifier octets there are
+    /// incomplete, or are rejected with `InvalidTag`.
     pub fn peek_tag(&mut self) -> Option<Tag>
         ensures tag { result ≡ found_tag (tag_front self.old) }
         ensures unmoved { self.new ≡ self.old }
@@ -337,7 +343,7 @@ impl<'a> Parser<'a> {
         }
     }
 
-    /// Refuses octets that are left, with `ExtraData`.
+    /// Rejects remaining octets with `ExtraData`.
     #[inline]
     fn finish(self) -> ParseResult<()>
         ensures { result ≡ rest_refused self.entry }
@@ -348,7 +354,7 @@ impl<'a> Parser<'a> {
         Ok(())
     }
 
-    /// Reads the element in front. A refusal leaves the parser as it was.
+    /// Reads the next element. On an error the parser stays where it was.
     #[inline]
     pub(crate) fn read_tlv(&mut self) -> Result<Tlv<'a>, ParseErrorKind>
         ensures answers { AnswersKind (λ t. (element_of t, self.new)) result (front self.old) }
@@ -360,9 +366,9 @@ impl<'a> Parser<'a> {
         Ok(tlv)
     }
 
-    /// Reads the element in front, which has this tag, and answers its contents octets.
+    /// Reads the next element, which must have this tag, and returns its contents octets.
     ///
-    /// A refusal is framing's, which leaves the parser as it was, or `UnexpectedTag`, behind the element.
+    /// An error of framing leaves the parser where it was; `UnexpectedTag` leaves it after the element.
     #[inline]
     pub(crate) fn read_expected(&mut self, tag: Tag) -> Result<&'a [u8], ParseErrorKind>
         ensures answers { AnswersKind (λ content. (content.now, self.new)) result (expected_front tag self.old) }
@@ -376,26 +382,28 @@ impl<'a> Parser<'a> {
         Ok(tlv.data)
     }
 
-    /// Reads a value of the type.
+    /// Reads a value of the type `T`.
     ///
-    /// A refusal is the type's first fault; the parser then stands where the type says, always before a suffix of what
-    /// was left.
+    /// Returns what `T` returns: the value, or its first error in the order of the input. On an error the parser is
+    /// left before a suffix of what remained, as the type says: for a type with a tag of its own where it was, if
+    /// framing failed, and else after the element. Only a type that takes memory returns `AllocationError`.
     #[inline(always)]
     pub fn read_element<T: Asn1Readable<'a>>(&mut self) -> ParseResult<T>
         ensures answers { Answers (λ v. (T.der.meaning v, self.new)) (T.der.runs_out self.old) result (T.der.read self.old) }
         ensures rest { EndsWith self.old self.new }
         ensures stops { OnErr result (T.der.stops self.old self.new) }
 
-        // A type whose reading takes no memory never wants any.
+        // A type whose reading takes no memory is never out of it.
         ensures no_want { ¬ T.der.takes_memory → IfErr result IsOfText }
     {
         T::parse(self)
     }
 
-    /// Reads a value in an element with this explicit tag, which holds nothing else.
+    /// Reads a value of the type `T` under the explicit tag with the number `tag` (X.690 8.14): an element with this
+    /// tag, whose contents octets are the encoding of the value and nothing else.
     ///
-    /// A refusal is framing's, then `UnexpectedTag`, then the value's first fault on the contents octets, then
-    /// `ExtraData`.
+    /// Errors: framing's, which leave the parser where it was; then, with the parser after the element,
+    /// `UnexpectedTag`, the first error of the value in the contents octets, and `ExtraData` where octets remain there.
     pub fn read_explicit_element<T: Asn1Readable<'a>>(&mut self, tag: u32) -> ParseResult<T>
         ensures answers { Answers (λ v. (T.der.meaning v, self.new)) (simple_out (explicit_tag_of tag) T.der.runs_out self.old) result (simple (explicit_tag_of tag) (λ c. whole (T.der.read c)) self.old) }
         ensures rest { EndsWith self.old self.new }
@@ -406,9 +414,10 @@ impl<'a> Parser<'a> {
         parse_single::<T>(self.alloc, content)
     }
 
-    /// Reads a value whose own tag is replaced by this implicit one.
+    /// Reads a value of the type `T`, whose own tag is replaced by the implicit one with the number `tag` (X.690 8.14).
     ///
-    /// A refusal is framing's, then `UnexpectedTag`, then the first fault of the contents octets.
+    /// Errors: framing's, which leave the parser where it was; then, with the parser after the element,
+    /// `UnexpectedTag`, and the first error of the contents octets.
     pub fn read_implicit_element<T: SimpleAsn1Readable<'a>>(&mut self, tag: u32) -> ParseResult<T>
         ensures answers { Answers (λ v. (T.der.meaning v, self.new)) (simple_out (implicit_tag_of tag T.der.content.tag) T.der.content.runs_out self.old) result (simple (implicit_tag_of tag T.der.content.tag) T.der.content.read self.old) }
         ensures rest { EndsWith self.old self.new }
@@ -420,9 +429,9 @@ impl<'a> Parser<'a> {
     }
 }
 
-/// The answer as a reader gives it: a refusal has no place yet.
+/// The result with its error as a [`ParseError`] without a location.
 ///
-/// Framing answers kinds alone, which are small, and takes no time to carry places that it never has.
+/// Framing returns kinds alone, which are small, and takes no time to carry locations that it never has.
 #[inline(always)]
 pub(crate) fn kind_as_error<T: Drop>(answer: Result<T, ParseErrorKind>) -> ParseResult<T>
     ensures { result ≡ framed answer }
@@ -433,7 +442,7 @@ pub(crate) fn kind_as_error<T: Drop>(answer: Result<T, ParseErrorKind>) -> Parse
     }
 }
 
-/// The number of the octets, the most significant first.
+/// The number that the octets are in base 256, the most significant first.
 #[inline]
 pub(crate) fn number_in(octets: &[u8]) -> usize
     requires { length octets.now ≤ 8 }
@@ -446,7 +455,7 @@ pub(crate) fn number_in(octets: &[u8]) -> usize
     n
 }
 
-/// The length in front of the octets, and what follows it.
+/// The length at the start of the octets, and the remaining octets.
 #[inline(always)]
 fn read_length(octets: &[u8]) -> Result<(usize, &[u8]), ParseErrorKind>
     ensures { AnswersKind (λ x. (x.0, x.1.now)) result (length_front octets.now) }
@@ -474,22 +483,22 @@ fn read_length(octets: &[u8]) -> Result<(usize, &[u8]), ParseErrorKind>
     Ok((n, rest))
 }
 
-/// The element in front of the octets, and what follows it.
+/// Cuts the element at the start of `data` off: returns it and the remaining octets. It takes no memory.
 ///
-/// The first field that is faulty or unfinished, in the order tag, length, contents octets, decides the refusal:
-/// `InvalidTag`, `InvalidLength`, or `ShortData` with the count of octets that the field lacks. An answer other than
-/// `ShortData` stands for every longer input.
+/// The first of identifier octets, length octets and contents octets that is wrong or incomplete decides the error:
+/// `InvalidTag`, `InvalidLength`, or `ShortData` with the number of octets that this part lacks at least. It has no
+/// location. A result other than `ShortData` stays the same however the input goes on, but for longer remaining octets.
 #[inline]
 pub fn strip_tlv(data: &[u8]) -> ParseResult<(Tlv<'_>, &[u8])>
-    // The answer is the one that the definitions allow.
+    // The result is the one that the definitions allow.
     ensures grammar { IsFront «data».now (stripped result) }
     ensures only { (answer : Result (Element × List ℕ) ParseErrorKind) → IsFront «data».now answer → stripped result ≡ answer }
 
-    // The full data is the element's text, and a fault has no place.
+    // The full data is the element's encoding, and an error has no location.
     ensures full_data { IfOk result (λ x. full_octets x.0 ≡ element_text (element_of x.0)) }
     ensures no_place { IfErr result (λ e. e.places ≡ []) }
 
-    // On each longer text the answer stands, unless it is that octets are missing.
+    // On each longer input the result stays, unless it is that octets are missing.
     ensures stands { (more : List ℕ) → IsText more → ¬ IsShort (stripped result) → front («data».now ++ more) ≡ with_more (stripped result) more }
     ensures fewer { (more : List ℕ) (needed : ℕ) → IsText more → stripped result ≡ Err (ShortData needed) → length more < needed → IsShort (front («data».now ++ more)) }
     ensures exact { AnswersError (λ x. (element_of x.0, x.1.now)) result (front «data».now) }
@@ -497,7 +506,7 @@ pub fn strip_tlv(data: &[u8]) -> ParseResult<(Tlv<'_>, &[u8])>
     kind_as_error(tlv_in(data))
 }
 
-/// The element in front of the octets, and what follows it.
+/// The element at the start of the octets, and the remaining octets.
 #[inline(always)]
 fn tlv_in(octets: &[u8]) -> Result<(Tlv<'_>, &[u8]), ParseErrorKind>
     ensures answer { AnswersKind (λ x. (element_of x.0, x.1.now)) result (front octets.now) }
@@ -521,8 +530,10 @@ fn tlv_in(octets: &[u8]) -> Result<(Tlv<'_>, &[u8]), ParseErrorKind>
     ))
 }
 
-/// Runs `f` over the octets, and refuses what it leaves with `ExtraData`, converted by `E::from`. An error of `f` is
-/// handed on.
+/// Reads `data` by `f`, which is given a parser over it, and returns what `f` returns.
+///
+/// Errors: one of `f` is returned as it is; where `f` returns a value and octets remain, the error is `ExtraData`,
+/// converted by `E::from`. The caller has to prove that `f` may always be called (`requires`).
 #[inline]
 pub fn parse<'a, T: Drop, E: From<ParseError> + Drop, F: FnOnce(&mut Parser<'a>) -> Result<T, E>>(
     alloc: Global,
@@ -538,28 +549,30 @@ pub fn parse<'a, T: Drop, E: From<ParseError> + Drop, F: FnOnce(&mut Parser<'a>)
     Ok(answer)
 }
 
-/// Reads one value, and refuses with `ExtraData` what follows it.
+/// Reads one value of the type `T`, whose encoding has to be the whole of `data`.
 ///
-/// A value is answered exactly where the octets are the value's one text. Every other text is refused with the type's
-/// first fault.
+/// For a lawful type a value is returned exactly where `data` is its one encoding (`found`, `only`). All other input is
+/// rejected with the type's first error in the order of the input, or with `ExtraData` where octets remain after a
+/// value. Only a type that takes memory returns `AllocationError`.
 #[inline(always)]
 pub fn parse_single<'a, T: Asn1Readable<'a>>(alloc: Global, data: &'a [u8]) -> ParseResult<T>
     ensures exact { Answers T.der.meaning (T.der.runs_out «data».entry.now) result (whole (T.der.read «data».entry.now)) }
 
-    // A value that is answered has these octets as its text.
+    // A value that is returned has these octets as its encoding.
     ensures found { IfOk result (λ v. («data».entry.now ≡ T.der.text (T.der.meaning v)) × (T.der.valid (T.der.meaning v) × T.der.allowed (T.der.meaning v))) }
 
-    // The text of a value is answered with that value.
+    // The encoding of a value is read as that value.
     ensures only { (m : T.der.Meaning) → T.der.lawful → T.der.valid m → T.der.allowed m → Fits (T.der.text m) → «data».entry.now ≡ T.der.text m
         → Answers T.der.meaning (T.der.runs_out «data».entry.now) result (Ok m) }
 
-    // A type whose reading takes no memory never wants any.
+    // A type whose reading takes no memory is never out of it.
     ensures no_want { ¬ T.der.takes_memory → IfErr result IsOfText }
 {
     read_single(alloc, data)
 }
 
-/// Reads one value and nothing behind it.
+/// Reads one value and nothing after it. It stands apart from [`parse_single`], so that the clauses of that are proved
+/// at one return.
 #[inline(always)]
 fn read_single<'a, T: Asn1Readable<'a>>(alloc: Global, data: &'a [u8]) -> ParseResult<T>
     ensures { Answers T.der.meaning (T.der.runs_out «data».entry.now) result (whole (T.der.read «data».entry.now)) }

@@ -1,4 +1,5 @@
-//! Tags: a class, a constructed bit and a number below 2^32 (X.690 8.1.2).
+//! Tags and identifier octets: a class, a form, primitive or constructed, and a number (X.690 8.1.2). Numbers from 2^32
+//! on aren't read.
 
 ghost use Rattle.std.specs.Prelude.{◌≡◌, ℕ, ◌+◌, ◌*◌, ◌/◌, ◌%◌, ◌<◌, ◌≤◌, ◌++◌, ◌↔◌, IsTrue, List, length, SomeIff, OnOk, OnErr, IsOkUnless, Bool, true, false};
 ghost use Rattle.asn1_core.specs.declared.tag.TagClass.TheVariants.{Universal};
@@ -10,16 +11,21 @@ use crate::base128;
 use crate::parser::{ParseErrorKind, ParseResult, kind_as_error};
 use crate::writer::{WriteBuf, WriteError, WriteResult};
 
-/// The class of a tag (X.690 8.1.2.2).
+/// The class of a tag (X.690 8.1.2.2). The discriminants are bits 8 and 7 of the first identifier octet.
 #[derive(Clone, Copy, Debug, PartialEq, Eq, Hash)]
 pub enum TagClass {
+    /// Types that ASN.1 itself defines, such as BOOLEAN.
     Universal = 0b00,
+    /// Types that an application defines.
     Application = 0b01,
+    /// Types told apart by the structure around them, as by the tags `[0]`, `[1]` in it.
     ContextSpecific = 0b10,
+    /// Types that an organization defines for itself.
     Private = 0b11,
 }
 
 impl TagClass {
+    /// The class as bits 8 and 7 of the first identifier octet.
     fn bits(self) -> u8
         ensures { result ≡ class_number self }
     {
@@ -27,7 +33,8 @@ impl TagClass {
     }
 }
 
-/// A tag: its class, whether the element is constructed, and its number.
+/// A tag: its class, whether the encoding is constructed, and its number, below 2^32 (X.690 8.1.2). Tags are equal
+/// where all three are.
 #[derive(Clone, Copy, Debug, PartialEq, Eq, Hash)]
 pub struct Tag {
     value: u32,
@@ -35,12 +42,14 @@ pub struct Tag {
     class: TagClass,
 }
 
+/// Bit 6 of the first identifier octet, which is set where the encoding is constructed (8.1.2.5).
 const CONSTRUCTED: u8 = 0x20;
-/// The five bits that stand for a number in base 128 behind the first octet.
+/// The five low bits of the first identifier octet that announce a number in base 128 after it.
 const LONG_FORM: u8 = 0x1f;
-/// How many octets the longest text of a tag has.
+/// How many identifier octets there are at most.
 const MAX_TAG_OCTETS: usize = 6;
 
+/// The class that the first identifier octet says.
 fn class_in(first: u8) -> TagClass
     ensures { result ≡ class_of (first / 64) }
 {
@@ -61,7 +70,7 @@ impl Tag {
     }
 
     /// Whether this tag comes before the other: by class, from universal to private, and within a class by number
-    /// (X.680 8.6). Whether an element is constructed plays no part.
+    /// (X.680 8.6). Whether an encoding is constructed plays no part.
     #[inline]
     pub fn comes_before(self, other: Tag) -> bool
         ensures { result ≡ tag_before self other }
@@ -70,17 +79,18 @@ impl Tag {
         class < other_class || (class == other_class && self.value < other.value)
     }
 
-    /// The tag in front of the octets, and what follows it.
+    /// Reads the identifier octets at the start of `octets`: returns the tag and the remaining octets.
     ///
-    /// `InvalidTag` where the number is faulty, or is finished and below 31 or from 2^32 on; `ShortData { needed: 1 }`
-    /// where the tag isn't finished.
+    /// Errors, without a location: `InvalidTag` for a number in the long form (8.1.2.4) that begins with 0x80, is below
+    /// 31, is 2^32 or more, or doesn't end within 19 octets. `ShortData { needed: 1 }` where the octets end before the
+    /// tag does, also where there are none.
     pub fn from_bytes(octets: &[u8]) -> ParseResult<(Tag, &[u8])>
         ensures { AnswersError (λ x. (x.0, x.1.now)) result (tag_front octets.now) }
     {
         kind_as_error(Tag::in_front(octets))
     }
 
-    /// What [`Tag::from_bytes`] answers, with no more than the kind of a refusal.
+    /// What [`Tag::from_bytes`] returns, with the kind of the error alone.
     #[inline(always)]
     pub(crate) fn in_front(octets: &[u8]) -> Result<(Tag, &[u8]), ParseErrorKind>
         ensures { AnswersKind (λ x. (x.0, x.1.now)) result (tag_front octets.now) }
@@ -107,7 +117,7 @@ impl Tag {
         Ok((Tag::from_first_octet(*first, number as u32), rest))
     }
 
-    /// The tag of this number whose first identifier octet says the class and whether it is constructed.
+    /// The tag with this number, whose first identifier octet says the class and the form.
     fn from_first_octet(first: u8, value: u32) -> Tag
         ensures { result ≡ tag_of first value }
     {
@@ -118,6 +128,7 @@ impl Tag {
         }
     }
 
+    /// The tag of these parts.
     fn new(value: u32, class: TagClass, constructed: bool) -> Tag
         ensures { result ≡ tag_with class constructed value }
     {
@@ -128,21 +139,21 @@ impl Tag {
         }
     }
 
-    /// A tag of the universal class, not constructed, with this number.
+    /// The primitive tag of the universal class with this number.
     pub fn primitive(value: u32) -> Tag
         ensures { result ≡ universal value }
     {
         Tag::new(value, TagClass::Universal, false)
     }
 
-    /// A tag of the universal class, constructed, with this number.
+    /// The constructed tag of the universal class with this number.
     pub fn constructed(value: u32) -> Tag
         ensures { result ≡ universal_constructed value }
     {
         Tag::new(value, TagClass::Universal, true)
     }
 
-    /// The tag's one octet; `None` from number 31 on, where the tag has more.
+    /// The identifier octet, where the tag has only one: where its number is at most 30. Else `None`.
     pub fn as_u8(self) -> Option<u8>
         ensures { SomeIff result (tag_number self < 31) (first_octet self (tag_number self)) }
     {
@@ -152,7 +163,7 @@ impl Tag {
         Some(self.first_octet(self.value as u8))
     }
 
-    /// The first octet, with these five bits.
+    /// The first identifier octet, with these five low bits.
     fn first_octet(self, low: u8) -> u8
         requires { low < 32 }
         ensures { result ≡ first_octet self low }
@@ -161,7 +172,7 @@ impl Tag {
         (self.class.bits() << 6) | constructed | low
     }
 
-    /// Appends the text of the tag.
+    /// Appends the identifier octets. `AllocationError` where out of memory, with nothing appended.
     pub(crate) fn write_to(self, dest: &mut WriteBuf) -> WriteResult<()>
         ensures ok { OnOk result (dest.new.bytes ≡ dest.old.bytes ++ tag_text self) }
         ensures err { OnErr result (dest.new ≡ dest.old) }
@@ -178,7 +189,7 @@ impl Tag {
         dest.push_slice(&octets[..count + 1])
     }
 
-    /// How many octets the text of the tag has.
+    /// How many identifier octets the tag has: 1 to 6.
     pub(crate) fn encoded_length(self) -> usize
         ensures value { result ≡ length (tag_text self) }
         ensures most { result ≤ MAX_TAG_OCTETS }
@@ -190,7 +201,7 @@ impl Tag {
         }
     }
 
-    /// Whether an element with this tag is constructed.
+    /// Whether an encoding with this tag is constructed, that is, made of elements (8.1.2.5).
     pub fn is_constructed(self) -> bool
         ensures { result ≡ tag_constructed self }
     {
@@ -204,7 +215,7 @@ impl Tag {
         self.class
     }
 
-    /// The tag's number.
+    /// The tag's number, below 2^32.
     pub fn value(self) -> u32
         ensures { result ≡ tag_number self }
     {
@@ -212,14 +223,15 @@ impl Tag {
     }
 }
 
-/// The tag of an implicitly tagged type whose own tag is `inner` (X.680 31.2.7).
+/// The tag of an implicitly tagged type (X.680 31.2.7): context-specific, with the number `value`, and constructed
+/// exactly where `inner` is, the tag that it replaces.
 pub fn implicit_tag(value: u32, inner: Tag) -> Tag
     ensures { result ≡ implicit_tag_of value inner }
 {
     Tag::new(value, TagClass::ContextSpecific, inner.constructed)
 }
 
-/// The tag of an explicitly tagged type (X.680 31.2.5).
+/// The tag of an explicitly tagged type (X.680 31.2.5): context-specific and constructed, with the number `value`.
 pub fn explicit_tag(value: u32) -> Tag
     ensures { result ≡ explicit_tag_of value }
 {

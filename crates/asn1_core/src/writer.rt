@@ -21,12 +21,12 @@ use std::error::Error;
 use std::fmt;
 use std::marker::Model;
 
-/// Why a write was refused.
+/// Why a write failed.
 #[derive(Debug, PartialEq, Eq, Drop)]
 pub enum WriteError {
-    /// Memory ran out.
+    /// Out of memory.
     AllocationError,
-    /// The elements of a set aren't in order.
+    /// The elements of a SET aren't written in the order of their tags (X.690 10.3), or one of them has no whole tag.
     InvalidSetOrdering,
 }
 
@@ -51,16 +51,16 @@ impl From<AllocError> for WriteError {
     }
 }
 
-/// What a write answers.
+/// A value, or why a write failed.
 pub type WriteResult<T> = Result<T, WriteError>;
 
-/// How many octets the longest text of a length has.
+/// How many length octets there are at most.
 const MAX_LENGTH_OCTETS: usize = 9;
 
-/// The place of the last of them.
+/// The index of the last of them.
 const LAST_LENGTH_OCTET: usize = MAX_LENGTH_OCTETS - 1;
 
-/// The octets of a length, at the end of an array.
+/// Length octets (X.690 8.1.3), at the end of an array.
 #[derive(Drop)]
 struct LengthText {
     octets: [u8; MAX_LENGTH_OCTETS],
@@ -79,7 +79,7 @@ impl Model for LengthText {
 }
 
 impl LengthText {
-    /// The text of the length.
+    /// The length octets of `n`, the fewest (10.1).
     fn new(n: usize) -> LengthText
         ensures text { result ≡ length_text n }
         ensures some { 0 < length result }
@@ -106,6 +106,7 @@ impl LengthText {
         LengthText { octets, start }
     }
 
+    /// The length octets.
     fn octets(&self) -> &[u8]
         ensures { result.now ≡ self.now }
     {
@@ -113,7 +114,7 @@ impl LengthText {
     }
 }
 
-/// How many octets the text of a length has.
+/// How many length octets `n` has.
 #[inline]
 fn length_octets(n: usize) -> usize
     ensures value { result ≡ length (length_text n) }
@@ -125,7 +126,8 @@ fn length_octets(n: usize) -> usize
     LengthText::new(n).octets().len()
 }
 
-/// How many octets an element has, by its tag and the length of its content. `None` where they pass `usize`.
+/// How many octets an element with this tag and so many contents octets has in all. `None` where that is 2^64 or more,
+/// which it isn't below 2^63 contents octets.
 #[inline]
 pub fn full_length(tag: Tag, content_length: usize) -> Option<usize>
     ensures value { SomeIff result (full_count tag content_length < 2 ^ 64) (full_count tag content_length) }
@@ -135,7 +137,7 @@ pub fn full_length(tag: Tag, content_length: usize) -> Option<usize>
     content_length.checked_add(header)
 }
 
-/// The octets written so far. A refused call leaves them as they were.
+/// The octets written so far. A call that fails leaves them as they were.
 #[derive(Drop)]
 pub struct WriteBuf {
     octets: Vec<u8>,
@@ -151,12 +153,14 @@ impl Model for WriteBuf {
 }
 
 impl WriteBuf {
+    /// A buffer that goes on after these octets.
     pub(crate) fn new(octets: Vec<u8>) -> WriteBuf
         ensures { result.bytes ≡ octets.items }
     {
         WriteBuf { octets }
     }
 
+    /// The octets.
     pub(crate) fn into_octets(self) -> Vec<u8>
         ensures { result.items ≡ self.bytes }
     {
@@ -164,13 +168,14 @@ impl WriteBuf {
         octets
     }
 
+    /// How many octets there are.
     pub(crate) fn len(&self) -> usize
         ensures { result ≡ length self.now.bytes }
     {
         self.octets.len()
     }
 
-    /// Makes room: after `Ok`, pushes of together that many octets succeed. `AllocationError` where there is no memory.
+    /// Makes room: after `Ok`, pushes totalling `additional` octets succeed. `AllocationError` where out of memory.
     #[inline]
     pub fn reserve_additional(&mut self, additional: usize) -> WriteResult<()>
         ensures bytes { self.new.bytes ≡ self.old.bytes }
@@ -184,7 +189,7 @@ impl WriteBuf {
         Ok(())
     }
 
-    /// Appends an octet. `AllocationError` where there is no room and no memory.
+    /// Appends an octet. `AllocationError` where there is no room for it and no memory.
     #[inline]
     pub fn push_byte(&mut self, octet: u8) -> WriteResult<()>
         ensures ok { OnOk result (self.new.bytes ≡ self.old.bytes ++ octet ∷ []) }
@@ -199,7 +204,7 @@ impl WriteBuf {
         Ok(())
     }
 
-    /// Appends octets. `AllocationError` where there is no room and no memory.
+    /// Appends octets. `AllocationError` where there is no room for them and no memory, with nothing appended.
     #[inline]
     pub fn push_slice(&mut self, octets: &[u8]) -> WriteResult<()>
         ensures ok { OnOk result (self.new.bytes ≡ self.old.bytes ++ octets.now) }
@@ -214,8 +219,8 @@ impl WriteBuf {
         Ok(())
     }
 
-    /// Appends octets one after another, which for a few takes less time than to copy them together. `AllocationError`
-    /// where there is no room and no memory.
+    /// Appends octets one by one, which for a few takes less time than to copy them together. `AllocationError` where
+    /// there is no room and no memory.
     #[inline]
     pub(crate) fn push_each(&mut self, octets: &[u8]) -> WriteResult<()>
         ensures ok { OnOk result (self.new.bytes ≡ self.old.bytes ++ octets.now) }
@@ -230,7 +235,7 @@ impl WriteBuf {
         Ok(())
     }
 
-    /// Appends the text of a length. One of one octet, as most are, takes no array.
+    /// Appends the length octets of `n`. A single one, as most are, takes no array.
     #[inline(always)]
     fn push_length(&mut self, n: usize) -> WriteResult<()>
         ensures ok { OnOk result (self.new.bytes ≡ self.old.bytes ++ length_text n) }
@@ -243,8 +248,8 @@ impl WriteBuf {
         self.push_byte(n as u8)
     }
 
-    /// Puts the length of what stands from `start` on in place of the octet before it. A length of one octet, as most
-    /// have, moves nothing.
+    /// Replaces the octet before `start` by the length octets of everything from `start` on. A single one, as most are,
+    /// moves nothing.
     #[inline]
     pub(crate) fn patch_length(&mut self, start: usize) -> WriteResult<()>
         requires from { 0 < start }
@@ -261,7 +266,7 @@ impl WriteBuf {
         Ok(())
     }
 
-    /// The same for a length of more octets. The buffer grows once, and what stands behind is moved once.
+    /// The same for more length octets. The buffer grows once, and what follows is moved once.
     fn patch_long_length(&mut self, start: usize) -> WriteResult<()>
         requires from { 0 < start }
         requires long { start + 0x7f < length self.old.bytes }
@@ -282,7 +287,7 @@ impl WriteBuf {
         Ok(())
     }
 
-    /// An empty buffer over the same memory.
+    /// An empty buffer over the same allocator.
     fn spare(&self) -> WriteBuf
         ensures { result.bytes ≡ [] }
     {
@@ -292,7 +297,7 @@ impl WriteBuf {
         }
     }
 
-    /// An empty list over the same memory.
+    /// An empty list over the same allocator.
     fn no_spans(&self) -> Vec<Span>
         ensures { result.items ≡ [] }
     {
@@ -300,13 +305,14 @@ impl WriteBuf {
         Vec::new(alloc)
     }
 
+    /// The octets.
     fn as_slice(&self) -> &[u8]
         ensures { result.now ≡ self.now.bytes }
     {
         self.octets.as_slice()
     }
 
-    /// Appends octets that stand in the buffer.
+    /// Appends the octets of a span of the buffer.
     fn push_part(&mut self, span: &Span) -> WriteResult<()>
         requires { span.now.from + span.now.len ≤ length self.old.bytes }
         ensures ok { OnOk result (self.new.bytes ≡ self.old.bytes ++ take span.now.len (drop span.now.from self.old.bytes)) }
@@ -318,7 +324,7 @@ impl WriteBuf {
         Ok(())
     }
 
-    /// Moves what stands from `from` on down to `to`, over what stands between.
+    /// Moves what is from `from` on down to `to`, overwriting what is between.
     fn move_down(&mut self, to: usize, from: usize)
         requires ordered { to ≤ from }
         requires within { from ≤ length self.old.bytes }
@@ -337,10 +343,10 @@ impl WriteBuf {
     }
 }
 
-/// Writes elements into a buffer. A refused call leaves the buffer as it was.
+/// Writes elements into a buffer. A call that fails leaves the buffer's octets as they were.
 #[derive(Drop)]
 pub struct Writer<'a> {
-    // Calls say by `same_buffer` that a writer goes on into the buffer that it was made with.
+    // Calls say by `same_buffer` that a writer goes on in the buffer that it was made with.
     pub(crate) buf: &'a mut WriteBuf,
 }
 
@@ -349,7 +355,7 @@ impl<'a> Writer<'a> {
     ghost use Rattle.asn1_core.specs.Buffer.{Appends, KeepsFront};
     ghost use Rattle.asn1_core.specs.Calls.{LeavesFront, Announces, Appended, Refused};
 
-    /// A writer into the buffer.
+    /// A writer that appends to the buffer.
     #[inline]
     pub fn new(buf: &'a mut WriteBuf) -> Writer<'a>
         ensures same_buffer { buffer_name result ≡ buf.entry.ghost_name }
@@ -358,11 +364,13 @@ impl<'a> Writer<'a> {
         Writer { buf }
     }
 
-    /// Writes an element whose content the body appends.
+    /// Writes an element with this tag, whose contents octets `body` appends.
     ///
-    /// The body may be run behind any octets and leaves them, at Ok and at Err. Where a length is announced, the body
-    /// appends just so many octets at Ok. Without one, one octet is kept for the length and patched afterwards. An
-    /// error of the body is handed on, and `AllocationError` is answered where memory runs out.
+    /// With `Some(n)` the length `n` is written first. With `None` an octet is kept for the length and replaced
+    /// afterwards; the encoding is the same. Errors: one of `body`, or `AllocationError` where out of memory.
+    ///
+    /// The caller has to prove (`requires`) that `body` may always be called, that it leaves the octets before its own
+    /// as they were, at `Ok` and at `Err`, and that with `Some(n)` it appends exactly `n` octets at `Ok`.
     #[inline]
     pub fn write_tlv<E: From<WriteError>, F: FnOnce(&mut WriteBuf) -> Result<(), E>>(
         &mut self,
@@ -389,8 +397,10 @@ impl<'a> Writer<'a> {
         }
     }
 
-    /// Writes a value: its one text, or for a closure writer one that its closure may append. The error is want of
-    /// memory, or one that the value names.
+    /// Writes a value: its one encoding, or where it holds closures, one that they may append. Errors:
+    /// `AllocationError` where out of memory, or one that the type names. The caller has to prove that the closures in
+    /// the value keep what is asked of them, or that the type has one encoding for each value (`requires`), as every
+    /// type that is read has.
     #[inline]
     pub fn write_element<T: Asn1Writable>(&mut self, val: &T) -> Result<(), T::Error>
         requires { IsWritable T.der (T.der.meaning val.now) }
@@ -410,7 +420,9 @@ impl<'a> Writer<'a> {
         }
     }
 
-    /// Writes a value in an element with this explicit tag. The error is want of memory, or one that the value names.
+    /// Writes a value under the explicit tag with the number `tag` (X.690 8.14): an element with this tag, whose
+    /// contents octets are the encoding of the value. Errors and what the caller has to prove are those of
+    /// [`Writer::write_element`].
     pub fn write_explicit_element<T: Asn1Writable>(
         &mut self,
         val: &T,
@@ -433,8 +445,8 @@ impl<'a> Writer<'a> {
         )
     }
 
-    /// Writes a value whose own tag is replaced by this implicit one. The error is want of memory, or one that the
-    /// value names.
+    /// Writes a value whose own tag is replaced by the implicit one with the number `tag` (X.690 8.14). Errors and what
+    /// the caller has to prove are those of [`Writer::write_element`].
     pub fn write_implicit_element<T: SimpleAsn1Writable>(
         &mut self,
         val: &T,
@@ -453,6 +465,7 @@ impl<'a> Writer<'a> {
         self.write_tlv(tag, val.data_length(), |dest| val.write_data(dest))
     }
 
+    /// The same as [`Writer::write_element`], but on an error a part of the element may stay in the buffer.
     fn write_element_or_part<T: Asn1Writable>(&mut self, val: &T) -> Result<(), T::Error>
         requires { T.der.closures (T.der.meaning val.now) }
         ensures same_buffer { buffer_name self.new ≡ buffer_name self.old }
@@ -467,6 +480,7 @@ impl<'a> Writer<'a> {
         val.write(self)
     }
 
+    /// The same as [`Writer::write_tlv`], but on an error a part of the element may stay in the buffer.
     fn write_tlv_or_part<E: From<WriteError>, F: FnOnce(&mut WriteBuf) -> Result<(), E>>(
         &mut self,
         tag: Tag,
@@ -499,8 +513,11 @@ impl<'a> Writer<'a> {
     }
 }
 
-/// Runs a closure that writes, and hands out what it wrote. An error of the closure is handed on, and then nothing is
-/// handed out.
+/// Calls `f` with a writer into an empty buffer, and returns the octets that it wrote. An error of `f` is returned as
+/// it is.
+///
+/// The caller has to prove (`requires`) that `f` may always be called, and that it leaves the octets before its own as
+/// they were, at `Ok` and at `Err`, in the buffer that it was given.
 #[inline]
 pub fn write<E: From<WriteError>, F: Fn(&mut Writer<'_>) -> Result<(), E> + Drop>(
     alloc: Global,
@@ -516,8 +533,8 @@ pub fn write<E: From<WriteError>, F: Fn(&mut Writer<'_>) -> Result<(), E> + Drop
     Ok(buf.into_octets())
 }
 
-/// Writes one value: exactly its one text, or where the value holds closures, a text that they may append. The error is
-/// want of memory, or one that the value names.
+/// Writes one value, and returns its encoding: the one that it has in DER, or where it holds closures, one that they
+/// may append. Errors and what the caller has to prove are those of [`Writer::write_element`].
 #[inline]
 pub fn write_single<T: Asn1Writable>(alloc: Global, value: &T) -> Result<Vec<u8>, T::Error>
     requires { IsWritable T.der (T.der.meaning value.now) }

@@ -1,4 +1,4 @@
-//! Bit strings, borrowed and owned.
+//! BIT STRING (X.690 8.6, 11.2), borrowed and owned.
 
 ghost use Rattle.std.specs.Prelude.{◌≡◌, true, ⊤, Some, length, MatchOption};
 ghost use Rattle.asn1_core.specs.Reading.{Answers};
@@ -16,7 +16,7 @@ use asn1_core::{
 use std::alloc::{AllocError, Global};
 use std::fmt;
 
-/// Whether the padding is right: at most 7 bits, none where there is no octet, and those bits of the last octet are zero.
+/// Whether the unused bits are right: at most 7, none where there is no octet, and those of the last octet are zero.
 const fn has_padding(octets: &[u8], padding: u8) -> bool
     ensures { result ≡ is_padded padding octets.now }
 {
@@ -29,7 +29,11 @@ const fn has_padding(octets: &[u8], padding: u8) -> bool
     }
 }
 
-/// Bits, in octets that a read lends.
+/// BIT STRING (X.690 8.6, 11.2; universal 3), whose octets borrow from the input.
+///
+/// The contents octets are the number of unused bits, 0 to 7, and the octets. DER demands that the unused bits, the low
+/// ones of the last octet, are zero (11.2.1), and that an empty string has none. Reading rejects other contents octets
+/// with `InvalidValue`. Bits of a named list aren't looked at: zero bits at the end (11.2.2) are kept.
 #[derive(PartialEq, Eq, Hash, Drop)]
 pub struct BitString<'a> {
     octets: &'a [u8],
@@ -40,8 +44,8 @@ pub struct BitString<'a> {
 impl<'a> BitString<'a> {
     ghost use Rattle.asn1_values.specs.BitStrings.{bits_of};
 
-    /// The bits of these octets but for the padding, the low bits of the last. `None` where the padding is above 7 bits,
-    /// or not all zero, or there is some and no octet.
+    /// The bits of `octets` but for the last `padding`, which are unused. `None` where `padding` is above 7, or isn't 0
+    /// for an empty string, or one of the unused bits is set.
     pub const fn new(octets: &'a [u8], padding: u8) -> Option<BitString<'a>>
         ensures { MatchOption result (¬ IsBits (bits octets.entry.now padding)) (λ b. bits_of b ≡ bits octets.entry.now padding) }
     {
@@ -51,21 +55,22 @@ impl<'a> BitString<'a> {
         Some(BitString { octets, padding })
     }
 
-    /// The octets, padding included.
+    /// The octets, unused bits included.
     pub fn as_bytes(&self) -> &'a [u8]
         ensures { result.now ≡ (bits_of self.now).octets }
     {
         self.octets
     }
 
-    /// How many low bits of the last octet are padding.
+    /// How many low bits of the last octet are unused: 0 to 7.
     pub fn padding_bits(&self) -> u8
         ensures { result ≡ (bits_of self.now).padding }
     {
         self.padding
     }
 
-    /// Whether a bit is set: bit 0 is the top bit of the first octet. Padding and bits past the end are not.
+    /// Whether the bit with the index `n` is set. Bit 0 is the top bit of the first octet (8.6.2). False for unused
+    /// bits and from the end on.
     pub fn has_bit_set(&self, n: usize) -> bool
         ensures { result ≡ has_bit (bits_of self.now) n }
     {
@@ -77,7 +82,7 @@ impl<'a> BitString<'a> {
     }
 }
 
-/// Takes no memory.
+/// Takes no memory, and never fails.
 impl<'a> Clone for BitString<'a> {
     ghost use Rattle.asn1_values.specs.BitStrings.{bits_of};
 
@@ -162,7 +167,9 @@ impl SimpleAsn1Writable for BitString<'_> {
     }
 }
 
-/// Bits, in octets of its own.
+/// BIT STRING (X.690 8.6, 11.2; universal 3), which owns its octets. It is read and written as [`BitString`] is;
+/// reading allocates only after the contents octets were found right, and returns `AllocationError` where out of
+/// memory.
 #[derive(PartialEq, Eq, Hash, Drop)]
 pub struct OwnedBitString {
     octets: Vec<u8>,
@@ -173,8 +180,8 @@ pub struct OwnedBitString {
 impl OwnedBitString {
     ghost use Rattle.asn1_values.specs.BitStrings.{bits_of, owned_bits_of};
 
-    /// The bits of these octets but for the padding, the low bits of the last. `None` where the padding is above 7 bits,
-    /// or not all zero, or there is some and no octet.
+    /// The bits of `octets` but for the last `padding`, which are unused. `None` where `padding` is above 7, or isn't 0
+    /// for an empty string, or one of the unused bits is set.
     pub fn new(octets: Vec<u8>, padding: u8) -> Option<OwnedBitString>
         ensures { MatchOption result (¬ IsBits (bits octets.items padding)) (λ b. owned_bits_of b ≡ bits octets.items padding) }
     {
@@ -195,7 +202,7 @@ impl OwnedBitString {
     }
 }
 
-/// A copy wants memory, and answers so.
+/// Allocates; returns `AllocError` where out of memory.
 impl Clone for OwnedBitString {
     ghost use Rattle.asn1_values.specs.BitStrings.{owned_bits_of};
 

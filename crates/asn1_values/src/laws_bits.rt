@@ -23,7 +23,7 @@ pub fn bits_are_a_list()
     ensures { BitsAreAList }
 {}
 
-/// Octets that are filled by a list of bits and the padding are a bit string.
+/// Octets that are filled by a list of bits and then zero bits, fewer than eight, are a bit string.
 pub fn filled_octets_are_bits()
     ensures { FilledOctetsAreBits }
 {}
@@ -38,13 +38,13 @@ pub fn one_bit_string()
     ensures { OneBitString }
 {}
 
-/// A bit is set exactly where its place is in the list, and set there.
+/// A bit is set exactly where its index is in the list, and set there.
 pub fn set_bits()
     ensures { SetBits }
 {}
 
-/// A `BitString` is equal to another exactly where both their octets and their paddings are the same, and then both
-/// hash alike. A clone never fails, and equals its source.
+/// A `BitString` is equal to another exactly where both their octets and their numbers of unused bits are the same, and
+/// then both hash alike. A clone never fails, and equals its source.
 pub fn bit_strings_compare()
     ensures equality { IsEqualityOf bits_of ⟦<BitString<'static> as PartialEq>⟧.eq }
     ensures hash { HashesAlike bits_of ⟦<BitString<'static> as Hash>⟧.hash_input }
@@ -53,8 +53,8 @@ pub fn bit_strings_compare()
     ensures infallible { NeverFails ⟦<BitString<'static> as Clone>⟧.is_infallible }
 {}
 
-/// An `OwnedBitString` is equal to another exactly where both their octets and their paddings are the same, and then
-/// both hash alike. A clone equals its source.
+/// An `OwnedBitString` is equal to another exactly where both their octets and their numbers of unused bits are the
+/// same, and then both hash alike. A clone equals its source.
 pub fn owned_bit_strings_compare()
     ensures equality { IsEqualityOf owned_bits_of ⟦<OwnedBitString as PartialEq>⟧.eq }
     ensures hash { HashesAlike owned_bits_of ⟦<OwnedBitString as Hash>⟧.hash_input }

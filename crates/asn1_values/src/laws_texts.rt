@@ -1,4 +1,5 @@
-//! Laws of texts: how they compare, and what clones are. Each is the contract of a function that does nothing.
+//! Laws of character strings: how they compare, and what clones are. Each is the contract of a function that does
+//! nothing.
 
 ghost use Rattle.asn1_values.specs.Comparisons.{
   ClonesAreEqual,

@@ -1,4 +1,4 @@
-//! Identifiers of objects: lists of numbers (X.690 8.19), and their texts in decimal.
+//! OBJECT IDENTIFIER (X.690 8.19), and its dotted form in decimal.
 
 ghost use Rattle.std.specs.Prelude.{⊤, ◌≡◌, ◌+◌, ◌<◌, ◌≤◌, ◌^◌, ◌++◌, IfSome, drop, ◌∷◌, None, option_map, length, true, Some, take, is_some, Ok, Err, MatchOption};
 ghost use Rattle.asn1_core.specs.declared.parser.ParseErrorKind.{ParseErrorKind};
@@ -20,17 +20,17 @@ use asn1_core::{
 use std::alloc::{AllocError, Global};
 use std::fmt;
 
-/// How many octets the longest content has.
+/// How many contents octets there are at most.
 const MAX_OCTETS: usize = 63;
 
-/// The number in front of the octets, and what follows it. `None` where they begin with no number.
+/// The number in base 128 at the start of the octets, and the remaining octets. `None` where there is none.
 fn number_before(octets: &[u8]) -> Option<(u128, &[u8])>
     ensures { MatchOption result ((kind : ParseErrorKind) × (number_front octets.now ≡ Err kind)) (λ x. number_front octets.now ≡ Ok (x.0, x.1.now)) }
 {
     base128::read(octets).ok()
 }
 
-/// The number in front of the octets, which are texts of numbers, joined, and what follows it.
+/// The number at the start of the octets, which are a concatenation of numbers in base 128, and the remaining octets.
 fn first_number(octets: &[u8]) -> (u128, &[u8])
     requires some { 0 < length octets.now }
     requires numbers { is_some (numbers_in octets.now) ≡ true }
@@ -42,7 +42,7 @@ fn first_number(octets: &[u8]) -> (u128, &[u8])
     }
 }
 
-/// Whether the octets are texts of numbers, joined.
+/// Whether the octets are a concatenation of numbers in base 128.
 fn are_numbers(octets: &[u8]) -> bool
     ensures { result ≡ is_some (numbers_in octets.now) }
 {
@@ -56,7 +56,7 @@ fn are_numbers(octets: &[u8]) -> bool
     true
 }
 
-/// The number of a part of a text.
+/// The number of a part between dots.
 fn part_number(part: &str) -> Option<u128>
     ensures { result ≡ part_number part.now }
 {
@@ -66,7 +66,7 @@ fn part_number(part: &str) -> Option<u128>
     }
 }
 
-/// The number in front of a text, and what follows its dot, where there is one.
+/// The number at the start of a dotted form, and what follows its dot, where there is one.
 fn next_part(text: &str) -> Option<(u128, Option<&str>)>
     ensures value { MatchOption result (text_numbers text.now ≡ None) (λ x. text_numbers text.now ≡ option_map (λ numbers. x.0 ∷ numbers) (left_numbers x.1)) }
     ensures shorter { IfSome result (λ x. left_size x.1 ≤ length text.now) }
@@ -84,7 +84,7 @@ fn next_part(text: &str) -> Option<(u128, Option<&str>)>
     }
 }
 
-/// The first number of an identifier, by the first two that are shown.
+/// The first encoded number, by the first two of the dotted form (8.19.4).
 fn first_of(first: u128, second: u128) -> Option<u128>
     ensures { result ≡ first_of first second }
 {
@@ -97,7 +97,11 @@ fn first_of(first: u128, second: u128) -> Option<u128>
     (40 * first).checked_add(second)
 }
 
-/// An identifier of an object: one or more numbers, each below 2^128, whose content has at most 63 octets.
+/// OBJECT IDENTIFIER (X.690 8.19; universal 6).
+///
+/// Its contents octets are one or more numbers in base 128, each in the fewest octets. The first number stands for the
+/// first two of the identifier (8.19.4). Here a number is below 2^128, and there are 1 to 63 contents octets, which are
+/// copied and kept in place. Reading rejects more with `OidTooLong`, and other contents octets with `InvalidValue`.
 #[derive(PartialEq, Eq, Hash, Drop)]
 pub struct ObjectIdentifier {
     octets: [u8; 63],
@@ -105,8 +109,8 @@ pub struct ObjectIdentifier {
     pub ghost is_content: { IsIdentifierForm octets count },
 }
 
-/// Puts the text of a number behind the first `count` octets, and answers how many octets there are then. `None` where
-/// there is no room for it.
+/// Puts the encoding of a number after the first `count` octets, and returns how many octets there are then. `None`
+/// where there is no room for it.
 fn append_number(octets: &mut [u8; 63], count: usize, number: u128) -> Option<usize>
     requires { count ≤ 63 }
     ensures { MatchOption result (63 < count + length (number_text number)) (λ total. (total ≡ count + length (number_text number)) × (total ≤ 63) × (octets.new ≡ take count octets.old ++ (number_text number ++ drop (length (number_text number)) (drop count octets.old)))) }
@@ -118,7 +122,7 @@ fn append_number(octets: &mut [u8; 63], count: usize, number: u128) -> Option<us
 impl ObjectIdentifier {
     ghost use Rattle.asn1_values.specs.IdentifierValues.{identifier_octets, identifier_of};
 
-    /// The identifier with this first number, and with those of the text behind it.
+    /// The identifier with this first encoded number, and with those of the dotted form after it.
     fn with_others(first: u128, mut rest: Option<&str>) -> Option<ObjectIdentifier>
         ensures { option_map identifier_of result ≡ and_then (option_map (λ numbers. first ∷ numbers) (left_numbers rest.entry)) if_few }
     {
@@ -135,9 +139,12 @@ impl ObjectIdentifier {
         })
     }
 
-    /// The identifier of a text: two numbers or more, in decimal, with dots between them, of which the first two stand for
-    /// one. A plus sign may stand in front of a number. `None` for any other text, where a number is 2^128 or more, and
-    /// where the content would have more than 63 octets.
+    /// The identifier with this dotted form: two or more decimal numbers with dots between them, such as
+    /// `1.2.840.113549`. The first is 0, 1 or 2, and the second below 40 where the first is 0 or 1. As in Rust's
+    /// numbers, a plus sign or zeros may be in front of each.
+    ///
+    /// `None` for any other string; where a number, or the second with 40 times the first, is 2^128 or more; and where
+    /// there would be more than 63 contents octets.
     pub fn from_string(text: &str) -> Option<ObjectIdentifier>
         ensures { option_map identifier_of result ≡ read_dotted text.now }
     {
@@ -147,8 +154,9 @@ impl ObjectIdentifier {
         ObjectIdentifier::with_others(number, rest)
     }
 
-    /// The identifier with this content. `OidTooLong` where there are more than 63 octets, else `InvalidValue` where they
-    /// are no numbers in base 128, or none.
+    /// The identifier with these contents octets. Errors: `OidTooLong` where there are more than 63; else
+    /// `InvalidValue` where there are none, or they aren't numbers in base 128, each below 2^128 and in the fewest
+    /// octets.
     #[inline(always)]
     pub fn from_der(octets: &[u8]) -> ParseResult<ObjectIdentifier>
         ensures { Answers identifier_of (λ _. ⊥) result (read_identifier octets.now) }
@@ -167,7 +175,9 @@ impl ObjectIdentifier {
         })
     }
 
-    /// The identifier whose content stands in front of the octets, with zeros behind it.
+    /// The identifier whose contents octets are the first `count` of `octets`. The caller has to prove that these are
+    /// contents octets of an identifier, 1 to 63, and that those after them are zero (`requires`); nothing is tested at
+    /// run time.
     pub const fn from_der_unchecked(octets: [u8; 63], count: u8) -> ObjectIdentifier
         requires { IsIdentifierForm octets count }
         ensures { identifier_of result ≡ identifier_numbers (take count octets) }
@@ -175,7 +185,7 @@ impl ObjectIdentifier {
         ObjectIdentifier { octets, count }
     }
 
-    /// The content: 1 to 63 octets.
+    /// The contents octets: 1 to 63.
     pub fn as_der(&self) -> &[u8]
         ensures octets { result.now ≡ identifier_octets self.now }
         ensures content { result.now ≡ identifier_content (identifier_of self.now) }
@@ -185,6 +195,7 @@ impl ObjectIdentifier {
     }
 }
 
+/// Takes no memory, and never fails.
 impl Clone for ObjectIdentifier {
     ghost use Rattle.asn1_values.specs.IdentifierValues.{identifier_octets};
 
@@ -200,7 +211,7 @@ impl Clone for ObjectIdentifier {
     }
 }
 
-/// Shows the first number of an identifier, which stands for two.
+/// Shows the first encoded number of an identifier, which stands for two.
 fn show_first<W: fmt::Write>(first: u128, f: &mut fmt::Formatter<W>) -> fmt::Result
     ensures { DisplaysOnOk W.write_str_gives f.old result (Some (first_text first)) f.new }
 {
@@ -213,7 +224,7 @@ fn show_first<W: fmt::Write>(first: u128, f: &mut fmt::Formatter<W>) -> fmt::Res
     }
 }
 
-/// The numbers with dots between them; the first stands for two.
+/// Shows the dotted form.
 impl fmt::Display for ObjectIdentifier {
     ghost use Rattle.asn1_values.specs.IdentifierValues.{identifier_of};
 
@@ -231,7 +242,7 @@ impl fmt::Display for ObjectIdentifier {
     }
 }
 
-/// The numbers of an identifier, as its Debug text has them.
+/// The dotted form, as Debug has it.
 #[derive(Drop)]
 struct Numbers<'a>(&'a ObjectIdentifier);
 

@@ -1,4 +1,4 @@
-//! The answers to a text's lines.
+//! The answers to the lines of an input.
 
 ghost use Rattle.std.specs.Prelude.{◌≡◌, ◌++◌, IfOk, OnOk, OnErr, IsOkUnless};
 ghost use Rattle.std.specs.List.{list_all};
@@ -10,10 +10,10 @@ use crate::lines::next_line;
 use crate::replies::{Reply, push_reply, reply_to_line};
 use std::alloc::{AllocError, Global};
 
-/// What keeps a text from being answered.
+/// Why no answer could be given.
 #[derive(Debug, Clone, Copy, PartialEq, Eq)]
 pub enum Fault {
-    /// Memory ran out.
+    /// Out of memory.
     Memory,
     /// The input could not be read.
     Read,
@@ -47,9 +47,9 @@ fn answered(alloc: Global, input: &[u8]) -> Result<(Vec<u8>, bool), Fault>
     Ok((out, all_ok))
 }
 
-/// Appends one answer for each line of the input, and says whether each is `ok`.
+/// Appends one answer for each line of the input to `out`, each with a line feed, and returns whether each is `ok`.
 ///
-/// `Memory` where memory runs out, and then nothing is appended.
+/// The error is `Memory`, where out of memory, and then nothing is appended.
 pub fn check(alloc: Global, input: &[u8], out: &mut Vec<u8>) -> Result<bool, Fault>
     ensures ok { OnOk result (out.new.items ≡ out.old.items ++ answers input.now) }
     ensures all_ok { IfOk result (λ all_ok. all_ok ≡ list_all is_ok_line (lines_of input.now)) }

@@ -1,4 +1,4 @@
-//! The lines of elements, of what is missing, and of faults. They are made in an array, and put together.
+//! The lines of elements, of what is missing, and of errors. They are made in an array, and put together.
 
 ghost use Rattle.std.specs.Prelude.{◌≡◌, ◌+◌, ◌≤◌, ◌*◌, ◌++◌, [], length, codes, decimal};
 ghost use Rattle.hex.specs.Hex.{encode_lower};
@@ -11,13 +11,13 @@ use crate::stream::{MAX_PULL, Sink};
 use asn1::ParseErrorKind;
 use itoa::Buffer;
 
-/// The digits of the longest number.
+/// How many digits the longest number has.
 const MAX_DIGITS: usize = 20;
 
-/// The octets of the longest line: a tag in hex, a space, a number and a line feed.
+/// How many octets the longest line has: a tag in hex, a space, a number and a line feed.
 pub const MAX_LINE: usize = 2 * MAX_HEADER + MAX_DIGITS + 2;
 
-/// The octets of the longest lines of a pull: each of its octets completes one element at most.
+/// How many octets the lines of a pull have at most: each of its octets completes one element at most.
 pub const MAX_LINES: usize = MAX_PULL * MAX_LINE;
 
 /// Lines, one after another.
@@ -86,7 +86,8 @@ impl Lines {
         self.push(digits.format(n).as_bytes());
     }
 
-    /// Appends the line of an element with these octets of its tag and so many of content.
+    /// Appends the line of an element with these identifier octets and so many contents octets. The caller has to prove
+    /// that a longest line has room (`requires`).
     pub fn push_element(&mut self, tag: &[u8], count: usize)
         requires tag { length tag.now ≤ MAX_HEADER }
         requires room { self.old.count + MAX_LINE ≤ MAX_LINES }
@@ -99,7 +100,7 @@ impl Lines {
         self.push(b"\n");
     }
 
-    /// Appends the line of a rest that needs so many octets more.
+    /// Appends the line of remaining octets that need so many more.
     fn push_short(&mut self, needed: usize)
         requires { self.old.count + MAX_LINE ≤ MAX_LINES }
         ensures { line_octets self.new ≡ line_octets self.old ++ (codes "short " ++ decimal needed ++ codes "\n") }
@@ -109,7 +110,8 @@ impl Lines {
         self.push(b"\n");
     }
 
-    /// Appends the line of a fault. Framing answers no other kinds.
+    /// Appends the line of an error of framing, which is `InvalidTag` or `InvalidLength`. The caller has to prove that
+    /// a longest line has room (`requires`).
     pub fn push_fault(&mut self, kind: ParseErrorKind)
         requires { self.old.count + MAX_LINE ≤ MAX_LINES }
         ensures { line_octets self.new ≡ line_octets self.old ++ fault_line kind }
@@ -129,7 +131,7 @@ impl Lines {
     }
 }
 
-/// Puts all the octets; false where the sink failed.
+/// Puts all the octets. False where the sink failed, which then has a prefix of them.
 pub fn put_all<W: Sink>(sink: &mut W, octets: &[u8]) -> bool
     ensures { Puts result (W.held sink.old) (W.held sink.new) (W.has_failed sink.old) (W.has_failed sink.new) octets.now }
 {
@@ -143,7 +145,7 @@ pub fn put_all<W: Sink>(sink: &mut W, octets: &[u8]) -> bool
     true
 }
 
-/// Puts the line of a rest that needs so many octets more.
+/// Puts the line of remaining octets that need so many more. False where the sink failed.
 pub fn put_short<W: Sink>(sink: &mut W, needed: usize) -> bool
     ensures { Puts result (W.held sink.old) (W.held sink.new) (W.has_failed sink.old) (W.has_failed sink.new) (codes "short " ++ decimal needed ++ codes "\n") }
 {

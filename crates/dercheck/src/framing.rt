@@ -9,21 +9,23 @@ use crate::frame_lines::{Lines, put_all};
 use crate::pending::Pending;
 use crate::stream::{MAX_PULL, Sink, Source};
 
-/// Writes a line for each element of the stream: its tag's octets in hex, and its content's length in decimal.
+/// Writes a line for each element of the stream: its identifier octets in hex, and the number of its contents octets in
+/// decimal.
 ///
-/// The lines of what a pull gave are put together, before the next octets are asked for. At the end a last line says how many octets the
-/// rest still needs, where there is one; at a fault a last line names it, and no more is read. Of what was read then,
-/// all but the last 256 octets hold no fault. The answer is whether the stream is a join of whole elements.
+/// The lines of what a pull gave are put together, before the next octets are asked for. At the end a last line says
+/// how many octets the remaining ones still need, where there are any; at an error of framing a last line names it, and
+/// no more is read. Of what was read then, all but the last 256 octets hold no error. The result is whether the stream
+/// is a concatenation of whole elements.
 ///
-/// `Read` where the source fails: the lines of the elements that it gave are written, and nothing else. `Write` where
-/// the sink fails: it holds a beginning of the lines. Never `Memory`: none is taken.
+/// Errors: `Read` where the source fails: the lines of the elements that it gave are written, and nothing else. `Write`
+/// where the sink fails: it has a prefix of the lines. Never `Memory`: none is taken.
 pub fn frames<R: Source, W: Sink>(r: &mut R, w: &mut W) -> Result<bool, Fault>
-    // The lines of the framing of what was read were written: of all, or of a front with a fault near its end.
+    // The lines of the framing of what was read were written: of all, or of a prefix with an error near its end.
     ensures ok { IfOk result (λ whole. Framed (R.left r.old) (R.left r.new) (W.held w.old) (W.held w.new) whole) }
     ensures end { result ≡ Ok true → IsAtEnd (R.left r.new) }
     // The lines of each element that was read were written, and nothing else.
     ensures read { result ≡ Err Fault.Read → FramedSoFar (R.left r.old) (R.left r.new) (W.held w.old) (W.held w.new) }
-    // A beginning of the lines for what was read was written.
+    // A prefix of the lines for what was read was written.
     ensures write { result ≡ Err Fault.Write → FramedInPart (R.left r.old) (R.left r.new) (W.held w.old) (W.held w.new) }
     ensures source_failed { result ≡ Err Fault.Read → R.has_failed r.new ≡ true }
     ensures sink_failed { result ≡ Err Fault.Write → W.has_failed w.new ≡ true }

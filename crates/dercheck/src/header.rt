@@ -1,4 +1,4 @@
-//! What the octets of an unfinished header say.
+//! What the octets of an unfinished header say: of identifier and length octets.
 
 ghost use Rattle.std.specs.Prelude.{◌≡◌, ◌≤◌, List, ℕ, length, MatchOption, MatchResult};
 ghost use Rattle.asn1.specs.declared.Tag.{Tag};
@@ -7,27 +7,31 @@ ghost use Rattle.dercheck.specs.Pending.{HoldsLength, IsSplit, Needs, IsFault, S
 
 use asn1::{ParseErrorKind, Tag, strip_tlv};
 
-/// The octets of the longest header that is looked at: one that begins a tag, eighteen that go on with its number,
-/// and the one that decides.
+/// How many octets of the longest header are looked at: one that begins a tag, eighteen that go on with its number, and
+/// the one that decides.
 pub const MAX_HEADER: usize = 20;
 
 /// What the octets of a header say.
 pub enum Header {
-    /// The tag or the length octets go on, and framing needs so many octets.
+    /// The identifier or length octets go on.
     Open {
+        /// How many octets framing needs at least.
         needed: usize,
     },
-    /// Both are there: how many octets the tag has, and how many the content has and still needs.
+    /// Both are there.
     Whole {
+        /// How many identifier octets there are.
         tag: usize,
+        /// How many contents octets there are in all.
         length: usize,
+        /// How many of these are missing.
         needed: usize,
     },
     /// No element begins so.
     Faulty(ParseErrorKind),
 }
 
-/// How many octets the tag has, and how many stand behind the length octets, where these are all there.
+/// How many identifier octets there are, and how many octets follow the length octets, where these are all there.
 fn header_parts(octets: &[u8]) -> Option<(usize, usize)>
     ensures { MatchOption result
         ((tag : Tag) → (after : List ℕ) → tag_front octets.now ≡ Ok (tag, after) → ¬ HoldsLength after)
@@ -46,7 +50,7 @@ fn header_parts(octets: &[u8]) -> Option<(usize, usize)>
     Some((octets.len() - after.len(), after.len() - 1 - further))
 }
 
-/// How many octets framing needs behind these, or its fault.
+/// How many octets framing needs after these, or its error.
 fn needed_behind(octets: &[u8]) -> Result<usize, ParseErrorKind>
     ensures { MatchResult result (Needs octets.now) (IsFault octets.now) }
 {
@@ -59,7 +63,8 @@ fn needed_behind(octets: &[u8]) -> Result<usize, ParseErrorKind>
     }
 }
 
-/// What the octets say, which are a header, or one that goes on.
+/// What the octets say, which are a header, or one that goes on. The caller has to prove that they are at most
+/// [`MAX_HEADER`] (`requires`).
 pub fn read_header(octets: &[u8]) -> Header
     requires { length octets.now ≤ MAX_HEADER }
     ensures { Says result octets.now }

@@ -1,4 +1,4 @@
-//! The kinds of faults as text.
+//! The kinds of errors as lines have them.
 
 ghost use Rattle.std.specs.Prelude.{◌≡◌, ◌++◌, ◌∷◌, codes, decimal, OnOk};
 ghost use Rattle.dercheck.specs.Kinds.{kind_name, kind_text, class_text, form_text};
@@ -7,6 +7,7 @@ use asn1::{ParseErrorKind, TagClass};
 use itoa::Buffer;
 use std::alloc::AllocError;
 
+/// The kind's name.
 fn kind_name(kind: ParseErrorKind) -> &'static [u8]
     ensures { result.now ≡ kind_name kind }
 {
@@ -27,6 +28,7 @@ fn kind_name(kind: ParseErrorKind) -> &'static [u8]
     }
 }
 
+/// The name of a class.
 fn class_text(class: TagClass) -> &'static [u8]
     ensures { result.now ≡ class_text class }
 {
@@ -38,6 +40,7 @@ fn class_text(class: TagClass) -> &'static [u8]
     }
 }
 
+/// The name of a form.
 fn form_text(constructed: bool) -> &'static [u8]
     ensures { result.now ≡ form_text constructed }
 {
@@ -64,7 +67,7 @@ fn push_number(out: &mut Vec<u8>, number: usize) -> Result<(), AllocError>
     push_word(out, buffer.format(number).as_bytes())
 }
 
-/// Appends the kind's name and what it says more.
+/// Appends the kind's name and its details, with a space before each. `AllocError` where out of memory.
 pub fn push_kind(out: &mut Vec<u8>, kind: ParseErrorKind) -> Result<(), AllocError>
     ensures { OnOk result (out.new.items ≡ out.old.items ++ kind_text kind) }
 {

@@ -3,7 +3,7 @@
 ghost use Rattle.dercheck.specs.Frames.{EachTextHasAFraming, TextsHaveOneFraming};
 ghost use Rattle.dercheck.specs.Laws.{LinesAreRight, RequestsAreRight, BadLinesAreBad, ValuesAreOk, OkLinesAreOk, FaultsAreErr};
 
-/// The lines of a text hold no line feed, and the text is the lines each with a line feed behind it, but for a last
+/// The lines of an input hold no line feed, and the input is the lines each with a line feed after it, but for a last
 /// line feed that may be missing. No other lines are so.
 pub fn lines_are_right()
     ensures { LinesAreRight }
@@ -11,8 +11,8 @@ pub fn lines_are_right()
 
 /// A line is answered by its form.
 ///
-/// Where it is no request it is a bad line. A request is answered `ok` exactly where its octets are the text of a value
-/// of the type, and else by the fault.
+/// Where it is no request it is a bad line. A request is answered `ok` exactly where its octets are the encoding of a
+/// value of the type, and else by the error.
 pub fn answers_are_right()
     ensures requests { RequestsAreRight }
     ensures bad { BadLinesAreBad }
@@ -21,7 +21,7 @@ pub fn answers_are_right()
     ensures err { FaultsAreErr }
 {}
 
-/// Each text has a framing, and no other.
+/// Each input has a framing, and no other.
 pub fn one_framing()
     ensures some { EachTextHasAFraming }
     ensures one { TextsHaveOneFraming }

@@ -1,16 +1,16 @@
-//! Texts in parts: lines, and what stands round the first of an octet.
+//! Octets in parts: lines, and what is around the first octet of a value.
 
 ghost use Rattle.std.specs.Prelude.{◌≡◌, ◌∷◌, ◌<◌, ◌==◌, [], length, position, IfNone, IfSome};
 ghost use Rattle.dercheck.specs.Lines.{split_once, lines_of, option_split};
 
-/// The place of the first octet of that value.
+/// The index of the first octet of that value.
 fn place_of(text: &[u8], octet: u8) -> Option<usize>
     ensures { result ≡ position (λ next. next == octet) text.now }
 {
     text.iter().position(|next| *next == octet)
 }
 
-/// What stands before and behind the first octet of that value, where there is one.
+/// What is before and after the first octet of that value, where there is one.
 pub(crate) fn split_once(text: &[u8], octet: u8) -> Option<(&[u8], &[u8])>
     ensures { option_split result ≡ split_once octet text.now }
 {
@@ -18,7 +18,7 @@ pub(crate) fn split_once(text: &[u8], octet: u8) -> Option<(&[u8], &[u8])>
     Some((&text[..at], &text[at + 1..]))
 }
 
-/// The first line of the text, and what follows it.
+/// The first line, and what follows it.
 pub(crate) fn next_line(text: &[u8]) -> Option<(&[u8], &[u8])>
     ensures none { IfNone result (text.now ≡ []) }
     ensures line { IfSome result (λ found. lines_of text.now ≡ found.0.now ∷ lines_of found.1.now) }

@@ -5,7 +5,7 @@ ghost use Rattle.dercheck.specs.Streams.{FlagFollows, PullTakes, PutAppends};
 
 use crate::stream::{Sink, Source};
 
-/// Two slices, given one after the other.
+/// A source of two slices, given one after the other, which may fail at their end.
 #[derive(Drop)]
 pub struct Pieces<'a> {
     first: &'a [u8],
@@ -19,7 +19,8 @@ pub struct Pieces<'a> {
 impl<'a> Pieces<'a> {
     ghost use Rattle.dercheck.specs.InMemory.{pieces_left, piece_of, fails_at_end, pieces_failed};
 
-    /// The octets of `first`, then of `second`, at most `piece` a call; at their end a call fails where `fails`.
+    /// The octets of `first`, then of `second`, at most `piece` a call. At their end a call fails where `fails` is
+    /// true, and else gives none. The caller has to prove that `piece` isn't 0 (`requires`).
     pub fn new(first: &'a [u8], second: &'a [u8], piece: usize, fails: bool) -> Self
         requires { 0 < piece }
         ensures left { pieces_left result ≡ first.now ++ second.now }
@@ -82,7 +83,7 @@ impl Source for Pieces<'_> {
     }
 }
 
-/// A sink of at most 256 octets.
+/// A sink that keeps at most 256 octets, and fails where it is given more.
 #[derive(Drop)]
 pub struct Held {
     octets: [u8; 256],
@@ -96,7 +97,7 @@ pub struct Held {
 impl Held {
     ghost use Rattle.dercheck.specs.InMemory.{held_octets, room_left, held_failed};
 
-    /// An empty sink that keeps `room` octets.
+    /// An empty sink that keeps `room` octets. The caller has to prove that these are at most 256 (`requires`).
     pub fn new(room: usize) -> Self
         requires { room ≤ 256 }
         ensures empty { held_octets result ≡ [] }
@@ -111,7 +112,7 @@ impl Held {
         }
     }
 
-    /// The octets held.
+    /// The octets that it keeps.
     pub fn held(&self) -> &[u8]
         ensures { result.now ≡ held_octets self.now }
     {

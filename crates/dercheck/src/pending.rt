@@ -9,7 +9,7 @@ use crate::header::{Header, MAX_HEADER, read_header};
 use crate::stream::{MAX_PULL, Sink};
 use asn1::ParseErrorKind;
 
-/// What octets more made of an unfinished element.
+/// What more octets made of an unfinished element.
 pub enum Progress {
     /// It needs still more.
     GoesOn,
@@ -19,10 +19,10 @@ pub enum Progress {
     Fails(ParseErrorKind),
 }
 
-/// An unfinished element. Its content is counted and not kept.
+/// An unfinished element. Its contents octets are counted and not kept.
 #[derive(Drop)]
 pub struct Pending {
-    // The header while it goes on, and then the tag, which the element's line tells.
+    // The header while it goes on, and then the identifier octets, which the element's line tells.
     octets: [u8; MAX_HEADER],
     count: usize,
     in_content: bool,
@@ -84,7 +84,7 @@ impl Pending {
         }
     }
 
-    /// Takes so many octets of the content.
+    /// Takes so many of the contents octets.
     fn take_content(&mut self, count: usize) -> Progress
         requires stage { self.old.in_content ≡ true }
         requires within { count ≤ self.old.needed }
@@ -97,7 +97,7 @@ impl Pending {
         Progress::GoesOn
     }
 
-    /// Takes some of the octets, from the front, and answers how many.
+    /// Takes some of the octets, from the first on, and returns how many.
     fn advance(&mut self, octets: &[u8]) -> (usize, Progress)
         requires { 0 < length octets.now }
         ensures some { 0 < result.0 }
@@ -112,8 +112,9 @@ impl Pending {
         }
     }
 
-    /// Takes the octets of a pull, and makes the lines of the elements that they complete. The answer is false where
-    /// they hold a fault, whose line is then made too.
+    /// Takes the octets of a pull, and makes the lines of the elements that they complete. False where they hold an
+    /// error of framing, whose line is then made too. The caller has to prove that the octets are those of one pull at
+    /// most, and that there are no lines yet (`requires`).
     pub fn take_octets(&mut self, octets: &[u8], lines: &mut Lines) -> bool
         requires few { length octets.now ≤ MAX_PULL }
         requires room { lines.old.count ≡ 0 }
@@ -139,7 +140,8 @@ impl Pending {
         true
     }
 
-    /// Writes what is missing at the end of the input. The answer is true where nothing is pending.
+    /// Writes what is missing at the end of the input. True where nothing is pending. The error is `Write`, where the
+    /// sink fails.
     pub fn finish<W: Sink>(&self, sink: &mut W) -> Result<bool, Fault>
         ensures answer { IfOk result (λ whole. (text : List ℕ) → Stands self.now text → (IsTrue whole ↔ (text ≡ []))) }
         ensures line { OnOk result ((text : List ℕ) → Stands self.now text → Appends (W.held sink.old) (W.held sink.new) (end_line text)) }

@@ -6,8 +6,8 @@ ghost use Rattle.dercheck.specs.Program.{mode_of, status_of};
 use crate::answers::Fault;
 use crate::modes::Mode;
 
-/// The mode that the words behind the program's name ask for: `Check` for none, `Frames` for the one word `frames`.
-/// Others ask for nothing that is known.
+/// The mode that the words after the program's name ask for: `Check` for none, `Frames` for the one word `frames`.
+/// `None` for other arguments, which are unknown.
 pub fn mode(args: &[String]) -> Option<Mode>
     ensures { result ≡ mode_of args.now }
 {
@@ -18,8 +18,8 @@ pub fn mode(args: &[String]) -> Option<Mode>
     }
 }
 
-/// The status that the program ends with: 0 where each answer is `ok`, 1 where one isn't, and 2 where the text was not
-/// answered.
+/// The status that the program ends with: 0 where each answer is `ok`, 1 where one isn't, and 2 where there was no
+/// answer: the arguments were unknown (`None`), or it failed.
 pub fn status(answer: Option<Result<bool, Fault>>) -> u8
     ensures { result ≡ status_of answer }
 {

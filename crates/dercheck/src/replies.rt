@@ -21,9 +21,9 @@ use std::alloc::{AllocError, Global};
 pub(crate) enum Reply {
     /// The line has not the form of a request.
     BadLine,
-    /// The octets are no text of the type.
+    /// The octets are not the encoding of a value of the type.
     Refused(ParseErrorKind),
-    /// The octets are the text of a value, which is written as these.
+    /// The octets are the encoding of a value, which is written as these.
     Written(Vec<u8>),
 }
 
@@ -46,7 +46,7 @@ fn reply_as<'a, T: Asn1Readable<'a> + Asn1Writable<Error = WriteError>>(
     }
 }
 
-/// The reply to octets that are to be a text of the word's type. `Memory` where there is no room.
+/// The reply to octets that should be an encoding of the word's type. `Memory` where there is no room.
 fn reply_to_octets(alloc: Global, word: Word, octets: &[u8]) -> Result<Reply, Fault>
     ensures ok { IfOk result (IsReply octets.entry.now (reading word octets.entry.now)) }
     ensures error { IsOkUnless result Fault.Memory }
@@ -97,7 +97,7 @@ pub(crate) fn reply_to_line(alloc: Global, line: &[u8]) -> Result<Reply, Fault>
     }
 }
 
-/// Appends the reply's text and a line feed.
+/// Appends the reply's line, with its line feed.
 pub(crate) fn push_reply(alloc: Global, out: &mut Vec<u8>, reply: &Reply) -> Result<(), AllocError>
     ensures { OnOk result (out.new.items ≡ out.old.items ++ (reply_text reply.now ++ 10 ∷ [])) }
 {

@@ -17,8 +17,8 @@ pub trait Source {
     // At least as many octets as it can still give.
     ghost bound: { Self → ℕ };
 
-    /// Gives octets at the front of `buf`, and answers how many. Where `buf` has room, none means the end. `None` is a
-    /// failure, and then nothing is given.
+    /// Puts the next octets at the start of `buf`, and returns how many. Where `buf` has room, 0 means the end. `None`
+    /// is a failure, and then no octet of the stream is taken.
     fn pull(&mut self, buf: &mut [u8]) -> Option<usize>
         ensures within { IfSome result (λ n. n ≤ length buf.new) }
         ensures octets { PullTakes (left self.old) (left self.new) result buf.new }
@@ -38,8 +38,8 @@ pub trait Sink {
     // Whether it has failed.
     ghost has_failed: { Self → Bool };
 
-    /// Appends octets from the front, and answers how many: at least one, where there are any. `None` is a failure, and
-    /// then nothing is appended.
+    /// Appends the first of the octets, and returns how many: at least one, where there are any. `None` is a failure,
+    /// and then nothing is appended.
     fn put(&mut self, octets: &[u8]) -> Option<usize>
         ensures within { IfSome result (λ n. n ≤ length octets.now) }
         ensures some { IfSome result (λ n. 0 < length octets.now → 0 < n) }

@@ -1,4 +1,4 @@
-//! The words of a line's types, and what a line asks.
+//! The type names of a line, and a line as a request.
 
 ghost use Rattle.std.specs.Prelude.{◌≡◌, IfOk, IsOkUnless};
 ghost use Rattle.dercheck.specs.Words.{word_text, word_of};
@@ -34,7 +34,7 @@ pub(crate) enum Word {
     U64,
     /// `int`: an integer of any length.
     Int,
-    /// `uint`: one that isn't negative.
+    /// `uint`: an integer of any length that isn't negative.
     Uint,
     /// `enum`: an enumerated value.
     Enum,
@@ -44,17 +44,17 @@ pub(crate) enum Word {
     Octets,
     /// `bits`: a bit string.
     Bits,
-    /// `utf8`: a text in UTF-8.
+    /// `utf8`: a character string in UTF-8.
     Utf8,
-    /// `printable`: a text of letters, digits and some signs.
+    /// `printable`: a character string of letters, digits and some signs.
     Printable,
-    /// `ia5`: a text in ASCII.
+    /// `ia5`: a character string in ASCII.
     Ia5,
-    /// `visible`: a text of visible characters and spaces in ASCII.
+    /// `visible`: a character string of visible characters and spaces in ASCII.
     Visible,
-    /// `bmp`: a text in UTF-16.
+    /// `bmp`: a character string in UTF-16.
     Bmp,
-    /// `universal`: a text in UTF-32.
+    /// `universal`: a character string in UTF-32.
     Universal,
     /// `oid`: an object identifier.
     Oid,
@@ -109,7 +109,7 @@ impl Word {
         Word::SetOfInt,
     ];
 
-    /// The word as a line has it.
+    /// The name as a line has it.
     fn text(self) -> &'static [u8]
         ensures { result.now ≡ word_text self }
     {
@@ -147,7 +147,7 @@ impl Word {
         }
     }
 
-    /// The word with that text.
+    /// The word with that name.
     fn named(text: &[u8]) -> Option<Word>
         ensures { result ≡ word_of text.now }
     {

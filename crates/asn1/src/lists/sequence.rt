@@ -1,4 +1,4 @@
-//! A sequence whose content is read by the caller (X.690 8.9).
+//! SEQUENCE (X.690 8.9), whose contents octets are read by the caller.
 
 ghost use Rattle.std.specs.Prelude.{◌≡◌, List, ℕ, length, Ok, Result, Some};
 ghost use Rattle.std.specs.Fn.{FnOnceReturnsAtMut};
@@ -15,10 +15,10 @@ use asn1_core::{
 };
 use std::alloc::Global;
 
-/// A `SEQUENCE` as it stands: its contents octets, whatever they are. They are read by [`Sequence::parse`], and written as
-/// they were read.
+/// SEQUENCE (X.690 8.9; universal 16, constructed) as it is encoded: its contents octets, whatever they are, borrowed
+/// from the input. They are read by [`Sequence::parse`], and written as they were read.
 ///
-/// Reading one refuses no content and takes no memory. Two are equal where their contents octets are.
+/// Reading one rejects no contents octets and takes no memory. Two are equal where their contents octets are.
 #[derive(Clone, Copy, Debug, PartialEq, Eq, Hash)]
 pub struct Sequence<'a> {
     data: &'a [u8],
@@ -27,7 +27,8 @@ pub struct Sequence<'a> {
 impl<'a> Sequence<'a> {
     /// Reads the contents octets by `f`, as [`asn1_core::parse`] does.
     ///
-    /// An error of `f` is handed on; where `f` answers a value and leaves octets, the error is `ExtraData`, without a place.
+    /// Errors: one of `f` is returned as it is; where `f` returns a value and octets remain, the error is `ExtraData`,
+    /// without a location. The caller has to prove that `f` may always be called (`requires`).
     pub fn parse<T: Drop, E: From<ParseError> + Drop, F: Fn(&mut Parser<'a>) -> Result<T, E>>(
         self,
         alloc: Global,

@@ -1,4 +1,4 @@
-//! Lists of items of one type (X.690 8.10).
+//! SEQUENCE OF (X.690 8.10).
 
 ghost use Rattle.std.specs.Prelude.{◌≡◌, ◌<◌, ◌-◌, ◌==◌, List, ℕ, length, nat_eq, Ok, OnOk, OnErr, IfErr, Some};
 ghost use Rattle.std.specs.Iterator.{at_most};
@@ -26,19 +26,23 @@ use std::alloc::{AllocError, Global};
 use std::hash::{Hash, Hasher};
 use std::marker::PhantomData;
 
-/// A `SEQUENCE OF`, of `MINIMUM_LEN` to `MAXIMUM_LEN` items (both included), as an iterator over the items that are left.
+/// SEQUENCE OF (X.690 8.10; universal 16, constructed), of `MINIMUM_LEN` to `MAXIMUM_LEN` items (both included), as an
+/// iterator over the items that remain.
 ///
-/// Its value is the list of these items: what is written are their texts, and a list from which items were taken may have
-/// fewer than its bounds allow, so that its text is refused. Two lists are equal, and hash alike, where the octets left are
-/// the same, which they are exactly where the items are ([`crate::laws::equal_items`]). A clone takes no memory.
+/// Its value is the list of these items: what is written are their encodings, and a list from which items were taken
+/// may have fewer than its bounds allow, so that its encoding is rejected. Two lists are equal, and hash alike, where
+/// the remaining octets are the same, which they are exactly where the items are ([`crate::laws::equal_items`]). A
+/// clone takes no memory.
 ///
-/// Reading a list looks at every item and keeps the octets. The first that is faulty decides: its first fault, or
-/// `ExtraData` where it takes no octet, with the place `Index(i)`, i being counted from 0. After all items comes
-/// `InvalidSize` where they are too few or too many, without a place of this list. Memory is taken only by the items.
+/// Reading a list looks at every item, and borrows the contents octets. The first item that is rejected decides: its
+/// first error, or `ExtraData` where it has no octets, with the location `Index(i)`, i being counted from 0. After all
+/// items comes `InvalidSize` where they are too few or too many, without a location of this list. Memory is taken only
+/// by the items.
 ///
-/// The iterator reads each item again, and ends after the last: `None` comes exactly where no item is left. `Some(Err(..))`
-/// comes only where an item finds no memory (`AllocationError`, without a place of this list). That item counts as taken.
-/// Writing a list whose item finds no memory answers `AllocationError` too, and its length is `None`.
+/// The iterator reads each item again, and ends after the last: `None` comes exactly where no item remains.
+/// `Some(Err(..))` comes only where an item is out of memory (`AllocationError`, without a location of this list). That
+/// item counts as taken. Writing a list whose item is out of memory returns `AllocationError` too, and its length is
+/// `None`.
 #[derive(Drop)]
 pub struct SequenceOf<'a, T: Asn1Type, const MINIMUM_LEN: usize, const MAXIMUM_LEN: usize> {
     content: &'a [u8],
@@ -54,14 +58,14 @@ impl<'a, T: Asn1Readable<'a>, const MINIMUM_LEN: usize, const MAXIMUM_LEN: usize
     MINIMUM_LEN,
     MAXIMUM_LEN,
 > {
-    /// How many items are left. The count is kept: no item is read.
+    /// How many items remain. The count is kept: no item is read.
     pub fn len(&self) -> usize
         ensures { result ≡ length (left T.der.read self.now.content.now) }
     {
         self.count
     }
 
-    /// Whether no item is left.
+    /// Whether no item remains.
     pub fn is_empty(&self) -> bool
         ensures { result ≡ (length (left T.der.read self.now.content.now) == 0) }
     {
@@ -133,7 +137,7 @@ impl<
         ensures plain { T.der.plain }
     {
         let tag = Tag::constructed(0x10);
-        // The items' type says by this call that each value has one text.
+        // The items' type says by this call that each value has one encoding.
         let _accepted = T::can_parse(tag);
         tag
     }
@@ -158,7 +162,7 @@ impl<
     }
 }
 
-/// Reads the item at an index. One that takes no octet is refused.
+/// Reads the item at an index. One without octets is rejected.
 #[inline]
 fn read_item<'a, T: Asn1Readable<'a>>(parser: &mut Parser<'a>, index: usize) -> ParseResult<T>
     ensures answers { Answers (λ v. (T.der.meaning v, parser.new)) (item_out T.der.runs_out index parser.old) result (item T.der.read index parser.old) }
@@ -176,7 +180,7 @@ fn read_item<'a, T: Asn1Readable<'a>>(parser: &mut Parser<'a>, index: usize) -> 
     }
 }
 
-/// Counts the items of a content, each of which it reads.
+/// Counts the items of contents octets, each of which it reads.
 fn count_items<'a, T: Asn1Readable<'a>>(alloc: Global, content: &'a [u8]) -> ParseResult<usize>
     ensures { Answers (λ n. n) (items_out T.der.read T.der.runs_out (length content.entry.now) 0 content.entry.now) result (counted T.der.read 0 content.entry.now) }
 {
@@ -189,7 +193,7 @@ fn count_items<'a, T: Asn1Readable<'a>>(alloc: Global, content: &'a [u8]) -> Par
     Ok(count)
 }
 
-/// What follows the element in front, where one stands there.
+/// What follows the element at the start, where there is one.
 #[cold]
 fn behind_element<'a>(alloc: Global, content: &'a [u8]) -> &'a [u8]
     ensures { (f : Element × List ℕ) → front content.entry.now ≡ Ok f → result.now ≡ f.1 }
@@ -199,7 +203,7 @@ fn behind_element<'a>(alloc: Global, content: &'a [u8]) -> &'a [u8]
     parser.rest()
 }
 
-/// Reads the first of the items. The parser then stands behind it, also where memory ran out for it.
+/// Reads the first of the items. The parser is then after it, also where it is out of memory.
 #[inline(always)]
 fn read_first<'a, T: Asn1Readable<'a>>(parser: &mut Parser<'a>, count: usize) -> ParseResult<T>
     requires some { 0 < length parser.now }
@@ -245,7 +249,7 @@ impl<'a, T: Asn1Readable<'a>, const MINIMUM_LEN: usize, const MAXIMUM_LEN: usize
     }
 }
 
-/// Writes the items of a content, in order.
+/// Writes the items of contents octets, in order.
 fn write_items<'a, T: Asn1Readable<'a> + Asn1Writable>(
     alloc: Global,
     items: &'a [u8],
@@ -273,7 +277,7 @@ fn write_items<'a, T: Asn1Readable<'a> + Asn1Writable>(
     Ok(())
 }
 
-/// The length of the items' texts together, in octets. `None` where it isn't known.
+/// How many octets the items' encodings have together. `None` where that isn't known.
 fn items_length<'a, T: Asn1Readable<'a> + Asn1Writable>(
     alloc: Global,
     items: &'a [u8],

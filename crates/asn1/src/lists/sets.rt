@@ -1,5 +1,5 @@
-//! Sets: elements in the order of their tags, and items of one type in ascending order of their texts (X.690 8.11, 8.12,
-//! 10.3, 11.6).
+//! SET and SET OF (X.690 8.11, 8.12): SET as it is encoded, its elements in the order of their tags (10.3), and SET OF
+//! as an iterator, its items in the order of their encodings (11.6).
 
 ghost use Rattle.std.specs.Prelude.{◌≡◌, ◌<◌, List, ℕ, [], length, Result, Some, OnOk, OnErr, IfErr, nat_eq};
 ghost use Rattle.std.specs.Fn.{FnOnceReturnsAtMut};
@@ -32,8 +32,8 @@ use std::alloc::{AllocError, Global};
 use std::hash::{Hash, Hasher};
 use std::marker::PhantomData;
 
-/// Reads the element at an index, which stands behind one with the text `before`: framing, then its place in the order,
-/// then the item, which its whole text is. Answers the item and that text.
+/// Reads the element at an index, after one with the encoding `before`: framing, then its place in the order, then the
+/// item, which must span the whole element. Returns the item and the element's encoding.
 #[inline(always)]
 fn read_in_order<'a, T: Asn1Readable<'a>>(
     parser: &mut Parser<'a>,
@@ -57,7 +57,7 @@ fn read_in_order<'a, T: Asn1Readable<'a>>(
     }
 }
 
-/// Reads the items of a content, and refuses them where they don't stand in order.
+/// Reads the items of contents octets, and rejects them where they aren't in order.
 fn check_items<'a, T: Asn1Readable<'a>>(alloc: Global, content: &'a [u8]) -> ParseResult<()>
     ensures { Answers (λ x. x) (set_out text_less T.der.read T.der.runs_out [] (length content.entry.now) 0 content.entry.now) result (checked text_less T.der.read [] 0 content.entry.now) }
 {
@@ -72,8 +72,7 @@ fn check_items<'a, T: Asn1Readable<'a>>(alloc: Global, content: &'a [u8]) -> Par
     Ok(())
 }
 
-/// Reads the element at an index, which stands behind one with the tag `last`: framing, then its place in the order of
-/// tags.
+/// Reads the element at an index, after one with the tag `last`: framing, then its place in the order of tags.
 fn read_behind<'a>(parser: &mut Parser<'a>, last: Option<Tag>, index: usize) -> ParseResult<Tlv<'a>>
     ensures answers { Answers (λ t. (element_of t, parser.new)) (λ places. ⊥) result (element_behind last index parser.old) }
     ensures rest { EndsWith parser.old parser.new }
@@ -91,7 +90,7 @@ fn read_behind<'a>(parser: &mut Parser<'a>, last: Option<Tag>, index: usize) -> 
     }
 }
 
-/// Reads the elements of a content, and refuses them where their tags don't stand in order.
+/// Reads the elements of contents octets, and rejects them where their tags aren't in order.
 fn check_elements(alloc: Global, content: &[u8]) -> ParseResult<()>
     ensures { Answers (λ x. x) (λ places. ⊥) result (checked tag_less element_front [] 0 content.entry.now) }
 {
@@ -106,13 +105,14 @@ fn check_elements(alloc: Global, content: &[u8]) -> ParseResult<()>
     Ok(())
 }
 
-/// A `SET` as it stands: the octets of any elements in the order of their tags, equal neighbours allowed. They are read by
-/// [`Set::parse`], and written as they were read.
+/// SET (X.690 8.11, 10.3; universal 17, constructed) as it is encoded: its contents octets, which are elements in the
+/// order of their tags, borrowed from the input. They are read by [`Set::parse`], and written as they were read.
 ///
-/// Tags are compared by class, from universal to private, and within a class by number; whether an element is
-/// constructed plays no part, nor do its contents. Reading a set looks at each element in turn: the first fault of framing
-/// decides, or `InvalidSetOrdering` where an element's tag comes before that of the one in front of it, with the place
-/// `Index(i)`, i being counted from 0. It takes no memory. Two sets are equal where their contents octets are.
+/// Tags are compared by class, from universal to private, and within a class by number (X.680 8.6); equal neighbours
+/// are allowed. Whether an element is constructed plays no part, nor do its contents octets. Reading a set looks at
+/// each element in turn: the first error of framing decides, or `InvalidSetOrdering` where an element's tag comes
+/// before that of the one before it, with the location `Index(i)`, i being counted from 0. It takes no memory. Two sets
+/// are equal where their contents octets are.
 #[derive(Debug, PartialEq, Eq, Hash, Drop)]
 pub struct Set<'a> {
     data: &'a [u8],
@@ -124,7 +124,8 @@ impl<'a> Set<'a> {
 
     /// Reads the contents octets by `f`, as [`asn1_core::parse`] does.
     ///
-    /// An error of `f` is handed on; where `f` answers a value and leaves octets, the error is `ExtraData`, without a place.
+    /// Errors: one of `f` is returned as it is; where `f` returns a value and octets remain, the error is `ExtraData`,
+    /// without a location. The caller has to prove that `f` may always be called (`requires`).
     pub fn parse<T: Drop, E: From<ParseError> + Drop, F: Fn(&mut Parser<'a>) -> Result<T, E>>(
         self,
         alloc: Global,
@@ -206,18 +207,19 @@ impl SimpleAsn1Writable for Set<'_> {
     }
 }
 
-/// A `SET OF`, as an iterator over the items that are left: items of one type in ascending order of their texts, equal
-/// neighbours allowed.
+/// SET OF (X.690 8.12, 11.6; universal 17, constructed), as an iterator over the items that remain: items of one type
+/// in ascending order of their encodings, equal neighbours allowed.
 ///
-/// Its value is the list of these items: what is written are their texts. Two sets are equal, and hash alike, where the
-/// octets left are the same, which they are exactly where the items are ([`crate::laws::equal_items`]). A clone takes no
-/// memory.
+/// Its value is the list of these items: what is written are their encodings. Two sets are equal, and hash alike, where
+/// the remaining octets are the same, which they are exactly where the items are ([`crate::laws::equal_items`]). A
+/// clone takes no memory.
 ///
-/// Reading a set looks at each element in turn: the first fault of framing decides, then `InvalidSetOrdering` where the
-/// element's text is less than that of the one before it, then the item's first fault on that text, of which a rest is
-/// `ExtraData`. Each has the place `Index(i)`, i being counted from 0. Memory is taken only by the items.
+/// Reading a set looks at each element in turn: the first error of framing decides, then `InvalidSetOrdering` where the
+/// element's encoding is less than that of the one before it, then the item's first error on that encoding, `ExtraData`
+/// where octets of it remain. Each has the location `Index(i)`, i being counted from 0. Memory is taken only by the
+/// items.
 ///
-/// The iterator answers as that of [`crate::SequenceOf`], and so do writing and the length.
+/// The iterator returns what that of [`crate::SequenceOf`] does, and so do writing and the length.
 #[derive(Drop)]
 pub struct SetOf<'a, T: Asn1Type> {
     content: &'a [u8],
@@ -279,7 +281,7 @@ impl<'a, T: Asn1Readable<'a>> SimpleAsn1Readable<'a> for SetOf<'a, T> {
         ensures plain { T.der.plain }
     {
         let tag = Tag::constructed(0x11);
-        // The items' type says by this call that each value has one text.
+        // The items' type says by this call that each value has one encoding.
         let _accepted = T::can_parse(tag);
         tag
     }
@@ -296,7 +298,7 @@ impl<'a, T: Asn1Readable<'a>> SimpleAsn1Readable<'a> for SetOf<'a, T> {
     }
 }
 
-/// Reads the first of the items. The parser then stands behind it, also where memory ran out for it.
+/// Reads the first of the items. The parser is then after it, also where it is out of memory.
 #[inline(always)]
 fn read_first<'a, T: Asn1Readable<'a>>(parser: &mut Parser<'a>) -> ParseResult<T>
     requires some { 0 < length parser.now }
@@ -335,7 +337,7 @@ impl<'a, T: Asn1Readable<'a>> Iterator for SetOf<'a, T> {
     }
 }
 
-/// Writes the items of a content, in order.
+/// Writes the items of contents octets, in order.
 fn write_set_items<'a, T: Asn1Readable<'a> + Asn1Writable>(
     alloc: Global,
     items: &'a [u8],
@@ -360,7 +362,7 @@ fn write_set_items<'a, T: Asn1Readable<'a> + Asn1Writable>(
     Ok(())
 }
 
-/// The length of the items' texts together, in octets. `None` where it isn't known.
+/// How many octets the items' encodings have together. `None` where that isn't known.
 fn set_items_length<'a, T: Asn1Readable<'a> + Asn1Writable>(
     alloc: Global,
     items: &'a [u8],

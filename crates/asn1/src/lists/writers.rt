@@ -1,4 +1,4 @@
-//! Sequences that are only written (X.690 8.9, 8.10).
+//! SEQUENCE and SEQUENCE OF that are only written (X.690 8.9, 8.10).
 
 ghost use Rattle.std.specs.Prelude.{◌≡◌, map};
 ghost use Rattle.asn1_core.specs.Closures.{MayAnswer};
@@ -11,10 +11,11 @@ ghost use Rattle.asn1.specs.InHand.{sequence_closure, sequence_items};
 use asn1_core::{Asn1Type, Asn1Writable, SimpleAsn1Writable, Tag, WriteBuf, WriteError, Writer};
 use std::marker::PhantomData;
 
-/// A `SEQUENCE` whose contents octets a closure writes, for which it owes what [`asn1_core::write`] asks of a closure.
+/// SEQUENCE (X.690 8.9; universal 16, constructed), whose contents octets a closure writes. (`Sequence`, or a type of
+/// one's own, reads it.)
 ///
-/// The length of the content isn't known before it is written. Writing answers `AllocationError`, or an error that the
-/// closure may answer.
+/// The length isn't known before the contents octets are written. Writing returns `AllocationError` where out of
+/// memory, or an error that the closure may return.
 #[derive(Drop)]
 pub struct SequenceWriter<'a, F: Fn(&mut Writer<'_>) -> Result<(), E>, E> {
     f: &'a F,
@@ -22,7 +23,8 @@ pub struct SequenceWriter<'a, F: Fn(&mut Writer<'_>) -> Result<(), E>, E> {
 }
 
 impl<'a, F: Fn(&mut Writer<'_>) -> Result<(), E>, E> SequenceWriter<'a, F, E> {
-    /// A sequence of what the closure will write. The closure isn't called yet.
+    /// A sequence of what the closure will write. It isn't called yet. To write the sequence, the caller has to prove
+    /// of the closure what [`asn1_core::write`] asks.
     pub fn new(f: &'a F) -> SequenceWriter<'a, F, E>
         ensures { sequence_closure result ≡ f.now }
     {
@@ -61,10 +63,11 @@ impl<F: Fn(&mut Writer<'_>) -> Result<(), E>, E: From<WriteError>> SimpleAsn1Wri
     }
 }
 
-/// A `SEQUENCE OF` the items of a slice, in their order.
+/// SEQUENCE OF (X.690 8.10; universal 16, constructed), written from the items of a slice, in their order.
+/// (`SequenceOf` reads it.)
 ///
-/// The length is known where each item's is, and their sum fits `usize`. Writing answers `AllocationError`, or an error of
-/// one of the items.
+/// The length is known where each item's is and their sum fits a `usize`. Writing returns `AllocationError` where out
+/// of memory, or an error of one of the items.
 #[derive(Clone, PartialEq, Eq, Hash, Drop)]
 pub struct SequenceOfWriter<'a, T> {
     items: &'a [T],

@@ -1,4 +1,4 @@
-//! Choices: an element that is read as the first alternative that accepts its tag.
+//! CHOICE (X.690 8.13, X.680 29): an element that is read as the first alternative that accepts its tag.
 
 ghost use Rattle.asn1.specs.Choices.{choice_der, only, or};
 ghost use Rattle.asn1.specs.ChoiceValues.{choice1_meaning, choice2_meaning, choice3_meaning, Choice1Errors, Choice2Errors, Choice3Errors};
@@ -8,7 +8,10 @@ use asn1_core::{
     Tlv, WriteError, WriteResult, Writer,
 };
 
-/// A value of one type, told by the tag.
+/// CHOICE (X.690 8.13) of one alternative, told by the tag. Its encoding is that of the alternative.
+///
+/// Reading frames the element first. `UnexpectedTag` where the alternative doesn't accept its tag; else the error is
+/// the alternative's. Writing returns `AllocationError`, or an error that the alternative names.
 #[derive(Debug, PartialEq, Eq, Drop)]
 pub enum Choice1<T1> {
     /// A value of the first type.
@@ -57,7 +60,11 @@ impl<T1: Asn1Writable<Error = WriteError>> Asn1Writable for Choice1<T1> {
     }
 }
 
-/// A value of one of two types, told by the tag.
+/// CHOICE (X.690 8.13) of two alternatives, told by the tag. Its encoding is that of the alternative.
+///
+/// Reading frames the element first. The first alternative that accepts its tag reads it, and where that rejects it,
+/// the second isn't tried. `UnexpectedTag` where none accepts the tag. What is written is read back where no tag is
+/// accepted by both ([`crate::laws_wrappers::choices_are_lawful`]).
 #[derive(Debug, PartialEq, Eq, Drop)]
 pub enum Choice2<T1, T2> {
     /// A value of the first type.
@@ -90,7 +97,7 @@ impl<'a, T1: Asn1Readable<'a>, T2: Asn1Readable<'a>> Asn1Readable<'a> for Choice
     }
 
     fn can_parse(tag: Tag) -> bool {
-        // Each alternative is asked, since each tells that its values have one text.
+        // Each alternative is asked, since each tells that its values have one encoding.
         let first = T1::can_parse(tag);
         let second = T2::can_parse(tag);
         first || second
@@ -118,7 +125,11 @@ impl<T1: Asn1Writable<Error = WriteError>, T2: Asn1Writable<Error = WriteError>>
     }
 }
 
-/// A value of one of three types, told by the tag.
+/// CHOICE (X.690 8.13) of three alternatives, told by the tag. Its encoding is that of the alternative.
+///
+/// Reading frames the element first. The first alternative that accepts its tag reads it, and where that rejects it, no
+/// further one is tried. `UnexpectedTag` where none accepts the tag. What is written is read back where no tag is
+/// accepted by two ([`crate::laws_wrappers::choices_are_lawful`]).
 #[derive(Debug, PartialEq, Eq, Drop)]
 pub enum Choice3<T1, T2, T3> {
     /// A value of the first type.
@@ -158,7 +169,7 @@ impl<'a, T1: Asn1Readable<'a>, T2: Asn1Readable<'a>, T3: Asn1Readable<'a>> Asn1R
     }
 
     fn can_parse(tag: Tag) -> bool {
-        // Each alternative is asked, since each tells that its values have one text.
+        // Each alternative is asked, since each tells that its values have one encoding.
         let first = T1::can_parse(tag);
         let second = T2::can_parse(tag);
         let third = T3::can_parse(tag);

@@ -1,4 +1,4 @@
-//! Fields with a default, which are left out where they equal it (X.690 11.5).
+//! DEFAULT (X.690 11.5): fields that are left out where they equal their default.
 
 ghost use Rattle.std.specs.Prelude.{◌≡◌};
 ghost use Rattle.asn1.specs.InHand.{defaulted_inner};
@@ -11,9 +11,10 @@ use asn1_core::{
 };
 use std::marker::PhantomData;
 
-/// A type whose equality tells its values by what they mean and by their texts.
+/// A type whose `==` tells values by what they mean and by their encodings, so that it may have a DEFAULT
+/// ([`Defaulted`]).
 pub trait MeaningEq: Asn1Type + PartialEq {
-    // Values that are equal mean the same, and values with the same text are equal.
+    // Values that are equal mean the same, and values with the same encoding are equal.
     ghost tells: { (a b : Self) → EqualityTells Self.der.meaning Self.der.text Self.eq a b };
 }
 
@@ -26,8 +27,10 @@ pub trait DefaultValue<T: Asn1Type> {
         ensures { T.der.meaning result ≡ T.der.meaning default };
 }
 
-/// A field with a default: its value, which has no text where it equals the default (X.690 11.5). A default that is
-/// encoded nevertheless is `EncodedDefault`.
+/// A field with a DEFAULT (X.690 11.5): its value, which isn't encoded where it equals the default, as DER demands.
+///
+/// Reading returns the default where no tag that the type accepts is next. A default that is encoded nevertheless is
+/// rejected with `EncodedDefault`; other errors are the type's.
 #[derive(Debug, PartialEq, Eq, Drop)]
 pub struct Defaulted<T, D> {
     inner: T,
@@ -35,7 +38,7 @@ pub struct Defaulted<T, D> {
 }
 
 impl<T, D> Defaulted<T, D> {
-    /// The value.
+    /// A field with this value, which may be the default.
     pub fn new(inner: T) -> Self
         ensures { defaulted_inner result ≡ inner }
     {
@@ -45,14 +48,14 @@ impl<T, D> Defaulted<T, D> {
         }
     }
 
-    /// The value.
+    /// The value, be it the default or not.
     pub fn as_inner(&self) -> &T
         ensures { result.now ≡ defaulted_inner self.now }
     {
         &self.inner
     }
 
-    /// The value.
+    /// The value, be it the default or not.
     pub fn into_inner(self) -> T
         ensures { result ≡ defaulted_inner self }
     {
@@ -92,7 +95,7 @@ fn or_default<T: MeaningEq + Drop, D>(
     }
 }
 
-/// Whether the value equals the default, and so has no text.
+/// Whether the value equals the default, and so isn't encoded.
 fn is_default<T: MeaningEq + Drop, D: DefaultValue<T>>(inner: &T) -> bool
     ensures { result ≡ same_text T.der.text (T.der.meaning inner.now) (T.der.meaning D.default) }
 {

@@ -1,4 +1,4 @@
-//! Values that an item beside them defines.
+//! Explicitly tagged values that an item beside them defines.
 
 ghost use Rattle.asn1_core.specs.Tag.{explicit_tag_of};
 ghost use Rattle.asn1.specs.Defined.{by_inside, defined_inside};
@@ -22,7 +22,8 @@ impl<T: Asn1Type, U: Asn1DefinedBy<T>, const TAG: u32> Asn1DefinedBy<T> for Expl
     }
 }
 
-/// Reads the element under the tag as it stands, and then its text as the item defines it. A rest is `ExtraData`.
+/// Reads the element under the tag as it is encoded, and then its encoding as the item defines it. `ExtraData` where
+/// octets remain.
 impl<
     'a,
     T: Asn1Readable<'a>,

@@ -1,4 +1,4 @@
-//! Types whose equality tells their values, so that they may have a default.
+//! Types whose equality tells their values, so that they may have a DEFAULT.
 
 ghost use Rattle.std.specs.Prelude.{refl, pos};
 ghost use Rattle.asn1_core.specs.Tag.{explicit_tag_of, implicit_tag_of, universal};

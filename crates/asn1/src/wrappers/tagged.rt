@@ -1,4 +1,4 @@
-//! Values under another tag, and in an element of their own.
+//! Tagged types (X.690 8.14), and OCTET STRING that holds an encoding.
 
 ghost use Rattle.std.specs.Prelude.{◌≡◌};
 ghost use Rattle.asn1_core.specs.Tag.{explicit_tag_of, implicit_tag_of, universal};
@@ -13,7 +13,11 @@ use asn1_core::{
 use std::alloc::Global;
 use std::fmt;
 
-/// A value in an element with an explicit tag.
+/// An explicitly tagged type (X.690 8.14, X.680 31.2): an element with the context-specific, constructed tag `TAG`,
+/// whose contents octets are the encoding of a value of `T` and nothing else.
+///
+/// Errors of reading, after framing's: `UnexpectedTag`, the first error of `T` in the contents octets, `ExtraData`
+/// where octets remain there. Writing returns what writing `T` does.
 #[derive(Debug, PartialEq, Eq, Drop)]
 pub struct Explicit<T, const TAG: u32> {
     inner: T,
@@ -27,14 +31,14 @@ impl<T, const TAG: u32> Explicit<T, TAG> {
         Explicit { inner }
     }
 
-    /// The value.
+    /// The value under the tag.
     pub fn as_inner(&self) -> &T
         ensures { result.now ≡ explicit_inner self.now }
     {
         &self.inner
     }
 
-    /// The value.
+    /// The value under the tag.
     pub fn into_inner(self) -> T
         ensures { result ≡ explicit_inner self }
     {
@@ -61,7 +65,7 @@ impl<T: Asn1Type, const TAG: u32> Asn1Type for Explicit<T, TAG> {
 impl<'a, T: Asn1Readable<'a>, const TAG: u32> SimpleAsn1Readable<'a> for Explicit<T, TAG> {
     fn tag() -> Tag {
         let tag = explicit_tag(TAG);
-        // The call tells that each value of the type has one text.
+        // The call tells that each value of the type has one encoding.
         let _is_accepted = T::can_parse(tag);
         tag
     }
@@ -89,7 +93,11 @@ impl<T: Asn1Writable, const TAG: u32> SimpleAsn1Writable for Explicit<T, TAG> {
     }
 }
 
-/// A value's content under an implicit tag in place of its own.
+/// An implicitly tagged type (X.690 8.14, X.680 31.2): a value of `T`, a type with a tag of its own, with the
+/// context-specific tag `TAG` in place of that. The contents octets are the same, and it is constructed where `T` is.
+///
+/// Errors of reading, after framing's: `UnexpectedTag`, then the first error of `T` in the contents octets. Writing
+/// returns what writing `T` does.
 #[derive(Debug, PartialEq, Eq, Drop)]
 pub struct Implicit<T, const TAG: u32> {
     inner: T,
@@ -103,14 +111,14 @@ impl<T, const TAG: u32> Implicit<T, TAG> {
         Implicit { inner }
     }
 
-    /// The value.
+    /// The value under the tag.
     pub fn as_inner(&self) -> &T
         ensures { result.now ≡ implicit_inner self.now }
     {
         &self.inner
     }
 
-    /// The value.
+    /// The value under the tag.
     pub fn into_inner(self) -> T
         ensures { result ≡ implicit_inner self }
     {
@@ -162,7 +170,10 @@ impl<T: SimpleAsn1Writable, const TAG: u32> SimpleAsn1Writable for Implicit<T, T
     }
 }
 
-/// A value in an octet string.
+/// OCTET STRING (X.690 8.7; universal 4), whose octets are the encoding of a value of `T` and nothing else.
+///
+/// Errors of reading, after framing's: `UnexpectedTag`, the first error of `T` in the contents octets, `ExtraData`
+/// where octets remain there. Writing returns what writing `T` does.
 #[derive(PartialEq, Eq, Drop)]
 pub struct OctetStringEncoded<T> {
     inner: T,
@@ -184,14 +195,14 @@ impl<T> OctetStringEncoded<T> {
         OctetStringEncoded { inner }
     }
 
-    /// The value.
+    /// The value in the octet string.
     pub fn get(&self) -> &T
         ensures { result.now ≡ octet_string_inner self.now }
     {
         &self.inner
     }
 
-    /// The value.
+    /// The value in the octet string.
     pub fn into_inner(self) -> T
         ensures { result ≡ octet_string_inner self }
     {
@@ -210,7 +221,7 @@ impl<T: Asn1Type> Asn1Type for OctetStringEncoded<T> {
 impl<'a, T: Asn1Readable<'a>> SimpleAsn1Readable<'a> for OctetStringEncoded<T> {
     fn tag() -> Tag {
         let tag = Tag::primitive(0x04);
-        // The call tells that each value of the type has one text.
+        // The call tells that each value of the type has one encoding.
         let _is_accepted = T::can_parse(tag);
         tag
     }

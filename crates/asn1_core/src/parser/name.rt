@@ -1,8 +1,8 @@
 //! Names that last as long as the program, kept without a lifetime.
 //!
-//! A generic reader may not answer a type that names `'static`, so that an error can't keep a `&'static str`. It keeps
-//! where the name stands and how many octets it has, and beside them, for contracts alone, the right to read them for
-//! good. The two functions of this right are the only ones of the crate with a raw pointer.
+//! A generic reader may not return a type that names `'static`, so that an error can't keep a `&'static str`. It keeps
+//! where the name is and how many octets it has, and beside them, for contracts alone, the right to read them for good.
+//! The two functions of this right are the only ones of the crate with a raw pointer.
 
 ghost use Rattle.std.specs.Prelude.{◌≡◌, ℕ, ◌^◌, ◌<◌, List, length};
 ghost use denote.RawPtr.{Ptr};
@@ -11,7 +11,7 @@ ghost use Rattle.asn1_core.specs.Lasting.{IsPlaced, lasting};
 use std::marker::Model;
 use std::slice;
 
-/// The right to read these octets, which stand at `start`, for good.
+/// The right to read these octets, which are at `start`, for good.
 #[derive(Drop)]
 struct Lasting {
     ghost start: { Ptr },
@@ -26,14 +26,14 @@ impl Model for Lasting {
 }
 
 impl Lasting {
-    /// Where the octets stand, and the right to read them.
+    /// Where the octets are, and the right to read them.
     fn new(octets: &'static [u8]) -> (*const u8, Lasting)
         ensures { (result.1.start ≡ result.0) × (result.1.octets ≡ octets.now) }
     {
         (octets.as_ptr(), Lasting {})
     }
 
-    /// The octets, which are not copied.
+    /// The octets, which aren't copied.
     fn read(&self, start: *const u8, count: usize) -> &[u8]
         requires { (start ≡ self.now.start) × (count ≡ length self.now.octets) }
         ensures { result.now ≡ self.now.octets }
@@ -79,7 +79,7 @@ impl Name {
         }
     }
 
-    /// The name as a text.
+    /// The name.
     pub fn as_str(&self) -> &str
         ensures { result.now ≡ self.now }
     {

@@ -1,4 +1,4 @@
-//! The traits of types whose form is defined by an item that stands beside them.
+//! The traits of types whose form is defined by an item beside them, such as an OBJECT IDENTIFIER (ANY DEFINED BY).
 
 ghost use Rattle.std.specs.Prelude.{◌≡◌, OnOk, OnErr, IfErr};
 ghost use Rattle.asn1_core.specs.Buffer.{Appends, KeepsFront};
@@ -15,39 +15,41 @@ use crate::writer::{WriteError, Writer};
 pub trait Asn1DefinedBy<T: Asn1Type>: Sized {
     ghost by: { ByItem T Self };
 
-    /// A value in hand is one of which the laws speak, as [`Asn1Type::known`] says of other types. And items that are
-    /// seen as the same mean the same.
+    /// States that every value of the type is valid, as [`Asn1Type::known`] does of other types, and that items that
+    /// are seen as the same mean the same. It does nothing at run time.
     fn known_by(&self)
         ensures valid { by.means.valid (by.means.meaning self.now) }
         ensures items { (a b : T) → by.seen a ≡ by.seen b → T.der.meaning a ≡ T.der.meaning b };
 }
 
-/// A type that is read where an item is known.
+/// A type that is read where its item is known.
 pub trait Asn1DefinedByReadable<'a, T: Asn1Readable<'a>>: Asn1DefinedBy<T> + Sized + Drop {
-    /// Reads a value that the item defines. A refusal is the first fault for that item.
+    /// Reads a value that `item` defines. Returns the value, or the first error for that item, as `UnknownDefinedBy`,
+    /// or `AllocationError` where the type takes memory; the parser is then before a suffix of what remained.
     fn parse(item: T, parser: &mut Parser<'a>) -> ParseResult<Self>
         ensures answers { Answers (λ v. (Self.by.means.meaning v, parser.new)) (Self.by.means.runs_out (Self.by.seen item) parser.old) result (Self.by.means.read (Self.by.seen item) parser.old) }
         ensures rest { EndsWith parser.old parser.new }
         ensures stops { OnErr result (Self.by.means.stops (Self.by.seen item) parser.old parser.new) };
 
-    /// Each value has one text. The body does nothing, or calls that of the parts.
+    /// States that each value has one encoding. It does nothing at run time, or calls that of the parts.
     fn one_text()
         ensures { Self.by.means.plain };
 }
 
-/// A type that is written behind the item that defines it.
+/// A type that is written after the item that defines it.
 pub trait Asn1DefinedByWritable<T: Asn1Writable>: Asn1DefinedBy<T> + Sized {
-    /// What a refused write answers.
+    /// The error of a write that fails. It is made from a [`WriteError`], such as `AllocationError`.
     type Error: From<WriteError>;
 
-    // The errors that a write may answer, beside want of memory.
+    // The errors that a write may return, beside being out of memory.
     ghost write_errors_by: { Self → Self.Error → Type 0 };
 
     /// The item that defines the value.
     fn item(&self) -> T
         ensures { Self.by.seen result ≡ Self.by.means.item (Self.by.means.meaning self.now) };
 
-    /// Appends the value's text, without its item. At Err what stood before still stands in front.
+    /// Appends the value's encoding, without its item. Errors and what the caller has to prove are those of
+    /// [`Asn1Writable::write`].
     fn write(&self, dest: &mut Writer<'_>) -> Result<(), Self::Error>
         requires { Self.by.means.closures (Self.by.means.meaning self.now) }
         ensures same_buffer { buffer_name dest.new ≡ buffer_name dest.old }
@@ -56,7 +58,7 @@ pub trait Asn1DefinedByWritable<T: Asn1Writable>: Asn1DefinedBy<T> + Sized {
         ensures err { OnErr result (KeepsFront (octets_of dest.old) (octets_of dest.new)) }
         ensures error { IfErr result (Refuses Self.Error.from_gives (write_errors_by self.now)) };
 
-    /// How many octets the value's text has, where that is known without writing it.
+    /// How many octets the value's encoding has, without its item, where that is known without writing it.
     fn encoded_length(&self) -> Option<usize>
         ensures { KnowsLength (Self.by.means.texts (Self.by.means.meaning self.now)) result };
 }

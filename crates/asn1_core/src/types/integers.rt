@@ -1,4 +1,4 @@
-//! Integers: their contents octets, and the types with a range (X.690 8.3).
+//! INTEGER (X.690 8.3): its contents octets, and the types of fixed width.
 
 ghost use Rattle.std.specs.Prelude.{◌≡◌, ℕ, ◌+◌, ◌-◌, ◌^◌, ◌<◌, ◌≤◌, ◌||◌, ◌==◌, ◌++◌, cond, length, pos, neg_ℤ, ◌≤ℤ◌, ◌<ℤ◌, IfOk, OnOk, OnErr, IsOkUnless, Some};
 ghost use Rattle.asn1_core.specs.Text.{signed_number};
@@ -16,13 +16,14 @@ use crate::parser::ParseErrorKind;
 use crate::writer::{WriteBuf, WriteError, WriteResult};
 use std::marker::Model;
 
-/// A content with more octets is no number of a type here.
+/// Longer contents octets are outside every type of fixed width.
 const MAX_CONTENT_OCTETS: usize = 9;
 
 /// How many octets an `i128` has.
 const OCTETS: usize = 16;
 
-/// Whether the octet is superfluous in front of the next: its bits and the top bit of the next are all zero or all one.
+/// Whether the octet is superfluous before the next: its bits and the top bit of the next are all zero or all one
+/// (8.3.2).
 fn is_superfluous(octet: u8, next: u8) -> bool
     ensures { result ≡ (nine_bits octet next == 0 || nine_bits octet next == 0x1ff) }
 {
@@ -30,7 +31,8 @@ fn is_superfluous(octet: u8, next: u8) -> bool
     bits == 0 || bits == 0x1ff
 }
 
-/// Whether the octets are the content of a number: there are some, and none is superfluous.
+/// Whether the octets are the contents octets of an INTEGER (X.690 8.3): there is one; or there are more, and the first
+/// nine bits are neither all zero nor all one.
 pub fn is_integer_content(octets: &[u8]) -> bool
     ensures { result ≡ is_minimal octets.now }
 {
@@ -41,14 +43,14 @@ pub fn is_integer_content(octets: &[u8]) -> bool
     }
 }
 
-/// The octet that repeats a sign in front of a content.
+/// The octet that extends a sign: its bits are all one for a negative number, and else all zero.
 fn sign_octet(is_negative: bool) -> u8
     ensures { result ≡ cond is_negative 0xff 0x00 }
 {
     if is_negative { 0xff } else { 0x00 }
 }
 
-/// The signed number of one to nine octets: that of sixteen, of which the first repeat the sign.
+/// The number of one to nine octets in two's complement. Three or more are sign-extended to sixteen.
 fn signed_number(octets: &[u8]) -> i128
     requires some { 0 < length octets.now }
     requires few { length octets.now ≤ MAX_CONTENT_OCTETS }
@@ -67,7 +69,7 @@ fn signed_number(octets: &[u8]) -> i128
     i128::from_be_bytes(extended)
 }
 
-/// Why a number beyond the range of a type is refused: below it, or above it.
+/// Why a number outside the range of a type is rejected: it is below, or above.
 fn beyond(is_below: bool, low: i128) -> ParseErrorKind
     ensures { result ≡ cond is_below (below low) IntegerOverflow }
 {
@@ -78,10 +80,10 @@ fn beyond(is_below: bool, low: i128) -> ParseErrorKind
     }
 }
 
-/// The number of a content, for a type that has those from `low` to `high`, with no more than the kind of a refusal.
+/// The number of contents octets, for a type that has those from `low` to `high`; on an error, the kind alone.
 ///
-/// `InvalidValue` where the octets are no content, and for a negative number where the type is unsigned;
-/// `IntegerOverflow` for another number beyond the range.
+/// `InvalidValue` where the octets aren't contents octets of an INTEGER, and for a negative number where the type is
+/// unsigned; `IntegerOverflow` for another number outside the range.
 pub(crate) fn read(octets: &[u8], low: i128, high: i128) -> Result<i128, ParseErrorKind>
     requires least { neg_ℤ (pos (2 ^ 71)) ≤ℤ low }
     requires greatest { high <ℤ pos (2 ^ 71) }
@@ -102,7 +104,7 @@ pub(crate) fn read(octets: &[u8], low: i128, high: i128) -> Result<i128, ParseEr
     Ok(number)
 }
 
-/// The content of a number, at the end of an array.
+/// The contents octets of a number, at the end of an array.
 #[derive(Drop)]
 struct IntegerText {
     octets: [u8; OCTETS],
@@ -121,7 +123,7 @@ impl Model for IntegerText {
 }
 
 impl IntegerText {
-    /// The content of the number.
+    /// The contents octets of the number.
     #[inline]
     fn new(number: i128) -> IntegerText
         ensures { result ≡ integer_content number }
@@ -132,6 +134,7 @@ impl IntegerText {
         IntegerText { octets, start }
     }
 
+    /// The contents octets.
     #[inline]
     fn octets(&self) -> &[u8]
         ensures { result.now ≡ self.now }
@@ -140,7 +143,7 @@ impl IntegerText {
     }
 }
 
-/// Appends the content of the number. `AllocationError` where memory runs out, with nothing appended.
+/// Appends the contents octets of the number. `AllocationError` where out of memory, with nothing appended.
 #[inline]
 pub(crate) fn write(number: i128, dest: &mut WriteBuf) -> WriteResult<()>
     ensures ok { OnOk result (dest.new.bytes ≡ dest.old.bytes ++ integer_content number) }
@@ -150,7 +153,7 @@ pub(crate) fn write(number: i128, dest: &mut WriteBuf) -> WriteResult<()>
     dest.push_each(IntegerText::new(number).octets())
 }
 
-/// How many octets the content of the number has: its bits and one for the sign.
+/// How many contents octets the number has: enough for its bits and one for the sign.
 #[inline]
 pub(crate) fn length(number: i128) -> usize
     ensures { result ≡ length (integer_content number) }
@@ -161,7 +164,7 @@ pub(crate) fn length(number: i128) -> usize
     (bits / 8) as usize + 1
 }
 
-/// The number, or of a negative one -n - 1, whose content is as long.
+/// The number, or of a negative one -n - 1, which has as many contents octets.
 #[inline]
 fn without_sign(number: i128) -> u128
     ensures { length (integer_content (pos result)) ≡ length (integer_content number) }

@@ -1,4 +1,4 @@
-//! Octet strings and null (X.690 8.7, 8.8).
+//! OCTET STRING and NULL (X.690 8.7, 8.8).
 
 ghost use Rattle.std.specs.Prelude.{◌≡◌, length, Some};
 ghost use Rattle.asn1_core.specs.Text.{IsText};
@@ -15,7 +15,7 @@ use crate::types::{Asn1Type, SimpleAsn1Readable, SimpleAsn1Writable};
 use crate::writer::{WriteBuf, WriteError, WriteResult};
 use std::alloc::Global;
 
-/// The value of which there is one, with no contents octets.
+/// NULL (X.690 8.8; universal 5): no contents octets. Reading rejects any with `InvalidValue`.
 pub type Null = ();
 
 impl Asn1Type for () {
@@ -58,14 +58,15 @@ impl SimpleAsn1Writable for () {
     }
 }
 
-/// What a slice of octets says of them. The body looks at the slice, whose type says so.
+/// States that a slice holds octets. The body looks at the slice, whose type says so.
 fn are_octets(octets: &[u8])
     ensures { IsText octets.now }
 {
     let _count = octets.len();
 }
 
-/// An octet string: a read lends the contents octets.
+/// OCTET STRING (X.690 8.7; universal 4), of any length. Reading borrows the contents octets from the input and rejects
+/// none. As DER demands (10.2), the encoding is primitive: a constructed one is `UnexpectedTag`.
 impl<'a> Asn1Type for &'a [u8] {
     ghost der = { simple_der (λ octets. octets.now) octets_content };
 
@@ -115,7 +116,8 @@ impl SimpleAsn1Writable for &[u8] {
     }
 }
 
-/// An octet string of a fixed size.
+/// OCTET STRING (X.690 8.7; universal 4) of `N` octets, which reading copies. Reading rejects another number of octets
+/// with `InvalidValue`.
 impl<const N: usize> Asn1Type for [u8; N] {
     ghost der = { simple_der (λ octets. octets) (sized_octets_content N) };
 

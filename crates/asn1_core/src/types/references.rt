@@ -1,4 +1,4 @@
-//! Values behind a box or a reference, which mean what they hold.
+//! Values in a box or behind a reference, which mean what they hold and have its encoding.
 
 ghost use Rattle.std.specs.Prelude.{◌≡◌, length, Some};
 ghost use Rattle.asn1_core.specs.Boxed.{boxed_der};
@@ -12,6 +12,8 @@ use crate::types::{Asn1Type, Asn1Writable, SimpleAsn1Readable, SimpleAsn1Writabl
 use crate::writer::{WriteBuf, WriteError, WriteResult, Writer};
 use std::alloc::Global;
 
+/// A value on the heap. Reading allocates only after the contents octets were found right; `AllocationError` where out
+/// of memory.
 impl<T: Asn1Type> Asn1Type for Box<T> {
     ghost der = { boxed_der (λ b. b.value) T.der };
 
@@ -53,6 +55,7 @@ impl<T: SimpleAsn1Writable> SimpleAsn1Writable for Box<T> {
     }
 }
 
+/// A reference, which is written as what it points to, and not read.
 impl<T: Asn1Type> Asn1Type for &T {
     ghost der = { seen (λ r. r.now) T.der };
 

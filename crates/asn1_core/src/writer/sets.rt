@@ -1,4 +1,4 @@
-//! Sets that are written in order: those of a slice by their elements' texts, those of a closure by their tags.
+//! Sets that are written in order: those of a slice by their elements' encodings, those of a closure by their tags.
 
 ghost use Rattle.std.specs.Prelude.{◌≡◌, ◌++◌, [], length, map, All, IsPermutation, None, true, IfSome, OnOk, OnErr, IfErr, IsOkUnless, ◌⊎◌};
 ghost use Rattle.std.specs.List.Sorted.{IsSortedBy};
@@ -22,18 +22,21 @@ use std::cmp::Ordering;
 use std::marker::{Model, PhantomData};
 use std::mem;
 
-/// How many octets of a text are noted with its span.
+/// How many octets of an encoding are noted with its span.
 const FIRST_OCTETS: usize = 8;
 
-/// Where a text stands in the buffer, and the number of its first octets, which most often tells its place in the order.
+/// Where an encoding is in the buffer, and the number of its first octets, which usually decides the order.
 #[derive(Clone, Copy)]
 pub(crate) struct Span {
+    /// The index of its first octet.
     pub(crate) from: usize,
+    /// How many octets it has.
     pub(crate) len: usize,
+    /// The number of its first octets.
     pub(crate) first: usize,
 }
 
-/// The number of the first octets of a text, as if zeros stood behind a shorter one.
+/// The number of the first octets of an encoding, as if zeros followed a shorter one.
 fn first_number(text: &[u8]) -> usize
     ensures { result ≡ first_number text.now }
 {
@@ -74,7 +77,7 @@ fn sort_spans(octets: &[u8], spans: &mut Vec<Span>)
     spans.sort_unstable_by(|a, b| compare(octets, a, b));
 }
 
-/// Appends the items' texts one after another, and notes where each stands.
+/// Appends the items' encodings one after another, and notes where each is.
 fn write_items<T: Asn1Writable>(
     items: &[T],
     dest: &mut WriteBuf,
@@ -100,7 +103,7 @@ fn write_items<T: Asn1Writable>(
     Ok(())
 }
 
-/// Appends the octets of the spans, which stand in the buffer, in this order.
+/// Appends the octets of the spans of the buffer, in this order.
 fn push_spans(dest: &mut WriteBuf, spans: &[Span]) -> WriteResult<()>
     requires { All (IsWithin (length dest.old.bytes)) spans.now }
     ensures ok { OnOk result (dest.new.bytes ≡ dest.old.bytes ++ join (map (part_of dest.old.bytes) spans.now)) }
@@ -113,8 +116,8 @@ fn push_spans(dest: &mut WriteBuf, spans: &[Span]) -> WriteResult<()>
     Ok(())
 }
 
-/// Appends the listing of the items' texts. The texts are appended as they come, the listing behind them, and then it
-/// is moved down over them.
+/// Appends the items' encodings in ascending order. They are appended as they come, then once more in order, and these
+/// are moved down over the first.
 fn write_listing<T: Asn1Writable>(items: &[T], dest: &mut WriteBuf) -> Result<(), T::Error>
     requires { Each T.der.closures (map T.der.meaning items.now) }
     ensures ok { OnOk result (Appends (ListingOf T.der.texts (map T.der.meaning items.now)) dest.old.bytes dest.new.bytes) }
@@ -131,14 +134,19 @@ fn write_listing<T: Asn1Writable>(items: &[T], dest: &mut WriteBuf) -> Result<()
     Ok(())
 }
 
-/// The elements of a set: the texts of a slice's items in ascending order, equal ones as often as they stand there.
+/// SET OF (X.690 8.12, 11.6; universal 17), written from the items of a slice: their encodings in ascending order,
+/// equal ones as often as the slice has them. (`SetOf` reads it.)
+///
+/// Two sets of items, each of which is written as one element, have the same encoding exactly where the items have the
+/// same encodings, each as often. Writing returns `AllocationError` where out of memory, or an error of an item. The
+/// length is known where each item's is and their sum fits a `usize`.
 #[derive(Clone, PartialEq, Eq, Hash, Drop)]
 pub struct SetOfWriter<'a, T> {
     items: &'a [T],
 }
 
 impl<'a, T: Asn1Writable> SetOfWriter<'a, T> {
-    /// A set of these items.
+    /// A set of these items, in any order.
     pub fn new(items: &'a [T]) -> SetOfWriter<'a, T>
         ensures { set_items result ≡ items.now }
     {
@@ -185,7 +193,8 @@ impl<T: Asn1Writable> SimpleAsn1Writable for SetOfWriter<'_, T> {
     }
 }
 
-/// Writes the elements of a set in order.
+/// Writes the elements of a SET (X.690 8.11, 10.3) in the order of their tags. A [`SetWriter`] gives one to its
+/// closure.
 #[derive(Drop)]
 pub struct SetElementWriter<'a> {
     buf: WriteBuf,
@@ -206,6 +215,7 @@ impl<'a> Model for SetElementWriter<'a> {
 }
 
 impl<'a> SetElementWriter<'a> {
+    /// A writer of a set after what is in the buffer.
     pub(crate) fn new(buf: WriteBuf) -> SetElementWriter<'a>
         ensures front { result.front ≡ buf.bytes }
         ensures done { result.done ≡ [] }
@@ -220,6 +230,7 @@ impl<'a> SetElementWriter<'a> {
         }
     }
 
+    /// The buffer, with the elements of the set at its end.
     pub(crate) fn into_buf(self) -> WriteBuf
         ensures octets { result.bytes ≡ self.entry.front ++ self.entry.done }
         ensures ordered { SetContent self.entry.done self.entry.last }
@@ -233,14 +244,19 @@ impl<'a> SetElementWriter<'a> {
         buf
     }
 
-    /// Writes an element whose tag doesn't come before that of the element in front of it. An element that has no octets
+    /// Writes an element whose tag doesn't come before that of the element before it: by class, from universal to
+    /// private, and within a class by number (X.680 8.6). A value without octets, such as an option that isn't there,
     /// isn't compared.
+    ///
+    /// Errors: `AllocationError` where out of memory; one that the type names; `InvalidSetOrdering` where the tag comes
+    /// before, or the octets don't begin with a whole tag. The set is then as it was. What the caller has to prove is
+    /// that of [`Writer::write_element`].
     pub fn write_element<T: Asn1Writable>(&mut self, val: &T) -> Result<(), T::Error>
         requires { IsWritable T.der (T.der.meaning val.now) }
         ensures front { self.new.front ≡ self.old.front }
         ensures ok { OnOk result (AddsTo (T.der.texts (T.der.meaning val.now)) self.old self.new) }
 
-        // A join of elements in the order of their tags stays one.
+        // Elements in the order of their tags stay such.
         ensures elements { IsElementWritten T.der (T.der.meaning val.now)
             → OnOk result (KeepsElements self.old self.new) }
         ensures err { OnErr result (self.new ≡ self.old) }
@@ -261,7 +277,7 @@ impl<'a> SetElementWriter<'a> {
     }
 }
 
-/// The tag in front of the octets, where it doesn't come before the last one.
+/// The tag at the start of the octets, where it doesn't come before the last one.
 fn tag_behind(last: Option<Tag>, octets: &[u8]) -> Option<Tag>
     ensures some { IfSome result (StandsBehind last octets.now) }
     ensures none { result ≡ None → (tag_in_front octets.now ≡ None) ⊎ (before_tag (tag_in_front octets.now) last ≡ true) }
@@ -275,7 +291,11 @@ fn tag_behind(last: Option<Tag>, octets: &[u8]) -> Option<Tag>
     }
 }
 
-/// A set whose elements a closure writes.
+/// SET (X.690 8.11, 10.3; universal 17), whose elements a closure writes by the [`SetElementWriter`] that it is given,
+/// in the order of their tags. (`Set` reads it.)
+///
+/// The length isn't known before it is written. Writing returns `AllocationError` where out of memory, or an error that
+/// the closure returns, `InvalidSetOrdering` among them where it hands that on.
 #[derive(Drop)]
 pub struct SetWriter<'a, F: Fn(&mut SetElementWriter<'_>) -> Result<(), E>, E> {
     f: &'a F,
@@ -283,7 +303,8 @@ pub struct SetWriter<'a, F: Fn(&mut SetElementWriter<'_>) -> Result<(), E>, E> {
 }
 
 impl<'a, F: Fn(&mut SetElementWriter<'_>) -> Result<(), E>, E> SetWriter<'a, F, E> {
-    /// A set of what the closure writes.
+    /// A set of what the closure will write. It isn't called yet. To write the set, the caller has to prove that the
+    /// closure may always be called, and leaves what is before the set as it was.
     pub fn new(f: &'a F) -> SetWriter<'a, F, E>
         ensures { set_closure result ≡ f.now }
     {

@@ -1,4 +1,4 @@
-//! Integers of any length, over octets that they borrow.
+//! INTEGER of any length (X.690 8.3), whose contents octets are borrowed.
 
 ghost use Rattle.std.specs.Prelude.{◌≡◌, ◌^◌, ◌<◌, length, pos, int_lt, Some, MatchOption};
 ghost use Rattle.asn1_core.specs.Tag.{universal};
@@ -17,7 +17,10 @@ use asn1_core::{
 use std::alloc::Global;
 use std::fmt;
 
-/// An integer that isn't negative, of any length: the contents octets that a read lends.
+/// INTEGER (X.690 8.3; universal 2) that isn't negative, of any length: its contents octets, borrowed from the input.
+///
+/// DER demands the fewest octets (8.3.2). Reading rejects contents octets that aren't, no octets, and a negative number
+/// with `InvalidValue`.
 #[derive(Clone, Copy, PartialEq, Eq, Hash)]
 pub struct BigUint<'a> {
     octets: &'a [u8],
@@ -27,8 +30,9 @@ pub struct BigUint<'a> {
 impl<'a> BigUint<'a> {
     ghost use Rattle.asn1_values.specs.Values.{big_uint_octets};
 
-    /// The integer with these contents octets. `None` where they are none: there is no octet, or the first nine bits are
-    /// all zero or all one, or the number is negative, since the top bit is set.
+    /// The integer with these contents octets, the most significant first. `None` where there is no octet; where there
+    /// are more than one and the first nine bits are all zero or all one; and where the number is negative, since the
+    /// top bit is set.
     pub fn new(octets: &'a [u8]) -> Option<BigUint<'a>>
         ensures { MatchOption result (¬ IsUnsigned octets.entry.now) (λ n. big_uint_octets n ≡ octets.entry.now) }
     {
@@ -38,7 +42,7 @@ impl<'a> BigUint<'a> {
         Some(BigUint { octets })
     }
 
-    /// The contents octets.
+    /// The contents octets, a leading 0x00 included where the number's top bit needs it.
     pub fn as_bytes(&self) -> &'a [u8]
         ensures value { result.now ≡ big_uint_octets self.now }
         ensures content { IsUnsigned result.now }
@@ -111,7 +115,10 @@ impl SimpleAsn1Writable for BigUint<'_> {
     }
 }
 
-/// An integer of any length: the contents octets that a read lends.
+/// INTEGER (X.690 8.3; universal 2) of any length: its contents octets, borrowed from the input.
+///
+/// DER demands the fewest octets (8.3.2). Reading rejects contents octets that aren't, and no octets, with
+/// `InvalidValue`.
 #[derive(Clone, Copy, PartialEq, Eq, Hash)]
 pub struct BigInt<'a> {
     octets: &'a [u8],
@@ -121,8 +128,8 @@ pub struct BigInt<'a> {
 impl<'a> BigInt<'a> {
     ghost use Rattle.asn1_values.specs.Values.{big_int_octets, big_int_number};
 
-    /// The integer with these contents octets. `None` where they are none: there is no octet, or there are more and the
-    /// first nine bits are all zero or all one.
+    /// The integer with these contents octets in two's complement, the most significant first. `None` where there is no
+    /// octet, and where there are more than one and the first nine bits are all zero or all one.
     pub fn new(octets: &'a [u8]) -> Option<BigInt<'a>>
         ensures { MatchOption result (¬ IsSigned octets.entry.now) (λ n. big_int_octets n ≡ octets.entry.now) }
     {
@@ -147,7 +154,8 @@ impl<'a> BigInt<'a> {
         is_negative(self.octets)
     }
 
-    /// How many binary digits the absolute value has: 0 for 0.
+    /// How many binary digits the absolute value has: 0 for 0. The caller has to prove that there are fewer than 2^61
+    /// contents octets (`requires`), so that the count fits a `usize`.
     pub fn bit_length(&self) -> usize
         requires { length (big_int_octets self.now) < 2 ^ 61 }
         ensures { result ≡ bit_count (big_int_number self.now) }

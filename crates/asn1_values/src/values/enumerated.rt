@@ -1,4 +1,4 @@
-//! Enumerated values.
+//! ENUMERATED (X.690 8.4).
 
 ghost use Rattle.std.specs.Prelude.{◌≡◌, ◌-ℤ◌, ◌^◌, pos, length, Some};
 ghost use Rattle.asn1_core.specs.Tag.{universal};
@@ -12,7 +12,9 @@ use asn1_core::{
 };
 use std::alloc::Global;
 
-/// An enumerated value: a number that stands for one of a list.
+/// ENUMERATED (X.690 8.4; universal 10): the number of one of a list of values, from 0 to 2^32 - 1. It is encoded as an
+/// INTEGER is. Reading rejects contents octets that aren't the fewest, or none, and negative numbers with
+/// `InvalidValue`, and greater numbers with `IntegerOverflow`. Which numbers the list has is the caller's to test.
 #[derive(Debug, PartialEq, Eq, Drop)]
 pub struct Enumerated(u32);
 

@@ -1,4 +1,4 @@
-//! Times with a fraction of a second, or without (X.690 11.7).
+//! GeneralizedTime, with a fraction of a second or without (X.690 11.7).
 
 ghost use Rattle.std.specs.Prelude.{◌≡◌, ◌≤◌, ⊤, Some, length, MatchResult};
 ghost use Rattle.std.proofs.Props.{props};
@@ -18,9 +18,14 @@ use asn1_core::{
 };
 use std::alloc::{AllocError, Global};
 
-/// The type `GeneralizedTime`: a date and a time of day, in UTC, of a year from 0 to 9999, with a fraction of a second in
-/// nanoseconds or without. It is ordered by date and time of day, then no fraction before any, then by nanoseconds. A
-/// content is refused with `InvalidValue`.
+/// GeneralizedTime (X.690 11.7; universal 24): a date and a time of day in UTC, of a year from 0 to 9999, with a
+/// fraction of a second in nanoseconds or without. It is ordered by date and time of day, then no fraction before any,
+/// then by nanoseconds.
+///
+/// The contents octets are `YYYYMMDDHHMMSSZ`, or `YYYYMMDDHHMMSS.fZ` with a fraction. DER demands the seconds, the `Z`,
+/// a point and no comma, and a last digit of the fraction that isn't 0. Reading rejects other contents octets, those of
+/// no date or no time of day, and those with more than nine digits of a fraction, which aren't read here, with
+/// `InvalidValue`.
 #[derive(Debug, PartialEq, Eq, PartialOrd, Hash, Drop)]
 pub struct GeneralizedTime {
     datetime: DateTime,
@@ -32,7 +37,8 @@ pub struct GeneralizedTime {
 impl GeneralizedTime {
     ghost use Rattle.asn1_values.specs.GeneralizedTimes.{instant_of};
 
-    /// The time. A refusal is `InvalidValue`: the year is after 9999, or the nanoseconds are 0 or above 999999999.
+    /// The time. The error is `InvalidValue`, without a location, where the year is after 9999, or there are
+    /// nanoseconds and they are 0 or above 999999999.
     pub fn new(datetime: DateTime, nanoseconds: Option<u32>) -> ParseResult<GeneralizedTime>
         ensures { MatchResult result (λ t. instant_of t ≡ instant (moment datetime) nanoseconds) (λ e. (e ≡ fault InvalidValue) × ¬ (((moment datetime).year ≤ 9999) × IsNanoseconds nanoseconds)) }
     {
@@ -52,7 +58,7 @@ impl GeneralizedTime {
         &self.datetime
     }
 
-    /// The fraction of a second in nanoseconds, from 1 to 999999999, where there is one.
+    /// The fraction of a second in nanoseconds, from 1 to 999999999. `None` where there is none.
     pub fn nanoseconds(&self) -> Option<u32>
         ensures { result ≡ (instant_of self.now).nanoseconds }
     {
@@ -60,6 +66,7 @@ impl GeneralizedTime {
     }
 }
 
+/// Takes no memory, and never fails.
 impl Clone for GeneralizedTime {
     ghost use Rattle.asn1_values.specs.GeneralizedTimes.{instant_of};
 

@@ -1,4 +1,4 @@
-//! Integers of any length, over octets that they own.
+//! INTEGER of any length (X.690 8.3), which owns its contents octets.
 
 ghost use Rattle.std.specs.Prelude.{◌≡◌, ◌^◌, ◌<◌, length, pos, int_lt, Some, MatchOption};
 ghost use Rattle.asn1_core.specs.Integer.{integer_content};
@@ -15,7 +15,9 @@ use asn1_core::{
 use std::alloc::{AllocError, Global};
 use std::fmt;
 
-/// An integer that isn't negative, of any length, which owns its contents octets.
+/// INTEGER (X.690 8.3; universal 2) that isn't negative, of any length, which owns its contents octets. It is read and
+/// written as [`crate::BigUint`] is; reading allocates only after the contents octets were found right, and returns
+/// `AllocationError` where out of memory.
 #[derive(PartialEq, Eq, Hash, Drop)]
 pub struct OwnedBigUint {
     octets: Vec<u8>,
@@ -25,8 +27,9 @@ pub struct OwnedBigUint {
 impl OwnedBigUint {
     ghost use Rattle.asn1_values.specs.Values.{owned_big_uint_octets};
 
-    /// The integer with these contents octets. `None` where they are none: there is no octet, or the first nine bits are
-    /// all zero or all one, or the number is negative, since the top bit is set.
+    /// The integer with these contents octets, the most significant first. `None` where there is no octet; where there
+    /// are more than one and the first nine bits are all zero or all one; and where the number is negative, since the
+    /// top bit is set.
     pub fn new(octets: Vec<u8>) -> Option<OwnedBigUint>
         ensures { MatchOption result (¬ IsUnsigned octets.items) (λ n. owned_big_uint_octets n ≡ octets.items) }
     {
@@ -36,7 +39,7 @@ impl OwnedBigUint {
         Some(OwnedBigUint { octets })
     }
 
-    /// The contents octets.
+    /// The contents octets, a leading 0x00 included where the number's top bit needs it.
     pub fn as_bytes(&self) -> &[u8]
         ensures value { result.now ≡ owned_big_uint_octets self.now }
         ensures content { IsUnsigned result.now }
@@ -45,6 +48,7 @@ impl OwnedBigUint {
     }
 }
 
+/// Allocates; returns `AllocError` where out of memory.
 impl Clone for OwnedBigUint {
     ghost use Rattle.asn1_values.specs.Values.{owned_big_uint_octets};
 
@@ -111,7 +115,9 @@ impl SimpleAsn1Writable for OwnedBigUint {
     }
 }
 
-/// An integer of any length, which owns its contents octets.
+/// INTEGER (X.690 8.3; universal 2) of any length, which owns its contents octets. It is read and written as
+/// [`crate::BigInt`] is; reading allocates only after the contents octets were found right, and returns
+/// `AllocationError` where out of memory.
 #[derive(PartialEq, Eq, Hash, Drop)]
 pub struct OwnedBigInt {
     octets: Vec<u8>,
@@ -121,8 +127,8 @@ pub struct OwnedBigInt {
 impl OwnedBigInt {
     ghost use Rattle.asn1_values.specs.Values.{owned_big_int_octets, owned_big_int_number};
 
-    /// The integer with these contents octets. `None` where they are none: there is no octet, or there are more and the
-    /// first nine bits are all zero or all one.
+    /// The integer with these contents octets in two's complement, the most significant first. `None` where there is no
+    /// octet, and where there are more than one and the first nine bits are all zero or all one.
     pub fn new(octets: Vec<u8>) -> Option<OwnedBigInt>
         ensures { MatchOption result (¬ IsSigned octets.items) (λ n. owned_big_int_octets n ≡ octets.items) }
     {
@@ -147,7 +153,8 @@ impl OwnedBigInt {
         is_negative(self.octets.as_slice())
     }
 
-    /// How many binary digits the absolute value has: 0 for 0.
+    /// How many binary digits the absolute value has: 0 for 0. The caller has to prove that there are fewer than 2^61
+    /// contents octets (`requires`), so that the count fits a `usize`.
     pub fn bit_length(&self) -> usize
         requires { length (owned_big_int_octets self.now) < 2 ^ 61 }
         ensures { result ≡ bit_count (owned_big_int_number self.now) }
@@ -156,6 +163,7 @@ impl OwnedBigInt {
     }
 }
 
+/// Allocates; returns `AllocError` where out of memory.
 impl Clone for OwnedBigInt {
     ghost use Rattle.asn1_values.specs.Values.{owned_big_int_octets};
 

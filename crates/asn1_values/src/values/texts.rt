@@ -1,4 +1,4 @@
-//! Texts of characters that are read as `str`.
+//! Character strings whose contents octets are read as `str` (X.690 8.23, X.680 41).
 
 ghost use Rattle.std.specs.Prelude.{◌≡◌, true, false, ⊤, Some, length, MatchOption, IsTrue, IsUtf8};
 ghost use Rattle.asn1_core.specs.Tag.{universal};
@@ -33,18 +33,21 @@ fn is_printable(octet: u8) -> bool
     octet < 128 && (characters >> (octet % 64)) % 2 == 1
 }
 
+/// Whether each is a character of a `PrintableString`.
 fn is_printable_text(octets: &[u8]) -> bool
     ensures { result ≡ is_printable_text octets.now }
 {
     octets.iter().all(|octet| is_printable(*octet))
 }
 
+/// Whether each is ASCII.
 fn is_ia5_text(octets: &[u8]) -> bool
     ensures { result ≡ is_ia5_text octets.now }
 {
     octets.is_ascii()
 }
 
+/// Whether each is ASCII and no control character.
 fn is_visible_text(octets: &[u8]) -> bool
     ensures { result ≡ is_visible_text octets.now }
 {
@@ -62,7 +65,8 @@ fn text_in(octets: &[u8], is_text: bool) -> Option<&str>
     str::from_utf8(octets).ok()
 }
 
-/// A text of letters, digits, space and `'()+,-./:=?`.
+/// PrintableString (X.690 8.23, X.680 41; universal 19): letters, digits, space and `'()+,-./:=?`, an octet each,
+/// borrowed from the input. The encoding is primitive (10.2). Reading rejects other octets with `InvalidValue`.
 #[derive(PartialEq, Eq, Hash, Drop)]
 pub struct PrintableString<'a> {
     text: &'a str,
@@ -72,7 +76,7 @@ pub struct PrintableString<'a> {
 impl<'a> PrintableString<'a> {
     ghost use Rattle.asn1_values.specs.TextValues.{printable_octets};
 
-    /// The string with these characters. `None` where there is another one.
+    /// The string with these characters. `None` where one isn't a letter, a digit, a space or one of `'()+,-./:=?`.
     pub fn new(text: &'a str) -> Option<PrintableString<'a>>
         ensures { MatchOption result (¬ IsTextOf is_printable_text text.entry.now) (λ s. printable_octets s ≡ text.entry.now) }
     {
@@ -90,7 +94,7 @@ impl<'a> PrintableString<'a> {
     }
 }
 
-/// Takes no memory.
+/// Takes no memory, and never fails.
 impl<'a> Clone for PrintableString<'a> {
     ghost use Rattle.asn1_values.specs.TextValues.{printable_octets};
 
@@ -165,7 +169,8 @@ impl SimpleAsn1Writable for PrintableString<'_> {
     }
 }
 
-/// A text of ASCII characters.
+/// IA5String (X.690 8.23, X.680 41; universal 22): ASCII characters, control characters among them, an octet each,
+/// borrowed from the input. The encoding is primitive (10.2). Reading rejects octets from 0x80 on with `InvalidValue`.
 #[derive(PartialEq, Eq, Drop)]
 pub struct IA5String<'a> {
     text: &'a str,
@@ -193,7 +198,7 @@ impl<'a> IA5String<'a> {
     }
 }
 
-/// Takes no memory.
+/// Takes no memory, and never fails.
 impl<'a> Clone for IA5String<'a> {
     ghost use Rattle.asn1_values.specs.TextValues.{ia5_octets};
 
@@ -268,7 +273,8 @@ impl SimpleAsn1Writable for IA5String<'_> {
     }
 }
 
-/// A text of ASCII characters but for control characters: from space to `~`.
+/// VisibleString (X.690 8.23, X.680 41; universal 26): the ASCII characters from space to `~`, an octet each, borrowed
+/// from the input. The encoding is primitive (10.2). Reading rejects other octets with `InvalidValue`.
 #[derive(PartialEq, Eq, Drop)]
 pub struct VisibleString<'a> {
     text: &'a str,
@@ -278,7 +284,7 @@ pub struct VisibleString<'a> {
 impl<'a> VisibleString<'a> {
     ghost use Rattle.asn1_values.specs.TextValues.{visible_octets};
 
-    /// The string with these characters. `None` where there is another one.
+    /// The string with these characters. `None` where one isn't ASCII, or is a control character.
     pub fn new(text: &'a str) -> Option<VisibleString<'a>>
         ensures { MatchOption result (¬ IsTextOf is_visible_text text.entry.now) (λ s. visible_octets s ≡ text.entry.now) }
     {
@@ -296,7 +302,7 @@ impl<'a> VisibleString<'a> {
     }
 }
 
-/// Takes no memory.
+/// Takes no memory, and never fails.
 impl<'a> Clone for VisibleString<'a> {
     ghost use Rattle.asn1_values.specs.TextValues.{visible_octets};
 
@@ -371,7 +377,8 @@ impl SimpleAsn1Writable for VisibleString<'_> {
     }
 }
 
-/// A text of any characters, in UTF-8.
+/// UTF8String (X.690 8.23, X.680 41; universal 12): any Unicode characters in UTF-8, borrowed from the input. The
+/// encoding is primitive (10.2). Reading rejects octets that aren't UTF-8 with `InvalidValue`.
 #[derive(PartialEq, Eq, Hash, Drop)]
 pub struct Utf8String<'a> {
     text: &'a str,
@@ -381,7 +388,7 @@ pub struct Utf8String<'a> {
 impl<'a> Utf8String<'a> {
     ghost use Rattle.asn1_values.specs.TextValues.{utf8_octets};
 
-    /// The string with these characters.
+    /// The string with these characters, which may be any.
     pub fn new(text: &'a str) -> Utf8String<'a>
         ensures { utf8_octets result ≡ text.entry.now }
     {
@@ -396,7 +403,7 @@ impl<'a> Utf8String<'a> {
     }
 }
 
-/// Takes no memory.
+/// Takes no memory, and never fails.
 impl<'a> Clone for Utf8String<'a> {
     ghost use Rattle.asn1_values.specs.TextValues.{utf8_octets};
 

@@ -1,4 +1,4 @@
-//! Texts of characters in two or four octets each.
+//! Character strings of two or four octets a character (X.690 8.23, X.680 41).
 
 ghost use Rattle.std.specs.Prelude.{◌≡◌, ◌+◌, ◌%◌, ◌<◌, ◌≤◌, ◌↔◌, [], ◌∷◌, drop, true, false, ⊤, Some, length, MatchOption, IsTrue};
 ghost use Rattle.std.specs.Char.{IsScalar};
@@ -17,8 +17,8 @@ use asn1_core::{
 use std::alloc::{AllocError, Global};
 use std::fmt;
 
-/// How many octets of UTF-16 the character at a place has: 2, or 4 where it is a pair of surrogates. 0 where a surrogate
-/// has no partner.
+/// How many octets of UTF-16 the character at an index has: 2, or 4 where it is a pair of surrogates. 0 where a
+/// surrogate has no partner.
 fn utf16_length(octets: &[u8], at: usize) -> usize
     requires { at + 2 ≤ length octets.now }
     ensures unpaired { result ≡ 0 → is_paired (drop at octets.now) ≡ false }
@@ -40,6 +40,7 @@ fn utf16_length(octets: &[u8], at: usize) -> usize
     4
 }
 
+/// Whether the octets are UTF-16, the most significant octet of a unit first.
 fn is_utf16_text(octets: &[u8]) -> bool
     ensures { result ≡ is_utf16_text octets.now }
 {
@@ -66,6 +67,7 @@ fn is_character(first: u8, second: u8, third: u8, fourth: u8) -> bool
     char::from_u32(high * 0x1_0000 + low).is_some()
 }
 
+/// Whether the octets are UTF-32, the most significant octet of a character first.
 fn is_utf32_text(octets: &[u8]) -> bool
     ensures { result ≡ is_utf32_text octets.now }
 {
@@ -82,7 +84,11 @@ fn is_utf32_text(octets: &[u8]) -> bool
     true
 }
 
-/// A text in UTF-16, the most significant octet of each unit first.
+/// BMPString (X.690 8.23, X.680 41; universal 30): UTF-16, the most significant octet of each unit first, borrowed from
+/// the input. The type has the characters of two octets alone; pairs of surrogates are read too, as the original does.
+///
+/// The encoding is primitive (10.2). Reading rejects an odd number of octets, and a surrogate without its partner, with
+/// `InvalidValue`.
 #[derive(PartialEq, Eq, Hash, Drop)]
 pub struct BMPString<'a> {
     octets: &'a [u8],
@@ -92,7 +98,7 @@ pub struct BMPString<'a> {
 impl<'a> BMPString<'a> {
     ghost use Rattle.asn1_values.specs.WideTexts.{bmp_octets};
 
-    /// The string with these octets. `None` where the number of octets is odd, or a surrogate has no partner.
+    /// The string with these octets. `None` where their number is odd, or a surrogate has no partner.
     pub fn new(octets: &'a [u8]) -> Option<BMPString<'a>>
         ensures { MatchOption result (¬ IsTextOf is_utf16_text octets.entry.now) (λ s. bmp_octets s ≡ octets.entry.now) }
     {
@@ -102,7 +108,7 @@ impl<'a> BMPString<'a> {
         Some(BMPString { octets })
     }
 
-    /// The octets.
+    /// The octets: UTF-16, the most significant octet of each unit first.
     pub fn as_utf16_be_bytes(&self) -> &'a [u8]
         ensures { result.now ≡ bmp_octets self.now }
     {
@@ -110,7 +116,7 @@ impl<'a> BMPString<'a> {
     }
 }
 
-/// Takes no memory.
+/// Takes no memory, and never fails.
 impl<'a> Clone for BMPString<'a> {
     ghost use Rattle.asn1_values.specs.WideTexts.{bmp_octets};
 
@@ -187,7 +193,9 @@ impl SimpleAsn1Writable for BMPString<'_> {
     }
 }
 
-/// A text in UTF-32: four octets a character, the most significant first.
+/// UniversalString (X.690 8.23, X.680 41; universal 28): UTF-32, the most significant octet of each character first,
+/// borrowed from the input. The encoding is primitive (10.2). Reading rejects with `InvalidValue` what
+/// [`UniversalString::new`] does.
 #[derive(PartialEq, Eq, Hash, Drop)]
 pub struct UniversalString<'a> {
     octets: &'a [u8],
@@ -197,8 +205,8 @@ pub struct UniversalString<'a> {
 impl<'a> UniversalString<'a> {
     ghost use Rattle.asn1_values.specs.WideTexts.{universal_octets};
 
-    /// The string with these octets. `None` where the number of octets isn't a multiple of four, or four are above
-    /// 0x10ffff or a surrogate.
+    /// The string with these octets. `None` where their number isn't a multiple of four, or four of them are above
+    /// 0x10ffff or a surrogate (0xd800 to 0xdfff).
     pub fn new(octets: &'a [u8]) -> Option<UniversalString<'a>>
         ensures { MatchOption result (¬ IsTextOf is_utf32_text octets.entry.now) (λ s. universal_octets s ≡ octets.entry.now) }
     {
@@ -208,7 +216,7 @@ impl<'a> UniversalString<'a> {
         Some(UniversalString { octets })
     }
 
-    /// The octets.
+    /// The octets: UTF-32, the most significant octet of each character first.
     pub fn as_utf32_be_bytes(&self) -> &'a [u8]
         ensures { result.now ≡ universal_octets self.now }
     {
@@ -216,7 +224,7 @@ impl<'a> UniversalString<'a> {
     }
 }
 
-/// Takes no memory.
+/// Takes no memory, and never fails.
 impl<'a> Clone for UniversalString<'a> {
     ghost use Rattle.asn1_values.specs.WideTexts.{universal_octets};
 

@@ -1,4 +1,4 @@
-//! The signed integers with a range: `i8` to `i64`.
+//! The signed integers of fixed width, `i8` to `i64`: INTEGER (X.690 8.3), within the range of the type.
 
 ghost use Rattle.std.specs.Prelude.{◌≡◌, length, Some};
 ghost use Rattle.asn1_core.specs.Integer.{integer_content};
@@ -11,6 +11,8 @@ use crate::types::{Asn1Type, SimpleAsn1Readable, SimpleAsn1Writable};
 use crate::writer::{WriteBuf, WriteError, WriteResult};
 use std::alloc::Global;
 
+/// INTEGER (X.690 8.3; universal 2) from -2^7 to 2^7 - 1. Reading rejects contents octets that aren't the fewest, or
+/// none, with `InvalidValue`, and numbers outside the range with `IntegerOverflow`.
 impl Asn1Type for i8 {
     ghost der = { signed_der 8 (λ number. number) };
 
@@ -54,6 +56,7 @@ impl SimpleAsn1Writable for i8 {
     }
 }
 
+/// INTEGER (X.690 8.3; universal 2) from -2^15 to 2^15 - 1. Reading rejects as that of `i8`.
 impl Asn1Type for i16 {
     ghost der = { signed_der 16 (λ number. number) };
 
@@ -97,6 +100,7 @@ impl SimpleAsn1Writable for i16 {
     }
 }
 
+/// INTEGER (X.690 8.3; universal 2) from -2^31 to 2^31 - 1. Reading rejects as that of `i8`.
 impl Asn1Type for i32 {
     ghost der = { signed_der 32 (λ number. number) };
 
@@ -140,6 +144,7 @@ impl SimpleAsn1Writable for i32 {
     }
 }
 
+/// INTEGER (X.690 8.3; universal 2) from -2^63 to 2^63 - 1. Reading rejects as that of `i8`.
 impl Asn1Type for i64 {
     ghost der = { signed_der 64 (λ number. number) };
 

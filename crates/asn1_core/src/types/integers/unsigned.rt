@@ -1,4 +1,4 @@
-//! The unsigned integers with a range: `u8` to `u64`.
+//! The unsigned integers of fixed width, `u8` to `u64`: INTEGER (X.690 8.3), within the range of the type.
 
 ghost use Rattle.std.specs.Prelude.{◌≡◌, length, pos, Some};
 ghost use Rattle.asn1_core.specs.Integer.{integer_content};
@@ -11,6 +11,8 @@ use crate::types::{Asn1Type, SimpleAsn1Readable, SimpleAsn1Writable};
 use crate::writer::{WriteBuf, WriteError, WriteResult};
 use std::alloc::Global;
 
+/// INTEGER (X.690 8.3; universal 2) from 0 to 2^8 - 1. Reading rejects contents octets that aren't the fewest, or none,
+/// and negative numbers with `InvalidValue`, and greater numbers with `IntegerOverflow`.
 impl Asn1Type for u8 {
     ghost der = { unsigned_der 8 (λ number. number) };
 
@@ -54,6 +56,7 @@ impl SimpleAsn1Writable for u8 {
     }
 }
 
+/// INTEGER (X.690 8.3; universal 2) from 0 to 2^16 - 1. Reading rejects as that of `u8`.
 impl Asn1Type for u16 {
     ghost der = { unsigned_der 16 (λ number. number) };
 
@@ -97,6 +100,7 @@ impl SimpleAsn1Writable for u16 {
     }
 }
 
+/// INTEGER (X.690 8.3; universal 2) from 0 to 2^32 - 1. Reading rejects as that of `u8`.
 impl Asn1Type for u32 {
     ghost der = { unsigned_der 32 (λ number. number) };
 
@@ -140,6 +144,7 @@ impl SimpleAsn1Writable for u32 {
     }
 }
 
+/// INTEGER (X.690 8.3; universal 2) from 0 to 2^64 - 1. Reading rejects as that of `u8`.
 impl Asn1Type for u64 {
     ghost der = { unsigned_der 64 (λ number. number) };
 
