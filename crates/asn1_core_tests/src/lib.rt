@@ -12,6 +12,8 @@ mod octets;
 #[cfg(test)]
 mod reading;
 #[cfg(test)]
+mod refusals;
+#[cfg(test)]
 mod same;
 #[cfg(test)]
 mod sets;

@@ -1,0 +1,73 @@
+//! What stands after a refusal, and what is refused behind a value.
+
+ghost use Rattle.std.specs.Prelude.{◌≡◌};
+
+use asn1_core::{
+    ParseError, ParseErrorKind, Parser, SetElementWriter, SetOfWriter, SetWriter, Tlv, WriteError,
+    WriteResult, Writer, strip_tlv, write, write_single,
+};
+use std::test::Fail;
+
+#[test]
+fn a_rest_inside_an_explicit_tag_is_refused(rt: HostRuntime) {
+    let octets = [0xa2, 0x05, 0x01, 0x01, 0xff, 0x05, 0x00];
+    let answer = Parser::new(rt.alloc(), &octets).read_explicit_element::<bool>(2);
+    assert!(rt; answer == Err(ParseError::new(ParseErrorKind::ExtraData)));
+}
+
+#[test]
+fn a_parser_stays_in_front_of_an_unfinished_element(rt: HostRuntime) {
+    let octets = [0x04, 0x02, 0x00];
+    let mut parser = Parser::new(rt.alloc(), &octets);
+    let short = ParseErrorKind::ShortData { needed: 1 };
+    assert!(rt; parser.read_element::<Tlv<'_>>() == Err(ParseError::new(short)));
+    assert!(rt; parser.rest() == octets);
+}
+
+#[test]
+fn an_order_is_kept_over_a_refusal(rt: HostRuntime) -> Result<(), Fail> {
+    let twice = |set: &mut SetElementWriter<'_>| -> WriteResult<()>
+        ensures { set.new.front ≡ set.old.front }
+    {
+        set.write_element(&1i64)?;
+        match set.write_element(&true) {
+            Err(WriteError::InvalidSetOrdering) => {}
+            answer => return answer,
+        }
+        match set.write_element(&true) {
+            Err(WriteError::InvalidSetOrdering) => Ok(()),
+            answer => answer,
+        }
+    };
+    let octets = write_single(rt.alloc(), &SetWriter::new(&twice))?;
+    assert!(rt; octets.as_slice() == [0x31, 0x03, 0x02, 0x01, 0x01]);
+    Ok(())
+}
+
+#[test]
+fn a_refused_value_leaves_no_octets(rt: HostRuntime) -> Result<(), Fail> {
+    let refuses = |set: &mut SetElementWriter<'_>| -> WriteResult<()>
+        ensures { set.new.front ≡ set.old.front }
+    {
+        set.write_element(&1i64)?;
+        set.write_element(&true)
+    };
+    let octets = write(rt.alloc(), |writer: &mut Writer<'_>| {
+        match writer.write_element(&SetWriter::new(&refuses)) {
+            Err(WriteError::InvalidSetOrdering) => writer.write_element(&true),
+            answer => answer,
+        }
+    })?;
+    assert!(rt; octets.as_slice() == [0x01, 0x01, 0xff]);
+    Ok(())
+}
+
+#[test]
+fn elements_of_several_tags_in_order(rt: HostRuntime) -> Result<(), Fail> {
+    let (octets, number) = ([0x04, 0x01, 0x00], [0x02, 0x02, 0x01, 0x00]);
+    let (octets, _rest) = strip_tlv(&octets)?;
+    let (number, _rest) = strip_tlv(&number)?;
+    let written = write_single(rt.alloc(), &SetOfWriter::new(&[octets, number]))?;
+    assert!(rt; written.as_slice() == [0x31, 0x07, 0x02, 0x02, 0x01, 0x00, 0x04, 0x01, 0x00]);
+    Ok(())
+}
