@@ -21,7 +21,7 @@ fn a_parser_stays_in_front_of_an_unfinished_element(rt: HostRuntime) {
     let mut parser = Parser::new(rt.alloc(), &octets);
     let short = ParseErrorKind::ShortData { needed: 1 };
     assert!(rt; parser.read_element::<Tlv<'_>>() == Err(ParseError::new(short)));
-    assert!(rt; parser.rest() == octets);
+    assert!(rt; parser.rest() == octets.as_slice());
 }
 
 #[test]
@@ -40,7 +40,7 @@ fn an_order_is_kept_over_a_refusal(rt: HostRuntime) -> Result<(), Fail> {
         }
     };
     let octets = write_single(rt.alloc(), &SetWriter::new(&twice))?;
-    assert!(rt; octets.as_slice() == [0x31, 0x03, 0x02, 0x01, 0x01]);
+    assert!(rt; octets.as_slice() == [0x31, 0x03, 0x02, 0x01, 0x01].as_slice());
     Ok(())
 }
 
@@ -58,7 +58,7 @@ fn a_refused_value_leaves_no_octets(rt: HostRuntime) -> Result<(), Fail> {
             answer => answer,
         }
     })?;
-    assert!(rt; octets.as_slice() == [0x01, 0x01, 0xff]);
+    assert!(rt; octets.as_slice() == [0x01, 0x01, 0xff].as_slice());
     Ok(())
 }
 
@@ -68,6 +68,7 @@ fn elements_of_several_tags_in_order(rt: HostRuntime) -> Result<(), Fail> {
     let (octets, _rest) = strip_tlv(&octets)?;
     let (number, _rest) = strip_tlv(&number)?;
     let written = write_single(rt.alloc(), &SetOfWriter::new(&[octets, number]))?;
-    assert!(rt; written.as_slice() == [0x31, 0x07, 0x02, 0x02, 0x01, 0x00, 0x04, 0x01, 0x00]);
+    let wanted = [0x31, 0x07, 0x02, 0x02, 0x01, 0x00, 0x04, 0x01, 0x00];
+    assert!(rt; written.as_slice() == wanted.as_slice());
     Ok(())
 }
