@@ -1,8 +1,11 @@
 //! Which types are lawful, have one encoding for each value, take memory and have bounds, each the contract of a
 //! function that does nothing. A type with parts is as its parts are.
 
+ghost use Rattle.std.specs.Prelude.{◌≡◌, false};
+ghost use Rattle.asn1_core.specs.declared.tag.Tag.{Tag};
 ghost use Rattle.asn1.specs.TypeLaws.{Inherits, InheritsBoth, IsSound, IsSoundOwned};
 
+use crate::fields::{Field, FieldNames, Last, Row, Structure};
 use crate::{
     BMPString, BigInt, BigUint, BitString, Choice1, Choice2, Choice3, DefaultValue, Defaulted,
     Enumerated, Explicit, GeneralizedTime, IA5String, MeaningEq, Null, ObjectIdentifier,
@@ -105,4 +108,39 @@ pub fn choices_inherit<T1: Asn1Type, T2: Asn1Type, T3: Asn1Type>()
     ensures choice2 { InheritsBoth T1.der T2.der ⟦<Choice2<T1, T2> as Asn1Type>⟧.der }
     ensures choice3 { InheritsBoth T1.der ⟦<Choice2<T2, T3> as Asn1Type>⟧.der
         ⟦<Choice3<T1, T2, T3> as Asn1Type>⟧.der }
+{}
+
+/// A row of lawful fields is lawful where one that may be missing is told by its tag from those that may stand behind it.
+pub fn rows_are_lawful<A: Asn1Type, R: Row>()
+    ensures last { A.der.lawful → ⟦<Last<A> as Row>⟧.list.fields.lawful }
+    ensures element { A.der.lawful → A.der.is_element → R.list.fields.lawful →
+        ⟦<Field<A, R> as Row>⟧.list.fields.lawful }
+    ensures missing { A.der.lawful →
+        ((tag : Tag) → R.list.fields.starts tag → A.der.accepts tag ≡ false) →
+        R.list.fields.lawful → ⟦<Field<A, R> as Row>⟧.list.fields.lawful }
+{}
+
+/// A row has one text, takes memory and has bounds as its fields do.
+pub fn rows_inherit<A: Asn1Type, R: Row>()
+    ensures last_plain { A.der.plain → ⟦<Last<A> as Row>⟧.list.fields.plain }
+    ensures last_takes_none { (A.der.takes_memory → ⊥) →
+        ⟦<Last<A> as Row>⟧.list.fields.takes_memory → ⊥ }
+    ensures last_unbounded { (A.der.bounded → ⊥) → ⟦<Last<A> as Row>⟧.list.fields.bounded → ⊥ }
+    ensures plain { A.der.plain → R.list.fields.plain → ⟦<Field<A, R> as Row>⟧.list.fields.plain }
+    ensures takes_none { (A.der.takes_memory → ⊥) → (R.list.fields.takes_memory → ⊥) →
+        ⟦<Field<A, R> as Row>⟧.list.fields.takes_memory → ⊥ }
+    ensures unbounded { (A.der.bounded → ⊥) → (R.list.fields.bounded → ⊥) →
+        ⟦<Field<A, R> as Row>⟧.list.fields.bounded → ⊥ }
+{}
+
+/// A structure is as its row is.
+pub fn structures_inherit<N: FieldNames, R: Row>()
+    ensures lawful { R.list.fields.lawful → ⟦<Structure<N, R> as Asn1Type>⟧.der.lawful }
+    ensures plain { R.list.fields.plain → ⟦<Structure<N, R> as Asn1Type>⟧.der.plain }
+    ensures takes_none { (R.list.fields.takes_memory → ⊥) →
+        ⟦<Structure<N, R> as Asn1Type>⟧.der.takes_memory → ⊥ }
+    ensures unbounded { (R.list.fields.bounded → ⊥) →
+        ⟦<Structure<N, R> as Asn1Type>⟧.der.bounded → ⊥ }
+    ensures simple { ⟦<Structure<N, R> as Asn1Type>⟧.der.is_simple }
+    ensures element { ⟦<Structure<N, R> as Asn1Type>⟧.der.is_element }
 {}

@@ -14,6 +14,4 @@ pub mod Pending
 pub mod Laws
 pub mod Reason
 pub mod Time
-pub mod SomeSequence
 pub mod MySequence
-pub mod Entry

@@ -4,11 +4,14 @@ ghost use Rattle.std.specs.Prelude.{◌≡◌, ℕ, Some, OnOk};
 ghost use Rattle.asn1.specs.Der.{simple_der};
 ghost use Rattle.dercheck_tests.specs.Code.{code_content};
 
+mod bag;
 mod certificate;
 mod changed;
 mod frames;
 mod nested;
 mod own_types;
+mod set_pair;
+mod ticket;
 
 use asn1::{
     Asn1Type, ParseError, ParseErrorKind, ParseResult, SimpleAsn1Readable, SimpleAsn1Writable, Tag,

@@ -9,10 +9,10 @@ ghost use Rattle.asn1.specs.Defined.{by_seen, defined_seen};
 ghost use Rattle.asn1.specs.ItemsAndValues.{Agrees, ItemAndValue, agrees_seen};
 ghost use Rattle.asn1.specs.FieldLists.{ItemOf, defined_field, defined_last_field};
 
-use super::{FieldNames, Row, RowReadable, RowWritable, finish, placed, sum};
+use super::{NameSource, Row, RowReadable, RowWritable, finish, placed, sum};
 use asn1_core::{
     Asn1DefinedBy, Asn1DefinedByReadable, Asn1DefinedByWritable, Asn1Readable, Asn1Type,
-    Asn1Writable, ParseResult, Parser, Tag, Writer,
+    Asn1Writable, ParseResult, Parser, Tag, WriteError, Writer,
 };
 use std::marker::PhantomData;
 
@@ -28,25 +28,27 @@ pub trait DefinedField<T: Asn1Type>: Asn1DefinedBy<T> + Sized {
     ghost agrees: { Agrees T.der Self.by both };
 }
 
-/// An item and the last field, which it defines; they have these indices among the names. Only the value is kept: it
-/// tells its item.
+/// An item and the last field, which it defines; they have two names. Only the value is kept: it tells its item.
 #[derive(Drop)]
-pub struct DefinedLast<N, const I: usize, const J: usize, T, C> {
+#[derive_where(Debug, Clone, PartialEq, Eq, Hash; C)]
+pub struct DefinedLast<T, C> {
     pub value: C,
-    pub of: PhantomData<(N, T)>,
+    pub of: PhantomData<T>,
 }
 
-/// An item, a field that it defines, and those behind these. Only the value is kept: it tells its item.
+/// An item, a field that it defines, and those behind these. The two have the first two names. Only the value is kept:
+/// it tells its item.
 #[derive(Drop)]
-pub struct Defined<N, const I: usize, const J: usize, T, C, R> {
+#[derive_where(Debug, Clone, PartialEq, Eq, Hash; C, R)]
+pub struct Defined<T, C, R> {
     pub value: C,
     pub rest: R,
-    pub of: PhantomData<(N, T)>,
+    pub of: PhantomData<T>,
 }
 
-impl<N, const I: usize, const J: usize, T, C> DefinedLast<N, I, J, T, C> {
+impl<T, C> DefinedLast<T, C> {
     /// The last field, with its item in front.
-    pub fn new(value: C) -> DefinedLast<N, I, J, T, C>
+    pub fn new(value: C) -> DefinedLast<T, C>
         ensures { result.value ≡ value }
     {
         DefinedLast {
@@ -56,9 +58,9 @@ impl<N, const I: usize, const J: usize, T, C> DefinedLast<N, I, J, T, C> {
     }
 }
 
-impl<N, const I: usize, const J: usize, T, C, R> Defined<N, I, J, T, C, R> {
+impl<T, C, R> Defined<T, C, R> {
     /// A field with its item in front, and those behind it.
-    pub fn new(value: C, rest: R) -> Defined<N, I, J, T, C, R>
+    pub fn new(value: C, rest: R) -> Defined<T, C, R>
         ensures value { result.value ≡ value }
         ensures rest { result.rest ≡ rest }
     {
@@ -209,9 +211,8 @@ fn value_length<T: Asn1Writable, C: DefinedField<T> + Asn1DefinedByWritable<T>>(
     value.encoded_length()
 }
 
-impl<N: FieldNames, const I: usize, const J: usize, T: Asn1Type, C: DefinedField<T>> Row
-    for DefinedLast<N, I, J, T, C> {
-    ghost list = { defined_last_field (N.label I) (N.label J) (λ x. x.value) C.both };
+impl<T: Asn1Type, C: DefinedField<T>> Row for DefinedLast<T, C> {
+    ghost list = { defined_last_field (λ x. x.value) C.both };
 
     fn known_row(&self) {
         self.value.known_item();
@@ -219,35 +220,30 @@ impl<N: FieldNames, const I: usize, const J: usize, T: Asn1Type, C: DefinedField
     }
 }
 
-impl<
-    'a,
-    N: FieldNames,
-    const I: usize,
-    const J: usize,
-    T: Asn1Readable<'a>,
-    C: DefinedField<T> + Asn1DefinedByReadable<'a, T>,
-> RowReadable<'a> for DefinedLast<N, I, J, T, C> {
-    fn read(parser: Parser<'a>) -> ParseResult<Self> {
+impl<'a, T: Asn1Readable<'a>, C: DefinedField<T> + Asn1DefinedByReadable<'a, T>> RowReadable<'a>
+    for DefinedLast<T, C> {
+    fn read<S: NameSource>(parser: Parser<'a>, names: S) -> ParseResult<Self> {
         let mut parser = parser;
-        let item = placed(read_item::<T, C>(&mut parser), N::name(I))?;
-        let value = placed(read_value::<T, C>(item, &mut parser), N::name(J))?;
+        let item = placed(read_item::<T, C>(&mut parser), names.first())?;
+        let names = names.others();
+        let value = placed(read_value::<T, C>(item, &mut parser), names.first())?;
         finish(parser)?;
         Ok(DefinedLast::new(value))
+    }
+
+    fn plain() {
+        both_have_one_text::<T, C>()
     }
 }
 
 impl<
-    N: FieldNames,
-    const I: usize,
-    const J: usize,
-    T: Asn1Writable + Drop,
-    C: DefinedField<T> + Asn1DefinedByWritable<T, Error = T::Error>,
-> RowWritable for DefinedLast<N, I, J, T, C> {
-    type Error = T::Error;
-
+    E: From<WriteError>,
+    T: Asn1Writable<Error = E> + Drop,
+    C: DefinedField<T> + Asn1DefinedByWritable<T, Error = E>,
+> RowWritable<E> for DefinedLast<T, C> {
     ghost write_errors = { λ x e. (ItemOf C.both x.value T.write_errors e) ⊎ C.write_errors_by x.value e };
 
-    fn write(&self, dest: &mut Writer<'_>) -> Result<(), T::Error> {
+    fn write(&self, dest: &mut Writer<'_>) -> Result<(), E> {
         write_item::<T, C>(&self.value, dest)?;
         write_value::<T, C>(&self.value, dest)
     }
@@ -260,9 +256,8 @@ impl<
     }
 }
 
-impl<N: FieldNames, const I: usize, const J: usize, T: Asn1Type, C: DefinedField<T>, R: Row> Row
-    for Defined<N, I, J, T, C, R> {
-    ghost list = { defined_field (N.label I) (N.label J) (λ x. x.value) C.both (λ x. x.rest) R.list };
+impl<T: Asn1Type, C: DefinedField<T>, R: Row> Row for Defined<T, C, R> {
+    ghost list = { defined_field (λ x. x.value) C.both (λ x. x.rest) R.list };
 
     fn known_row(&self) {
         self.value.known_item();
@@ -273,35 +268,34 @@ impl<N: FieldNames, const I: usize, const J: usize, T: Asn1Type, C: DefinedField
 
 impl<
     'a,
-    N: FieldNames,
-    const I: usize,
-    const J: usize,
     T: Asn1Readable<'a>,
     C: DefinedField<T> + Asn1DefinedByReadable<'a, T>,
     R: RowReadable<'a>,
-> RowReadable<'a> for Defined<N, I, J, T, C, R> {
-    fn read(parser: Parser<'a>) -> ParseResult<Self> {
+> RowReadable<'a> for Defined<T, C, R> {
+    fn read<S: NameSource>(parser: Parser<'a>, names: S) -> ParseResult<Self> {
         let mut parser = parser;
-        let item = placed(read_item::<T, C>(&mut parser), N::name(I))?;
-        let value = placed(read_value::<T, C>(item, &mut parser), N::name(J))?;
-        let rest = R::read(parser)?;
+        let item = placed(read_item::<T, C>(&mut parser), names.first())?;
+        let names = names.others();
+        let value = placed(read_value::<T, C>(item, &mut parser), names.first())?;
+        let rest = R::read(parser, names.others())?;
         Ok(Defined::new(value, rest))
+    }
+
+    fn plain() {
+        both_have_one_text::<T, C>();
+        R::plain()
     }
 }
 
 impl<
-    N: FieldNames,
-    const I: usize,
-    const J: usize,
-    T: Asn1Writable + Drop,
-    C: DefinedField<T> + Asn1DefinedByWritable<T, Error = T::Error>,
-    R: RowWritable<Error = T::Error>,
-> RowWritable for Defined<N, I, J, T, C, R> {
-    type Error = T::Error;
-
+    E: From<WriteError>,
+    T: Asn1Writable<Error = E> + Drop,
+    C: DefinedField<T> + Asn1DefinedByWritable<T, Error = E>,
+    R: RowWritable<E>,
+> RowWritable<E> for Defined<T, C, R> {
     ghost write_errors = { λ x e. (ItemOf C.both x.value T.write_errors e) ⊎ (C.write_errors_by x.value e ⊎ R.write_errors x.rest e) };
 
-    fn write(&self, dest: &mut Writer<'_>) -> Result<(), T::Error> {
+    fn write(&self, dest: &mut Writer<'_>) -> Result<(), E> {
         write_item::<T, C>(&self.value, dest)?;
         write_value::<T, C>(&self.value, dest)?;
         self.rest.write(dest)

@@ -1,39 +1,21 @@
 //! A structure in which fields stand behind a content that the identifier in front of it defines.
 
-ghost use Rattle.std.specs.Prelude.{◌≡◌, ◌∷◌, [], codes};
-ghost use Rattle.asn1.specs.Der.{simple_der};
-ghost use Rattle.asn1.specs.Fields.{sequence};
-ghost use Rattle.asn1.specs.FieldLists.{name_from};
-ghost use Rattle.dercheck.specs.Entry.{entry_meaning};
+ghost use Rattle.std.specs.Prelude.{◌≡◌, map};
+ghost use Rattle.asn1.specs.Der.{seen};
+ghost use Rattle.asn1.specs.InHand.{defaulted_inner};
+ghost use Rattle.dercheck.specs.declared.own_types.entry.TheConstants.{NAMES};
 
 use super::my_sequence::Content;
-use asn1::fields::{Borrowed, Defined, Field, FieldNames, Last, Row, RowReadable, RowWritable};
+use asn1::fields::{Defined, Field, FieldNames, Fields2, Last, Names, Structure};
 use asn1::{
-    Asn1Type, DefaultValue, Defaulted, DefinedByMarker, Explicit, ObjectIdentifier, ParseResult,
-    Parser, SimpleAsn1Readable, SimpleAsn1Writable, Tag, WriteBuf, WriteError, WriteResult, Writer,
+    Asn1Type, DefaultValue, Defaulted, Explicit, ObjectIdentifier, ParseResult, SimpleAsn1Readable,
+    SimpleAsn1Writable, Tag, WriteBuf, WriteError, WriteResult,
 };
 use std::alloc::Global;
 
-/// An identifier and the content that it defines, a note that may be missing, and a version, which is 1 by default.
+/// The version that an entry has where it says none.
 #[derive(Debug, PartialEq, Eq, Drop)]
-pub struct Entry {
-    pub content_type: DefinedByMarker<ObjectIdentifier>,
-    pub content: Content,
-    pub note: Option<bool>,
-    pub version: u8,
-}
-
-/// The fields, and their names.
-type Fields<C> = Defined<
-    Names,
-    0,
-    1,
-    ObjectIdentifier,
-    C,
-    Field<Names, 2, Option<bool>, Last<Names, 3, Defaulted<Explicit<u8, 0>, One>>>,
->;
-
-struct One;
+pub struct One;
 
 impl DefaultValue<Explicit<u8, 0>> for One {
     ghost default = { record { inner = 1 } };
@@ -43,36 +25,73 @@ impl DefaultValue<Explicit<u8, 0>> for One {
     }
 }
 
-struct Names;
+/// The fields.
+type Fields = Structure<
+    EntryNames,
+    Defined<ObjectIdentifier, Content, Fields2<Option<bool>, Defaulted<Explicit<u8, 0>, One>>>,
+>;
 
-impl FieldNames for Names {
-    ghost label = { name_from 0 (codes "Entry::content_type" ∷ codes "Entry::content" ∷ codes "Entry::note" ∷ codes "Entry::version" ∷ []) };
+const NAMES: [&str; 4] = [
+    "Entry::content_type",
+    "Entry::content",
+    "Entry::note",
+    "Entry::version",
+];
 
-    fn name(index: usize) -> &'static str {
-        match index {
-            0 => "Entry::content_type",
-            1 => "Entry::content",
-            2 => "Entry::note",
-            _ => "Entry::version",
-        }
+/// The names of the fields.
+struct EntryNames;
+
+impl FieldNames for EntryNames {
+    ghost names = { map (λ s. s.now) NAMES };
+
+    fn names() -> Names {
+        Names::new(&NAMES)
     }
 }
 
+/// An identifier and the content that it defines, a note that may be missing, and a version, which is 1 by default.
+#[derive(Debug, PartialEq, Eq, Drop)]
+pub struct Entry(Fields);
+
 impl Entry {
-    fn fields(&self) -> Fields<Borrowed<'_, Content>>
-        ensures { ⟦<Fields<Borrowed<'static, Content>> as Row>⟧.list.meaning result ≡ entry_meaning self.now }
+    /// An entry with this content, whose identifier it tells.
+    pub fn new(content: Content, note: Option<bool>, version: u8) -> Entry
+        ensures content { result.0.fields.value ≡ content }
+        ensures note { result.0.fields.rest.value ≡ note }
+        ensures version { (defaulted_inner result.0.fields.rest.rest.value).inner ≡ version }
     {
-        let version = Defaulted::new(Explicit::new(self.version));
-        let behind = Field::new(self.note, Last::new(version));
-        Defined::new(Borrowed::new(&self.content), behind)
+        let version = Defaulted::new(Explicit::new(version));
+        let behind = Field::new(note, Last::new(version));
+        Entry(Structure::new(Defined::new(content, behind)))
+    }
+
+    /// The content.
+    pub fn content(&self) -> &Content
+        ensures { result.now ≡ self.now.0.fields.value }
+    {
+        &self.0.fields.value
+    }
+
+    /// The note.
+    pub fn note(&self) -> Option<bool>
+        ensures { result ≡ self.now.0.fields.rest.value }
+    {
+        self.0.fields.rest.value
+    }
+
+    /// The version.
+    pub fn version(&self) -> u8
+        ensures { result ≡ (defaulted_inner self.now.0.fields.rest.rest.value).inner }
+    {
+        *self.0.fields.rest.rest.value.as_inner().as_inner()
     }
 }
 
 impl Asn1Type for Entry {
-    ghost der = { simple_der entry_meaning (sequence ⟦<Fields<Content> as Row>⟧.list.fields) };
+    ghost der = { seen (λ v. v.0) ⟦<Fields as Asn1Type>⟧.der };
 
     fn known(&self) {
-        self.fields().known_row()
+        self.0.known()
     }
 }
 
@@ -82,20 +101,8 @@ impl<'a> SimpleAsn1Readable<'a> for Entry {
     }
 
     fn parse_data(alloc: Global, data: &'a [u8]) -> ParseResult<Entry> {
-        match <Fields<Content>>::read(Parser::new(alloc, data)) {
-            Ok(row) => {
-                let Defined {
-                    value: content,
-                    rest,
-                    ..
-                } = row;
-                Ok(Entry {
-                    content_type: DefinedByMarker::marker(),
-                    content,
-                    note: rest.value,
-                    version: rest.rest.value.into_inner().into_inner(),
-                })
-            }
+        match Fields::parse_data(alloc, data) {
+            Ok(fields) => Ok(Entry(fields)),
             Err(error) => Err(error),
         }
     }
@@ -111,10 +118,10 @@ impl SimpleAsn1Writable for Entry {
     }
 
     fn write_data(&self, dest: &mut WriteBuf) -> WriteResult<()> {
-        self.fields().write(&mut Writer::new(dest))
+        self.0.write_data(dest)
     }
 
     fn data_length(&self) -> Option<usize> {
-        self.fields().length()
+        self.0.data_length()
     }
 }

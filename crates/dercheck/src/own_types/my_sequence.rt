@@ -1,21 +1,18 @@
 //! A structure whose content is defined by the identifier in front of it.
 
-ghost use Rattle.std.specs.Prelude.{◌≡◌, ◌∷◌, [], codes};
-ghost use Rattle.asn1.specs.Der.{simple_der};
-ghost use Rattle.asn1.specs.Fields.{sequence};
+ghost use Rattle.std.specs.Prelude.{◌≡◌, map};
+ghost use Rattle.asn1.specs.Der.{seen};
 ghost use Rattle.asn1.specs.IdentifierValues.{identifier_of};
 ghost use Rattle.asn1.specs.ItemsAndValues.{by_item, word_for_word};
-ghost use Rattle.asn1.specs.FieldLists.{name_from};
-ghost use Rattle.dercheck.specs.MySequence.{are_some, some_numbers, content_both, content_meaning};
+ghost use Rattle.dercheck.specs.MySequence.{are_some, some_numbers, content_both};
+ghost use Rattle.dercheck.specs.declared.own_types.my_sequence.TheConstants.{NAMES};
 
-use asn1::fields::{
-    Borrowed, DefinedField, DefinedLast, FieldNames, Row, RowReadable, RowWritable,
-};
+use asn1::fields::{DefinedField, DefinedLast, FieldNames, Names, Structure};
 use asn1::laws::identifiers_compare;
 use asn1::{
     Asn1DefinedBy, Asn1DefinedByReadable, Asn1DefinedByWritable, Asn1Type, Asn1Writable,
-    DefinedByMarker, ObjectIdentifier, ParseError, ParseErrorKind, ParseResult, Parser,
-    SimpleAsn1Readable, SimpleAsn1Writable, Tag, WriteBuf, WriteError, WriteResult, Writer,
+    ObjectIdentifier, ParseError, ParseErrorKind, ParseResult, Parser, SimpleAsn1Readable,
+    SimpleAsn1Writable, Tag, WriteBuf, WriteError, WriteResult, Writer,
 };
 use std::alloc::Global;
 
@@ -39,7 +36,7 @@ fn is_some_oid(item: &ObjectIdentifier) -> bool
 }
 
 /// What stands behind an identifier.
-#[derive(Debug, PartialEq, Eq, Drop)]
+#[derive(Debug, Clone, PartialEq, Eq, Hash, Drop)]
 pub enum Content {
     SomeVariant(i32),
 }
@@ -99,42 +96,47 @@ impl Asn1DefinedByWritable<ObjectIdentifier> for Content {
     }
 }
 
-/// An identifier, and the content that it defines.
-#[derive(Debug, PartialEq, Eq, Drop)]
-pub struct MySequence {
-    pub content_type: DefinedByMarker<ObjectIdentifier>,
-    pub content: Content,
-}
+/// The identifier and the content. The content alone is kept: it tells its identifier.
+type Fields = Structure<MySequenceNames, DefinedLast<ObjectIdentifier, Content>>;
 
-/// The fields, and their names. The content is read as it is, and written where it stands.
-type Fields<C> = DefinedLast<Names, 0, 1, ObjectIdentifier, C>;
+const NAMES: [&str; 2] = ["MySequence::content_type", "MySequence::content"];
 
-struct Names;
+/// The names of the fields.
+struct MySequenceNames;
 
-impl FieldNames for Names {
-    ghost label = { name_from 0 (codes "MySequence::content_type" ∷ codes "MySequence::content" ∷ []) };
+impl FieldNames for MySequenceNames {
+    ghost names = { map (λ s. s.now) NAMES };
 
-    fn name(index: usize) -> &'static str {
-        match index {
-            0 => "MySequence::content_type",
-            _ => "MySequence::content",
-        }
+    fn names() -> Names {
+        Names::new(&NAMES)
     }
 }
 
+/// An identifier, and the content that it defines.
+#[derive(Debug, Clone, PartialEq, Eq, Hash, Drop)]
+pub struct MySequence(Fields);
+
 impl MySequence {
-    fn fields(&self) -> Fields<Borrowed<'_, Content>>
-        ensures { ⟦<Fields<Borrowed<'static, Content>> as Row>⟧.list.meaning result ≡ content_meaning self.now.content }
+    /// This content, with its identifier in front.
+    pub fn new(content: Content) -> MySequence
+        ensures { result.0.fields.value ≡ content }
     {
-        DefinedLast::new(Borrowed::new(&self.content))
+        MySequence(Structure::new(DefinedLast::new(content)))
+    }
+
+    /// The content.
+    pub fn content(&self) -> &Content
+        ensures { result.now ≡ self.now.0.fields.value }
+    {
+        &self.0.fields.value
     }
 }
 
 impl Asn1Type for MySequence {
-    ghost der = { simple_der (λ v. content_meaning v.content) (sequence ⟦<Fields<Content> as Row>⟧.list.fields) };
+    ghost der = { seen (λ v. v.0) ⟦<Fields as Asn1Type>⟧.der };
 
     fn known(&self) {
-        self.fields().known_row()
+        self.0.known()
     }
 }
 
@@ -144,11 +146,8 @@ impl<'a> SimpleAsn1Readable<'a> for MySequence {
     }
 
     fn parse_data(alloc: Global, data: &'a [u8]) -> ParseResult<MySequence> {
-        match <Fields<Content>>::read(Parser::new(alloc, data)) {
-            Ok(row) => Ok(MySequence {
-                content_type: DefinedByMarker::marker(),
-                content: row.value,
-            }),
+        match Fields::parse_data(alloc, data) {
+            Ok(fields) => Ok(MySequence(fields)),
             Err(error) => Err(error),
         }
     }
@@ -164,10 +163,10 @@ impl SimpleAsn1Writable for MySequence {
     }
 
     fn write_data(&self, dest: &mut WriteBuf) -> WriteResult<()> {
-        self.fields().write(&mut Writer::new(dest))
+        self.0.write_data(dest)
     }
 
     fn data_length(&self) -> Option<usize> {
-        self.fields().length()
+        self.0.data_length()
     }
 }

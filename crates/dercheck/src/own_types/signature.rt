@@ -1,87 +1,52 @@
-//! A structure of two numbers.
+//! A structure of two numbers, in the short form.
 
-ghost use Rattle.std.specs.Prelude.{◌≡◌, ◌∷◌, [], codes, pos};
-ghost use Rattle.asn1.specs.Der.{simple_der};
-ghost use Rattle.asn1.specs.Fields.{sequence};
-ghost use Rattle.asn1.specs.FieldLists.{name_from};
+ghost use Rattle.std.specs.Prelude.{◌≡◌, map};
+ghost use Rattle.dercheck.specs.declared.own_types.signature.TheConstants.{NAMES};
 
-use asn1::fields::{Field, FieldNames, Last, Row, RowReadable, RowWritable};
-use asn1::{
-    Asn1Type, ParseResult, Parser, SimpleAsn1Readable, SimpleAsn1Writable, Tag, WriteBuf,
-    WriteError, WriteResult, Writer,
-};
-use std::alloc::Global;
+use asn1::fields::{Field, FieldNames, Fields2, Last, Names, Structure};
 
 /// Two numbers in a sequence.
-#[derive(Debug, PartialEq, Eq, Drop)]
-pub struct Signature {
-    pub r: u64,
-    pub s: u64,
-}
+pub type Signature = Structure<SignatureNames, Fields2<u64, u64>>;
 
-/// The fields, and their names.
-type Fields = Field<Names, 0, u64, Last<Names, 1, u64>>;
+const NAMES: [&str; 2] = ["Signature::r", "Signature::s"];
 
-struct Names;
+/// The names of its fields.
+pub struct SignatureNames;
 
-impl FieldNames for Names {
-    ghost label = { name_from 0 (codes "Signature::r" ∷ codes "Signature::s" ∷ []) };
+impl FieldNames for SignatureNames {
+    ghost names = { map (λ s. s.now) NAMES };
 
-    fn name(index: usize) -> &'static str {
-        match index {
-            0 => "Signature::r",
-            _ => "Signature::s",
-        }
+    fn names() -> Names {
+        Names::new(&NAMES)
     }
 }
 
-impl Signature {
-    fn fields(&self) -> Fields
-        ensures { ⟦<Fields as Row>⟧.list.meaning result ≡ (pos self.now.r, pos self.now.s) }
+/// A signature of these numbers.
+pub fn signature(r: u64, s: u64) -> Signature
+    ensures { (result.fields.value ≡ r) × (result.fields.rest.value ≡ s) }
+{
+    Structure::new(Field::new(r, Last::new(s)))
+}
+
+/// The fields of a signature.
+pub trait SignatureFields {
+    /// The first number.
+    fn r(&self) -> u64;
+
+    /// The second number.
+    fn s(&self) -> u64;
+}
+
+impl SignatureFields for Signature {
+    fn r(&self) -> u64
+        ensures { result ≡ self.now.fields.value }
     {
-        Field::new(self.r, Last::new(self.s))
-    }
-}
-
-impl Asn1Type for Signature {
-    ghost der = { simple_der (λ v. (pos v.r, pos v.s)) (sequence ⟦<Fields as Row>⟧.list.fields) };
-
-    fn known(&self) {
-        self.r.known();
-        self.s.known();
-    }
-}
-
-impl<'a> SimpleAsn1Readable<'a> for Signature {
-    fn tag() -> Tag {
-        Tag::constructed(0x10)
+        self.fields.value
     }
 
-    fn parse_data(alloc: Global, data: &'a [u8]) -> ParseResult<Signature> {
-        match Fields::read(Parser::new(alloc, data)) {
-            Ok(row) => Ok(Signature {
-                r: row.value,
-                s: row.rest.value,
-            }),
-            Err(error) => Err(error),
-        }
-    }
-}
-
-impl SimpleAsn1Writable for Signature {
-    type Error = WriteError;
-
-    ghost write_errors = { λ _ _. ⊥ };
-
-    fn tag() -> Tag {
-        Tag::constructed(0x10)
-    }
-
-    fn write_data(&self, dest: &mut WriteBuf) -> WriteResult<()> {
-        self.fields().write(&mut Writer::new(dest))
-    }
-
-    fn data_length(&self) -> Option<usize> {
-        self.fields().length()
+    fn s(&self) -> u64
+        ensures { result ≡ self.now.fields.rest.value }
+    {
+        self.fields.rest.value
     }
 }

@@ -1,100 +1,95 @@
 //! A structure of two fields that may be missing, each under a tag of its own.
 
-ghost use Rattle.std.specs.Prelude.{◌≡◌, ◌∷◌, [], codes};
+ghost use Rattle.std.specs.Prelude.{◌≡◌, map};
+ghost use Rattle.asn1.specs.Der.{seen};
+ghost use Rattle.asn1.specs.Options.{option_meaning};
 ghost use Rattle.asn1.specs.Reading.{Answers};
-ghost use Rattle.asn1.specs.Der.{simple_der};
-ghost use Rattle.asn1.specs.Items.{sequence_tag};
-ghost use Rattle.asn1.specs.Fields.{sequence};
-ghost use Rattle.asn1.specs.FieldLists.{name_from};
-ghost use Rattle.dercheck.specs.SomeSequence.{some_meaning};
+ghost use Rattle.dercheck.specs.declared.own_types.some_sequence.TheConstants.{NAMES};
 
-use asn1::fields::{Field, FieldNames, Last, Row, RowReadable, RowWritable};
+use asn1::fields::{Field, FieldNames, Fields2, Last, Names, Structure};
 use asn1::{
-    Asn1Type, Explicit, Implicit, ParseResult, Parser, SimpleAsn1Readable, SimpleAsn1Writable, Tag,
-    WriteBuf, WriteError, WriteResult, Writer,
+    Asn1Type, Explicit, Implicit, ParseResult, SimpleAsn1Readable, SimpleAsn1Writable, Tag,
+    WriteBuf, WriteError, WriteResult,
 };
 use std::alloc::Global;
 
-/// Two fields in a sequence.
-#[derive(Debug, PartialEq, Eq, Drop)]
-pub struct SomeSequence<'a> {
-    pub a: Option<&'a [u8]>,
-    pub b: Option<u64>,
-}
-
-/// The fields with their tags, and their names.
-type Fields<'a> = Field<
-    Names,
-    0,
-    Option<Implicit<&'a [u8], 0>>,
-    Last<Names, 1, Option<Explicit<u64, 1>>>,
+/// The fields with their tags.
+type Fields<'a> = Structure<
+    SomeSequenceNames,
+    Fields2<Option<Implicit<&'a [u8], 0>>, Option<Explicit<u64, 1>>>,
 >;
 
-struct Names;
+const NAMES: [&str; 2] = ["SomeSequence::a", "SomeSequence::b"];
 
-impl FieldNames for Names {
-    ghost label = { name_from 0 (codes "SomeSequence::a" ∷ codes "SomeSequence::b" ∷ []) };
+/// The names of the fields.
+struct SomeSequenceNames;
 
-    fn name(index: usize) -> &'static str {
-        match index {
-            0 => "SomeSequence::a",
-            _ => "SomeSequence::b",
-        }
+impl FieldNames for SomeSequenceNames {
+    ghost names = { map (λ s. s.now) NAMES };
+
+    fn names() -> Names {
+        Names::new(&NAMES)
     }
 }
 
+/// Two fields in a sequence.
+#[derive(Debug, PartialEq, Eq, Drop)]
+pub struct SomeSequence<'a>(Fields<'a>);
+
 impl<'a> SomeSequence<'a> {
-    fn fields(&self) -> Fields<'a>
-        ensures { ⟦<Fields<'a> as Row>⟧.list.meaning result ≡ some_meaning self.now }
+    /// These fields in a sequence.
+    pub fn new(a: Option<&'a [u8]>, b: Option<u64>) -> SomeSequence<'a>
+        ensures a { option_meaning (λ x. x.inner.now) result.0.fields.value ≡ option_meaning (λ octets. octets.now) a.entry }
+        ensures b { option_meaning (λ x. x.inner) result.0.fields.rest.value ≡ option_meaning (λ n. n) b }
     {
-        let a = match self.a {
+        let a = match a {
             Some(octets) => Some(Implicit::new(octets)),
             None => None,
         };
-        let b = match self.b {
+        let b = match b {
             Some(number) => Some(Explicit::new(number)),
             None => None,
         };
-        Field::new(a, Last::new(b))
+        SomeSequence(Structure::new(Field::new(a, Last::new(b))))
+    }
+
+    /// The octets.
+    pub fn a(&self) -> &Option<Implicit<&'a [u8], 0>>
+        ensures { result.now ≡ self.now.0.fields.value }
+    {
+        &self.0.fields.value
+    }
+
+    /// The number.
+    pub fn b(&self) -> &Option<Explicit<u64, 1>>
+        ensures { result.now ≡ self.now.0.fields.rest.value }
+    {
+        &self.0.fields.rest.value
     }
 }
 
 impl<'a> Asn1Type for SomeSequence<'a> {
-    ghost der = { simple_der some_meaning (sequence ⟦<Fields<'a> as Row>⟧.list.fields) };
+    ghost der = { seen (λ v. v.0) ⟦<Fields<'a> as Asn1Type>⟧.der };
 
     fn known(&self) {
-        self.a.known();
-        self.b.known();
+        self.0.known()
     }
 }
 
 impl<'a> SimpleAsn1Readable<'a> for SomeSequence<'a> {
     fn tag() -> Tag
-        ensures value { result ≡ sequence_tag }
-        ensures simple { Unit {0} }
-        ensures plain { ⟦<Fields<'a> as Row>⟧.list.fields.plain }
+        ensures value { result ≡ ⟦<SomeSequence<'a> as Asn1Type>⟧.der.content.tag }
+        ensures simple { ⟦<SomeSequence<'a> as Asn1Type>⟧.der.is_simple }
+        ensures plain { ⟦<SomeSequence<'a> as Asn1Type>⟧.der.plain }
     {
         Tag::constructed(0x10)
     }
 
     fn parse_data(alloc: Global, data: &'a [u8]) -> ParseResult<SomeSequence<'a>>
-        ensures { Answers some_meaning (⟦<Fields<'a> as Row>⟧.list.fields.runs_out «data».entry.now) result (⟦<Fields<'a> as Row>⟧.list.fields.read «data».entry.now) }
+        ensures { Answers ⟦<SomeSequence<'a> as Asn1Type>⟧.der.meaning (⟦<SomeSequence<'a> as Asn1Type>⟧.der.content.runs_out «data».entry.now) result (⟦<SomeSequence<'a> as Asn1Type>⟧.der.content.read «data».entry.now) }
     {
-        match <Fields<'a>>::read(Parser::new(alloc, data)) {
-            Ok(row) => {
-                let Field { value: a, rest, .. } = row;
-                let Last { value: b, .. } = rest;
-                Ok(SomeSequence {
-                    a: match a {
-                        Some(a) => Some(a.into_inner()),
-                        None => None,
-                    },
-                    b: match b {
-                        Some(b) => Some(b.into_inner()),
-                        None => None,
-                    },
-                })
-            }
+        match <Fields<'a> as SimpleAsn1Readable<'a>>::parse_data(alloc, data) {
+            Ok(fields) => Ok(SomeSequence(fields)),
             Err(error) => Err(error),
         }
     }
@@ -106,17 +101,17 @@ impl<'a> SimpleAsn1Writable for SomeSequence<'a> {
     ghost write_errors = { λ _ _. ⊥ };
 
     fn tag() -> Tag
-        ensures value { result ≡ sequence_tag }
-        ensures simple { Unit {0} }
+        ensures value { result ≡ ⟦<SomeSequence<'a> as Asn1Type>⟧.der.content.tag }
+        ensures simple { ⟦<SomeSequence<'a> as Asn1Type>⟧.der.is_simple }
     {
         Tag::constructed(0x10)
     }
 
     fn write_data(&self, dest: &mut WriteBuf) -> WriteResult<()> {
-        self.fields().write(&mut Writer::new(dest))
+        self.0.write_data(dest)
     }
 
     fn data_length(&self) -> Option<usize> {
-        self.fields().length()
+        self.0.data_length()
     }
 }

@@ -1,75 +1,72 @@
 //! The parts of a certificate (RFC 5280, 4.1.1.2 to 4.1.2.9).
 
-ghost use Rattle.std.specs.Prelude.{◌≡◌, ◌∷◌, [], codes, false};
+ghost use Rattle.std.specs.Prelude.{◌≡◌, map, false};
 ghost use Rattle.asn1.specs.Reading.{Answers};
-ghost use Rattle.asn1.specs.Der.{seen, simple_der};
-ghost use Rattle.asn1.specs.Items.{sequence_tag};
-ghost use Rattle.asn1.specs.Fields.{sequence};
-ghost use Rattle.asn1.specs.FieldLists.{name_from};
+ghost use Rattle.asn1.specs.Der.{seen};
+ghost use Rattle.dercheck_tests.specs.declared.certificate.parts.TheConstants.{ALGORITHM, ATTRIBUTE, VALIDITY, KEY, EXTENSION};
 
-use asn1::fields::{Field, FieldNames, Last, Row, RowReadable, RowWritable};
+use asn1::fields::{FieldNames, Fields2, Fields3, Names, Structure};
 use asn1::{
-    Asn1Type, BitString, DefaultValue, Defaulted, ObjectIdentifier, ParseResult, Parser,
-    SequenceOf, SetOf, SimpleAsn1Readable, SimpleAsn1Writable, Tag, Tlv, WriteBuf, WriteError,
-    WriteResult, Writer,
+    Asn1Type, BitString, DefaultValue, Defaulted, ObjectIdentifier, ParseResult, SequenceOf, SetOf,
+    SimpleAsn1Readable, SimpleAsn1Writable, Tag, Tlv, WriteBuf, WriteError, WriteResult,
 };
 use dercheck::own_types::time::Time;
 use std::alloc::Global;
 
-type AlgorithmRow<'a> = Field<
-    AlgorithmNames,
-    0,
-    ObjectIdentifier,
-    Last<AlgorithmNames, 1, Option<Tlv<'a>>>,
+/// The fields.
+type AlgorithmIdentifierFields<'a> = Structure<
+    AlgorithmIdentifierNames,
+    Fields2<ObjectIdentifier, Option<Tlv<'a>>>,
 >;
 
-/// An algorithm, and its parameters, if there are any: one element of any type.
-#[derive(Drop)]
-pub struct AlgorithmIdentifier<'a> {
-    row: AlgorithmRow<'a>,
-}
+const ALGORITHM: [&str; 2] = [
+    "AlgorithmIdentifier::algorithm",
+    "AlgorithmIdentifier::parameters",
+];
 
-struct AlgorithmNames;
+/// The names of the fields.
+struct AlgorithmIdentifierNames;
 
-impl FieldNames for AlgorithmNames {
-    ghost label = { name_from 0 (codes "AlgorithmIdentifier::algorithm" ∷ codes "AlgorithmIdentifier::parameters" ∷ []) };
+impl FieldNames for AlgorithmIdentifierNames {
+    ghost names = { map (λ s. s.now) ALGORITHM };
 
-    fn name(index: usize) -> &'static str {
-        match index {
-            0 => "AlgorithmIdentifier::algorithm",
-            _ => "AlgorithmIdentifier::parameters",
-        }
+    fn names() -> Names {
+        Names::new(&ALGORITHM)
     }
 }
+
+/// An algorithm, and its parameters, if there are any: one element of any type.
+#[derive(Debug, Clone, PartialEq, Eq, Hash, Drop)]
+pub struct AlgorithmIdentifier<'a>(AlgorithmIdentifierFields<'a>);
 
 impl<'a> AlgorithmIdentifier<'a> {
     /// The algorithm.
     pub fn algorithm(&self) -> &ObjectIdentifier
-        ensures { result.now ≡ self.now.row.value }
+        ensures { result.now ≡ self.now.0.fields.value }
     {
-        &self.row.value
+        &self.0.fields.value
     }
 
     /// Its parameters.
     pub fn parameters(&self) -> Option<Tlv<'a>>
-        ensures { result ≡ self.now.row.rest.value }
+        ensures { result ≡ self.now.0.fields.rest.value }
     {
-        self.row.rest.value
+        self.0.fields.rest.value
     }
 }
 
 impl<'a> Asn1Type for AlgorithmIdentifier<'a> {
-    ghost der = { simple_der (λ v. ⟦<AlgorithmRow<'a> as Row>⟧.list.meaning v.row) (sequence ⟦<AlgorithmRow<'a> as Row>⟧.list.fields) };
+    ghost der = { seen (λ v. v.0) ⟦<AlgorithmIdentifierFields<'a> as Asn1Type>⟧.der };
 
     fn known(&self) {
-        self.row.known_row()
+        self.0.known()
     }
 }
 
 impl<'a> SimpleAsn1Readable<'a> for AlgorithmIdentifier<'a> {
     fn tag() -> Tag
-        ensures value { result ≡ sequence_tag }
-        ensures simple { Unit {0} }
+        ensures value { result ≡ ⟦<AlgorithmIdentifier<'a> as Asn1Type>⟧.der.content.tag }
+        ensures simple { ⟦<AlgorithmIdentifier<'a> as Asn1Type>⟧.der.is_simple }
         ensures plain { ⟦<AlgorithmIdentifier<'a> as Asn1Type>⟧.der.plain }
     {
         Tag::constructed(0x10)
@@ -78,8 +75,8 @@ impl<'a> SimpleAsn1Readable<'a> for AlgorithmIdentifier<'a> {
     fn parse_data(alloc: Global, data: &'a [u8]) -> ParseResult<AlgorithmIdentifier<'a>>
         ensures { Answers ⟦<AlgorithmIdentifier<'a> as Asn1Type>⟧.der.meaning (⟦<AlgorithmIdentifier<'a> as Asn1Type>⟧.der.content.runs_out «data».entry.now) result (⟦<AlgorithmIdentifier<'a> as Asn1Type>⟧.der.content.read «data».entry.now) }
     {
-        match <AlgorithmRow<'a>>::read(Parser::new(alloc, data)) {
-            Ok(row) => Ok(AlgorithmIdentifier { row }),
+        match <AlgorithmIdentifierFields<'a> as SimpleAsn1Readable<'a>>::parse_data(alloc, data) {
+            Ok(fields) => Ok(AlgorithmIdentifier(fields)),
             Err(error) => Err(error),
         }
     }
@@ -91,75 +88,69 @@ impl<'a> SimpleAsn1Writable for AlgorithmIdentifier<'a> {
     ghost write_errors = { λ _ _. ⊥ };
 
     fn tag() -> Tag
-        ensures value { result ≡ sequence_tag }
-        ensures simple { Unit {0} }
+        ensures value { result ≡ ⟦<AlgorithmIdentifier<'a> as Asn1Type>⟧.der.content.tag }
+        ensures simple { ⟦<AlgorithmIdentifier<'a> as Asn1Type>⟧.der.is_simple }
     {
         Tag::constructed(0x10)
     }
 
     fn write_data(&self, dest: &mut WriteBuf) -> WriteResult<()> {
-        self.row.write(&mut Writer::new(dest))
+        self.0.write_data(dest)
     }
 
     fn data_length(&self) -> Option<usize> {
-        self.row.length()
+        self.0.data_length()
     }
 }
 
-type AttributeRow<'a> = Field<
-    AttributeNames,
-    0,
-    ObjectIdentifier,
-    Last<AttributeNames, 1, Tlv<'a>>,
->;
+/// The fields.
+type AttributeFields<'a> = Structure<AttributeNames, Fields2<ObjectIdentifier, Tlv<'a>>>;
 
-/// A part of a name: its type, and a value, one element of any type.
-#[derive(Drop)]
-pub struct Attribute<'a> {
-    row: AttributeRow<'a>,
-}
+const ATTRIBUTE: [&str; 2] = ["Attribute::kind", "Attribute::value"];
 
+/// The names of the fields.
 struct AttributeNames;
 
 impl FieldNames for AttributeNames {
-    ghost label = { name_from 0 (codes "Attribute::kind" ∷ codes "Attribute::value" ∷ []) };
+    ghost names = { map (λ s. s.now) ATTRIBUTE };
 
-    fn name(index: usize) -> &'static str {
-        match index {
-            0 => "Attribute::kind",
-            _ => "Attribute::value",
-        }
+    fn names() -> Names {
+        Names::new(&ATTRIBUTE)
     }
 }
+
+/// A part of a name: its type, and a value, one element of any type.
+#[derive(Debug, Clone, PartialEq, Eq, Hash, Drop)]
+pub struct Attribute<'a>(AttributeFields<'a>);
 
 impl<'a> Attribute<'a> {
     /// Its type.
     pub fn kind(&self) -> &ObjectIdentifier
-        ensures { result.now ≡ self.now.row.value }
+        ensures { result.now ≡ self.now.0.fields.value }
     {
-        &self.row.value
+        &self.0.fields.value
     }
 
     /// Its value.
     pub fn value(&self) -> Tlv<'a>
-        ensures { result ≡ self.now.row.rest.value }
+        ensures { result ≡ self.now.0.fields.rest.value }
     {
-        self.row.rest.value
+        self.0.fields.rest.value
     }
 }
 
 impl<'a> Asn1Type for Attribute<'a> {
-    ghost der = { simple_der (λ v. ⟦<AttributeRow<'a> as Row>⟧.list.meaning v.row) (sequence ⟦<AttributeRow<'a> as Row>⟧.list.fields) };
+    ghost der = { seen (λ v. v.0) ⟦<AttributeFields<'a> as Asn1Type>⟧.der };
 
     fn known(&self) {
-        self.row.known_row()
+        self.0.known()
     }
 }
 
 impl<'a> SimpleAsn1Readable<'a> for Attribute<'a> {
     fn tag() -> Tag
-        ensures value { result ≡ sequence_tag }
-        ensures simple { Unit {0} }
+        ensures value { result ≡ ⟦<Attribute<'a> as Asn1Type>⟧.der.content.tag }
+        ensures simple { ⟦<Attribute<'a> as Asn1Type>⟧.der.is_simple }
         ensures plain { ⟦<Attribute<'a> as Asn1Type>⟧.der.plain }
     {
         Tag::constructed(0x10)
@@ -168,8 +159,8 @@ impl<'a> SimpleAsn1Readable<'a> for Attribute<'a> {
     fn parse_data(alloc: Global, data: &'a [u8]) -> ParseResult<Attribute<'a>>
         ensures { Answers ⟦<Attribute<'a> as Asn1Type>⟧.der.meaning (⟦<Attribute<'a> as Asn1Type>⟧.der.content.runs_out «data».entry.now) result (⟦<Attribute<'a> as Asn1Type>⟧.der.content.read «data».entry.now) }
     {
-        match <AttributeRow<'a>>::read(Parser::new(alloc, data)) {
-            Ok(row) => Ok(Attribute { row }),
+        match <AttributeFields<'a> as SimpleAsn1Readable<'a>>::parse_data(alloc, data) {
+            Ok(fields) => Ok(Attribute(fields)),
             Err(error) => Err(error),
         }
     }
@@ -181,18 +172,18 @@ impl<'a> SimpleAsn1Writable for Attribute<'a> {
     ghost write_errors = { λ _ _. ⊥ };
 
     fn tag() -> Tag
-        ensures value { result ≡ sequence_tag }
-        ensures simple { Unit {0} }
+        ensures value { result ≡ ⟦<Attribute<'a> as Asn1Type>⟧.der.content.tag }
+        ensures simple { ⟦<Attribute<'a> as Asn1Type>⟧.der.is_simple }
     {
         Tag::constructed(0x10)
     }
 
     fn write_data(&self, dest: &mut WriteBuf) -> WriteResult<()> {
-        self.row.write(&mut Writer::new(dest))
+        self.0.write_data(dest)
     }
 
     fn data_length(&self) -> Option<usize> {
-        self.row.length()
+        self.0.data_length()
     }
 }
 
@@ -212,8 +203,8 @@ impl<'a> Asn1Type for Name<'a> {
 
 impl<'a> SimpleAsn1Readable<'a> for Name<'a> {
     fn tag() -> Tag
-        ensures value { result ≡ sequence_tag }
-        ensures simple { Unit {0} }
+        ensures value { result ≡ ⟦<Name<'a> as Asn1Type>⟧.der.content.tag }
+        ensures simple { ⟦<Name<'a> as Asn1Type>⟧.der.is_simple }
         ensures plain { ⟦<Name<'a> as Asn1Type>⟧.der.plain }
     {
         Tag::constructed(0x10)
@@ -235,8 +226,8 @@ impl<'a> SimpleAsn1Writable for Name<'a> {
     ghost write_errors = { λ _ _. ⊥ };
 
     fn tag() -> Tag
-        ensures value { result ≡ sequence_tag }
-        ensures simple { Unit {0} }
+        ensures value { result ≡ ⟦<Name<'a> as Asn1Type>⟧.der.content.tag }
+        ensures simple { ⟦<Name<'a> as Asn1Type>⟧.der.is_simple }
     {
         Tag::constructed(0x10)
     }
@@ -250,48 +241,47 @@ impl<'a> SimpleAsn1Writable for Name<'a> {
     }
 }
 
-type ValidityRow = Field<ValidityNames, 0, Time, Last<ValidityNames, 1, Time>>;
+/// The fields.
+type ValidityFields = Structure<ValidityNames, Fields2<Time, Time>>;
 
-/// When a certificate is valid, both ends included.
-#[derive(Drop)]
-pub struct Validity {
-    row: ValidityRow,
-}
+const VALIDITY: [&str; 2] = ["Validity::not_before", "Validity::not_after"];
 
+/// The names of the fields.
 struct ValidityNames;
 
 impl FieldNames for ValidityNames {
-    ghost label = { name_from 0 (codes "Validity::not_before" ∷ codes "Validity::not_after" ∷ []) };
+    ghost names = { map (λ s. s.now) VALIDITY };
 
-    fn name(index: usize) -> &'static str {
-        match index {
-            0 => "Validity::not_before",
-            _ => "Validity::not_after",
-        }
+    fn names() -> Names {
+        Names::new(&VALIDITY)
     }
 }
+
+/// When a certificate is valid, both ends included.
+#[derive(Debug, PartialEq, Eq, Drop)]
+pub struct Validity(ValidityFields);
 
 impl Validity {
     /// The first second.
     pub fn not_before(&self) -> &Time
-        ensures { result.now ≡ self.now.row.value }
+        ensures { result.now ≡ self.now.0.fields.value }
     {
-        &self.row.value
+        &self.0.fields.value
     }
 
     /// The last second.
     pub fn not_after(&self) -> &Time
-        ensures { result.now ≡ self.now.row.rest.value }
+        ensures { result.now ≡ self.now.0.fields.rest.value }
     {
-        &self.row.rest.value
+        &self.0.fields.rest.value
     }
 }
 
 impl Asn1Type for Validity {
-    ghost der = { simple_der (λ v. ⟦<ValidityRow as Row>⟧.list.meaning v.row) (sequence ⟦<ValidityRow as Row>⟧.list.fields) };
+    ghost der = { seen (λ v. v.0) ⟦<ValidityFields as Asn1Type>⟧.der };
 
     fn known(&self) {
-        self.row.known_row()
+        self.0.known()
     }
 }
 
@@ -301,8 +291,8 @@ impl<'a> SimpleAsn1Readable<'a> for Validity {
     }
 
     fn parse_data(alloc: Global, data: &'a [u8]) -> ParseResult<Validity> {
-        match ValidityRow::read(Parser::new(alloc, data)) {
-            Ok(row) => Ok(Validity { row }),
+        match ValidityFields::parse_data(alloc, data) {
+            Ok(fields) => Ok(Validity(fields)),
             Err(error) => Err(error),
         }
     }
@@ -318,63 +308,68 @@ impl SimpleAsn1Writable for Validity {
     }
 
     fn write_data(&self, dest: &mut WriteBuf) -> WriteResult<()> {
-        self.row.write(&mut Writer::new(dest))
+        self.0.write_data(dest)
     }
 
     fn data_length(&self) -> Option<usize> {
-        self.row.length()
+        self.0.data_length()
     }
 }
 
-type KeyRow<'a> = Field<KeyNames, 0, AlgorithmIdentifier<'a>, Last<KeyNames, 1, BitString<'a>>>;
+/// The fields.
+type SubjectPublicKeyInfoFields<'a> = Structure<
+    SubjectPublicKeyInfoNames,
+    Fields2<AlgorithmIdentifier<'a>, BitString<'a>>,
+>;
+
+const KEY: [&str; 2] = [
+    "SubjectPublicKeyInfo::algorithm",
+    "SubjectPublicKeyInfo::key",
+];
+
+/// The names of the fields.
+struct SubjectPublicKeyInfoNames;
+
+impl FieldNames for SubjectPublicKeyInfoNames {
+    ghost names = { map (λ s. s.now) KEY };
+
+    fn names() -> Names {
+        Names::new(&KEY)
+    }
+}
 
 /// A key, and the algorithm that it is for.
-#[derive(Drop)]
-pub struct SubjectPublicKeyInfo<'a> {
-    row: KeyRow<'a>,
-}
-
-struct KeyNames;
-
-impl FieldNames for KeyNames {
-    ghost label = { name_from 0 (codes "SubjectPublicKeyInfo::algorithm" ∷ codes "SubjectPublicKeyInfo::key" ∷ []) };
-
-    fn name(index: usize) -> &'static str {
-        match index {
-            0 => "SubjectPublicKeyInfo::algorithm",
-            _ => "SubjectPublicKeyInfo::key",
-        }
-    }
-}
+#[derive(Debug, Clone, PartialEq, Eq, Hash, Drop)]
+pub struct SubjectPublicKeyInfo<'a>(SubjectPublicKeyInfoFields<'a>);
 
 impl<'a> SubjectPublicKeyInfo<'a> {
     /// The algorithm.
     pub fn algorithm(&self) -> &AlgorithmIdentifier<'a>
-        ensures { result.now ≡ self.now.row.value }
+        ensures { result.now ≡ self.now.0.fields.value }
     {
-        &self.row.value
+        &self.0.fields.value
     }
 
     /// The key.
     pub fn key(&self) -> &BitString<'a>
-        ensures { result.now ≡ self.now.row.rest.value }
+        ensures { result.now ≡ self.now.0.fields.rest.value }
     {
-        &self.row.rest.value
+        &self.0.fields.rest.value
     }
 }
 
 impl<'a> Asn1Type for SubjectPublicKeyInfo<'a> {
-    ghost der = { simple_der (λ v. ⟦<KeyRow<'a> as Row>⟧.list.meaning v.row) (sequence ⟦<KeyRow<'a> as Row>⟧.list.fields) };
+    ghost der = { seen (λ v. v.0) ⟦<SubjectPublicKeyInfoFields<'a> as Asn1Type>⟧.der };
 
     fn known(&self) {
-        self.row.known_row()
+        self.0.known()
     }
 }
 
 impl<'a> SimpleAsn1Readable<'a> for SubjectPublicKeyInfo<'a> {
     fn tag() -> Tag
-        ensures value { result ≡ sequence_tag }
-        ensures simple { Unit {0} }
+        ensures value { result ≡ ⟦<SubjectPublicKeyInfo<'a> as Asn1Type>⟧.der.content.tag }
+        ensures simple { ⟦<SubjectPublicKeyInfo<'a> as Asn1Type>⟧.der.is_simple }
         ensures plain { ⟦<SubjectPublicKeyInfo<'a> as Asn1Type>⟧.der.plain }
     {
         Tag::constructed(0x10)
@@ -383,8 +378,8 @@ impl<'a> SimpleAsn1Readable<'a> for SubjectPublicKeyInfo<'a> {
     fn parse_data(alloc: Global, data: &'a [u8]) -> ParseResult<SubjectPublicKeyInfo<'a>>
         ensures { Answers ⟦<SubjectPublicKeyInfo<'a> as Asn1Type>⟧.der.meaning (⟦<SubjectPublicKeyInfo<'a> as Asn1Type>⟧.der.content.runs_out «data».entry.now) result (⟦<SubjectPublicKeyInfo<'a> as Asn1Type>⟧.der.content.read «data».entry.now) }
     {
-        match <KeyRow<'a>>::read(Parser::new(alloc, data)) {
-            Ok(row) => Ok(SubjectPublicKeyInfo { row }),
+        match <SubjectPublicKeyInfoFields<'a> as SimpleAsn1Readable<'a>>::parse_data(alloc, data) {
+            Ok(fields) => Ok(SubjectPublicKeyInfo(fields)),
             Err(error) => Err(error),
         }
     }
@@ -396,23 +391,23 @@ impl<'a> SimpleAsn1Writable for SubjectPublicKeyInfo<'a> {
     ghost write_errors = { λ _ _. ⊥ };
 
     fn tag() -> Tag
-        ensures value { result ≡ sequence_tag }
-        ensures simple { Unit {0} }
+        ensures value { result ≡ ⟦<SubjectPublicKeyInfo<'a> as Asn1Type>⟧.der.content.tag }
+        ensures simple { ⟦<SubjectPublicKeyInfo<'a> as Asn1Type>⟧.der.is_simple }
     {
         Tag::constructed(0x10)
     }
 
     fn write_data(&self, dest: &mut WriteBuf) -> WriteResult<()> {
-        self.row.write(&mut Writer::new(dest))
+        self.0.write_data(dest)
     }
 
     fn data_length(&self) -> Option<usize> {
-        self.row.length()
+        self.0.data_length()
     }
 }
 
 /// An extension that says nothing of it isn't critical.
-#[derive(Drop)]
+#[derive(Debug, PartialEq, Eq, Drop)]
 pub struct NotCritical;
 
 impl DefaultValue<bool> for NotCritical {
@@ -423,68 +418,64 @@ impl DefaultValue<bool> for NotCritical {
     }
 }
 
-type ExtensionRow<'a> = Field<
+/// The fields.
+type ExtensionFields<'a> = Structure<
     ExtensionNames,
-    0,
-    ObjectIdentifier,
-    Field<ExtensionNames, 1, Defaulted<bool, NotCritical>, Last<ExtensionNames, 2, &'a [u8]>>,
+    Fields3<ObjectIdentifier, Defaulted<bool, NotCritical>, &'a [u8]>,
 >;
 
-/// An extension: its type, whether who doesn't know it has to refuse the certificate, and its value.
-#[derive(Drop)]
-pub struct Extension<'a> {
-    row: ExtensionRow<'a>,
-}
+const EXTENSION: [&str; 3] = ["Extension::id", "Extension::critical", "Extension::value"];
 
+/// The names of the fields.
 struct ExtensionNames;
 
 impl FieldNames for ExtensionNames {
-    ghost label = { name_from 0 (codes "Extension::id" ∷ codes "Extension::critical" ∷ codes "Extension::value" ∷ []) };
+    ghost names = { map (λ s. s.now) EXTENSION };
 
-    fn name(index: usize) -> &'static str {
-        match index {
-            0 => "Extension::id",
-            1 => "Extension::critical",
-            _ => "Extension::value",
-        }
+    fn names() -> Names {
+        Names::new(&EXTENSION)
     }
 }
+
+/// An extension: its type, whether who doesn't know it has to refuse the certificate, and its value.
+#[derive(Debug, PartialEq, Eq, Drop)]
+pub struct Extension<'a>(ExtensionFields<'a>);
 
 impl<'a> Extension<'a> {
     /// Its type.
     pub fn id(&self) -> &ObjectIdentifier
-        ensures { result.now ≡ self.now.row.value }
+        ensures { result.now ≡ self.now.0.fields.value }
     {
-        &self.row.value
+        &self.0.fields.value
     }
 
     /// Whether who doesn't know it has to refuse the certificate.
     pub fn critical(&self) -> bool
-        ensures { result ≡ self.now.row.rest.value.inner }
+        ensures { result ≡ self.now.0.fields.rest.value.inner }
     {
-        *self.row.rest.value.as_inner()
+        *self.0.fields.rest.value.as_inner()
     }
 
     /// Its value.
     pub fn value(&self) -> &'a [u8]
-        ensures { result ≡ self.now.row.rest.rest.value }
+        ensures { result ≡ self.now.0.fields.rest.rest.value }
     {
-        self.row.rest.rest.value
+        self.0.fields.rest.rest.value
     }
 }
 
 impl<'a> Asn1Type for Extension<'a> {
-    ghost der = { simple_der (λ v. ⟦<ExtensionRow<'a> as Row>⟧.list.meaning v.row) (sequence ⟦<ExtensionRow<'a> as Row>⟧.list.fields) };
+    ghost der = { seen (λ v. v.0) ⟦<ExtensionFields<'a> as Asn1Type>⟧.der };
 
     fn known(&self) {
-        self.row.known_row()
+        self.0.known()
     }
 }
 
 impl<'a> SimpleAsn1Readable<'a> for Extension<'a> {
     fn tag() -> Tag
-        ensures value { result ≡ sequence_tag }
-        ensures simple { Unit {0} }
+        ensures value { result ≡ ⟦<Extension<'a> as Asn1Type>⟧.der.content.tag }
+        ensures simple { ⟦<Extension<'a> as Asn1Type>⟧.der.is_simple }
         ensures plain { ⟦<Extension<'a> as Asn1Type>⟧.der.plain }
     {
         Tag::constructed(0x10)
@@ -493,8 +484,8 @@ impl<'a> SimpleAsn1Readable<'a> for Extension<'a> {
     fn parse_data(alloc: Global, data: &'a [u8]) -> ParseResult<Extension<'a>>
         ensures { Answers ⟦<Extension<'a> as Asn1Type>⟧.der.meaning (⟦<Extension<'a> as Asn1Type>⟧.der.content.runs_out «data».entry.now) result (⟦<Extension<'a> as Asn1Type>⟧.der.content.read «data».entry.now) }
     {
-        match <ExtensionRow<'a>>::read(Parser::new(alloc, data)) {
-            Ok(row) => Ok(Extension { row }),
+        match <ExtensionFields<'a> as SimpleAsn1Readable<'a>>::parse_data(alloc, data) {
+            Ok(fields) => Ok(Extension(fields)),
             Err(error) => Err(error),
         }
     }
@@ -506,18 +497,18 @@ impl<'a> SimpleAsn1Writable for Extension<'a> {
     ghost write_errors = { λ _ _. ⊥ };
 
     fn tag() -> Tag
-        ensures value { result ≡ sequence_tag }
-        ensures simple { Unit {0} }
+        ensures value { result ≡ ⟦<Extension<'a> as Asn1Type>⟧.der.content.tag }
+        ensures simple { ⟦<Extension<'a> as Asn1Type>⟧.der.is_simple }
     {
         Tag::constructed(0x10)
     }
 
     fn write_data(&self, dest: &mut WriteBuf) -> WriteResult<()> {
-        self.row.write(&mut Writer::new(dest))
+        self.0.write_data(dest)
     }
 
     fn data_length(&self) -> Option<usize> {
-        self.row.length()
+        self.0.data_length()
     }
 }
 
@@ -537,8 +528,8 @@ impl<'a> Asn1Type for Extensions<'a> {
 
 impl<'a> SimpleAsn1Readable<'a> for Extensions<'a> {
     fn tag() -> Tag
-        ensures value { result ≡ sequence_tag }
-        ensures simple { Unit {0} }
+        ensures value { result ≡ ⟦<Extensions<'a> as Asn1Type>⟧.der.content.tag }
+        ensures simple { ⟦<Extensions<'a> as Asn1Type>⟧.der.is_simple }
         ensures plain { ⟦<Extensions<'a> as Asn1Type>⟧.der.plain }
     {
         Tag::constructed(0x10)
@@ -560,8 +551,8 @@ impl<'a> SimpleAsn1Writable for Extensions<'a> {
     ghost write_errors = { λ _ _. ⊥ };
 
     fn tag() -> Tag
-        ensures value { result ≡ sequence_tag }
-        ensures simple { Unit {0} }
+        ensures value { result ≡ ⟦<Extensions<'a> as Asn1Type>⟧.der.content.tag }
+        ensures simple { ⟦<Extensions<'a> as Asn1Type>⟧.der.is_simple }
     {
         Tag::constructed(0x10)
     }

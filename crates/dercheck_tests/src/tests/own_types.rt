@@ -1,19 +1,18 @@
 //! Types by hand, written and read.
 
-ghost use Rattle.std.specs.Prelude.{◌≡◌, ◌∷◌, [], codes};
-ghost use Rattle.asn1.specs.FieldLists.{name_from};
+ghost use Rattle.std.specs.Prelude.{◌≡◌};
 
-use asn1::fields::{DefinedLast, FieldNames, RowReadable, RowWritable};
+use asn1::fields::{Borrowed, Defined, DefinedLast, Last, Names, RowReadable, RowWritable};
 use asn1::{
-    Asn1DefinedByReadable, Asn1DefinedByWritable, Asn1Readable, Asn1Writable, DefinedByMarker,
-    Explicit, ObjectIdentifier, ParseError, ParseErrorKind, ParseLocation, ParseResult, Parser,
-    Tag, WriteError, Writer, parse_single, read_and_write_back, write, write_single,
+    Asn1DefinedByReadable, Asn1DefinedByWritable, Asn1Readable, Asn1Writable, Explicit,
+    ObjectIdentifier, ParseError, ParseErrorKind, ParseLocation, ParseResult, Parser, Tag,
+    WriteError, Writer, parse_single, read_and_write_back, write, write_single,
 };
 use dercheck::own_types::entry::Entry;
 use dercheck::own_types::my_sequence::{Content, MySequence, some_oid};
 use dercheck::own_types::reason::Reason;
 use dercheck::own_types::sealable::{SealError, Sealable};
-use dercheck::own_types::signature::Signature;
+use dercheck::own_types::signature::{Signature, SignatureFields, signature};
 use dercheck::own_types::some_sequence::SomeSequence;
 use dercheck::own_types::time::Time;
 use std::alloc::Global;
@@ -39,19 +38,19 @@ fn of(kind: ParseErrorKind) -> Option<ParseError> {
 }
 
 /// A refusal in the field with this name.
-fn at(name: &'static str, kind: ParseErrorKind) -> Option<ParseError> {
+pub fn at(name: &'static str, kind: ParseErrorKind) -> Option<ParseError> {
     Some(ParseError::new(kind).add_location(ParseLocation::Field(name)))
 }
 
 /// The refusal of an element with this primitive universal tag.
-fn other_tag(number: u32) -> ParseErrorKind {
+pub fn other_tag(number: u32) -> ParseErrorKind {
     ParseErrorKind::UnexpectedTag {
         actual: Tag::primitive(number),
     }
 }
 
 /// The value is written so, with that length, and read back.
-fn both_ways<'a, A: Abort, T: Asn1Readable<'a> + Asn1Writable<Error = WriteError> + PartialEq>(
+pub fn both_ways<'a, A: Abort, T: Asn1Readable<'a> + Asn1Writable<Error = WriteError> + PartialEq>(
     rt: &A,
     alloc: Global,
     value: T,
@@ -81,7 +80,9 @@ fn reasons(rt: HostRuntime) -> Result<(), Fail> {
 fn signatures(rt: HostRuntime) -> Result<(), Fail> {
     let alloc = rt.alloc();
     let octets: &[u8] = &[0x30, 6, 2, 1, 1, 2, 1, 2];
-    both_ways(&rt, alloc, Signature { r: 1, s: 2 }, octets)?;
+    both_ways(&rt, alloc, signature(1, 2), octets)?;
+    let read = parse_single::<Signature>(alloc, octets)?;
+    assert_eq!(rt; (read.r(), read.s()), (1, 2));
     let boolean = refused::<Signature>(alloc, &[0x30, 6, 2, 1, 1, 1, 1, 0xff]);
     assert_eq!(rt; boolean, at("Signature::s", other_tag(1)));
     let boolean = refused::<Signature>(alloc, &[0x30, 3, 1, 1, 0xff]);
@@ -96,17 +97,14 @@ fn signatures(rt: HostRuntime) -> Result<(), Fail> {
 #[test]
 fn some_sequences(rt: HostRuntime) -> Result<(), Fail> {
     let alloc = rt.alloc();
-    let both = SomeSequence {
-        a: Some(b"ab"),
-        b: Some(5),
-    };
+    let both = SomeSequence::new(Some(b"ab"), Some(5));
     both_ways(
         &rt,
         alloc,
         both,
         &[0x30, 9, 0x80, 2, 0x61, 0x62, 0xa1, 3, 2, 1, 5],
     )?;
-    both_ways(&rt, alloc, SomeSequence { a: None, b: None }, &[0x30, 0])?;
+    both_ways(&rt, alloc, SomeSequence::new(None, None), &[0x30, 0])?;
     let other = refused::<SomeSequence<'_>>(alloc, &[0x30, 3, 0x82, 1, 0]);
     assert_eq!(rt; other, of(ParseErrorKind::ExtraData));
     let short = refused::<SomeSequence<'_>>(alloc, &[0x30, 3, 0xa1, 1, 0xff]);
@@ -134,10 +132,7 @@ fn times(rt: HostRuntime) -> Result<(), Fail> {
 
 /// A sequence with the one variant.
 fn sequence_of_seven() -> MySequence {
-    MySequence {
-        content_type: DefinedByMarker::marker(),
-        content: Content::SomeVariant(7),
-    }
+    MySequence::new(Content::SomeVariant(7))
 }
 
 #[test]
@@ -159,12 +154,7 @@ fn my_sequences(rt: HostRuntime) -> Result<(), Fail> {
 
 /// An entry with the one variant.
 fn entry(note: Option<bool>, version: u8) -> Entry {
-    Entry {
-        content_type: DefinedByMarker::marker(),
-        content: Content::SomeVariant(7),
-        note,
-        version,
-    }
+    Entry::new(Content::SomeVariant(7), note, version)
 }
 
 #[test]
@@ -243,34 +233,41 @@ fn contents(rt: HostRuntime) -> Result<(), Fail> {
 }
 
 /// The names of an identifier and its content in a row.
-struct TaggedNames;
-
-impl FieldNames for TaggedNames {
-    ghost label = { name_from 0 (codes "identifier" ∷ codes "content" ∷ []) };
-
-    fn name(index: usize) -> &'static str {
-        match index {
-            0 => "identifier",
-            _ => "content",
-        }
-    }
-}
+const TAGGED: [&str; 2] = ["identifier", "content"];
 
 /// An identifier, and the content that it defines, under the explicit tag 3.
-type Tagged = DefinedLast<TaggedNames, 0, 1, ObjectIdentifier, Explicit<Content, 3>>;
+type Tagged = DefinedLast<ObjectIdentifier, Explicit<Content, 3>>;
 
 #[test]
 fn contents_under_a_tag(rt: HostRuntime) -> Result<(), Fail> {
     let alloc = rt.alloc();
     let octets: &[u8] = &[6, 2, 0x2a, 3, 0xa3, 3, 2, 1, 7];
-    let row = Tagged::read(Parser::new(alloc, octets))?;
+    let row = Tagged::read(Parser::new(alloc, octets), Names::new(&TAGGED))?;
     assert_eq!(rt; row.value.as_inner(), &Content::SomeVariant(7));
     assert_eq!(rt; row.length(), Some(octets.len()));
     let written = write(alloc, |writer: &mut Writer<'_>| row.write(writer))?;
     assert_eq!(rt; written.as_slice(), octets);
     let two: &[u8] = &[6, 2, 0x2a, 3, 0xa3, 6, 2, 1, 7, 2, 1, 7];
-    let two = refusal(Tagged::read(Parser::new(alloc, two)));
+    let two = refusal(Tagged::read(Parser::new(alloc, two), Names::new(&TAGGED)));
     assert_eq!(rt; two, at("content", ParseErrorKind::ExtraData));
+    Ok(())
+}
+
+#[test]
+fn contents_where_they_stand(rt: HostRuntime) -> Result<(), Fail> {
+    let alloc = rt.alloc();
+    let content = Content::SomeVariant(7);
+    let octets: &[u8] = &[6, 2, 0x2a, 3, 2, 1, 7];
+    let row = DefinedLast::<ObjectIdentifier, Borrowed<'_, Content>>::new(Borrowed::new(&content));
+    assert_eq!(rt; row.length(), Some(octets.len()));
+    let written = write(alloc, |writer: &mut Writer<'_>| row.write(writer))?;
+    assert_eq!(rt; written.as_slice(), octets);
+    let behind = Last::new(true);
+    let row = Defined::<ObjectIdentifier, _, _>::new(Borrowed::new(&content), behind);
+    let octets: &[u8] = &[6, 2, 0x2a, 3, 2, 1, 7, 1, 1, 0xff];
+    assert_eq!(rt; row.length(), Some(octets.len()));
+    let written = write(alloc, |writer: &mut Writer<'_>| row.write(writer))?;
+    assert_eq!(rt; written.as_slice(), octets);
     Ok(())
 }
 

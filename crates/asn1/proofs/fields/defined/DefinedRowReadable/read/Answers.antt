@@ -1,5 +1,5 @@
 use Rattle.std.proofs.Common.{sym, ◌∙◌}
-use Rattle.asn1.specs.Fields.{value_field}
+use Rattle.asn1.specs.Fields.{value_field, other_names}
 use Rattle.asn1.specs.FieldSteps.{exit, behind_item, at_value, behind_value}
 use Rattle.asn1.proofs.fields.defined.DefinedRowReadable.read.Goals as goal
 
@@ -7,15 +7,17 @@ pub returns-in_err-value : goal.returns-in_err-value
 returns-in_err-value g c =
     let both = g.C.DefinedField.both in
     let others = g.R.Row.list.fields in
+    let names = g.S.NameSource.texts c.args.names in
     exit _ _ _ _ _ c.from_residual-in_err-value.ensures.1
-    (behind_item _ both.item (λ v. (both.item.meaning v, c.read_item.new.parser)) _ c.read_item.result (value_field _ both.value others) _ _ c.read_item.ensures (sym (rw c.name.ensures at c.placed.ensures) ∙ c.in_ok-item.was)
-    (at_value _ both.value (λ v. (both.value.meaning v, c.read_value.new.parser)) _ _ c.read_value.result others _ c.read_value.ensures (sym (rw c.name-2.ensures at c.placed-2.ensures) ∙ c.in_err-value.was)))
+    (behind_item names both.item (λ v. (both.item.meaning v, c.read_item.new.parser)) _ c.read_item.result (value_field both.value others) _ _ c.read_item.ensures (sym (rw c.first.ensures at c.placed.ensures) ∙ c.in_ok-item.was)
+    (at_value (other_names names) both.value (λ v. (both.value.meaning v, c.read_value.new.parser)) _ _ c.read_value.result others _ c.read_value.ensures (sym (rw c.others-names.ensures at rw c.first-2.ensures at c.placed-2.ensures) ∙ c.in_err-value.was)))
 
 pub returns-in_err-rest : goal.returns-in_err-rest
 returns-in_err-rest g c =
     let both = g.C.DefinedField.both in
     let others = g.R.Row.list.fields in
+    let names = g.S.NameSource.texts c.args.names in
     exit _ _ _ _ _ c.from_residual-in_err-rest.ensures.1
-    (behind_item _ both.item (λ v. (both.item.meaning v, c.read_item.new.parser)) _ c.read_item.result (value_field _ both.value others) _ _ c.read_item.ensures (sym (rw c.name.ensures at c.placed.ensures) ∙ c.in_ok-item.was)
-    (behind_value _ both.value (λ v. (both.value.meaning v, c.read_value.new.parser)) _ _ c.read_value.result others _ _ c.read_value.ensures (sym (rw c.name-2.ensures at c.placed-2.ensures) ∙ c.in_ok-value.was)
-    (rw c.in_err-rest.was at c.read.ensures)))
+    (behind_item names both.item (λ v. (both.item.meaning v, c.read_item.new.parser)) _ c.read_item.result (value_field both.value others) _ _ c.read_item.ensures (sym (rw c.first.ensures at c.placed.ensures) ∙ c.in_ok-item.was)
+    (behind_value (other_names names) both.value (λ v. (both.value.meaning v, c.read_value.new.parser)) _ _ c.read_value.result others _ _ c.read_value.ensures (sym (rw c.others-names.ensures at rw c.first-2.ensures at c.placed-2.ensures) ∙ c.in_ok-value.was)
+    (rw c.in_err-rest.was at rw c.others-names.ensures at rw c.others.ensures at c.read.ensures)))
