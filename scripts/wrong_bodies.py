@@ -14,7 +14,8 @@ test: CRATE::PATH   the test that fails with it, or
 no test: REASON     why none can
 must: WORDS         in a folder canaries alone: what has to come out in place of a refusal
 
-A list such as {i8,i16} stands for each of its words in turn. The edits of folders must-fail have the same form.
+A list such as {i8,i16} stands for each of its words in turn. A block with old and new texts has the form of the
+kit's must-fail edits.
 """
 
 import re
