@@ -1,4 +1,4 @@
-"""The wrong bodies that stand in crates/NAME/wrong-bodies/*.edit: reading them, and putting them into a copy of a crate.
+"""The wrong bodies in crates/NAME/wrong-bodies/*.edit: reading them, and putting them into a copy of a crate.
 
 A file holds one wrong body or several, parted by empty lines; a line that begins with # is a comment. Each is a few
 lines 'key: value':
@@ -24,7 +24,7 @@ from pathlib import Path
 
 TOP = Path(__file__).resolve().parent.parent
 LIST = re.compile(r"\{(\w+(?:,\w+)+)\}")
-Wrong = namedtuple("Wrong", "function name changes clause tests must reason", defaults=[None])
+Wrong = namedtuple("Wrong", "function name changes clause tests must reason is_first", defaults=[None, True])
 Change = namedtuple("Change", "file start end text")
 
 
@@ -97,15 +97,16 @@ def wrong_bodies_in(file, crate):
     lines = (line for line in file.read_text().splitlines() if not line.startswith("#"))
     for block in re.split(r"\n\n+", "\n".join(lines).strip()):
         try:
-            for text in each_of(block):
+            for place, text in enumerate(each_of(block)):
                 said = [line.partition(": ")[::2] for line in text.splitlines()]
-                values = {"clause": None, "test": "", "must": "be refused", **dict(said)}
-                if values["function"].split("::")[0] != crate.name:
+                values = {"clause": None, "test": "", "must": "be refused", "no test": None, **dict(said)}
+                function, name, tests = values["function"], values.get("body", file.name), values["test"].split()
+                if function.split("::")[0] != crate.name:
                     raise ValueError("a function of another crate")
-                name, tests = values.get("body", file.name), values["test"].split()
-                yield Wrong(values["function"], name, changes_of(crate, said), values["clause"], tests, values["must"], values.get("no test"))
+                others = (values[key] for key in ("must", "no test"))
+                yield Wrong(function, name, changes_of(crate, said), values["clause"], tests, *others, place == 0)
         except (StopIteration, KeyError, ValueError) as error:
-            raise ValueError(f"{file.relative_to(TOP)}: {block.splitlines()[0]}: it can't be read: {error!r}") from error
+            raise ValueError(f"{file.relative_to(TOP)}: {block.splitlines()[0]}: {error!r}") from error
 
 
 def wrong_bodies(name, *folders):
