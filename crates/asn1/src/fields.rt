@@ -10,7 +10,7 @@ ghost use Rattle.asn1_core.specs.Writing.{KnowsLength, Refuses};
 ghost use Rattle.asn1.specs.Fields.{first_name, other_names, sequence};
 ghost use Rattle.asn1.specs.FieldLaws.{in_field};
 ghost use Rattle.asn1.specs.FieldSteps.{IsSum};
-ghost use Rattle.asn1.specs.FieldLists.{FieldList, last_field, first_field, texts_of};
+ghost use Rattle.asn1.specs.FieldLists.{FieldList, empty_list, last_field, first_field, texts_of};
 
 use asn1_core::{
     Asn1Readable, Asn1Type, Asn1Writable, ParseError, ParseErrorKind, ParseLocation, ParseResult,
@@ -117,6 +117,10 @@ pub trait RowWritable<E: From<WriteError>>: Row + Sized {
     fn length(&self) -> Option<usize>
         ensures { KnowsLength (Self.list.fields.texts (Self.list.meaning self.now)) result };
 }
+
+/// No fields: the row of a structure that has none.
+#[derive(Debug, Clone, PartialEq, Eq, Hash, Drop)]
+pub struct NoFields;
 
 /// The last field.
 #[derive(Debug, Clone, PartialEq, Eq, Hash, Drop)]
@@ -227,6 +231,33 @@ pub fn write_fields<E: From<WriteError>, R: RowWritable<E>>(
     ensures error { IfErr result (Refuses E.from_gives (R.write_errors fields.now)) }
 {
     fields.write(&mut Writer::new(dest))
+}
+
+impl Row for NoFields {
+    ghost list = { empty_list };
+
+    fn known_row(&self) {}
+}
+
+impl<'a> RowReadable<'a> for NoFields {
+    fn read<S: NameSource>(parser: Parser<'a>, _names: S) -> ParseResult<NoFields> {
+        finish(parser)?;
+        Ok(NoFields)
+    }
+
+    fn plain() {}
+}
+
+impl<E: From<WriteError>> RowWritable<E> for NoFields {
+    ghost write_errors = { λ _ _. ⊥ };
+
+    fn write(&self, _dest: &mut Writer<'_>) -> Result<(), E> {
+        Ok(())
+    }
+
+    fn length(&self) -> Option<usize> {
+        Some(0)
+    }
 }
 
 impl<A: Asn1Type> Row for Last<A> {

@@ -9,6 +9,7 @@ mod certificate;
 mod changed;
 mod frames;
 mod nested;
+mod nothing;
 mod own_types;
 mod set_pair;
 mod ticket;

@@ -33,7 +33,7 @@ pub fn refused<'a, T: Asn1Readable<'a>>(alloc: Global, octets: &'a [u8]) -> Opti
 }
 
 /// A refusal without a place.
-fn of(kind: ParseErrorKind) -> Option<ParseError> {
+pub fn of(kind: ParseErrorKind) -> Option<ParseError> {
     Some(ParseError::new(kind))
 }
 
