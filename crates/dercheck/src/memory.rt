@@ -83,7 +83,7 @@ impl Source for Pieces<'_> {
     }
 }
 
-/// A sink that keeps at most 256 octets, and fails where it is given more.
+/// A sink that keeps at most 256 octets, and fails where it is full.
 #[derive(Drop)]
 pub struct Held {
     octets: [u8; 256],

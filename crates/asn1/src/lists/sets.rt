@@ -111,8 +111,8 @@ fn check_elements(alloc: Global, content: &[u8]) -> ParseResult<()>
 /// Tags are compared by class, from universal to private, and within a class by number (X.680 8.6); equal neighbours
 /// are allowed. Whether an element is constructed plays no part, nor do its contents octets. Reading a set looks at
 /// each element in turn: the first error of framing decides, or `InvalidSetOrdering` where an element's tag comes
-/// before that of the one before it, with the location `Index(i)`, i being counted from 0. It takes no memory. Two sets
-/// are equal where their contents octets are.
+/// before that of the one before it. Each has the location `Index(i)`, i being counted from 0. It takes no memory. Two
+/// sets are equal where their contents octets are.
 #[derive(Debug, PartialEq, Eq, Hash, Drop)]
 pub struct Set<'a> {
     data: &'a [u8],
