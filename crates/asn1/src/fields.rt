@@ -35,6 +35,7 @@ pub trait FieldNames {
 /// Names of fields, in order.
 #[derive(Clone, Copy)]
 pub struct Names {
+    /// The names, the first field's first.
     pub list: &'static [&'static str],
 }
 
@@ -125,13 +126,16 @@ pub struct NoFields;
 /// The last field.
 #[derive(Debug, Clone, PartialEq, Eq, Hash, Drop)]
 pub struct Last<A> {
+    /// The field's value.
     pub value: A,
 }
 
 /// A field, and those behind it.
 #[derive(Debug, Clone, PartialEq, Eq, Hash, Drop)]
 pub struct Field<A, R> {
+    /// The first field's value.
     pub value: A,
+    /// The fields after it.
     pub rest: R,
 }
 
@@ -334,7 +338,9 @@ impl<E: From<WriteError>, A: Asn1Writable<Error = E>, R: RowWritable<E>> RowWrit
 #[derive(Drop)]
 #[derive_where(Debug, Clone, PartialEq, Eq, Hash; R)]
 pub struct Structure<N, R> {
+    /// The fields.
     pub fields: R,
+    /// Whose names they have.
     pub of: PhantomData<N>,
 }
 

@@ -110,7 +110,8 @@ pub fn choices_inherit<T1: Asn1Type, T2: Asn1Type, T3: Asn1Type>()
         ⟦<Choice3<T1, T2, T3> as Asn1Type>⟧.der }
 {}
 
-/// A row of lawful fields is lawful where one that may be missing is told by its tag from those that may stand behind it.
+/// A row of lawful fields is lawful where one that may be missing is told by its tag from those that may stand
+/// behind it.
 pub fn rows_are_lawful<A: Asn1Type, R: Row>()
     ensures last { A.der.lawful → ⟦<Last<A> as Row>⟧.list.fields.lawful }
     ensures element { A.der.lawful → A.der.is_element → R.list.fields.lawful →

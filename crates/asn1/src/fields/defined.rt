@@ -32,7 +32,9 @@ pub trait DefinedField<T: Asn1Type>: Asn1DefinedBy<T> + Sized {
 #[derive(Drop)]
 #[derive_where(Debug, Clone, PartialEq, Eq, Hash; C)]
 pub struct DefinedLast<T, C> {
+    /// The value.
     pub value: C,
+    /// The type of its item.
     pub of: PhantomData<T>,
 }
 
@@ -41,8 +43,11 @@ pub struct DefinedLast<T, C> {
 #[derive(Drop)]
 #[derive_where(Debug, Clone, PartialEq, Eq, Hash; C, R)]
 pub struct Defined<T, C, R> {
+    /// The value.
     pub value: C,
+    /// The fields after it.
     pub rest: R,
+    /// The type of its item.
     pub of: PhantomData<T>,
 }
 
@@ -75,6 +80,7 @@ impl<T, C, R> Defined<T, C, R> {
 /// A value that an item defines, written where it stands: in place of a reference, where it isn't `Copy`.
 #[derive(Drop)]
 pub struct Borrowed<'r, C> {
+    /// The value.
     pub value: &'r C,
 }
 

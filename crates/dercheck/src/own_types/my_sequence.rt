@@ -38,6 +38,7 @@ fn is_some_oid(item: &ObjectIdentifier) -> bool
 /// What stands behind an identifier.
 #[derive(Debug, Clone, PartialEq, Eq, Hash, Drop)]
 pub enum Content {
+    /// A number, by the identifier 1.2.3.
     SomeVariant(i32),
 }
 

@@ -13,7 +13,9 @@ use std::alloc::Global;
 /// Why something was withdrawn.
 #[derive(Clone, Copy, Debug, PartialEq, Eq)]
 pub enum Reason {
+    /// 0.
     Unspecified,
+    /// 4.
     Superseded,
 }
 

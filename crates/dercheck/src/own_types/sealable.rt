@@ -12,7 +12,9 @@ use std::alloc::Global;
 /// A number that is written only while it isn't sealed. One that was read isn't.
 #[derive(Debug, PartialEq, Eq, Drop)]
 pub struct Sealable {
+    /// The number.
     pub number: u64,
+    /// Whether it may not be written.
     pub sealed: bool,
 }
 

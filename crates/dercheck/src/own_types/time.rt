@@ -11,7 +11,9 @@ use asn1::{
 /// A time of either form, told by the tag.
 #[derive(Debug, PartialEq, Eq, Drop)]
 pub enum Time {
+    /// A time from 1950 to 2049.
     UTCTime(UtcTime),
+    /// A time of any year.
     X509GeneralizedTime(X509GeneralizedTime),
 }
 
