@@ -12,8 +12,6 @@ mod octets;
 #[cfg(test)]
 mod reading;
 #[cfg(test)]
-mod same;
-#[cfg(test)]
 mod sets;
 #[cfg(test)]
 mod slow;
