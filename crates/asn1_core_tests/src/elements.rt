@@ -1,59 +1,44 @@
-use crate::same::{same, same_octets, same_text};
 use asn1_core::parser::{
     ParseError, ParseErrorKind, ParseLocation, Parser, parse_single, strip_tlv,
 };
 use asn1_core::tag::{Tag, TagClass, implicit_tag};
-use asn1_core::types::{Asn1Readable, Tlv};
-use asn1_core::writer::{WriteError, Writer, write, write_single};
+use asn1_core::types::Tlv;
+use asn1_core::writer::{WriteError, Writer, write};
 use std::alloc::Global;
-use std::process::Abort;
 use std::test::Fail;
-
-fn fault(octets: &[u8]) -> Option<ParseErrorKind> {
-    match strip_tlv(octets) {
-        Ok(_) => None,
-        Err(error) => Some(error.kind()),
-    }
-}
-
-/// The kind of the refusal, where the octets are no one value of the type.
-fn refusal<'a, T: Asn1Readable<'a>>(alloc: Global, octets: &'a [u8]) -> Option<ParseErrorKind> {
-    match parse_single::<T>(alloc, octets) {
-        Ok(_value) => None,
-        Err(error) => Some(error.kind()),
-    }
-}
+use testing::{all_same, are_refused, error_of, is_written, kind_of, same, same_at};
 
 fn short(needed: usize) -> Option<ParseErrorKind> {
     Some(ParseErrorKind::ShortData { needed })
 }
 
 #[test]
-fn elements_in_front(rt: HostRuntime) -> Result<(), Fail> {
+fn elements_in_front() -> Result<(), Fail> {
     let octets = [0x04, 0x03, 0x61, 0x62, 0x63, 0x00, 0x00, 0x00];
     for end in [6, 8usize] {
         let (tlv, rest) = strip_tlv(&octets[..end])?;
-        same(&rt, &tlv.tag(), &Tag::primitive(4));
-        same_octets(&rt, tlv.tag_bytes(), &[0x04]);
-        same_octets(&rt, tlv.data(), &[0x61, 0x62, 0x63]);
-        same_octets(&rt, tlv.full_data(), &[0x04, 0x03, 0x61, 0x62, 0x63]);
-        same_octets(&rt, rest, &octets[5..end]);
+        same(tlv.tag(), Tag::primitive(4))?;
+        all_same(&[
+            (tlv.tag_bytes(), &[0x04]),
+            (tlv.data(), &[0x61, 0x62, 0x63]),
+            (tlv.full_data(), &[0x04, 0x03, 0x61, 0x62, 0x63]),
+            (rest, &octets[5..end]),
+        ])?;
     }
     Ok(())
 }
 
 #[test]
-fn an_element_alone(rt: HostRuntime) -> Result<(), Fail> {
+fn an_element_alone() -> Result<(), Fail> {
     let octets = [0x04, 0x03, 0x61, 0x62, 0x63, 0x00, 0x00, 0x00];
     let (tlv, _rest) = strip_tlv(&octets)?;
     let (alone, rest) = strip_tlv(&octets[..5])?;
-    same(&rt, &alone, &tlv);
-    assert!(rt; rest.is_empty());
-    Ok(())
+    same(&alone, &tlv)?;
+    same(rest, &[])
 }
 
 #[test]
-fn faults_of_framing(rt: HostRuntime) {
+fn faults_of_framing() -> Result<(), Fail> {
     let length = Some(ParseErrorKind::InvalidLength);
     let tag = Some(ParseErrorKind::InvalidTag);
     let faults: [(&[u8], Option<ParseErrorKind>); 18] = [
@@ -77,43 +62,45 @@ fn faults_of_framing(rt: HostRuntime) {
         (&[0xff, 0x80, 0x84, 0x01, 0x01, 0xa9], tag),
     ];
     for (octets, kind) in faults {
-        assert_eq!(rt; fault(octets), kind, "{octets:?}");
+        same_at(octets, kind_of(strip_tlv(octets)), kind)?;
     }
+    Ok(())
 }
 
-fn compare_fronts(rt: &impl Abort, octets: &[u8], needed: &[usize]) {
+/// Each prefix of the octets is too short, and by so much.
+fn compare_fronts(octets: &[u8], needed: &[usize]) -> Result<(), Fail> {
     for (end, needed) in needed.iter().enumerate() {
-        assert!(rt; end <= octets.len());
-        same(rt, &fault(&octets[..end]), &short(*needed));
+        let front = octets.get(..end).ok_or("too few octets")?;
+        same_at(front, kind_of(strip_tlv(front)), short(*needed))?;
     }
+    Ok(())
 }
 
 #[test]
-fn what_fronts_need(rt: HostRuntime) {
+fn what_fronts_need() -> Result<(), Fail> {
     let sequence = [
         0x30, 0x09, 0x02, 0x01, 0x01, 0x02, 0x01, 0x02, 0x02, 0x01, 0x03,
     ];
-    compare_fronts(&rt, &sequence, &[1, 1, 9, 8, 7, 6, 5, 4, 3, 2, 1]);
-    compare_fronts(&rt, &[0x04, 0x82, 0x01, 0x00], &[1, 1, 2, 1, 256]);
-    compare_fronts(&rt, &[0x1f, 0x81, 0x80, 0x01, 0x00], &[1, 1, 1, 1, 1]);
+    compare_fronts(&sequence, &[1, 1, 9, 8, 7, 6, 5, 4, 3, 2, 1])?;
+    compare_fronts(&[0x04, 0x82, 0x01, 0x00], &[1, 1, 2, 1, 256])?;
+    compare_fronts(&[0x1f, 0x81, 0x80, 0x01, 0x00], &[1, 1, 1, 1, 1])
 }
 
 /// So many letters are the content behind the header, and one more is the rest.
-fn compare_long(rt: &impl Abort, alloc: Global, header: &[u8], count: usize) -> Result<(), Fail> {
+fn compare_long(alloc: Global, header: &[u8], count: usize) -> Result<(), Fail> {
     let content = vec![in alloc; b'a'; count]?;
     let mut octets = Vec::from_slice(alloc, header)?;
     octets.extend_from_slice(content.as_slice())?;
     octets.push(0x61)?;
     let (tlv, rest) = strip_tlv(octets.as_slice())?;
-    assert_eq!(rt; tlv.tag(), Tag::primitive(4), "{count}");
-    assert!(rt; tlv.data() == content.as_slice(), "{count}");
-    same(
-        rt,
-        &octets.len().checked_sub(1),
-        &Some(tlv.full_data().len()),
-    );
-    assert_eq!(rt; rest, [0x61].as_slice(), "{count}");
-    Ok(())
+    same_at(count, tlv.tag(), Tag::primitive(4))?;
+    same_at(count, tlv.data() == content.as_slice(), true)?;
+    same_at(
+        count,
+        octets.len().checked_sub(1),
+        Some(tlv.full_data().len()),
+    )?;
+    same_at(count, rest, &[0x61])
 }
 
 #[test]
@@ -124,7 +111,7 @@ fn elements_with_long_lengths(rt: HostRuntime) -> Result<(), Fail> {
         (&[0x04, 0x84, 0x01, 0x00, 0x00, 0x00], 16777216),
     ];
     for (header, count) in headers {
-        compare_long(&rt, rt.alloc(), header, count)?;
+        compare_long(rt.alloc(), header, count)?;
     }
     Ok(())
 }
@@ -133,10 +120,11 @@ fn elements_with_long_lengths(rt: HostRuntime) -> Result<(), Fail> {
 fn parts_of_an_element(rt: HostRuntime) -> Result<(), Fail> {
     let octets = [0x01, 0x03, 0x61, 0x62, 0x63];
     let tlv = parse_single::<Tlv<'_>>(rt.alloc(), &octets)?;
-    same_octets(&rt, tlv.tag_bytes(), &[0x01]);
-    same_octets(&rt, tlv.data(), &[0x61, 0x62, 0x63]);
-    same_octets(&rt, tlv.full_data(), octets.as_slice());
-    Ok(())
+    all_same(&[
+        (tlv.tag_bytes(), &[0x01]),
+        (tlv.data(), &[0x61, 0x62, 0x63]),
+        (tlv.full_data(), &octets),
+    ])
 }
 
 #[test]
@@ -147,18 +135,17 @@ fn tags_of_several_octets(rt: HostRuntime) -> Result<(), Fail> {
     ];
     for (octets, tag) in elements {
         let tlv = parse_single::<Tlv<'_>>(rt.alloc(), octets)?;
-        same_octets(&rt, tlv.tag_bytes(), tag);
+        same(tlv.tag_bytes(), tag)?;
     }
     Ok(())
 }
 
 /// Any element is written as it was read, behind a reference too.
-fn compare_written(rt: &impl Abort, alloc: Global, octets: &[u8]) -> Result<(), Fail> {
+fn compare_written(alloc: Global, octets: &[u8]) -> Result<(), Fail> {
     let tlv = parse_single::<Tlv<'_>>(alloc, octets)?;
-    same_octets(rt, tlv.full_data(), octets);
-    same_octets(rt, write_single(alloc, &tlv)?.as_slice(), octets);
-    same_octets(rt, write_single(alloc, &&tlv)?.as_slice(), octets);
-    Ok(())
+    same(tlv.full_data(), octets)?;
+    is_written(alloc, &tlv, octets)?;
+    is_written(alloc, &&tlv, octets)
 }
 
 #[test]
@@ -183,48 +170,44 @@ fn any_element_is_read_and_written(rt: HostRuntime) -> Result<(), Fail> {
     ];
     for (octets, class, number, content) in elements {
         let tlv = parse_single::<Tlv<'_>>(rt.alloc(), octets)?;
-        same(&rt, &tlv.tag().class(), &class);
-        same(&rt, &tlv.tag().value(), &number);
-        assert!(rt; !tlv.tag().is_constructed());
-        same_octets(&rt, tlv.data(), content);
-        compare_written(&rt, rt.alloc(), octets)?;
+        let tag = tlv.tag();
+        same_at(octets, tag.class(), class)?;
+        same_at(octets, tag.value(), number)?;
+        same_at(octets, tag.is_constructed(), false)?;
+        same(tlv.data(), content)?;
+        compare_written(rt.alloc(), octets)?;
     }
     Ok(())
 }
 
 #[test]
-fn faults_of_any_element(rt: HostRuntime) {
-    let faults: [(&[u8], Option<ParseErrorKind>); 9] = [
-        (&[0x04, 0x03, 0x61], short(2)),
-        (&[0x04], short(1)),
-        (&[], short(1)),
-        (&[0x1f], short(1)),
-        (&[0xff], short(1)),
-        (&[0x1f, 0x85], short(1)),
-        (
-            &[0x1f, 0x88, 0x80, 0x80, 0x80, 0x80, 0x00],
-            Some(ParseErrorKind::InvalidTag),
-        ),
-        (&[0x1f, 0x1e, 0x00], Some(ParseErrorKind::InvalidTag)),
-        (
-            &[0xff, 0x80, 0x84, 0x01, 0x01, 0xa9],
-            Some(ParseErrorKind::InvalidTag),
-        ),
-    ];
-    for (octets, kind) in faults {
-        assert_eq!(rt; refusal::<Tlv<'_>>(rt.alloc(), octets), kind, "{octets:?}");
-    }
+fn faults_of_any_element(rt: HostRuntime) -> Result<(), Fail> {
+    let short = |needed: usize| ParseErrorKind::ShortData { needed };
+    let tag = ParseErrorKind::InvalidTag;
+    are_refused::<Tlv<'_>>(
+        rt.alloc(),
+        &[
+            (&[0x04, 0x03, 0x61], short(2)),
+            (&[0x04], short(1)),
+            (&[], short(1)),
+            (&[0x1f], short(1)),
+            (&[0xff], short(1)),
+            (&[0x1f, 0x85], short(1)),
+            (&[0x1f, 0x88, 0x80, 0x80, 0x80, 0x80, 0x00], tag),
+            (&[0x1f, 0x1e, 0x00], tag),
+            (&[0xff, 0x80, 0x84, 0x01, 0x01, 0xa9], tag),
+        ],
+    )
 }
 
 #[test]
 fn an_element_is_read_as_a_value(rt: HostRuntime) -> Result<(), Fail> {
     let octets = [0x02, 0x01, 0x03];
     let (tlv, _rest) = strip_tlv(&octets)?;
-    same(&rt, &tlv.parse::<u64>(rt.alloc())?, &3);
+    same(tlv.parse::<u64>(rt.alloc())?, 3)?;
     let octets = [0x01, 0x01, 0xff];
     let (tlv, _rest) = strip_tlv(&octets)?;
-    assert!(rt; tlv.parse::<bool>(rt.alloc())?);
-    Ok(())
+    same(tlv.parse::<bool>(rt.alloc())?, true)
 }
 
 #[test]
@@ -234,11 +217,8 @@ fn an_element_is_no_value_of_another_type(rt: HostRuntime) -> Result<(), Fail> {
     let unexpected = ParseErrorKind::UnexpectedTag {
         actual: Tag::primitive(2),
     };
-    match tlv.parse::<&[u8]>(rt.alloc()) {
-        Ok(_value) => assert!(rt; false),
-        Err(error) => same(&rt, &error, &ParseError::new(unexpected)),
-    }
-    Ok(())
+    let error = error_of(tlv.parse::<&[u8]>(rt.alloc()));
+    same(&error, &Some(ParseError::new(unexpected)))
 }
 
 #[test]
@@ -246,25 +226,16 @@ fn implicit_tags_known_at_run_time(rt: HostRuntime) -> Result<(), Fail> {
     let implicit = write(rt.alloc(), |writer: &mut Writer<'_>| {
         writer.write_implicit_element(&true, 2)
     })?;
-    same_octets(&rt, implicit.as_slice(), &[0x82, 0x01, 0xff]);
+    same(implicit.as_slice(), &[0x82, 0x01, 0xff])?;
     let mut parser = Parser::new(rt.alloc(), implicit.as_slice());
-    assert!(rt; parser.read_implicit_element::<bool>(2)?);
-    assert!(rt; parser.is_empty());
-    Ok(())
+    same(parser.read_implicit_element::<bool>(2)?, true)?;
+    same(parser.is_empty(), true)
 }
 
 #[test]
-fn implicit_tags_keep_the_form(rt: HostRuntime) {
-    same(
-        &rt,
-        &implicit_tag(3, Tag::primitive(2)).as_u8(),
-        &Some(0x83),
-    );
-    same(
-        &rt,
-        &implicit_tag(3, Tag::constructed(2)).as_u8(),
-        &Some(0xa3),
-    );
+fn implicit_tags_keep_the_form() -> Result<(), Fail> {
+    same(&implicit_tag(3, Tag::primitive(2)).as_u8(), &Some(0x83))?;
+    same(&implicit_tag(3, Tag::constructed(2)).as_u8(), &Some(0xa3))
 }
 
 #[test]
@@ -272,45 +243,36 @@ fn explicit_tags_known_at_run_time(rt: HostRuntime) -> Result<(), Fail> {
     let explicit = write(rt.alloc(), |writer: &mut Writer<'_>| {
         writer.write_explicit_element(&true, 2)
     })?;
-    same_octets(&rt, explicit.as_slice(), &[0xa2, 0x03, 0x01, 0x01, 0xff]);
+    same(explicit.as_slice(), &[0xa2, 0x03, 0x01, 0x01, 0xff])?;
     let mut parser = Parser::new(rt.alloc(), explicit.as_slice());
-    assert!(rt; parser.read_explicit_element::<bool>(2)?);
-    assert!(rt; parser.is_empty());
-    Ok(())
+    same(parser.read_explicit_element::<bool>(2)?, true)?;
+    same(parser.is_empty(), true)
 }
 
 #[test]
-fn another_tag_is_passed_over(rt: HostRuntime) {
+fn another_tag_is_passed_over(rt: HostRuntime) -> Result<(), Fail> {
     let octets = [0x81, 0x01, 0xff, 0x05, 0x00];
     let actual = implicit_tag(1, Tag::primitive(1));
     let unexpected = ParseErrorKind::UnexpectedTag { actual };
     let mut parser = Parser::new(rt.alloc(), &octets);
     same(
-        &rt,
         &parser.read_implicit_element::<bool>(2),
         &Err(ParseError::new(unexpected)),
-    );
-    same(&rt, &parser.peek_tag(), &Some(Tag::primitive(5)));
-    same_octets(&rt, parser.rest(), &octets[3..]);
+    )?;
+    same(&parser.peek_tag(), &Some(Tag::primitive(5)))?;
+    same(parser.rest(), &octets[3..])
 }
 
 #[test]
-fn no_tag_is_seen(rt: HostRuntime) {
-    same(&rt, &Parser::new(rt.alloc(), &[0x1f]).peek_tag(), &None);
-    same(&rt, &Parser::new(rt.alloc(), &[]).peek_tag(), &None);
+fn no_tag_is_seen(rt: HostRuntime) -> Result<(), Fail> {
+    same(&Parser::new(rt.alloc(), &[0x1f]).peek_tag(), &None)?;
+    same(&Parser::new(rt.alloc(), &[]).peek_tag(), &None)
 }
 
 /// The error is displayed so.
-fn compare_displayed(
-    rt: &impl Abort,
-    alloc: Global,
-    error: &ParseError,
-    text: &str,
-) -> Result<(), Fail> {
+fn compare_displayed(alloc: Global, error: &ParseError, text: &str) -> Result<(), Fail> {
     let wanted = format!(in alloc; "ASN.1 parsing error: {text}")?;
-    let shown = format!(in alloc; "{error}")?;
-    same_text(rt, shown.as_str(), wanted.as_str());
-    Ok(())
+    same(format!(in alloc; "{error}")?.as_str(), wanted.as_str())
 }
 
 /// An error with no place, with a field, or with an index and then a field.
@@ -370,10 +332,10 @@ fn errors_displayed(rt: HostRuntime) -> Result<(), Fail> {
         (ParseErrorKind::AllocationError, "allocation error"),
     ];
     for (kind, text) in texts {
-        same(&rt, &ParseError::new(kind).kind(), &kind);
+        same(ParseError::new(kind).kind(), kind)?;
         for places in 0..3 {
             let error = with_places(kind, places);
-            compare_displayed(&rt, rt.alloc(), &error, text)?;
+            compare_displayed(rt.alloc(), &error, text)?;
         }
     }
     Ok(())
@@ -382,13 +344,10 @@ fn errors_displayed(rt: HostRuntime) -> Result<(), Fail> {
 #[test]
 fn errors_of_writes_displayed(rt: HostRuntime) -> Result<(), Fail> {
     let memory = WriteError::AllocationError;
-    same_text(
-        &rt,
-        format!(in rt.alloc(); "{memory}")?.as_str(),
-        "allocation error",
-    );
     let order = WriteError::InvalidSetOrdering;
-    let shown = format!(in rt.alloc(); "{order}")?;
-    same_text(&rt, shown.as_str(), "SET elements are not in DER order");
-    Ok(())
+    let shown = format!(in rt.alloc(); "{memory}; {order}")?;
+    same(
+        shown.as_str(),
+        "allocation error; SET elements are not in DER order",
+    )
 }

@@ -3,21 +3,8 @@
 use asn1_core::parser::{ParseError, ParseErrorKind, ParseLocation, strip_tlv};
 use asn1_core::tag::{Tag, TagClass, explicit_tag};
 use asn1_core::writer::WriteError;
-use std::alloc::Global;
-use std::fmt::Debug;
-use std::process::Abort;
 use std::test::Fail;
-
-fn compare_shown<T: Debug>(
-    rt: &impl Abort,
-    alloc: Global,
-    value: &T,
-    text: &str,
-) -> Result<(), Fail> {
-    let shown = format!(in alloc; "{value:?}")?;
-    assert_eq!(rt; shown.as_str(), text);
-    Ok(())
-}
+use testing::{is_shown, same};
 
 #[test]
 fn kinds_of_errors_are_shown(rt: HostRuntime) -> Result<(), Fail> {
@@ -52,7 +39,7 @@ fn kinds_of_errors_are_shown(rt: HostRuntime) -> Result<(), Fail> {
         (ParseErrorKind::AllocationError, "AllocationError"),
     ];
     for (kind, text) in texts {
-        compare_shown(&rt, rt.alloc(), &kind, text)?;
+        is_shown(rt.alloc(), &kind, text)?;
     }
     Ok(())
 }
@@ -61,21 +48,20 @@ fn kinds_of_errors_are_shown(rt: HostRuntime) -> Result<(), Fail> {
 fn errors_and_places_are_shown(rt: HostRuntime) -> Result<(), Fail> {
     let alloc = rt.alloc();
     let field = ParseLocation::Field("Abc::123");
-    compare_shown(&rt, alloc, &field, "Field(\"Abc::123\")")?;
-    compare_shown(&rt, alloc, &ParseLocation::Index(12), "Index(12)")?;
+    is_shown(alloc, &field, "Field(\"Abc::123\")")?;
+    is_shown(alloc, &ParseLocation::Index(12), "Index(12)")?;
     let error = ParseError::new(ParseErrorKind::ShortData { needed: 7 })
         .add_location(field)
         .add_location(ParseLocation::Index(12));
-    compare_shown(
-        &rt,
+    is_shown(
         alloc,
         &error,
         "ParseError { kind: ShortData { needed: 7 }, location: [12, \"Abc::123\"] }",
     )?;
     let memory = WriteError::AllocationError;
-    compare_shown(&rt, alloc, &memory, "AllocationError")?;
+    is_shown(alloc, &memory, "AllocationError")?;
     let order = WriteError::InvalidSetOrdering;
-    compare_shown(&rt, alloc, &order, "InvalidSetOrdering")
+    is_shown(alloc, &order, "InvalidSetOrdering")
 }
 
 #[test]
@@ -87,18 +73,16 @@ fn tags_and_elements_are_shown(rt: HostRuntime) -> Result<(), Fail> {
         (TagClass::Private, "Private"),
     ];
     for (class, text) in classes {
-        compare_shown(&rt, rt.alloc(), &class, text)?;
+        is_shown(rt.alloc(), &class, text)?;
     }
-    compare_shown(
-        &rt,
+    is_shown(
         rt.alloc(),
         &explicit_tag(3),
         "Tag { value: 3, constructed: true, class: ContextSpecific }",
     )?;
     let octets = [0x01, 0x01, 0xff];
     let (tlv, _rest) = strip_tlv(&octets)?;
-    compare_shown(
-        &rt,
+    is_shown(
         rt.alloc(),
         &tlv,
         "Tlv { tag: Tag { value: 1, constructed: false, class: Universal }, data: [255], full_data: [1, 1, 255] }",
@@ -111,8 +95,8 @@ fn across_threads<T: Send + Sync>(value: T) -> T {
 }
 
 #[test]
-fn errors_go_to_other_threads(rt: HostRuntime) {
+fn errors_go_to_other_threads() -> Result<(), Fail> {
     let error = ParseError::new(ParseErrorKind::ExtraData);
     let error = across_threads(error.add_location(ParseLocation::Field("Signature::r")));
-    assert_eq!(rt; error.kind(), ParseErrorKind::ExtraData);
+    same(error.kind(), ParseErrorKind::ExtraData)
 }

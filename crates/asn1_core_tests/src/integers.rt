@@ -1,4 +1,3 @@
-use crate::same::{same, same_octets};
 use asn1_core::parser::{ParseErrorKind, parse_single};
 use asn1_core::tag::Tag;
 use asn1_core::types::{Asn1Readable, Asn1Writable, SimpleAsn1Writable, is_integer_content};
@@ -8,8 +7,8 @@ use std::fmt::Debug;
 use std::num::{
     NonZeroI8, NonZeroI16, NonZeroI32, NonZeroI64, NonZeroU8, NonZeroU16, NonZeroU32, NonZeroU64,
 };
-use std::process::Abort;
 use std::test::Fail;
+use testing::{all_same, are_refused, is_written, same, same_at};
 
 const INVALID: ParseErrorKind = ParseErrorKind::InvalidValue;
 
@@ -37,25 +36,24 @@ fn read<'a, T: Asn1Readable<'a>>(alloc: Global, octets: &'a [u8]) -> Result<T, P
 
 /// Reads numbers from their texts.
 fn compare_read<'a, T: Asn1Readable<'a> + Copy + PartialEq + Debug>(
-    rt: &impl Abort,
     alloc: Global,
     cases: &[(T, &'a [u8])],
-) {
+) -> Result<(), Fail> {
     for (number, octets) in cases {
-        assert_eq!(rt; read::<T>(alloc, octets), Ok(*number), "{octets:?}");
+        same_at(*octets, read::<T>(alloc, octets), Ok(*number))?;
     }
+    Ok(())
 }
 
 /// Writes numbers as their texts.
 fn compare_written<T: Asn1Writable<Error = WriteError>>(
-    rt: &impl Abort,
     alloc: Global,
     cases: &[(T, &[u8])],
 ) -> Result<(), Fail>
     requires { (number : T) → T.der.closures (T.der.meaning number) }
 {
     for (number, octets) in cases {
-        same_octets(rt, write_single(alloc, number)?.as_slice(), *octets);
+        is_written(alloc, number, octets)?;
     }
     Ok(())
 }
@@ -85,57 +83,57 @@ fn long_numbers(rt: HostRuntime) -> Result<(), Fail> {
         ),
         (-65536, &[0x02, 0x03, 0xff, 0x00, 0x00]),
     ];
-    compare_read(&rt, alloc, &cases);
-    compare_written(&rt, alloc, &cases)
+    compare_read(alloc, &cases)?;
+    compare_written(alloc, &cases)
 }
 
 #[test]
-fn other_texts_are_no_long_number(rt: HostRuntime) {
-    let faults: [(&[u8], ParseErrorKind); 15] = [
-        (&[0x03, 0x00], unexpected_tag()),
-        (&[0x02, 0x02, 0x00], SHORT),
-        (&[], SHORT),
-        (&[0x02], SHORT),
-        (
-            &[
-                0x02, 0x09, 0x02, 0x00, 0x00, 0x00, 0x00, 0x00, 0x00, 0x00, 0x00,
-            ],
-            OVERFLOW,
-        ),
-        (
-            &[
-                0x02, 0x09, 0x00, 0xd0, 0x07, 0x04, 0x00, 0x03, 0x31, 0x31, 0x00,
-            ],
-            OVERFLOW,
-        ),
-        (
-            &[
-                0x02, 0x09, 0x00, 0x80, 0x00, 0x00, 0x00, 0x00, 0x00, 0x00, 0x00,
-            ],
-            OVERFLOW,
-        ),
-        (
-            &[
-                0x02, 0x09, 0xff, 0x7f, 0xff, 0xff, 0xff, 0xff, 0xff, 0xff, 0xff,
-            ],
-            OVERFLOW,
-        ),
-        (
-            &[
-                0x02, 0x0a, 0x80, 0x00, 0x00, 0x00, 0x00, 0x00, 0x00, 0x00, 0x00, 0x00,
-            ],
-            OVERFLOW,
-        ),
-        (&[0x02, 0x05, 0x00, 0x00, 0x00, 0x00, 0x01], INVALID),
-        (&[0x02, 0x02, 0xff, 0x80], INVALID),
-        (&[0x02, 0x00], INVALID),
-        (&[0x02, 0x02, 0x00, 0x01], INVALID),
-        (&[0x02, 0x02, 0x00, 0x7f], INVALID),
-        (&[0x02, 0x02, 0xff, 0xff], INVALID),
-    ];
-    for (octets, kind) in faults {
-        assert_eq!(rt; read::<i64>(rt.alloc(), octets), Err(kind), "{octets:?}");
-    }
+fn other_texts_are_no_long_number(rt: HostRuntime) -> Result<(), Fail> {
+    are_refused::<i64>(
+        rt.alloc(),
+        &[
+            (&[0x03, 0x00], unexpected_tag()),
+            (&[0x02, 0x02, 0x00], SHORT),
+            (&[], SHORT),
+            (&[0x02], SHORT),
+            (
+                &[
+                    0x02, 0x09, 0x02, 0x00, 0x00, 0x00, 0x00, 0x00, 0x00, 0x00, 0x00,
+                ],
+                OVERFLOW,
+            ),
+            (
+                &[
+                    0x02, 0x09, 0x00, 0xd0, 0x07, 0x04, 0x00, 0x03, 0x31, 0x31, 0x00,
+                ],
+                OVERFLOW,
+            ),
+            (
+                &[
+                    0x02, 0x09, 0x00, 0x80, 0x00, 0x00, 0x00, 0x00, 0x00, 0x00, 0x00,
+                ],
+                OVERFLOW,
+            ),
+            (
+                &[
+                    0x02, 0x09, 0xff, 0x7f, 0xff, 0xff, 0xff, 0xff, 0xff, 0xff, 0xff,
+                ],
+                OVERFLOW,
+            ),
+            (
+                &[
+                    0x02, 0x0a, 0x80, 0x00, 0x00, 0x00, 0x00, 0x00, 0x00, 0x00, 0x00, 0x00,
+                ],
+                OVERFLOW,
+            ),
+            (&[0x02, 0x05, 0x00, 0x00, 0x00, 0x00, 0x01], INVALID),
+            (&[0x02, 0x02, 0xff, 0x80], INVALID),
+            (&[0x02, 0x00], INVALID),
+            (&[0x02, 0x02, 0x00, 0x01], INVALID),
+            (&[0x02, 0x02, 0x00, 0x7f], INVALID),
+            (&[0x02, 0x02, 0xff, 0xff], INVALID),
+        ],
+    )
 }
 
 #[test]
@@ -154,31 +152,31 @@ fn numbers_of_four_octets(rt: HostRuntime) -> Result<(), Fail> {
         (i32::MAX, &[0x02, 0x04, 0x7f, 0xff, 0xff, 0xff]),
         (i32::MIN, &[0x02, 0x04, 0x80, 0x00, 0x00, 0x00]),
     ];
-    compare_read(&rt, alloc, &cases);
-    compare_written(&rt, alloc, &cases)
+    compare_read(alloc, &cases)?;
+    compare_written(alloc, &cases)
 }
 
 #[test]
-fn other_texts_are_no_number_of_four_octets(rt: HostRuntime) {
-    let faults: [(&[u8], ParseErrorKind); 9] = [
-        (&[0x03, 0x00], unexpected_tag()),
-        (&[0x02, 0x02, 0x00], SHORT),
-        (&[], SHORT),
-        (&[0x02], SHORT),
-        (
-            &[
-                0x02, 0x09, 0x02, 0x00, 0x00, 0x00, 0x00, 0x00, 0x00, 0x00, 0x00,
-            ],
-            OVERFLOW,
-        ),
-        (&[0x02, 0x05, 0x00, 0x80, 0x00, 0x00, 0x00], OVERFLOW),
-        (&[0x02, 0x05, 0x00, 0x00, 0x00, 0x00, 0x01], INVALID),
-        (&[0x02, 0x02, 0xff, 0x80], INVALID),
-        (&[0x02, 0x00], INVALID),
-    ];
-    for (octets, kind) in faults {
-        assert_eq!(rt; read::<i32>(rt.alloc(), octets), Err(kind), "{octets:?}");
-    }
+fn other_texts_are_no_number_of_four_octets(rt: HostRuntime) -> Result<(), Fail> {
+    are_refused::<i32>(
+        rt.alloc(),
+        &[
+            (&[0x03, 0x00], unexpected_tag()),
+            (&[0x02, 0x02, 0x00], SHORT),
+            (&[], SHORT),
+            (&[0x02], SHORT),
+            (
+                &[
+                    0x02, 0x09, 0x02, 0x00, 0x00, 0x00, 0x00, 0x00, 0x00, 0x00, 0x00,
+                ],
+                OVERFLOW,
+            ),
+            (&[0x02, 0x05, 0x00, 0x80, 0x00, 0x00, 0x00], OVERFLOW),
+            (&[0x02, 0x05, 0x00, 0x00, 0x00, 0x00, 0x01], INVALID),
+            (&[0x02, 0x02, 0xff, 0x80], INVALID),
+            (&[0x02, 0x00], INVALID),
+        ],
+    )
 }
 
 #[test]
@@ -192,16 +190,16 @@ fn short_signed_numbers(rt: HostRuntime) -> Result<(), Fail> {
         (-32768, &[0x02, 0x02, 0x80, 0x00]),
         (32767, &[0x02, 0x02, 0x7f, 0xff]),
     ];
-    compare_read(&rt, alloc, &of_i16);
-    compare_written(&rt, alloc, &of_i16)?;
+    compare_read(alloc, &of_i16)?;
+    compare_written(alloc, &of_i16)?;
     let of_i8: [(i8, &[u8]); 4] = [
         (0, &[0x02, 0x01, 0x00]),
         (127, &[0x02, 0x01, 0x7f]),
         (-1, &[0x02, 0x01, 0xff]),
         (-128, &[0x02, 0x01, 0x80]),
     ];
-    compare_read(&rt, alloc, &of_i8);
-    compare_written(&rt, alloc, &of_i8)
+    compare_read(alloc, &of_i8)?;
+    compare_written(alloc, &of_i8)
 }
 
 #[test]
@@ -221,114 +219,92 @@ fn unsigned_numbers(rt: HostRuntime) -> Result<(), Fail> {
             ],
         ),
     ];
-    compare_read(&rt, alloc, &of_u64);
-    compare_written(&rt, alloc, &of_u64)?;
+    compare_read(alloc, &of_u64)?;
+    compare_written(alloc, &of_u64)?;
     let of_u32: [(u32, &[u8]); 2] = [
         (256, &[0x02, 0x02, 0x01, 0x00]),
         (u32::MAX, &[0x02, 0x05, 0x00, 0xff, 0xff, 0xff, 0xff]),
     ];
-    compare_read(&rt, alloc, &of_u32);
-    compare_written(&rt, alloc, &of_u32)?;
+    compare_read(alloc, &of_u32)?;
+    compare_written(alloc, &of_u32)?;
     let of_u16: [(u16, &[u8]); 4] = [
         (0, &[0x02, 0x01, 0x00]),
         (1, &[0x02, 0x01, 0x01]),
         (256, &[0x02, 0x02, 0x01, 0x00]),
         (65535, &[0x02, 0x03, 0x00, 0xff, 0xff]),
     ];
-    compare_read(&rt, alloc, &of_u16);
-    compare_written(&rt, alloc, &of_u16)?;
+    compare_read(alloc, &of_u16)?;
+    compare_written(alloc, &of_u16)?;
     let of_u8: [(u8, &[u8]); 4] = [
         (0, &[0x02, 0x01, 0x00]),
         (127, &[0x02, 0x01, 0x7f]),
         (128, &[0x02, 0x02, 0x00, 0x80]),
         (255, &[0x02, 0x02, 0x00, 0xff]),
     ];
-    compare_read(&rt, alloc, &of_u8);
-    compare_written(&rt, alloc, &of_u8)
+    compare_read(alloc, &of_u8)?;
+    compare_written(alloc, &of_u8)
 }
 
 /// A number beyond the width of its type is refused as one that is too large.
 #[test]
-fn signed_numbers_end_at_their_width(rt: HostRuntime) {
-    let alloc = rt.alloc();
-    same(
-        &rt,
-        &read::<i16>(alloc, &[0x02, 0x03, 0x80, 0x00, 0x00]),
-        &Err(OVERFLOW),
-    );
-    same(
-        &rt,
-        &read::<i8>(alloc, &[0x02, 0x02, 0x02, 0x00]),
-        &Err(OVERFLOW),
-    );
-    same(
-        &rt,
-        &read::<i8>(alloc, &[0x02, 0x02, 0xff, 0x7f]),
-        &Err(OVERFLOW),
-    );
-    same(
-        &rt,
-        &read::<i8>(alloc, &[0x02, 0x02, 0x00, 0x80]),
-        &Err(OVERFLOW),
-    );
-    same(&rt, &read::<i8>(alloc, &[0x02, 0x00]), &Err(INVALID));
+fn signed_numbers_end_at_their_width(rt: HostRuntime) -> Result<(), Fail> {
+    are_refused::<i16>(rt.alloc(), &[(&[0x02, 0x03, 0x80, 0x00, 0x00], OVERFLOW)])?;
+    are_refused::<i8>(
+        rt.alloc(),
+        &[
+            (&[0x02, 0x02, 0x02, 0x00], OVERFLOW),
+            (&[0x02, 0x02, 0xff, 0x7f], OVERFLOW),
+            (&[0x02, 0x02, 0x00, 0x80], OVERFLOW),
+            (&[0x02, 0x00], INVALID),
+        ],
+    )
 }
 
 /// A negative number is no value of an unsigned type.
 #[test]
-fn unsigned_numbers_have_no_sign(rt: HostRuntime) {
-    let faults: [(&[u8], ParseErrorKind); 5] = [
-        (&[0x02, 0x01, 0xff], INVALID),
-        (&TWO_TO_65, OVERFLOW),
-        (
-            &[
-                0x02, 0x09, 0x01, 0x00, 0x00, 0x00, 0x00, 0x00, 0x00, 0x00, 0x00,
-            ],
-            OVERFLOW,
-        ),
-        (
-            &[
-                0x02, 0x09, 0xff, 0x7f, 0x00, 0x00, 0x00, 0x00, 0x00, 0x00, 0x00,
-            ],
-            INVALID,
-        ),
-        (&[0x02, 0x02, 0x00, 0x01], INVALID),
-    ];
-    for (octets, kind) in faults {
-        assert_eq!(rt; read::<u64>(rt.alloc(), octets), Err(kind), "{octets:?}");
-    }
+fn unsigned_numbers_have_no_sign(rt: HostRuntime) -> Result<(), Fail> {
+    are_refused::<u64>(
+        rt.alloc(),
+        &[
+            (&[0x02, 0x01, 0xff], INVALID),
+            (&TWO_TO_65, OVERFLOW),
+            (
+                &[
+                    0x02, 0x09, 0x01, 0x00, 0x00, 0x00, 0x00, 0x00, 0x00, 0x00, 0x00,
+                ],
+                OVERFLOW,
+            ),
+            (
+                &[
+                    0x02, 0x09, 0xff, 0x7f, 0x00, 0x00, 0x00, 0x00, 0x00, 0x00, 0x00,
+                ],
+                INVALID,
+            ),
+            (&[0x02, 0x02, 0x00, 0x01], INVALID),
+        ],
+    )
 }
 
 /// Nor of a shorter one.
 #[test]
-fn short_unsigned_numbers_have_no_sign(rt: HostRuntime) {
-    let alloc = rt.alloc();
-    same(
-        &rt,
-        &read::<u32>(alloc, &[0x02, 0x05, 0x01, 0x00, 0x00, 0x00, 0x00]),
-        &Err(OVERFLOW),
-    );
-    same(
-        &rt,
-        &read::<u16>(alloc, &[0x02, 0x03, 0x01, 0x00, 0x00]),
-        &Err(OVERFLOW),
-    );
-    same(
-        &rt,
-        &read::<u8>(alloc, &[0x02, 0x02, 0x01, 0x00]),
-        &Err(OVERFLOW),
-    );
-    same(&rt, &read::<u8>(alloc, &[0x02, 0x01, 0x80]), &Err(INVALID));
-    same(
-        &rt,
-        &read::<u8>(alloc, &[0x02, 0x02, 0xff, 0x00]),
-        &Err(INVALID),
-    );
+fn short_unsigned_numbers_have_no_sign(rt: HostRuntime) -> Result<(), Fail> {
+    are_refused::<u32>(
+        rt.alloc(),
+        &[(&[0x02, 0x05, 0x01, 0x00, 0x00, 0x00, 0x00], OVERFLOW)],
+    )?;
+    are_refused::<u16>(rt.alloc(), &[(&[0x02, 0x03, 0x01, 0x00, 0x00], OVERFLOW)])?;
+    are_refused::<u8>(
+        rt.alloc(),
+        &[
+            (&[0x02, 0x02, 0x01, 0x00], OVERFLOW),
+            (&[0x02, 0x01, 0x80], INVALID),
+            (&[0x02, 0x02, 0xff, 0x00], INVALID),
+        ],
+    )
 }
 
 /// Both values have one text.
 fn compare_texts<S: Asn1Writable<Error = WriteError>, T: Asn1Writable<Error = WriteError>>(
-    rt: &impl Abort,
     alloc: Global,
     first: &S,
     second: &T,
@@ -337,12 +313,7 @@ fn compare_texts<S: Asn1Writable<Error = WriteError>, T: Asn1Writable<Error = Wr
     requires of_second { T.der.closures (T.der.meaning second.now) }
 {
     let octets = write_single(alloc, first)?;
-    same_octets(
-        rt,
-        write_single(alloc, second)?.as_slice(),
-        octets.as_slice(),
-    );
-    Ok(())
+    is_written(alloc, second, octets.as_slice())
 }
 
 /// A number that isn't 0 is written as the number.
@@ -351,22 +322,22 @@ fn signed_numbers_other_than_zero(rt: HostRuntime) -> Result<(), Fail> {
     let alloc = rt.alloc();
     for number in [1, -1, i8::MIN, i8::MAX] {
         let other = NonZeroI8::new(number).ok_or("zero")?;
-        compare_texts(&rt, alloc, &number, &other)?;
+        compare_texts(alloc, &number, &other)?;
     }
     for number in [1, -1, i16::MIN, i16::MAX] {
         let other = NonZeroI16::new(number).ok_or("zero")?;
-        compare_texts(&rt, alloc, &number, &other)?;
+        compare_texts(alloc, &number, &other)?;
     }
     for number in [1, -1, i32::MIN, i32::MAX] {
         let other = NonZeroI32::new(number).ok_or("zero")?;
-        compare_texts(&rt, alloc, &number, &other)?;
+        compare_texts(alloc, &number, &other)?;
     }
     for number in [1, -1, i64::MIN, i64::MAX] {
         let other = NonZeroI64::new(number).ok_or("zero")?;
-        compare_texts(&rt, alloc, &number, &other)?;
+        compare_texts(alloc, &number, &other)?;
     }
     let lowest = NonZeroI8::new(-128).ok_or("zero")?;
-    compare_written(&rt, alloc, &[(lowest, &[0x02, 0x01, 0x80])])
+    is_written(alloc, &lowest, &[0x02, 0x01, 0x80])
 }
 
 #[test]
@@ -374,19 +345,19 @@ fn unsigned_numbers_other_than_zero(rt: HostRuntime) -> Result<(), Fail> {
     let alloc = rt.alloc();
     for number in [1, u8::MAX] {
         let other = NonZeroU8::new(number).ok_or("zero")?;
-        compare_texts(&rt, alloc, &number, &other)?;
+        compare_texts(alloc, &number, &other)?;
     }
     for number in [1, u16::MAX] {
         let other = NonZeroU16::new(number).ok_or("zero")?;
-        compare_texts(&rt, alloc, &number, &other)?;
+        compare_texts(alloc, &number, &other)?;
     }
     for number in [1, u32::MAX] {
         let other = NonZeroU32::new(number).ok_or("zero")?;
-        compare_texts(&rt, alloc, &number, &other)?;
+        compare_texts(alloc, &number, &other)?;
     }
     for number in [1, u64::MAX] {
         let other = NonZeroU64::new(number).ok_or("zero")?;
-        compare_texts(&rt, alloc, &number, &other)?;
+        compare_texts(alloc, &number, &other)?;
     }
     Ok(())
 }
@@ -397,57 +368,52 @@ fn boxes_hold_values(rt: HostRuntime) -> Result<(), Fail> {
     let alloc = rt.alloc();
     let text: &[u8] = &[0x02, 0x01, 0x0c];
     let number = parse_single::<Box<u8>>(alloc, text)?;
-    same(&rt, &*number, &12);
-    same_octets(&rt, write_single(alloc, &number)?.as_slice(), text);
-    same(
-        &rt,
-        &read::<Box<u8>>(alloc, &[0x02, 0x01, 0x80]),
-        &Err(INVALID),
-    );
-    Ok(())
+    same(*number, 12)?;
+    is_written(alloc, &number, text)?;
+    are_refused::<Box<u8>>(alloc, &[(&[0x02, 0x01, 0x80], INVALID)])
 }
 
 #[test]
 fn other_boxes_hold_values(rt: HostRuntime) -> Result<(), Fail> {
     for number in [12, 0u8] {
         let boxed = Box::new(rt.alloc(), number)?;
-        same_octets(
-            &rt,
-            write_single(rt.alloc(), &boxed)?.as_slice(),
-            &[0x02, 0x01, number],
-        );
+        is_written(rt.alloc(), &boxed, &[0x02, 0x01, number])?;
     }
-    assert!(rt; *parse_single::<Box<bool>>(rt.alloc(), &[0x01, 0x01, 0xff])?);
-    Ok(())
+    same(
+        *parse_single::<Box<bool>>(rt.alloc(), &[0x01, 0x01, 0xff])?,
+        true,
+    )
 }
 
 #[test]
 fn values_behind_references_are_written(rt: HostRuntime) -> Result<(), Fail> {
-    same_octets(
-        &rt,
-        write_single(rt.alloc(), &&12i64)?.as_slice(),
-        &[0x02, 0x01, 0x0c],
-    );
-    Ok(())
+    is_written(rt.alloc(), &&12i64, &[0x02, 0x01, 0x0c])
 }
 
 /// The lengths are known before a value in a box, or behind a reference, is written.
 #[test]
 fn lengths_of_boxes_are_known(rt: HostRuntime) -> Result<(), Fail> {
     let boxed = Box::new(rt.alloc(), 128u8)?;
-    same(&rt, &boxed.data_length(), &Some(2));
-    same(&rt, &boxed.encoded_length(), &Some(4));
     let seen = &-129i64;
-    same(&rt, &(&seen).data_length(), &Some(2));
-    same(&rt, &(&seen).encoded_length(), &Some(4));
-    Ok(())
+    all_same(&[
+        (boxed.data_length(), Some(2)),
+        (boxed.encoded_length(), Some(4)),
+        ((&seen).data_length(), Some(2)),
+        ((&seen).encoded_length(), Some(4)),
+    ])
 }
 
 #[test]
-fn contents_are_tested(rt: HostRuntime) {
-    assert!(rt; is_integer_content(&[0x00]));
-    assert!(rt; is_integer_content(&[0x00, 0x80]));
-    assert!(rt; !is_integer_content(&[]));
-    assert!(rt; !is_integer_content(&[0x00, 0x7f]));
-    assert!(rt; !is_integer_content(&[0xff, 0x80]));
+fn contents_are_tested() -> Result<(), Fail> {
+    let contents: [(&[u8], bool); 5] = [
+        (&[0x00], true),
+        (&[0x00, 0x80], true),
+        (&[], false),
+        (&[0x00, 0x7f], false),
+        (&[0xff, 0x80], false),
+    ];
+    for (content, is_right) in contents {
+        same_at(content, is_integer_content(content), is_right)?;
+    }
+    Ok(())
 }

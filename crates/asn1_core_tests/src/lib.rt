@@ -14,8 +14,6 @@ mod reading;
 #[cfg(test)]
 mod refusals;
 #[cfg(test)]
-mod same;
-#[cfg(test)]
 mod sets;
 #[cfg(test)]
 mod slow;

@@ -1,54 +1,48 @@
-use crate::same::{same, same_octets, same_text};
 use asn1_core::parser::{
     ParseError, ParseErrorKind, ParseLocation, ParseResult, Parser, parse, parse_single,
 };
 use asn1_core::tag::Tag;
 use std::alloc::Global;
 use std::test::Fail;
-
-fn fault(alloc: Global, octets: &[u8]) -> Option<ParseErrorKind> {
-    match parse_single::<bool>(alloc, octets) {
-        Ok(_) => None,
-        Err(error) => Some(error.kind()),
-    }
-}
+use testing::{all_same, are_refused, different, is_shown, same};
 
 #[test]
 fn truth_values(rt: HostRuntime) -> Result<(), Fail> {
-    assert!(rt; parse_single::<bool>(rt.alloc(), &[0x01, 0x01, 0xff])?);
-    assert!(rt; !parse_single::<bool>(rt.alloc(), &[0x01, 0x01, 0x00])?);
-    let faults: [(&[u8], ParseErrorKind); 10] = [
-        (&[0x01, 0x00], ParseErrorKind::InvalidValue),
-        (&[0x01, 0x01, 0x01], ParseErrorKind::InvalidValue),
-        (&[0x01, 0x02, 0x00, 0x00], ParseErrorKind::InvalidValue),
-        (&[0x01, 0x02, 0xff, 0x01], ParseErrorKind::InvalidValue),
-        (&[0x01, 0x01, 0xff, 0x00], ParseErrorKind::ExtraData),
-        (&[0x01, 0x81, 0x01, 0xff], ParseErrorKind::InvalidLength),
-        (&[0x01, 0x80], ParseErrorKind::InvalidLength),
-        (&[0x1f, 0x1e, 0x00], ParseErrorKind::InvalidTag),
-        (&[0x02, 0x01], ParseErrorKind::ShortData { needed: 1 }),
-        (&[], ParseErrorKind::ShortData { needed: 1 }),
-    ];
-    for (octets, kind) in faults {
-        assert_eq!(rt; fault(rt.alloc(), octets), Some(kind), "{octets:?}");
-    }
-    let actual = Tag::primitive(2);
+    same(parse_single::<bool>(rt.alloc(), &[0x01, 0x01, 0xff])?, true)?;
     same(
-        &rt,
-        &fault(rt.alloc(), &[0x02, 0x01, 0x05]),
-        &Some(ParseErrorKind::UnexpectedTag { actual }),
-    );
-    Ok(())
+        parse_single::<bool>(rt.alloc(), &[0x01, 0x01, 0x00])?,
+        false,
+    )?;
+    let actual = Tag::primitive(2);
+    are_refused::<bool>(
+        rt.alloc(),
+        &[
+            (&[0x01, 0x00], ParseErrorKind::InvalidValue),
+            (&[0x01, 0x01, 0x01], ParseErrorKind::InvalidValue),
+            (&[0x01, 0x02, 0x00, 0x00], ParseErrorKind::InvalidValue),
+            (&[0x01, 0x02, 0xff, 0x01], ParseErrorKind::InvalidValue),
+            (&[0x01, 0x01, 0xff, 0x00], ParseErrorKind::ExtraData),
+            (&[0x01, 0x81, 0x01, 0xff], ParseErrorKind::InvalidLength),
+            (&[0x01, 0x80], ParseErrorKind::InvalidLength),
+            (&[0x1f, 0x1e, 0x00], ParseErrorKind::InvalidTag),
+            (&[0x02, 0x01], ParseErrorKind::ShortData { needed: 1 }),
+            (&[], ParseErrorKind::ShortData { needed: 1 }),
+            (
+                &[0x02, 0x01, 0x05],
+                ParseErrorKind::UnexpectedTag { actual },
+            ),
+        ],
+    )
 }
 
 #[test]
-fn what_is_left_is_extra(rt: HostRuntime) {
+fn what_is_left_is_extra(rt: HostRuntime) -> Result<(), Fail> {
     let read = parse(
         rt.alloc(),
         &[0x00],
         |_parser: &mut Parser<'_>| -> ParseResult<()> { Ok(()) },
     );
-    same(&rt, &read, &Err(ParseError::new(ParseErrorKind::ExtraData)));
+    same(&read, &Err(ParseError::new(ParseErrorKind::ExtraData)))
 }
 
 /// An error of a caller's own.
@@ -77,23 +71,23 @@ fn even_number(alloc: Global, octets: &[u8]) -> Result<u64, Own> {
 }
 
 #[test]
-fn errors_of_a_caller(rt: HostRuntime) {
-    same(&rt, &even_number(rt.alloc(), &[0x02, 0x01, 0x08]), &Ok(8));
-    same(
-        &rt,
-        &even_number(rt.alloc(), &[0x02, 0x01, 0x07]),
-        &Err(Own::Odd(7)),
-    );
+fn errors_of_a_caller(rt: HostRuntime) -> Result<(), Fail> {
     let short = ParseError::new(ParseErrorKind::ShortData { needed: 1 });
-    same(
-        &rt,
-        &even_number(rt.alloc(), &[0x02, 0x01]),
-        &Err(Own::Read(short)),
-    );
+    all_same(&[
+        (even_number(rt.alloc(), &[0x02, 0x01, 0x08]), Ok(8)),
+        (
+            even_number(rt.alloc(), &[0x02, 0x01, 0x07]),
+            Err(Own::Odd(7)),
+        ),
+        (
+            even_number(rt.alloc(), &[0x02, 0x01]),
+            Err(Own::Read(short)),
+        ),
+    ])
 }
 
 #[test]
-fn the_next_tag_is_seen_and_then_read(rt: HostRuntime) {
+fn the_next_tag_is_seen_and_then_read(rt: HostRuntime) -> Result<(), Fail> {
     let read = parse(
         rt.alloc(),
         &[0x02, 0x01, 0x7f],
@@ -103,7 +97,7 @@ fn the_next_tag_is_seen_and_then_read(rt: HostRuntime) {
             Ok((tag, number))
         },
     );
-    same(&rt, &read, &Ok((Some(Tag::primitive(2)), 127)));
+    same(&read, &Ok((Some(Tag::primitive(2)), 127)))
 }
 
 /// Reads a Boolean behind an element that is refused as one.
@@ -119,17 +113,15 @@ fn second_boolean(alloc: Global, octets: &[u8]) -> ParseResult<bool> {
 }
 
 #[test]
-fn a_closure_ignores_a_refusal(rt: HostRuntime) {
+fn a_closure_ignores_a_refusal(rt: HostRuntime) -> Result<(), Fail> {
     same(
-        &rt,
         &second_boolean(rt.alloc(), &[0x02, 0x01, 0x05, 0x01, 0x01, 0xff]),
         &Ok(true),
-    );
+    )?;
     same(
-        &rt,
         &second_boolean(rt.alloc(), &[0x01, 0x01, 0x05, 0x01, 0x01, 0xff, 0x00]),
         &Err(ParseError::new(ParseErrorKind::ExtraData)),
-    );
+    )
 }
 
 #[test]
@@ -138,14 +130,12 @@ fn a_refusal_that_is_ignored(rt: HostRuntime) -> Result<(), Fail> {
     let mut parser = Parser::new(rt.alloc(), &octets);
     let actual = Tag::primitive(2);
     same(
-        &rt,
         &parser.read_element::<bool>(),
         &Err(ParseError::new(ParseErrorKind::UnexpectedTag { actual })),
-    );
-    same_octets(&rt, parser.rest(), &octets[3..]);
-    assert!(rt; parser.read_element::<bool>()?);
-    assert!(rt; parser.is_empty());
-    Ok(())
+    )?;
+    same(parser.rest(), &octets[3..])?;
+    same(parser.read_element::<bool>()?, true)?;
+    same(parser.is_empty(), true)
 }
 
 #[test]
@@ -166,8 +156,7 @@ fn places_of_an_error(rt: HostRuntime) -> Result<(), Fail> {
         ),
     ];
     for (error, text) in texts {
-        let shown = format!(in rt.alloc(); "{error:?}")?;
-        same_text(&rt, shown.as_str(), text);
+        is_shown(rt.alloc(), &error, text)?;
     }
     Ok(())
 }
@@ -185,19 +174,17 @@ fn deep(count: usize, other: usize) -> ParseError {
 #[test]
 fn innermost_places_are_kept(rt: HostRuntime) -> Result<(), Fail> {
     let nine = deep(9, 0);
-    let shown = format!(in rt.alloc(); "{nine:?}")?;
     let text = "ParseError { kind: ExtraData, location: [8, 7, 6, 5, 4, 3, 2, 1] }";
-    same_text(&rt, shown.as_str(), text);
-    same(&rt, &deep(8, 0), &nine);
-    same(&rt, &deep(9, 9), &nine);
-    same(&rt, &nine.kind(), &ParseErrorKind::ExtraData);
-    Ok(())
+    is_shown(rt.alloc(), &nine, text)?;
+    same(&deep(8, 0), &nine)?;
+    same(&deep(9, 9), &nine)?;
+    same(nine.kind(), ParseErrorKind::ExtraData)
 }
 
 #[test]
-fn kept_places_are_compared(rt: HostRuntime) {
+fn kept_places_are_compared() -> Result<(), Fail> {
     for other in 1..9 {
-        assert_ne!(rt; deep(9, other), deep(9, 0), "{other}");
+        different(&deep(9, other), &deep(9, 0))?;
     }
     let pairs: [((usize, usize), (usize, usize)); 3] = [
         ((5, 0), (5, 5)),
@@ -205,10 +192,7 @@ fn kept_places_are_compared(rt: HostRuntime) {
         ((3, 0), (4, 0)),
     ];
     for ((count, other), (second_count, second_other)) in pairs {
-        assert_ne!(rt;
-            deep(count, other),
-            deep(second_count, second_other),
-            "{count}"
-        );
+        different(&deep(count, other), &deep(second_count, second_other))?;
     }
+    Ok(())
 }

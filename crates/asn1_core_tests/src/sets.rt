@@ -6,7 +6,6 @@ ghost use Rattle.asn1_core.specs.Der.{simple_der};
 ghost use Rattle.asn1_core.specs.Written.{written};
 ghost use Rattle.asn1_core_tests.specs.declared.sets.Custom.TheVariants.{Memory, Refused};
 
-use crate::same::{same, same_octets};
 use asn1_core::parser::strip_tlv;
 use asn1_core::tag::Tag;
 use asn1_core::types::{Asn1Type, Asn1Writable, SimpleAsn1Writable};
@@ -14,22 +13,8 @@ use asn1_core::writer::{
     SetElementWriter, SetOfWriter, SetWriter, WriteBuf, WriteError, WriteResult, write_single,
 };
 use std::alloc::Global;
-use std::process::Abort;
 use std::test::Fail;
-
-/// The value is written as these octets.
-fn is_written<A: Abort, T: Asn1Writable<Error = WriteError>>(
-    rt: &A,
-    alloc: Global,
-    value: &T,
-    octets: &[u8],
-) -> Result<(), Fail>
-    requires { T.der.closures (T.der.meaning value.now) }
-{
-    let written = write_single(alloc, value)?;
-    same_octets(rt, written.as_slice(), octets);
-    Ok(())
-}
+use testing::{is_written, same};
 
 #[test]
 fn sets_of_a_slice(rt: HostRuntime) -> Result<(), Fail> {
@@ -42,17 +27,15 @@ fn sets_of_a_slice(rt: HostRuntime) -> Result<(), Fail> {
         (&[5, 5], &[0x31, 6, 2, 1, 5, 2, 1, 5]),
     ];
     for (items, octets) in cases {
-        is_written(&rt, alloc, &SetOfWriter::new(items), octets)?;
+        is_written(alloc, &SetOfWriter::new(items), octets)?;
     }
     let longer = [256u16, 1, 255, 1];
     is_written(
-        &rt,
         alloc,
         &SetOfWriter::new(&longer),
         &[0x31, 0x0e, 2, 1, 1, 2, 1, 1, 2, 2, 0, 0xff, 2, 2, 1, 0],
     )?;
-    same(&rt, &SetOfWriter::new(&longer).data_length(), &Some(14));
-    Ok(())
+    same(SetOfWriter::new(&longer).data_length(), Some(14))
 }
 
 #[test]
@@ -61,7 +44,6 @@ fn sets_of_sets(rt: HostRuntime) -> Result<(), Fail> {
     let one = [1u8];
     let sets = [SetOfWriter::new(&two), SetOfWriter::new(&one)];
     is_written(
-        &rt,
         rt.alloc(),
         &SetOfWriter::new(&sets),
         &[0x31, 0x0d, 0x31, 3, 2, 1, 1, 0x31, 6, 2, 1, 1, 2, 1, 2],
@@ -82,10 +64,9 @@ fn sets_of_a_slice_are_copied(rt: HostRuntime) -> Result<(), Fail> {
 fn sets_of_a_closure(rt: HostRuntime) -> Result<(), Fail> {
     let alloc = rt.alloc();
     let null = |set: &mut SetElementWriter<'_>| -> WriteResult<()> { set.write_element(&()) };
-    is_written(&rt, alloc, &SetWriter::new(&null), &[0x31, 2, 5, 0])?;
+    is_written(alloc, &SetWriter::new(&null), &[0x31, 2, 5, 0])?;
     let truth = |set: &mut SetElementWriter<'_>| -> WriteResult<()> { set.write_element(&true) };
-    is_written(&rt, alloc, &SetWriter::new(&truth), &[0x31, 3, 1, 1, 0xff])?;
-    Ok(())
+    is_written(alloc, &SetWriter::new(&truth), &[0x31, 3, 1, 1, 0xff])
 }
 
 #[test]
@@ -109,21 +90,21 @@ fn elements_of_a_set_in_order(rt: HostRuntime) -> Result<(), Fail> {
         set.write_element(&Some(1i64))
     };
     let both: &[u8] = &[0x31, 6, 1, 1, 0xff, 2, 1, 1];
-    is_written(&rt, alloc, &SetWriter::new(&some), both)?;
+    is_written(alloc, &SetWriter::new(&some), both)?;
     let number = |set: &mut SetElementWriter<'_>| -> WriteResult<()>
         ensures { set.new.front ≡ set.old.front }
     {
         set.write_element(&true)?;
         set.write_element(&1i64)
     };
-    is_written(&rt, alloc, &SetWriter::new(&number), both)?;
+    is_written(alloc, &SetWriter::new(&number), both)?;
     let none = |set: &mut SetElementWriter<'_>| -> WriteResult<()>
         ensures { set.new.front ≡ set.old.front }
     {
         set.write_element(&true)?;
         set.write_element(&Option::<i64>::None)
     };
-    is_written(&rt, alloc, &SetWriter::new(&none), &[0x31, 3, 1, 1, 0xff])
+    is_written(alloc, &SetWriter::new(&none), &[0x31, 3, 1, 1, 0xff])
 }
 
 #[test]
@@ -139,7 +120,6 @@ fn elements_of_a_set_out_of_order(rt: HostRuntime) -> Result<(), Fail> {
         }
     };
     is_written(
-        &rt,
         alloc,
         &SetWriter::new(&goes_on),
         &[0x31, 6, 2, 1, 1, 2, 1, 2],
@@ -166,7 +146,6 @@ fn equal_tags_in_any_order(rt: HostRuntime) -> Result<(), Fail> {
         set.write_element(&5u8)
     };
     is_written(
-        &rt,
         rt.alloc(),
         &SetWriter::new(&numbers),
         &[0x31, 6, 2, 1, 7, 2, 1, 5],
@@ -262,7 +241,7 @@ fn sets_by_two_ways(rt: HostRuntime) -> Result<(), Fail> {
             let items = &items[..n];
             let octets = write_single(rt.alloc(), &SetOfWriter::new(items))?;
             let slow = slow_set(rt.alloc(), items)?;
-            same_octets(&rt, octets.as_slice(), slow.as_slice());
+            same(octets.as_slice(), slow.as_slice())?;
         }
     }
     Ok(())

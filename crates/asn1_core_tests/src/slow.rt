@@ -2,7 +2,8 @@
 
 use asn1_core::parser::{ParseErrorKind, strip_tlv};
 use asn1_core::tag::TagClass;
-use std::process::Abort;
+use std::test::Fail;
+use testing::same_at;
 
 /// The class's two bits, whether it is constructed, the number, and how many octets the content and the rest have.
 type Seen = Result<(u8, bool, u128, usize, usize), ParseErrorKind>;
@@ -106,51 +107,50 @@ fn real_element(text: &[u8]) -> Seen {
     }
 }
 
-fn compare(rt: &impl Abort, text: &[u8]) {
-    assert_eq!(rt; real_element(text), slow_element(text), "{text:?}");
+fn compare(text: &[u8]) -> Result<(), Fail> {
+    same_at(text, real_element(text), slow_element(text))
 }
 
 #[test]
-fn all_texts_of_up_to_three_octets(rt: HostRuntime) {
-    compare(&rt, &[]);
+fn all_texts_of_up_to_three_octets() -> Result<(), Fail> {
+    compare(&[])?;
     for first in 0..=255 {
-        compare(&rt, &[first]);
+        compare(&[first])?;
         for second in 0..=255 {
-            compare(&rt, &[first, second]);
+            compare(&[first, second])?;
             for third in 0..=255 {
-                compare(&rt, &[first, second, third]);
+                compare(&[first, second, third])?;
             }
         }
     }
+    Ok(())
 }
 
 /// Compares on the text with each octet replaced by each other, and on each front of these.
-fn compare_damaged<const N: usize>(rt: &impl Abort, text: [u8; N]) {
+fn compare_damaged<const N: usize>(text: [u8; N]) -> Result<(), Fail> {
     for place in 0..N {
         for octet in 0..=255 {
             let mut damaged = text;
             damaged[place] = octet;
             for end in 0..N {
-                compare(rt, &damaged[..end + 1]);
+                compare(&damaged[..end + 1])?;
             }
         }
     }
+    Ok(())
 }
 
 #[test]
-fn damaged_texts(rt: HostRuntime) {
-    compare_damaged(&rt, [0x04, 0x03, 0x61, 0x62, 0x63, 0x00]);
-    compare_damaged(
-        &rt,
-        [
-            0x30, 0x09, 0x02, 0x01, 0x01, 0x02, 0x01, 0x02, 0x02, 0x01, 0x03,
-        ],
-    );
-    compare_damaged(&rt, [0x1f, 0x81, 0x80, 0x01, 0x00]);
-    compare_damaged(&rt, [0x1f, 0x8f, 0xff, 0xff, 0xff, 0x7f, 0x01, 0x05]);
-    compare_damaged(&rt, [0x04, 0x84, 0x00, 0xff, 0xff, 0xff]);
-    compare_damaged(&rt, [0x04, 0x83, 0x01, 0x00, 0x00, 0x07]);
+fn damaged_texts() -> Result<(), Fail> {
+    compare_damaged([0x04, 0x03, 0x61, 0x62, 0x63, 0x00])?;
+    compare_damaged([
+        0x30, 0x09, 0x02, 0x01, 0x01, 0x02, 0x01, 0x02, 0x02, 0x01, 0x03,
+    ])?;
+    compare_damaged([0x1f, 0x81, 0x80, 0x01, 0x00])?;
+    compare_damaged([0x1f, 0x8f, 0xff, 0xff, 0xff, 0x7f, 0x01, 0x05])?;
+    compare_damaged([0x04, 0x84, 0x00, 0xff, 0xff, 0xff])?;
+    compare_damaged([0x04, 0x83, 0x01, 0x00, 0x00, 0x07])?;
     let mut long = [0xff; 21];
     long[0] = 0x1f;
-    compare_damaged(&rt, long);
+    compare_damaged(long)
 }

@@ -1,12 +1,11 @@
 //! A plain, slow reader and writer of integers, written from the definitions alone, beside the real ones.
 
-use crate::same::same_octets;
 use asn1_core::parser::{ParseErrorKind, parse_single};
 use asn1_core::types::{Asn1Readable, Asn1Writable};
-use asn1_core::writer::{WriteError, write_single};
+use asn1_core::writer::WriteError;
 use std::alloc::Global;
-use std::process::Abort;
 use std::test::Fail;
+use testing::{is_written, same, same_at};
 
 /// The number of up to 15 contents octets in two's complement (X.690 8.3.3).
 fn slow_number(content: &[u8]) -> i128 {
@@ -54,7 +53,6 @@ fn slow_content(octets: &[u8; 16], number: i128) -> &[u8] {
 
 /// Both ways on a text of up to 15 contents octets, where the numbers of the type go from `min` to `max`.
 fn compare<'a, T: Asn1Readable<'a> + Asn1Writable<Error = WriteError> + Copy + Into<i128>>(
-    rt: &impl Abort,
     alloc: Global,
     text: &'a [u8],
     min: i128,
@@ -67,17 +65,16 @@ fn compare<'a, T: Asn1Readable<'a> + Asn1Writable<Error = WriteError> + Copy + I
     match parse_single::<T>(alloc, text) {
         Ok(value) => {
             let number: i128 = value.into();
-            assert_eq!(rt; Ok(number), slow, "{text:?}");
-            same_octets(rt, slow_content(&number.to_be_bytes(), number), content);
-            same_octets(rt, write_single(alloc, &value)?.as_slice(), text);
+            same_at(text, Ok(number), slow)?;
+            same(slow_content(&number.to_be_bytes(), number), content)?;
+            is_written(alloc, &value, text)
         }
-        Err(error) => assert_eq!(rt; Err(error.kind()), slow, "{text:?}"),
+        Err(error) => same_at(text, Err(error.kind()), slow),
     }
-    Ok(())
 }
 
 /// Both ways on these contents octets, as each of the types.
-fn compare_each(rt: &impl Abort, alloc: Global, content: &[u8]) -> Result<(), Fail> {
+fn compare_each(alloc: Global, content: &[u8]) -> Result<(), Fail> {
     let mut octets = [2u8; 17];
     let n = content.len() % 16;
     octets[1] = n as u8;
@@ -85,29 +82,23 @@ fn compare_each(rt: &impl Abort, alloc: Global, content: &[u8]) -> Result<(), Fa
         octets[2 + place] = *octet;
     }
     let text = &octets[..n + 2];
-    compare::<i8>(rt, alloc, text, -0x80, 0x7f)?;
-    compare::<i16>(rt, alloc, text, -0x8000, 0x7fff)?;
-    compare::<i32>(rt, alloc, text, -0x8000_0000, 0x7fff_ffff)?;
-    compare::<i64>(
-        rt,
-        alloc,
-        text,
-        -0x8000_0000_0000_0000,
-        0x7fff_ffff_ffff_ffff,
-    )?;
-    compare::<u8>(rt, alloc, text, 0, 0xff)?;
-    compare::<u16>(rt, alloc, text, 0, 0xffff)?;
-    compare::<u32>(rt, alloc, text, 0, 0xffff_ffff)?;
-    compare::<u64>(rt, alloc, text, 0, 0xffff_ffff_ffff_ffff)
+    compare::<i8>(alloc, text, -0x80, 0x7f)?;
+    compare::<i16>(alloc, text, -0x8000, 0x7fff)?;
+    compare::<i32>(alloc, text, -0x8000_0000, 0x7fff_ffff)?;
+    compare::<i64>(alloc, text, -0x8000_0000_0000_0000, 0x7fff_ffff_ffff_ffff)?;
+    compare::<u8>(alloc, text, 0, 0xff)?;
+    compare::<u16>(alloc, text, 0, 0xffff)?;
+    compare::<u32>(alloc, text, 0, 0xffff_ffff)?;
+    compare::<u64>(alloc, text, 0, 0xffff_ffff_ffff_ffff)
 }
 
 #[test]
 fn all_integers_of_up_to_two_octets(rt: HostRuntime) -> Result<(), Fail> {
-    compare_each(&rt, rt.alloc(), &[])?;
+    compare_each(rt.alloc(), &[])?;
     for first in 0..=255 {
-        compare_each(&rt, rt.alloc(), &[first])?;
+        compare_each(rt.alloc(), &[first])?;
         for second in 0..=255 {
-            compare_each(&rt, rt.alloc(), &[first, second])?;
+            compare_each(rt.alloc(), &[first, second])?;
         }
     }
     Ok(())
@@ -123,7 +114,7 @@ fn longer_integers(rt: HostRuntime) -> Result<(), Fail> {
                 content[0] = first;
                 content[1] = second;
                 for end in 3..12usize {
-                    compare_each(&rt, rt.alloc(), &content[..end])?;
+                    compare_each(rt.alloc(), &content[..end])?;
                 }
             }
         }

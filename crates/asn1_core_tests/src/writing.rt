@@ -1,28 +1,21 @@
 ghost use Rattle.std.specs.Prelude.{◌≡◌, ◌++◌, OnOk, OnErr};
 ghost use Rattle.asn1_core.specs.Buffer.{KeepsFront};
 
-use crate::same::{same, same_octets};
 use asn1_core::tag::Tag;
-use asn1_core::writer::{WriteBuf, WriteError, WriteResult, Writer, write, write_single};
+use asn1_core::writer::{WriteBuf, WriteError, WriteResult, Writer, write};
 use std::alloc::{AllocError, Global};
 use std::test::Fail;
+use testing::{different, is_written, same, same_at};
 
 #[test]
 fn truth_values_are_written(rt: HostRuntime) -> Result<(), Fail> {
-    let octets = write_single(rt.alloc(), &true)?;
-    same_octets(&rt, octets.as_slice(), &[0x01, 0x01, 0xff]);
-    let octets = write_single(rt.alloc(), &false)?;
-    same_octets(&rt, octets.as_slice(), &[0x01, 0x01, 0x00]);
+    is_written(rt.alloc(), &true, &[0x01, 0x01, 0xff])?;
+    is_written(rt.alloc(), &false, &[0x01, 0x01, 0x00])?;
     let octets = write(rt.alloc(), |writer: &mut Writer<'_>| {
         writer.write_element(&true)?;
         writer.write_element(&false)
     })?;
-    same_octets(
-        &rt,
-        octets.as_slice(),
-        &[0x01, 0x01, 0xff, 0x01, 0x01, 0x00],
-    );
-    Ok(())
+    same(octets.as_slice(), &[0x01, 0x01, 0xff, 0x01, 0x01, 0x00])
 }
 
 #[test]
@@ -31,8 +24,7 @@ fn null_is_written(rt: HostRuntime) -> Result<(), Fail> {
         rt.alloc(),
         |writer: &mut Writer<'_>| writer.write_element(&()),
     )?;
-    same_octets(&rt, octets.as_slice(), &[0x05, 0x00]);
-    Ok(())
+    same(octets.as_slice(), &[0x05, 0x00])
 }
 
 /// Pushes octets: one, and then the others.
@@ -94,10 +86,10 @@ fn headers_announced_and_patched(rt: HostRuntime) -> Result<(), Fail> {
         let content = counted_octets(rt.alloc(), n)?;
         let announced = announced_element(rt.alloc(), Tag::primitive(4), content.as_slice())?;
         let patched = patched_element(rt.alloc(), Tag::primitive(4), content.as_slice())?;
-        same(&rt, &announced.len(), &(header.len() + n));
-        assert!(rt; announced.as_slice().starts_with(header), "{n}");
-        assert!(rt; announced.as_slice().ends_with(content.as_slice()), "{n}");
-        assert_eq!(rt; announced.as_slice(), patched.as_slice(), "{n}");
+        same(announced.len(), header.len() + n)?;
+        same_at(n, announced.as_slice().starts_with(header), true)?;
+        same_at(n, announced.as_slice().ends_with(content.as_slice()), true)?;
+        same_at(n, announced.as_slice() == patched.as_slice(), true)?;
     }
     Ok(())
 }
@@ -106,28 +98,21 @@ fn headers_announced_and_patched(rt: HostRuntime) -> Result<(), Fail> {
 #[test]
 fn a_length_is_put_between(rt: HostRuntime) -> Result<(), Fail> {
     let octets = patched_element(rt.alloc(), Tag::primitive(1), &[3, 4])?;
-    same_octets(&rt, octets.as_slice(), &[1, 2, 3, 4]);
+    same(octets.as_slice(), &[1, 2, 3, 4])?;
     let mut content = [5; 129];
     content[0] = 3;
     content[128] = 4;
     let octets = patched_element(rt.alloc(), Tag::primitive(1), &content)?;
     assert_eq!(rt; octets.len(), 132);
-    same_octets(&rt, &octets.as_slice()[..5], &[1, 0x81, 0x81, 3, 5]);
-    same_octets(&rt, &octets.as_slice()[130..], &[5, 4]);
-    Ok(())
+    same(&octets.as_slice()[..5], &[1, 0x81, 0x81, 3, 5])?;
+    same(&octets.as_slice()[130..], &[5, 4])
 }
 
 #[test]
-fn errors_of_writes_compare(rt: HostRuntime) {
-    same(
-        &rt,
-        &WriteError::AllocationError,
-        &WriteError::AllocationError,
-    );
-    same(
-        &rt,
-        &WriteError::InvalidSetOrdering,
-        &WriteError::InvalidSetOrdering,
-    );
-    assert_ne!(rt; WriteError::AllocationError, WriteError::InvalidSetOrdering);
+fn errors_of_writes_compare() -> Result<(), Fail> {
+    let memory = WriteError::AllocationError;
+    let order = WriteError::InvalidSetOrdering;
+    same(&memory, &WriteError::AllocationError)?;
+    same(&order, &WriteError::InvalidSetOrdering)?;
+    different(&memory, &order)
 }

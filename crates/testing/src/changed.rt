@@ -1,0 +1,122 @@
+//! Encodings that are cut, and encodings in which one octet is another.
+
+use crate::{error_of, is_written_back};
+use asn1_core::parser::{ParseError, ParseErrorKind, parse_single};
+use asn1_core::types::{Asn1Readable, Asn1Writable};
+use asn1_core::writer::WriteError;
+use std::alloc::Global;
+use std::test::Fail;
+
+/// An encoding, and it again and again with each of its octets replaced by each of the 256 values.
+#[derive(Drop)]
+pub struct Text {
+    pub whole: Vec<u8>,
+    pub changed: Vec<u8>,
+}
+
+fn changes_of(alloc: Global, text: &[u8]) -> Result<Vec<u8>, Fail> {
+    let mut changed = Vec::new(alloc);
+    for place in 0..text.len() {
+        for octet in 0..=255 {
+            changed.extend_from_slice(&text[..place])?;
+            changed.push(octet)?;
+            changed.extend_from_slice(&text[place + 1..])?;
+        }
+    }
+    Ok(changed)
+}
+
+/// These encodings and their changes. They stand in a list of their own, since what is read borrows from them.
+pub fn texts_of(alloc: Global, wholes: &[&[u8]]) -> Result<Vec<Text>, Fail> {
+    let mut texts = Vec::new(alloc);
+    for text in wholes {
+        let whole = Vec::from_slice(alloc, text)?;
+        let changed = changes_of(alloc, text)?;
+        texts.push(Text { whole, changed })?;
+    }
+    Ok(texts)
+}
+
+/// The prefix of that many octets is too short, and by so much.
+fn is_short<'a, T: Asn1Readable<'a>>(
+    alloc: Global,
+    text: &'a [u8],
+    end: usize,
+    needed: usize,
+) -> Result<(), Fail> {
+    let short = Some(ParseError::new(ParseErrorKind::ShortData { needed }));
+    let found = error_of(parse_single::<T>(alloc, text.get(..end).unwrap_or(text)));
+    if found == short {
+        return Ok(());
+    }
+    Err(Fail::new(format_args!("{end} of {text:?}: {found:?}")))
+}
+
+/// Each proper prefix from this length on is too short: one that ends in the header lacks so many octets, and any other
+/// the rest of the encoding.
+fn are_prefixes_short<'a, T: Asn1Readable<'a>>(
+    alloc: Global,
+    header: &[usize],
+    text: &'a [u8],
+    first: usize,
+) -> Result<(), Fail> {
+    for end in first..text.len() {
+        let needed = header.get(end).copied().unwrap_or(text.len() - end);
+        is_short::<T>(alloc, text, end, needed)?;
+    }
+    Ok(())
+}
+
+/// Each changed encoding is refused, or written again as it is.
+fn are_refused_or_written<'a, T: Asn1Readable<'a> + Asn1Writable<Error = WriteError>>(
+    alloc: Global,
+    text: &'a Text,
+) -> Result<(), Fail>
+    requires { T.der.plain }
+{
+    for other in text.changed.chunks(text.whole.len().max(1)) {
+        if parse_single::<T>(alloc, other).is_ok() {
+            is_written_back::<T>(alloc, other)?;
+        }
+    }
+    Ok(())
+}
+
+/// How many octets an encoding with a header of two lacks, where it is cut before the first and before the second.
+pub const TWO_OCTETS: &[usize] = &[1, 1];
+
+/// Each encoding is written again as it is, each of its proper prefixes is too short, and each of the changed ones is
+/// refused or written again. A prefix that ends in the header lacks so many octets, and any other the rest.
+pub fn check<'a, T: Asn1Readable<'a> + Asn1Writable<Error = WriteError>>(
+    alloc: Global,
+    header: &[usize],
+    texts: &'a [Text],
+) -> Result<(), Fail>
+    requires { T.der.plain }
+{
+    for text in texts {
+        let whole = text.whole.as_slice();
+        is_written_back::<T>(alloc, whole)?;
+        are_prefixes_short::<T>(alloc, header, whole, 0)?;
+        are_refused_or_written::<T>(alloc, text)?;
+    }
+    Ok(())
+}
+
+/// The same of a type that has an empty encoding, which is then no prefix that is too short.
+pub fn check_optional<'a, T: Asn1Readable<'a> + Asn1Writable<Error = WriteError>>(
+    alloc: Global,
+    header: &[usize],
+    texts: &'a [Text],
+) -> Result<(), Fail>
+    requires { T.der.plain }
+{
+    is_written_back::<T>(alloc, &[])?;
+    for text in texts {
+        let whole = text.whole.as_slice();
+        is_written_back::<T>(alloc, whole)?;
+        are_prefixes_short::<T>(alloc, header, whole, 1)?;
+        are_refused_or_written::<T>(alloc, text)?;
+    }
+    Ok(())
+}

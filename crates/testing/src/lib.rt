@@ -1,0 +1,180 @@
+//! What the crates of tests share: comparisons, and walks over tables of values and their encodings.
+//!
+//! A library ends no process, so each answers a result: a failure that shows what is wrong. A test hands it on by `?`.
+#![tactic(auto)]
+
+pub mod changed;
+
+use asn1_core::parser::{ParseError, ParseErrorKind, ParseResult, parse_single};
+use asn1_core::types::{Asn1Readable, Asn1Writable};
+use asn1_core::writer::{WriteError, write_single};
+use std::alloc::Global;
+use std::fmt::Debug;
+use std::hash::{DefaultHasher, Hash, Hasher};
+use std::test::Fail;
+
+/// Both values are equal, or the failure shows both.
+pub fn same<T: PartialEq + Debug + Copy>(left: T, right: T) -> Result<(), Fail> {
+    if left == right {
+        return Ok(());
+    }
+    Err(Fail::new(format_args!("{left:?} isn't {right:?}")))
+}
+
+/// Both values are equal, or the failure shows both, and the row of a table that they come from.
+pub fn same_at<R: Debug + Copy, T: PartialEq + Debug + Copy>(
+    row: R,
+    left: T,
+    right: T,
+) -> Result<(), Fail> {
+    if left == right {
+        return Ok(());
+    }
+    Err(Fail::new(format_args!("at {row:?}: {left:?} isn't {right:?}")))
+}
+
+/// The values of each row are equal, or the failure shows both of the first row where they aren't, and its index.
+pub fn all_same<T: PartialEq + Debug>(rows: &[(T, T)]) -> Result<(), Fail> {
+    for (index, (left, right)) in rows.iter().enumerate() {
+        if *left != *right {
+            return Err(Fail::new(format_args!("row {index}: {left:?} isn't {right:?}")));
+        }
+    }
+    Ok(())
+}
+
+/// The values differ, or the failure shows both.
+pub fn different<T: PartialEq + Debug + Copy>(left: T, right: T) -> Result<(), Fail> {
+    if left != right {
+        return Ok(());
+    }
+    Err(Fail::new(format_args!("{left:?} is {right:?}")))
+}
+
+/// The error of a refusal.
+pub fn error_of<T: Drop>(answer: ParseResult<T>) -> Option<ParseError> {
+    match answer {
+        Ok(_value) => None,
+        Err(error) => Some(error),
+    }
+}
+
+/// The kind of a refusal.
+pub fn kind_of<T: Drop>(answer: ParseResult<T>) -> Option<ParseErrorKind> {
+    match answer {
+        Ok(_value) => None,
+        Err(error) => Some(error.kind()),
+    }
+}
+
+/// The kind of the refusal, where the octets are no one value of the type.
+pub fn refused<'a, T: Asn1Readable<'a>>(alloc: Global, octets: &'a [u8]) -> Option<ParseErrorKind> {
+    kind_of(parse_single::<T>(alloc, octets))
+}
+
+/// The octets of each row are refused as the type, by the row's kind.
+pub fn are_refused<'a, T: Asn1Readable<'a>>(
+    alloc: Global,
+    rows: &[(&'a [u8], ParseErrorKind)],
+) -> Result<(), Fail> {
+    for (octets, kind) in rows {
+        let found = refused::<T>(alloc, octets);
+        if found != Some(*kind) {
+            return Err(Fail::new(format_args!("{octets:?}: {found:?} isn't {kind:?}")));
+        }
+    }
+    Ok(())
+}
+
+/// The octets of each row are refused as the type, by the row's error, with its places.
+pub fn are_refused_with<'a, T: Asn1Readable<'a>>(
+    alloc: Global,
+    rows: &[(&'a [u8], ParseError)],
+) -> Result<(), Fail> {
+    for (octets, error) in rows {
+        let found = error_of(parse_single::<T>(alloc, octets));
+        if found.as_ref() != Some(error) {
+            return Err(Fail::new(format_args!("{octets:?}: {found:?} isn't {error:?}")));
+        }
+    }
+    Ok(())
+}
+
+/// The octets of each row are refused as the type, since their contents are none of a value.
+pub fn are_invalid<'a, T: Asn1Readable<'a>>(alloc: Global, rows: &[&'a [u8]]) -> Result<(), Fail> {
+    for octets in rows {
+        let found = refused::<T>(alloc, octets);
+        if found != Some(ParseErrorKind::InvalidValue) {
+            return Err(Fail::new(format_args!("{octets:?}: {found:?}")));
+        }
+    }
+    Ok(())
+}
+
+/// The value is written as these octets.
+pub fn is_written<T: Asn1Writable<Error = WriteError>>(
+    alloc: Global,
+    value: &T,
+    octets: &[u8],
+) -> Result<(), Fail>
+    requires { T.der.closures (T.der.meaning value.now) }
+{
+    same(write_single(alloc, value)?.as_slice(), octets)
+}
+
+/// The octets are read as the type, and written again as they were.
+pub fn is_written_back<'a, T: Asn1Readable<'a> + Asn1Writable<Error = WriteError>>(
+    alloc: Global,
+    octets: &'a [u8],
+) -> Result<(), Fail>
+    requires { T.der.plain }
+{
+    let value = parse_single::<T>(alloc, octets)?;
+    same(write_single(alloc, &value)?.as_slice(), octets)
+}
+
+/// The same of each row.
+pub fn are_written_back<'a, T: Asn1Readable<'a> + Asn1Writable<Error = WriteError>>(
+    alloc: Global,
+    rows: &[&'a [u8]],
+) -> Result<(), Fail>
+    requires { T.der.plain }
+{
+    for octets in rows {
+        is_written_back::<T>(alloc, octets)?;
+    }
+    Ok(())
+}
+
+/// The value is written as these octets, with their length, and read back.
+pub fn both_ways<'a, T: Asn1Readable<'a> + Asn1Writable<Error = WriteError> + PartialEq>(
+    alloc: Global,
+    value: T,
+    octets: &'a [u8],
+) -> Result<(), Fail>
+    requires { T.der.closures (T.der.meaning value) }
+{
+    is_written(alloc, &value, octets)?;
+    same(value.encoded_length(), Some(octets.len()))?;
+    if parse_single::<T>(alloc, octets)? == value {
+        return Ok(());
+    }
+    Err(Fail::new(format_args!("{octets:?} is read as another value")))
+}
+
+/// `Debug` shows the value so, in one line.
+pub fn is_shown<T: Debug>(alloc: Global, value: &T, text: &str) -> Result<(), Fail> {
+    same(format!(in alloc; "{value:?}")?.as_str(), text)
+}
+
+/// `Debug` shows the value so, laid out in lines.
+pub fn is_laid_out<T: Debug>(alloc: Global, value: &T, text: &str) -> Result<(), Fail> {
+    same(format!(in alloc; "{value:#?}")?.as_str(), text)
+}
+
+/// What a hasher answers for a value.
+pub fn hash_of<T: Hash>(value: &T) -> u64 {
+    let mut hasher = DefaultHasher::new();
+    value.hash(&mut hasher);
+    hasher.finish()
+}
