@@ -149,6 +149,8 @@ fn my_sequences(rt: HostRuntime) -> Result<(), Fail> {
     assert_eq!(rt; unknown, at("MySequence::content", kind));
     let boolean = refused::<MySequence>(alloc, &[0x30, 3, 1, 1, 0xff]);
     assert_eq!(rt; boolean, at("MySequence::content_type", other_tag(1)));
+    let rest = refused::<MySequence>(alloc, &[0x30, 9, 6, 2, 0x2a, 3, 2, 1, 7, 5, 0]);
+    assert_eq!(rt; rest, of(ParseErrorKind::ExtraData));
     Ok(())
 }
 
