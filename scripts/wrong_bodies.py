@@ -24,7 +24,7 @@ from pathlib import Path
 
 TOP = Path(__file__).resolve().parent.parent
 LIST = re.compile(r"\{(\w+(?:,\w+)+)\}")
-Wrong = namedtuple("Wrong", "function name changes clause tests must reason is_first", defaults=[None, True])
+Wrong = namedtuple("Wrong", "function name changes clause tests must reason is_whole", defaults=[None, True])
 Change = namedtuple("Change", "file start end text")
 
 
@@ -97,14 +97,14 @@ def wrong_bodies_in(file, crate):
     lines = (line for line in file.read_text().splitlines() if not line.startswith("#"))
     for block in re.split(r"\n\n+", "\n".join(lines).strip()):
         try:
-            for place, text in enumerate(each_of(block)):
+            for text in each_of(block):
                 said = [line.partition(": ")[::2] for line in text.splitlines()]
                 values = {"clause": None, "test": "", "must": "be refused", "no test": None, **dict(said)}
                 function, name, tests = values["function"], values.get("body", file.name), values["test"].split()
                 if function.split("::")[0] != crate.name:
                     raise ValueError("a function of another crate")
                 others = (values[key] for key in ("must", "no test"))
-                yield Wrong(function, name, changes_of(crate, said), values["clause"], tests, *others, place == 0)
+                yield Wrong(function, name, changes_of(crate, said), values["clause"], tests, *others, "body" in values)
         except (StopIteration, KeyError, ValueError) as error:
             raise ValueError(f"{file.relative_to(TOP)}: {block.splitlines()[0]}: {error!r}") from error
 
