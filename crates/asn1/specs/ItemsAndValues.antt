@@ -99,14 +99,6 @@ module _ {T M N : Type 0} (view : T → M) (view2 : T → N) (f : M → N) (is :
   answers_seen (Err e) (inl h) = inl (same ∙ ap (seen_front f) h)
   answers_seen (Err e) (inr h) = inr (h.0, law e.places h.1)
 
-pub appends_seen : {E : Type 0} (r : Result (Unit {0}) E) (texts texts2 : List ℕ → Type 0) → ((t : List ℕ) → texts t → texts2 t) → (a b : List ℕ) → OnOk r (Appends texts a b) → OnOk r (Appends texts2 a b)
-appends_seen (Ok u) texts texts2 law a b h = record { text = h.text; is_one = law h.text h.is_one; joined = h.joined }
-appends_seen (Err e) texts texts2 law a b h = tt
-
-pub knows_seen : (texts texts2 : List ℕ → Type 0) → ((t : List ℕ) → texts2 t → texts t) → (n : Option ℕ) → KnowsLength texts n → KnowsLength texts2 n
-knows_seen texts texts2 law (Some n) h = λ t is. h t (law t is)
-knows_seen texts texts2 law None h = tt
-
 -- ---- under an explicit tag
 
 module _ {M N : Type 0} (f : M → N) (read : List ℕ → Result (M × List ℕ) Fault) (read2 : List ℕ → Result (N × List ℕ) Fault) (same : (t : List ℕ) → read2 t ≡ seen_front f (read t)) where

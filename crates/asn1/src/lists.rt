@@ -4,7 +4,6 @@
 ghost use Rattle.std.specs.Prelude.{◌≡◌};
 ghost use Rattle.asn1_core.specs.declared.parser.Place.TheVariants.{Index};
 ghost use Rattle.asn1_core.specs.Fault.{within};
-ghost use Rattle.asn1_core.specs.Text.{IsText};
 
 mod sequence;
 mod sequence_of;
@@ -16,13 +15,6 @@ pub use sequence::Sequence;
 pub use sequence_of::SequenceOf;
 pub use sets::{Set, SetOf};
 pub use writers::{SequenceOfWriter, SequenceWriter};
-
-/// States that a slice holds octets. The body looks at the slice, whose type says so.
-pub(crate) fn are_octets(octets: &[u8])
-    ensures { IsText octets.now }
-{
-    let _count = octets.len();
-}
 
 /// The error with the location of the item at an index. It stands apart from the readers, since few reads come here.
 #[cold]

@@ -1,5 +1,6 @@
 -- Options: a value of the type, or nothing.
 use Rattle.std.specs.Prelude.{ℕ, ◌≡◌, List, [], cond, Result, Ok, Bool, true, Option, Some, None}
+use Rattle.std.specs.Option.{option_map, option_map_or, IfSome, IsSomeAnd}
 use Rattle.asn1_core.specs.declared.tag.Tag.{Tag}
 use Rattle.asn1_core.specs.declared.parser.Place.{Place}
 use Rattle.asn1_core.specs.Element.{◌>>=◌}
@@ -8,18 +9,15 @@ use Rattle.asn1_core.specs.Reading.{stands}
 
 -- What the values mean.
 abbrev pub option_meaning : {V M : Type 0} → (V → M) → Option V → Option M
-option_meaning meaning None = None
-option_meaning meaning (Some v) = Some (meaning v)
+option_meaning meaning o = option_map meaning o
 
 -- What is asked of the value that is there.
 abbrev pub IfThere : {M : Type 0} → (M → Type 0) → Option M → Type 0
-IfThere good None = Unit {0}
-IfThere good (Some m) = good m
+IfThere good o = IfSome o good
 
 -- The text of the value that is there, or nothing.
 abbrev pub option_text : {M : Type 0} → (M → List ℕ) → Option M → List ℕ
-option_text text None = []
-option_text text (Some m) = text m
+option_text text o = option_map_or text o []
 
 abbrev pub option_texts : {M : Type 0} → (M → List ℕ → Type 0) → Option M → List ℕ → Type 0
 option_texts texts None t = t ≡ []
@@ -35,5 +33,4 @@ option_out accepts out t places = (stands accepts t ≡ true) × out t places
 
 -- The errors of the value that is there.
 abbrev pub OptionErrors : {T E : Type 0} → (T → E → Type 0) → Option T → E → Type 0
-OptionErrors named None e = ⊥
-OptionErrors named (Some v) e = named v e
+OptionErrors named o e = IsSomeAnd o (λ v. named v e)

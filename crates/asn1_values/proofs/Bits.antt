@@ -161,10 +161,6 @@ counts_some c rest b h y ys e =
     ] in
     counted b y ys (subst IsText e h.text) way
 
-pub none_counted : (c rest : List ℕ) (b : Bool) → IsMagnitude c rest b → rest ≡ [] → bool_byte b ≡ bit_count (signed_number c)
-none_counted c rest true h e = ap (λ (n : ℕ). length (digits_of 2 n)) (sym (h.value ∙ ap (magnitude true) e))
-none_counted c rest false h e = ap (λ (n : ℕ). length (digits_of 2 n)) (sym (h.value ∙ ap (magnitude false) e))
-
 pub some_counted : (c rest : List ℕ) (b : Bool) → IsMagnitude c rest b → (y : ℕ) (ys : List ℕ) → rest ≡ y ∷ ys → (high j : ℕ) → high ≡ magnitude b (y ∷ ys) / 256 ^ length ys →
     2 ^ j ≤ high → high < 2 * 2 ^ j → 8 * length ys + j + 1 ≡ bit_count (signed_number c)
 some_counted c rest b h y ys e high j is low above =

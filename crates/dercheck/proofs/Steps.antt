@@ -148,10 +148,6 @@ pub stands_some : (p : Pending) (text : List ℕ) → Stands p text → ¬ (p.co
 stands_some p text (inl h) some = omega (arith, ap length h.kept, length-take p.count p.octets, p.size, p.few)
 stands_some p text (inr h) some = omega (arith, ap length h.begun.text, length-append (tag_text h.tag) (length_text p.content_length ++ h.content), some_tag h.tag)
 
-pub stands_none : (p : Pending) (text : List ℕ) → Stands p text → p.count ≡ 0 → text ≡ []
-stands_none p text (inl h) none = nil_from_length text (omega (arith, ap length h.kept, length-take p.count p.octets))
-stands_none p text (inr h) none = absurd (omega (arith, ap length h.kept, length-take p.count p.octets, some_tag h.tag))
-
 -- ---- the whole stream
 
 pub framed_none : (p : Pending) (left held : Option (List ℕ)) → Stands p [] → FramedTo p left left held held

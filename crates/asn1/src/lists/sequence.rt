@@ -8,7 +8,6 @@ ghost use Rattle.asn1_core.specs.Items.{sequence_tag};
 ghost use Rattle.asn1_core.specs.Writing.{KnowsLength};
 ghost use Rattle.asn1.specs.Sequences.{sequence_octets, sequence_content};
 
-use crate::lists::are_octets;
 use asn1_core::{
     Asn1Type, ParseError, ParseResult, Parser, SimpleAsn1Readable, SimpleAsn1Writable, Tag,
     WriteBuf, WriteError, WriteResult, parse,
@@ -45,7 +44,7 @@ impl<'a> Asn1Type for Sequence<'a> {
     ghost der = { simple_der sequence_octets sequence_content };
 
     fn known(&self) {
-        are_octets(self.data)
+        self.data.known()
     }
 }
 

@@ -17,7 +17,7 @@ ghost use Rattle.asn1_core.specs.Writing.{KnowsLength, Refuses};
 ghost use Rattle.asn1.specs.Lists.{AreItems, left, item, counted, item_out, items_out, sequence_read, NextItem};
 ghost use Rattle.asn1.specs.ListTypes.{items_inside};
 
-use crate::lists::{are_octets, at_item};
+use crate::lists::at_item;
 use asn1_core::{
     Asn1Readable, Asn1Type, Asn1Writable, ParseError, ParseErrorKind, ParseResult, Parser,
     SimpleAsn1Readable, SimpleAsn1Writable, Tag, Tlv, WriteBuf, WriteError, Writer,
@@ -121,7 +121,7 @@ impl<'a, T: Asn1Type, const MINIMUM_LEN: usize, const MAXIMUM_LEN: usize> Asn1Ty
     ghost der = { simple_der (λ s. left T.der.read s.content.now) (items_inside MINIMUM_LEN MAXIMUM_LEN T.der) };
 
     fn known(&self) {
-        are_octets(self.content);
+        self.content.known();
     }
 }
 
@@ -213,7 +213,7 @@ fn read_first<'a, T: Asn1Readable<'a>>(parser: &mut Parser<'a>, count: usize) ->
     ensures counted { 0 < count }
 {
     let items = parser.rest();
-    are_octets(items);
+    items.known();
     match parser.read_element::<T>() {
         Ok(value) => Ok(value),
         Err(error) => {

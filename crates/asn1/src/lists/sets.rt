@@ -22,7 +22,7 @@ ghost use Rattle.asn1.specs.Lists.{NextItem};
 ghost use Rattle.asn1.specs.Sets.{AreOrdered, set_left, set_item, checked, set_item_out, set_out, first_out, set_read, set_octets, element_behind};
 ghost use Rattle.asn1.specs.SetTypes.{set_inside, set_content};
 
-use crate::lists::{are_octets, at_item};
+use crate::lists::at_item;
 use asn1_core::{
     Asn1Readable, Asn1Type, Asn1Writable, ParseError, ParseErrorKind, ParseResult, Parser,
     SimpleAsn1Readable, SimpleAsn1Writable, Tag, Tlv, WriteBuf, WriteError, WriteResult, Writer,
@@ -158,7 +158,7 @@ impl<'a> Asn1Type for Set<'a> {
     ghost der = { simple_der octets_of_set set_content };
 
     fn known(&self) {
-        are_octets(self.data);
+        self.data.known();
     }
 }
 
@@ -270,7 +270,7 @@ impl<'a, T: Asn1Type> Asn1Type for SetOf<'a, T> {
     ghost der = { simple_der (λ s. set_left text_less T.der.read s.content.now) (set_inside T.der) };
 
     fn known(&self) {
-        are_octets(self.content);
+        self.content.known();
     }
 }
 
@@ -307,7 +307,7 @@ fn read_first<'a, T: Asn1Readable<'a>>(parser: &mut Parser<'a>) -> ParseResult<T
     ensures after { AreOrdered text_less T.der.read parser.new }
     ensures shorter { length parser.new < length parser.old }
 {
-    are_octets(parser.rest());
+    parser.rest().known();
     let Ok(tlv) = parser.read_element::<Tlv<'a>>() else {
         unreachable!()
     };

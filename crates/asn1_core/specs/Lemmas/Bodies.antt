@@ -45,10 +45,6 @@ pub announced_is : (old b1 b2 b3 t : List ℕ) (tag : Tag) (n : ℕ) → b1 ≡ 
 unfolding element_text
 announced_is old b1 b2 b3 t tag n e1 e2 e3 l = grind (arith, common_steps)
 
--- `&xs[n..]` pushed
-pub pushed_rest : (b1 b2 xs t : List ℕ) (n : ℕ) → b2 ≡ b1 ++ take (length xs - n) (drop n xs) → drop n xs ≡ t → b2 ≡ b1 ++ t
-pushed_rest b1 b2 xs t n e f = grind (arith, common_steps)
-
 pub on_err_any : {T E P : Type 0} (r : Result T E) → P → OnErr r P
 on_err_any (Ok x) p = tt
 on_err_any (Err e) p = p
@@ -127,12 +123,6 @@ element_length texts {tag} {tag'} n same known P (Some m) h = λ t e. ap length 
 pub one_length : (P : Type 0) (tag : Tag) (content : List ℕ) (r : Option ℕ) → SomeIff r P (full_count tag (length content)) → P → r ≡ Some (length (element_text (element tag content)))
 one_length P tag content None h p = absurd (h p)
 one_length P tag content (Some m) h p = let e : m ≡ length (element_text (element tag content)) = h.1 ∙ sym (length-element tag content) in rw e refl
-
-pub appends_exact : {E : Type 0} (r : Result (Unit {0}) E) (t old new : List ℕ) → OnOk r (Appends (λ u. u ≡ t) old new) → OnOk r (new ≡ old ++ t)
-appends_exact r t old new h = on_ok_weaker r (λ a. a.joined ∙ ap (λ u. old ++ u) a.is_one) h
-
-pub keeps_front_same : {a b : List ℕ} → b ≡ a → KeepsFront a b
-keeps_front_same {a} {b} e = keeps_front_by [] (e ∙ grind (arith, common_steps))
 
 -- from what a body says of Ok and of Err
 pub front_of : {E : Type 0} (r : Result (Unit {0}) E) (t old new : List ℕ) → OnOk r (new ≡ old ++ t) → OnErr r (KeepsFront old new) → KeepsFront old new

@@ -22,15 +22,3 @@ module _ {F E : Type 0} (calls : Once F (MutBor Writer × Unit {0}) (Result (Uni
   pub closure_error : (gives : WriteError → E → Type 0) (p q : MutBor Writer) (r : Result (Unit {0}) E) → calls.post f (p, tt) (r, (q, tt)) → IfErr r (Refuses gives (MayAnswer calls f))
   closure_error gives p q (Ok u) h = tt
   closure_error gives p q (Err e) h = inr (record { old = p.now.buf.now.bytes; new = q.now.buf.now.bytes; called = record { shown = p; shows = refl; left = q; met = h; leaves = refl } })
-
-  -- where each call at Ok appends that text, the closure may write no other
-  pub may_write_is : (t : List ℕ) → ((p q : MutBor Writer) → calls.post f (p, tt) (Ok tt, (q, tt)) → q.now.buf.now.bytes ≡ p.now.buf.now.bytes ++ t) → (c : List ℕ) → MayWrite calls f c → c ≡ t
-  may_write_is t h c m =
-      let w = m.called in
-      append_cancel_left m.front c t (sym w.leaves ∙ (h w.shown w.left w.met ∙ ap (λ xs. xs ++ t) w.shows))
-
-  pub element_is : (tag : Tag) (t : List ℕ) → ((p q : MutBor Writer) → calls.post f (p, tt) (Ok tt, (q, tt)) → q.now.buf.now.bytes ≡ p.now.buf.now.bytes ++ t) → (all : List ℕ) → IsElementOf tag (MayWrite calls f) all → all ≡ element_text (element tag t)
-  element_is tag t h all e = e.is ∙ ap (λ c. element_text (element tag c)) (may_write_is t h e.content e.is_content)
-
-  pub written_is : (t : List ℕ) → ((p q : MutBor Writer) → calls.post f (p, tt) (Ok tt, (q, tt)) → q.now.buf.now.bytes ≡ p.now.buf.now.bytes ++ t) → (all : List ℕ) → WriterCall calls f [] (Ok tt) all → all ≡ t
-  written_is t h all w = sym w.leaves ∙ (h w.shown w.left w.met ∙ ap (λ xs. xs ++ t) w.shows)

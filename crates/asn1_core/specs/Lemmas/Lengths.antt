@@ -35,9 +35,6 @@ next_number n x i below few octet =
 pub next_below : (n x i : ℕ) → n < 256 ^ i → x < 256 → n * 256 + x < 256 ^ (i + 1)
 next_below n x i below octet = rw (pow_more 256 i) (omega arith)
 
-pub next_small : (i : ℕ) → i ≤ 8 → 256 ^ i ≤ 2 ^ 64
-next_small i few = pow-le-pow_right {n = 256} (lit< tt) {i = i} {j = 8} few
-
 -- the parts of a first octet, put together
 pub octet_of : (class_bits bit low : ℕ) → class_bits < 4 → (bit ≡ 32) ⊎ (bit ≡ 0) → low < 32 → bit_or (bit_or (class_bits * 64 % 256) bit) low ≡ class_bits * 64 + bit + low
 octet_of a bit low k (inl e) small =
@@ -302,6 +299,3 @@ write_end n i octets l small some in_octets place whole =
 pub appended : {T E : Type 0} (r : Result T E) (new old xs ys : List ℕ) → new ≡ cond (is_ok r) (old ++ xs) old → xs ≡ ys → OnOk r (new ≡ old ++ ys)
 appended (Ok x) new old xs ys e same = e ∙ ap (λ (s : List ℕ). old ++ s) same
 appended (Err x) new old xs ys e same = tt
-
-pub rest_of_nine : (octets : List ℕ) (i : ℕ) → length octets ≡ 9 → take (9 - i) (drop i octets) ≡ drop i octets
-rest_of_nine octets i e = take_all (9 - i) (drop i octets) (omega (arith, length-drop i octets))

@@ -241,9 +241,6 @@ front_big_step t x rest o l b big =
 pub exit_big : (t : List ℕ) (x : ℕ) (rest : List ℕ) → IsOpen t → length t < 19 → x < 256 → 2 ^ 121 ≤ digits_number t → number_front (t ++ x ∷ rest) ≡ Err InvalidValue
 exit_big t x rest o l b big = front_big_step t x rest o l b big
 
-pub exit_zero : (rest : List ℕ) → number_front (128 ∷ rest) ≡ Err InvalidValue
-exit_zero rest = front_zero (128 ∷ rest) refl
-
 pub exit_done : (t : List ℕ) (x : ℕ) (rest : List ℕ) → IsOpen t → ¬ BeginsWithZero t → x < 128 → digits_number t < 2 ^ 121 → number_front (t ++ x ∷ rest) ≡ Ok (digits_number t * 128 + x, rest)
 exit_done t x rest o z b small =
     let e : t ++ x ∷ rest ≡ (t ++ x ∷ []) ++ rest = sym (append_assoc t (x ∷ []) rest) in

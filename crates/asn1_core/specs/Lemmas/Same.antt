@@ -17,10 +17,6 @@ use Rattle.asn1_core.specs.Lemmas.Tags.{and_parts, tag_eq-is, tag_eq-refl, bool_
 both_true : (a b : Bool) → a ≡ true → b ≡ true → (a && b) ≡ true
 both_true a b e f = rw (e, f) refl
 
--- through a constructor that gives its argument back
-by_arg : {A B : Type 0} (make : A → B) (take : B → A) → ((a : A) → take (make a) ≡ a) → (a b : A) (r : Bool) → Decides r (a ≡ b) → Decides r (make a ≡ make b)
-by_arg make take back a b r d = (λ t. ap make (d.0 t), λ e. d.1 (sym (back a) ∙ (ap take e ∙ back b)))
-
 tag_of_kind : Tag → ParseErrorKind → Tag
 tag_of_kind t (UnexpectedTag u) = u
 tag_of_kind t _ = t
@@ -69,9 +65,3 @@ fault_eq-decides e f =
       λ t. let p = and_parts (kind_eq e.kind f.kind) (pointwise place_eq e.places f.places) t in fault_same e f (kinds.0 p.0) (places.0 p.1),
       λ same. both_true _ _ (kinds.1 (ap (λ (x : Fault). x.kind) same)) (places.1 (ap (λ (x : Fault). x.places) same)),
     )
-
--- a test of equal kinds is that of the definitions
-pub kind_eq-decided : (a b : ParseErrorKind) (r : Bool) → (r ≡ true → a ≡ b) → (a ≡ b → r ≡ true) → r ≡ kind_eq a b
-kind_eq-decided a b r same so =
-    let d = kind_eq-decides a b in
-    bool_same r (kind_eq a b) (λ e. d.1 (same e)) (λ e. so (d.0 e))

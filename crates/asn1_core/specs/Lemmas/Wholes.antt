@@ -63,12 +63,6 @@ fits_inside text (inr a) small =
     let same : length text ≡ length (element_text a.element) = ap length a.is in
     inr (a.element, record { tag = a.readable; content = omega (arith, content_less a.element) }, a.is)
 
--- where no memory is taken, none runs out at any place
-pub never_out : {V M : Type 0} (view : V → M) (out : List Place → Type 0) (result : Result V Fault) (read : Result M Fault) → Answers view (λ places. ⊥) result read → Answers view out result read
-never_out view out (Ok v) read h = h
-never_out view out (Err e) read (inl h) = inl h
-never_out view out (Err e) read (inr h) = absurd h.1
-
 whole_refusal : {M : Type 0} (out : List Place → Type 0) (read : Result (M × List ℕ) Fault) (e : Fault) → IsRefusal out read e → IsRefusal out (whole read) e
 whole_refusal out read e (inl is) = inl (rw is refl)
 whole_refusal out read e (inr is) = inr is
