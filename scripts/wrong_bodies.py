@@ -1,4 +1,5 @@
-"""The wrong bodies in crates/NAME/wrong-bodies/*.edit: reading them, and putting them into a copy of a crate.
+"""The wrong bodies in crates/NAME/must-fail and crates/NAME/wrong-bodies: reading them, and putting them into a copy of
+a crate. `rt must-fail` tries those of must-fail by itself, and reads their lines file, old and new alone.
 
 A file holds one wrong body or several, parted by empty lines; a line that begins with # is a comment. Each is a few
 lines 'key: value':
@@ -14,8 +15,8 @@ test: CRATE::PATH   the test that fails with it, or
 no test: REASON     why none can
 must: WORDS         in a folder canaries alone: what has to come out in place of a refusal
 
-A list such as {i8,i16} stands for each of its words in turn. A block with old and new texts has the form of the
-kit's must-fail edits.
+A list such as {i8,i16} stands for each of its words in turn. In must-fail a file holds one body, with old and new texts
+and no list.
 """
 
 import re
@@ -112,7 +113,7 @@ def wrong_bodies_in(file, crate):
 def wrong_bodies(name, *folders):
     """All wrong bodies in folders of a crate."""
     crate = TOP / "crates" / name
-    files = [file for folder in folders or ["wrong-bodies"] for file in sorted(crate.glob(f"{folder}/*.edit"))]
+    files = [file for folder in folders for file in sorted(crate.glob(f"{folder}/*.edit"))]
     return [body for file in files for body in wrong_bodies_in(file, crate)]
 
 
