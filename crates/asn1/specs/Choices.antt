@@ -10,7 +10,7 @@ use Rattle.asn1_core.specs.Der.{Der, no_content}
 use Rattle.asn1_core.specs.Lemmas.Elements.{element_some}
 use Rattle.asn1_core.specs.Lemmas.Options.{element_in}
 use Rattle.asn1.specs.Alternatives.{Disjoint, either, either_text, only_read, or_read, only_out, or_out, choice_read, choice_out}
-use Rattle.asn1.specs.ChoiceLaws.{only_takes, only_again, only_faults, or_takes, or_again, or_faults, or_shape, or_accepted, or_one, or_both, or_pair, or_weaker, or_all, or_memory, choice_takes, choice_again, choice_faults}
+use Rattle.asn1.specs.Lemmas.Choices.{only_takes, only_again, only_faults, or_takes, or_again, or_faults, or_shape, or_accepted, or_one, or_both, or_pair, or_weaker, or_all, or_memory, choice_takes, choice_again, choice_faults}
 use Rattle.std.proofs.Common.{inl, inr, sym, ◌∙◌}
 
 -- One or more alternatives, whose values mean an M: what an element is read as, and the laws.

@@ -1,22 +1,28 @@
 -- That the equality of a type tells its values by their texts: what is said once for each kind of type.
 use Rattle.std.proofs.Common.{◌≡◌, ℕ, ℤ, pos, Bool, true, false, List, ◌∷◌, ◌++◌, length, drop, refl, sym, ap, ◌∙◌, inl, inr, arith}
-use Rattle.std.specs.Prelude.{nat_eq}
+use Rattle.std.specs.Prelude.{nat_eq, ◌&&◌}
 use Rattle.std.specs.Ordering.{int_eq}
+use Rattle.std.specs.Bool.{Decides}
+use Rattle.std.specs.Str.{bytes_eq}
 use Rattle.std.proofs.lemmas.Bool.{cases_lt}
-use Rattle.std.proofs.lemmas.Bool.Decides.{Decides-int_eq, Decides-eqb}
+use Rattle.std.proofs.lemmas.Bool.Decides.{Decides-int_eq, Decides-eqb, Decides-and, Decides-like}
 use Rattle.std.proofs.lemmas.List.{append_cancel_left}
+use Rattle.std.proofs.lemmas.Slice.Eq.{bytes_eq-Decides}
 use Rattle.std.proofs.Math.Seq.{drop-append_seam}
 use Rattle.std.specs.Int.Digits.{digits_of}
 use Rattle.asn1_core.specs.declared.tag.Tag.{Tag}
 use Rattle.asn1_core.specs.Text.{signed_number}
-use Rattle.asn1_core.specs.Tag.{tag_text}
+use Rattle.asn1_core.specs.Tag.{tag_text, universal}
 use Rattle.asn1_core.specs.Length.{length_text}
 use Rattle.asn1_core.specs.Element.{element, element_text}
 use Rattle.asn1_core.specs.Integer.{integer_content}
-use Rattle.asn1_core.specs.Reading.{bool_content_text}
+use Rattle.asn1_core.specs.Boolean.{bool_content_text}
 use Rattle.asn1_core.specs.Lemmas.Lengths.{length_text_low, length_text_high}
 use Rattle.asn1_core.specs.Lemmas.Integers.{content_value}
-use Rattle.asn1.specs.Defaulted.{EqualityTells}
+use Rattle.asn1_values.specs.Big.{IsSignedForm}
+use Rattle.asn1_values.specs.Bits.{Bits, bits, bits_text}
+use Rattle.asn1_values.specs.Lemmas.Big.{content_of_signed, signed_form}
+use Rattle.asn1.specs.Defaulted.{EqualityTells, ContentTells}
 
 -- ---- elements with the same tag and the same text have the same content
 
@@ -90,6 +96,48 @@ integers_tell tag a b = simple_tells (λ z. z) tag integer_content int_eq a b (D
 pub naturals_tell : (tag : Tag) (a b : ℕ) → EqualityTells (λ n. pos n) (number_text tag) nat_eq a b
 naturals_tell tag a b = simple_tells (λ n. pos n) tag integer_content nat_eq a b (λ e. ap (λ (n : ℕ). pos n) ((Decides-eqb a b).0 e)) (λ e. (Decides-eqb a b).1 (natural_of a b (numbers_alone (pos a) (pos b) e)))
 
+-- octets that are the content themselves
+pub octets_tell : {V : Type 0} (view : V → List ℕ) (tag : Tag) (same : V → V → Bool) (a b : V) → Decides (same a b) (view a ≡ view b) → EqualityTells view (λ m. element_text (element tag m)) same a b
+octets_tell view tag same a b decides = simple_tells view tag (λ m. m) same a b decides.0 decides.1
+
+-- ---- the same of contents alone
+
+pub bools_content_tells : (same : Bool → Bool → Bool) → same true true ≡ true → same false false ≡ true → (a b : Bool) → ContentTells (λ x. x) bool_content_text same a b
+bools_content_tells same both none a b e = bools_equal same both none a b (bools_alone a b e)
+
+pub integers_content_tells : (a b : ℤ) → ContentTells (λ z. z) integer_content int_eq a b
+integers_content_tells a b e = (Decides-int_eq a b).1 (numbers_alone a b e)
+
+pub naturals_content_tells : (a b : ℕ) → ContentTells (λ n. pos n) integer_content nat_eq a b
+naturals_content_tells a b e = (Decides-eqb a b).1 (natural_of a b (numbers_alone (pos a) (pos b) e))
+
+-- ---- integers of any length, by their octets
+
+module _ {V : Type 0} (octets : V → List ℕ) (same : V → V → Bool) (a b : V) (f : IsSignedForm (octets a)) (g : IsSignedForm (octets b)) (decides : Decides (same a b) (octets a ≡ octets b)) where
+  pub big_content_tells : ContentTells (λ v. signed_number (octets v)) integer_content same a b
+  big_content_tells e = decides.1 (content_of_signed (octets a) (signed_form (octets a) f) ∙ (e ∙ sym (content_of_signed (octets b) (signed_form (octets b) g))))
+
+  pub big_tells : EqualityTells (λ v. signed_number (octets v)) (λ z. element_text (element (universal 2) (integer_content z))) same a b
+  big_tells = simple_tells (λ v. signed_number (octets v)) (universal 2) integer_content same a b (λ e. ap signed_number (decides.0 e)) big_content_tells
+
+-- ---- bit strings, by octets and padding
+
+pub bits_decide : (x y : List ℕ) (p q : ℕ) → Decides (bytes_eq x y && nat_eq p q) (bits x p ≡ bits y q)
+bits_decide x y p q =
+    Decides-like (bytes_eq x y && nat_eq p q) (λ h. ap (λ (o : List ℕ). bits o p) h.0 ∙ ap (λ (n : ℕ). bits y n) h.1) (λ e. (ap (λ (s : Bits). s.octets) e, ap (λ (s : Bits). s.padding) e))
+    (Decides-and (bytes_eq x y) (nat_eq p q) (bytes_eq-Decides x y) (Decides-eqb p q))
+
+module _ {V : Type 0} (octets : V → List ℕ) (padding : V → ℕ) (same : V → V → Bool) (a b : V) (decides : Decides (same a b) (bits (octets a) (padding a) ≡ bits (octets b) (padding b))) where
+  pub bits_content_tells : ContentTells (λ v. bits (octets v) (padding v)) bits_text same a b
+  bits_content_tells e =
+      let h = heads (padding a) (padding b) (octets a) (octets b) e in
+      decides.1 (ap (λ (o : List ℕ). bits o (padding a)) h.1 ∙ ap (λ (n : ℕ). bits (octets b) n) h.0)
+
+  pub bits_tell : EqualityTells (λ v. bits (octets v) (padding v)) (λ s. element_text (element (universal 3) (bits_text s))) same a b
+  bits_tell = simple_tells (λ v. bits (octets v) (padding v)) (universal 3) bits_text same a b decides.0 bits_content_tells
+
+-- ---- wrappers
+
 -- values that are seen through something, as the inner value of a wrapper
 pub seen_tells : {V W M : Type 0} (view : W → V) (meaning : V → M) (text : M → List ℕ) (same : V → V → Bool) (a b : W) → EqualityTells meaning text same (view a) (view b) → EqualityTells (λ w. meaning (view w)) text (λ x y. same (view x) (view y)) a b
 seen_tells view meaning text same a b tells = record { means = tells.means; equal = tells.equal }
@@ -97,3 +145,7 @@ seen_tells view meaning text same a b tells = record { means = tells.means; equa
 -- the same, in an element of its own
 pub inside_tells : {V W M : Type 0} (view : W → V) (meaning : V → M) (tag : Tag) (text : M → List ℕ) (same : V → V → Bool) (a b : W) → EqualityTells meaning text same (view a) (view b) → EqualityTells (λ w. meaning (view w)) (λ m. element_text (element tag (text m))) (λ x y. same (view x) (view y)) a b
 inside_tells view meaning tag text same a b tells = record { means = tells.means; equal = λ e. tells.equal (content_alone tag (text (meaning (view a))) (text (meaning (view b))) e) }
+
+-- the same content under another tag
+pub retagged_tells : {V W M : Type 0} (view : W → V) (meaning : V → M) (tag : Tag) (inner text : M → List ℕ) (same : V → V → Bool) (a b : W) → EqualityTells meaning inner same (view a) (view b) → ContentTells meaning text same (view a) (view b) → EqualityTells (λ w. meaning (view w)) (λ m. element_text (element tag (text m))) (λ x y. same (view x) (view y)) a b
+retagged_tells view meaning tag inner text same a b tells content = simple_tells (λ w. meaning (view w)) tag text (λ x y. same (view x) (view y)) a b tells.means content

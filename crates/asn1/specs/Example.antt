@@ -2,7 +2,7 @@
 use Rattle.std.specs.Prelude.{ℕ, Bool, List}
 use Rattle.asn1_core.specs.Tag.{universal}
 use Rattle.asn1_core.specs.Element.{element, element_text}
-use Rattle.asn1_core.specs.Reading.{bool_content_text}
+use Rattle.asn1_core.specs.Boolean.{bool_content_text}
 
 -- the text of a truth value
 abbrev pub bool_text : Bool → List ℕ

@@ -12,7 +12,7 @@ use Rattle.asn1_core.specs.Writing.{KnowsLength, IsElementOf}
 use Rattle.asn1_core.specs.Reading.{Answers, expected, element_front, whole}
 use Rattle.asn1_core.specs.Der.{Der}
 use Rattle.asn1_core.specs.DefinedBy.{DefinedBy, ByItem}
-use Rattle.asn1.specs.DefinedLaws.{element_read}
+use Rattle.asn1.specs.DefinedReads.{element_read}
 use Rattle.asn1.specs.Defined.{by_inside, by_seen, defined_inside, defined_seen}
 
 -- What an item means, and what a value means that it defines.

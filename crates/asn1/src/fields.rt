@@ -8,8 +8,7 @@ ghost use Rattle.asn1_core.specs.Reading.{Answers, rest_refused};
 ghost use Rattle.asn1_core.specs.Writers.{buffer_name, octets_of};
 ghost use Rattle.asn1_core.specs.Writing.{KnowsLength, Refuses};
 ghost use Rattle.asn1.specs.Fields.{first_name, other_names, sequence};
-ghost use Rattle.asn1.specs.FieldLaws.{in_field};
-ghost use Rattle.asn1.specs.FieldSteps.{IsSum};
+ghost use Rattle.asn1.specs.FieldReads.{in_field, IsSum};
 ghost use Rattle.asn1.specs.FieldLists.{FieldList, empty_list, last_field, first_field, texts_of};
 
 use asn1_core::{
@@ -93,7 +92,8 @@ pub trait RowReadable<'a>: Row + Sized + Drop {
     /// Reads the fields and nothing behind them. A refusal is the first fault, at its field's place; a rest is
     /// `ExtraData` without a place.
     fn read<S: NameSource>(parser: Parser<'a>, names: S) -> ParseResult<Self>
-        ensures { Answers Self.list.meaning (Self.list.fields.runs_out (S.texts names) parser.entry) result (Self.list.fields.read (S.texts names) parser.entry) };
+        ensures { Answers Self.list.meaning (Self.list.fields.runs_out (S.texts names) parser.entry)
+            result (Self.list.fields.read (S.texts names) parser.entry) };
 
     /// What is read is written as one text.
     fn plain()
@@ -230,7 +230,8 @@ pub fn write_fields<E: From<WriteError>, R: RowWritable<E>>(
     dest: &mut WriteBuf,
 ) -> Result<(), E>
     requires { R.list.fields.closures (R.list.meaning fields.now) }
-    ensures ok { OnOk result (Appends (R.list.fields.texts (R.list.meaning fields.now)) dest.old.bytes dest.new.bytes) }
+    ensures ok { OnOk result (Appends (R.list.fields.texts (R.list.meaning fields.now))
+        dest.old.bytes dest.new.bytes) }
     ensures err { OnErr result (KeepsFront dest.old.bytes dest.new.bytes) }
     ensures error { IfErr result (Refuses E.from_gives (R.write_errors fields.now)) }
 {

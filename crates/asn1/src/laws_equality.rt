@@ -7,7 +7,8 @@ ghost use Rattle.asn1.specs.InHand.{octets_of_set};
 ghost use Rattle.asn1.specs.Sequences.{sequence_octets};
 
 use crate::{
-    Choice1, Choice2, Choice3, Explicit, Implicit, OctetStringEncoded, Sequence, Set, Tlv,
+    Choice1, Choice2, Choice3, Defaulted, Explicit, Implicit, OctetStringEncoded, Sequence, Set,
+    Tlv,
 };
 use asn1_core::Asn1Type;
 use std::hash::Hash;
@@ -57,4 +58,77 @@ pub fn choices_compare<
         → IsEqualityOf T3.der.meaning T3.eq
         → IsEqualityOf ⟦<Choice3<T1, T2, T3> as Asn1Type>⟧.der.meaning
         ⟦<Choice3<T1, T2, T3> as PartialEq>⟧.eq }
+{}
+
+/// Where values of a type that mean the same hash alike, so do those of its wrappers.
+pub fn wrappers_hash<T: Asn1Type + Hash, const TAG: u32>()
+    ensures explicit { HashesAlike T.der.meaning T.hash_input
+        → HashesAlike ⟦<Explicit<T, TAG> as Asn1Type>⟧.der.meaning
+        ⟦<Explicit<T, TAG> as Hash>⟧.hash_input }
+    ensures implicit { HashesAlike T.der.meaning T.hash_input
+        → HashesAlike ⟦<Implicit<T, TAG> as Asn1Type>⟧.der.meaning
+        ⟦<Implicit<T, TAG> as Hash>⟧.hash_input }
+    ensures octet_string { HashesAlike T.der.meaning T.hash_input
+        → HashesAlike ⟦<OctetStringEncoded<T> as Asn1Type>⟧.der.meaning
+        ⟦<OctetStringEncoded<T> as Hash>⟧.hash_input }
+    ensures choice { HashesAlike T.der.meaning T.hash_input
+        → HashesAlike ⟦<Choice1<T> as Asn1Type>⟧.der.meaning ⟦<Choice1<T> as Hash>⟧.hash_input }
+{}
+
+/// Where values of each alternative that mean the same hash alike, so do those of the choice.
+pub fn choices_hash<T1: Asn1Type + Hash, T2: Asn1Type + Hash, T3: Asn1Type + Hash>()
+    ensures choice2 { HashesAlike T1.der.meaning T1.hash_input
+        → HashesAlike T2.der.meaning T2.hash_input
+        → HashesAlike ⟦<Choice2<T1, T2> as Asn1Type>⟧.der.meaning
+        ⟦<Choice2<T1, T2> as Hash>⟧.hash_input }
+    ensures choice3 { HashesAlike T1.der.meaning T1.hash_input
+        → HashesAlike T2.der.meaning T2.hash_input
+        → HashesAlike T3.der.meaning T3.hash_input
+        → HashesAlike ⟦<Choice3<T1, T2, T3> as Asn1Type>⟧.der.meaning
+        ⟦<Choice3<T1, T2, T3> as Hash>⟧.hash_input }
+{}
+
+/// Where a clone of a type equals its source, so does one of its wrappers, and of a field with a default. Where a clone
+/// of the type never fails, theirs doesn't either.
+pub fn wrappers_are_cloned<T: Clone + PartialEq, D, const TAG: u32>()
+    ensures explicit { ClonesAreEqual T.is_clone T.eq
+        → ClonesAreEqual ⟦<Explicit<T, TAG> as Clone>⟧.is_clone
+        ⟦<Explicit<T, TAG> as PartialEq>⟧.eq }
+    ensures implicit { ClonesAreEqual T.is_clone T.eq
+        → ClonesAreEqual ⟦<Implicit<T, TAG> as Clone>⟧.is_clone
+        ⟦<Implicit<T, TAG> as PartialEq>⟧.eq }
+    ensures octet_string { ClonesAreEqual T.is_clone T.eq
+        → ClonesAreEqual ⟦<OctetStringEncoded<T> as Clone>⟧.is_clone
+        ⟦<OctetStringEncoded<T> as PartialEq>⟧.eq }
+    ensures defaulted { ClonesAreEqual T.is_clone T.eq
+        → ClonesAreEqual ⟦<Defaulted<T, D> as Clone>⟧.is_clone
+        ⟦<Defaulted<T, D> as PartialEq>⟧.eq }
+    ensures explicit_infallible { NeverFails T.is_infallible
+        → NeverFails ⟦<Explicit<T, TAG> as Clone>⟧.is_infallible }
+    ensures implicit_infallible { NeverFails T.is_infallible
+        → NeverFails ⟦<Implicit<T, TAG> as Clone>⟧.is_infallible }
+    ensures octet_string_infallible { NeverFails T.is_infallible
+        → NeverFails ⟦<OctetStringEncoded<T> as Clone>⟧.is_infallible }
+    ensures defaulted_infallible { NeverFails T.is_infallible
+        → NeverFails ⟦<Defaulted<T, D> as Clone>⟧.is_infallible }
+{}
+
+/// The same of choices, by each of their alternatives.
+pub fn choices_are_cloned<T1: Clone + PartialEq, T2: Clone + PartialEq, T3: Clone + PartialEq>()
+    ensures choice1 { ClonesAreEqual T1.is_clone T1.eq
+        → ClonesAreEqual ⟦<Choice1<T1> as Clone>⟧.is_clone ⟦<Choice1<T1> as PartialEq>⟧.eq }
+    ensures choice2 { ClonesAreEqual T1.is_clone T1.eq → ClonesAreEqual T2.is_clone T2.eq
+        → ClonesAreEqual ⟦<Choice2<T1, T2> as Clone>⟧.is_clone
+        ⟦<Choice2<T1, T2> as PartialEq>⟧.eq }
+    ensures choice3 { ClonesAreEqual T1.is_clone T1.eq → ClonesAreEqual T2.is_clone T2.eq
+        → ClonesAreEqual T3.is_clone T3.eq
+        → ClonesAreEqual ⟦<Choice3<T1, T2, T3> as Clone>⟧.is_clone
+        ⟦<Choice3<T1, T2, T3> as PartialEq>⟧.eq }
+    ensures choice1_infallible { NeverFails T1.is_infallible
+        → NeverFails ⟦<Choice1<T1> as Clone>⟧.is_infallible }
+    ensures choice2_infallible { NeverFails T1.is_infallible → NeverFails T2.is_infallible
+        → NeverFails ⟦<Choice2<T1, T2> as Clone>⟧.is_infallible }
+    ensures choice3_infallible { NeverFails T1.is_infallible → NeverFails T2.is_infallible
+        → NeverFails T3.is_infallible
+        → NeverFails ⟦<Choice3<T1, T2, T3> as Clone>⟧.is_infallible }
 {}

@@ -15,7 +15,8 @@ use asn1_core::{Asn1DefinedBy, Asn1Type};
 pub fn wrappers_are_lawful<T: Asn1Type, const TAG: u32>()
     ensures option { T.der.lawful → T.der.is_element → ⟦<Option<T> as Asn1Type>⟧.der.lawful }
     ensures explicit { T.der.lawful → ⟦<Explicit<T, TAG> as Asn1Type>⟧.der.lawful }
-    ensures implicit { T.der.lawful → T.der.is_simple → ⟦<Implicit<T, TAG> as Asn1Type>⟧.der.lawful }
+    ensures implicit { T.der.lawful → T.der.is_simple
+        → ⟦<Implicit<T, TAG> as Asn1Type>⟧.der.lawful }
     ensures octet_string { T.der.lawful → ⟦<OctetStringEncoded<T> as Asn1Type>⟧.der.lawful }
 {}
 
@@ -27,8 +28,11 @@ pub fn defaults_are_lawful<T: MeaningEq, D: DefaultValue<T>>()
 /// A choice of lawful elements is lawful where no tag is accepted by two alternatives.
 pub fn choices_are_lawful<T1: Asn1Type, T2: Asn1Type, T3: Asn1Type>()
     ensures choice1 { T1.der.lawful → T1.der.is_element → ⟦<Choice1<T1> as Asn1Type>⟧.der.lawful }
-    ensures choice2 { T1.der.lawful → T1.der.is_element → T2.der.lawful → T2.der.is_element → Disjoint T1.der.accepts T2.der.accepts → ⟦<Choice2<T1, T2> as Asn1Type>⟧.der.lawful }
-    ensures choice3 { T1.der.lawful → T1.der.is_element → ⟦<Choice2<T2, T3> as Asn1Type>⟧.der.lawful → Disjoint T1.der.accepts T2.der.accepts → Disjoint T1.der.accepts T3.der.accepts → ⟦<Choice3<T1, T2, T3> as Asn1Type>⟧.der.lawful }
+    ensures choice2 { T1.der.lawful → T1.der.is_element → T2.der.lawful → T2.der.is_element
+        → Disjoint T1.der.accepts T2.der.accepts → ⟦<Choice2<T1, T2> as Asn1Type>⟧.der.lawful }
+    ensures choice3 { T1.der.lawful → T1.der.is_element → ⟦<Choice2<T2, T3> as Asn1Type>⟧.der.lawful
+        → Disjoint T1.der.accepts T2.der.accepts → Disjoint T1.der.accepts T3.der.accepts
+        → ⟦<Choice3<T1, T2, T3> as Asn1Type>⟧.der.lawful }
 {}
 
 /// The wrappers other than options are elements: they may be the part of an option or an alternative of a choice.

@@ -9,12 +9,12 @@ use Rattle.asn1_core.specs.Tag.{tag_eq, universal}
 use Rattle.asn1_core.specs.Element.{Element, element, element_text, front}
 use Rattle.asn1_core.specs.Fault.{Fault, IsOfText}
 use Rattle.asn1_core.specs.Writing.{IsElementOf}
-use Rattle.asn1_core.specs.Reading.{Takes, Fits, IsOneElement, simple, simple_out, simple_stops, element_front, tlv_stops, stands, bool_content_text, read_bool, refuses}
+use Rattle.asn1_core.specs.Reading.{Takes, Fits, IsOneElement, simple, simple_out, simple_stops, element_front, tlv_stops, stands, refuses}
 use Rattle.asn1_core.specs.Options.{option_meaning, IfThere, option_text, option_texts, option_read, option_out}
 use Rattle.asn1_core.specs.Lemmas.Options.{option_takes, option_shape, option_accepted, option_again, option_both, option_pair, option_weaker, option_one, option_all, option_faults}
 use Rattle.asn1_core.specs.Lemmas.Elements.{element_some}
-use Rattle.asn1_core.specs.Lemmas.Faults.{simple_faults, tlv_faults, bool_faults, refuses_faults}
-use Rattle.asn1_core.specs.Lemmas.Contents.{simple_takes, simple_shape, simple_accepted, simple_again, one_element, tlv_takes, tlv_again, bool_takes, bool_again, refuses_takes}
+use Rattle.asn1_core.specs.Lemmas.Faults.{simple_faults, tlv_faults, refuses_faults}
+use Rattle.asn1_core.specs.Lemmas.Contents.{simple_takes, simple_shape, simple_accepted, simple_again, one_element, tlv_takes, tlv_again, refuses_takes}
 
 -- the content of a simple type, whose values mean an M
 pub record Content (M : Type 0) : Type 1 where
@@ -236,18 +236,7 @@ no_content {M = M} = record {
   faults = refuses_faults M;
 }
 
-abbrev pub bool_content : Content Bool
-bool_content = basic (record {
-  tag = universal 1;
-  text = bool_content_text;
-  valid = λ m. Unit {0};
-  read = read_bool;
-  takes = λ c m b e. (bool_takes c m e, tt);
-  again = λ m v. bool_again m;
-  faults = bool_faults;
-})
-
--- the same, of values that are seen through something, as a reference
+-- A type whose values are seen through something, as a reference.
 abbrev pub seen : {V W : Type 0} → (W → V) → Der V → Der W
 seen view d = record {
   Meaning = d.Meaning;

@@ -7,7 +7,8 @@ use Rattle.asn1_core.specs.Length.{length_text}
 use Rattle.asn1_core.specs.Element.{element, front}
 use Rattle.asn1_core.specs.Fault.{fault, within}
 use Rattle.asn1_core.specs.Reading.{whole}
-use Rattle.asn1_core.specs.Der.{simple_der, bool_content}
+use Rattle.asn1_core.specs.BooleanContent.{bool_content}
+use Rattle.asn1_core.specs.Der.{simple_der}
 
 pub record Fronts : Type 0 where
   pub nothing : front [] ≡ Err (ShortData 1)

@@ -98,16 +98,6 @@ IsHandedOn gives (Err e) rest result = result ≡ Err e
 IsHandedOn gives (Ok v) [] result = result ≡ Ok v
 IsHandedOn gives (Ok v) (octet ∷ octets) result = IsErrAnd result (gives (fault ExtraData))
 
--- The content of a truth value: one octet, all its bits 0 for false, all 1 for true. (X.690 8.2, 11.1)
-abbrev pub bool_content_text : Bool → List ℕ
-bool_content_text false = 0x00 ∷ []
-bool_content_text true = 0xff ∷ []
-
-abbrev pub read_bool : List ℕ → Result Bool Fault
-read_bool [] = Err (fault InvalidValue)
-read_bool (octet ∷ []) = cond (nat_eq octet 0x00) (Ok false) (cond (nat_eq octet 0xff) (Ok true) (Err (fault InvalidValue)))
-read_bool (octet ∷ next ∷ octets) = Err (fault InvalidValue)
-
 -- The content of what is no simple type.
 abbrev pub refuses : {M : Type 0} → List ℕ → Result M Fault
 refuses c = Err (fault InvalidValue)

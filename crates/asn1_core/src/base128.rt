@@ -60,7 +60,8 @@ pub fn length(n: u128) -> usize
 /// Writes the encoding of the number over the first of `octets`, leaves those after it as they were, and returns how
 /// many octets it has: 1 to 19. `None`, with all octets as they were, where there are fewer than that.
 pub fn write(n: u128, octets: &mut [u8]) -> Option<usize>
-    ensures short { IfNone result ((length octets.old < length (number_text n)) × (octets.new ≡ octets.old)) }
+    ensures short { IfNone result ((length octets.old < length (number_text n))
+        × (octets.new ≡ octets.old)) }
     ensures written { IfSome result (λ count. (count ≡ length (number_text n))
         × (count ≤ length octets.old)
         × (octets.new ≡ number_text n ++ drop count octets.old)) }

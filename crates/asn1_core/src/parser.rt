@@ -5,13 +5,14 @@ ghost use Rattle.std.specs.Fn.{FnOnceReturnsAtMut};
 ghost use Rattle.asn1_core.specs.declared.parser.ParseErrorKind.{ParseErrorKind};
 ghost use Rattle.asn1_core.specs.declared.parser.ParseErrorKind.TheVariants.{ShortData};
 ghost use Rattle.asn1_core.specs.Text.{IsText, number};
-ghost use Rattle.asn1_core.specs.Tag.{tag_front, found_tag, explicit_tag_of, implicit_tag_of};
+ghost use Rattle.asn1_core.specs.Tag.{tag_front, found_tag};
 ghost use Rattle.asn1_core.specs.Length.{length_front};
 ghost use Rattle.asn1_core.specs.Element.{Element, IsFront, front, element_text};
 ghost use Rattle.asn1_core.specs.Tlv.{element_of, full_octets, stripped};
 ghost use Rattle.asn1_core.specs.Fault.{fault, within, framed, AnswersError, AnswersKind, IsOfText};
 ghost use Rattle.asn1_core.specs.Places.{place_of};
-ghost use Rattle.asn1_core.specs.Reading.{Answers, EndsWith, IsHandedOn, Fits, whole, rest_refused, expected_front, simple, simple_out, simple_stops};
+ghost use Rattle.asn1_core.specs.Reading.{Answers, EndsWith, IsHandedOn, Fits, rest_refused, expected_front, simple_stops};
+ghost use Rattle.asn1_core.specs.Reads.{IsEncodingOf, ReadsExplicit, ReadsImplicit, ReadsPrefix, ReadsWhole};
 ghost use Rattle.asn1_core.specs.Laws.{IsShort, with_more};
 ghost use Rattle.std.specs.Cmp.{decided, partial_equiv_from_equiv};
 ghost use Rattle.asn1_core.specs.Display.{error_text};
@@ -371,7 +372,8 @@ impl<'a> Parser<'a> {
     /// An error of framing leaves the parser where it was; `UnexpectedTag` leaves it after the element.
     #[inline]
     pub(crate) fn read_expected(&mut self, tag: Tag) -> Result<&'a [u8], ParseErrorKind>
-        ensures answers { AnswersKind (λ content. (content.now, self.new)) result (expected_front tag self.old) }
+        ensures answers { AnswersKind (λ content. (content.now, self.new)) result
+            (expected_front tag self.old) }
         ensures rest { EndsWith self.old self.new }
         ensures stops { simple_stops self.old self.new }
     {
@@ -389,7 +391,7 @@ impl<'a> Parser<'a> {
     /// framing failed, and else after the element. Only a type that takes memory returns `AllocationError`.
     #[inline(always)]
     pub fn read_element<T: Asn1Readable<'a>>(&mut self) -> ParseResult<T>
-        ensures answers { Answers (λ v. (T.der.meaning v, self.new)) (T.der.runs_out self.old) result (T.der.read self.old) }
+        ensures answers { ReadsPrefix T.der self.old self.new result }
         ensures rest { EndsWith self.old self.new }
         ensures stops { OnErr result (T.der.stops self.old self.new) }
 
@@ -405,7 +407,7 @@ impl<'a> Parser<'a> {
     /// Errors: framing's, which leave the parser where it was; then, with the parser after the element,
     /// `UnexpectedTag`, the first error of the value in the contents octets, and `ExtraData` where octets remain there.
     pub fn read_explicit_element<T: Asn1Readable<'a>>(&mut self, tag: u32) -> ParseResult<T>
-        ensures answers { Answers (λ v. (T.der.meaning v, self.new)) (simple_out (explicit_tag_of tag) T.der.runs_out self.old) result (simple (explicit_tag_of tag) (λ c. whole (T.der.read c)) self.old) }
+        ensures answers { ReadsExplicit tag T.der self.old self.new result }
         ensures rest { EndsWith self.old self.new }
         ensures stops { OnErr result (simple_stops self.old self.new) }
         ensures no_want { ¬ T.der.takes_memory → IfErr result IsOfText }
@@ -419,7 +421,7 @@ impl<'a> Parser<'a> {
     /// Errors: framing's, which leave the parser where it was; then, with the parser after the element,
     /// `UnexpectedTag`, and the first error of the contents octets.
     pub fn read_implicit_element<T: SimpleAsn1Readable<'a>>(&mut self, tag: u32) -> ParseResult<T>
-        ensures answers { Answers (λ v. (T.der.meaning v, self.new)) (simple_out (implicit_tag_of tag T.der.content.tag) T.der.content.runs_out self.old) result (simple (implicit_tag_of tag T.der.content.tag) T.der.content.read self.old) }
+        ensures answers { ReadsImplicit tag T.der self.old self.new result }
         ensures rest { EndsWith self.old self.new }
         ensures stops { OnErr result (simple_stops self.old self.new) }
         ensures no_want { ¬ T.der.content.takes_memory → IfErr result IsOfText }
@@ -492,15 +494,19 @@ fn read_length(octets: &[u8]) -> Result<(usize, &[u8]), ParseErrorKind>
 pub fn strip_tlv(data: &[u8]) -> ParseResult<(Tlv<'_>, &[u8])>
     // The result is the one that the definitions allow.
     ensures grammar { IsFront «data».now (stripped result) }
-    ensures only { (answer : Result (Element × List ℕ) ParseErrorKind) → IsFront «data».now answer → stripped result ≡ answer }
+    ensures only { (answer : Result (Element × List ℕ) ParseErrorKind) → IsFront «data».now answer
+        → stripped result ≡ answer }
 
     // The full data is the element's encoding, and an error has no location.
     ensures full_data { IfOk result (λ x. full_octets x.0 ≡ element_text (element_of x.0)) }
     ensures no_place { IfErr result (λ e. e.places ≡ []) }
 
     // On each longer input the result stays, unless it is that octets are missing.
-    ensures stands { (more : List ℕ) → IsText more → ¬ IsShort (stripped result) → front («data».now ++ more) ≡ with_more (stripped result) more }
-    ensures fewer { (more : List ℕ) (needed : ℕ) → IsText more → stripped result ≡ Err (ShortData needed) → length more < needed → IsShort (front («data».now ++ more)) }
+    ensures stands { (more : List ℕ) → IsText more → ¬ IsShort (stripped result)
+        → front («data».now ++ more) ≡ with_more (stripped result) more }
+    ensures fewer { (more : List ℕ) (needed : ℕ) → IsText more
+        → stripped result ≡ Err (ShortData needed) → length more < needed
+        → IsShort (front («data».now ++ more)) }
     ensures exact { AnswersError (λ x. (element_of x.0, x.1.now)) result (front «data».now) }
 {
     kind_as_error(tlv_in(data))
@@ -541,7 +547,9 @@ pub fn parse<'a, T: Drop, E: From<ParseError> + Drop, F: FnOnce(&mut Parser<'a>)
     f: F,
 ) -> Result<T, E>
     requires { F.IsAlwaysCallable f }
-    ensures { (rest : List ℕ) × (answer : Result T E) × FnOnceReturnsAtMut F.FnOnce f «data».entry.now answer rest × IsHandedOn E.from_gives answer rest result }
+    ensures { (rest : List ℕ) × (answer : Result T E)
+        × FnOnceReturnsAtMut F.FnOnce f «data».entry.now answer rest
+        × IsHandedOn E.from_gives answer rest result }
 {
     let mut parser = Parser::new(alloc, data);
     let answer = f(&mut parser)?;
@@ -556,13 +564,14 @@ pub fn parse<'a, T: Drop, E: From<ParseError> + Drop, F: FnOnce(&mut Parser<'a>)
 /// value. Only a type that takes memory returns `AllocationError`.
 #[inline(always)]
 pub fn parse_single<'a, T: Asn1Readable<'a>>(alloc: Global, data: &'a [u8]) -> ParseResult<T>
-    ensures exact { Answers T.der.meaning (T.der.runs_out «data».entry.now) result (whole (T.der.read «data».entry.now)) }
+    ensures exact { ReadsWhole T.der «data».entry.now result }
 
     // A value that is returned has these octets as its encoding.
-    ensures found { IfOk result (λ v. («data».entry.now ≡ T.der.text (T.der.meaning v)) × (T.der.valid (T.der.meaning v) × T.der.allowed (T.der.meaning v))) }
+    ensures found { IfOk result (λ v. IsEncodingOf T.der v «data».entry.now) }
 
     // The encoding of a value is read as that value.
-    ensures only { (m : T.der.Meaning) → T.der.lawful → T.der.valid m → T.der.allowed m → Fits (T.der.text m) → «data».entry.now ≡ T.der.text m
+    ensures only { (m : T.der.Meaning) → T.der.lawful → T.der.valid m → T.der.allowed m
+        → Fits (T.der.text m) → «data».entry.now ≡ T.der.text m
         → Answers T.der.meaning (T.der.runs_out «data».entry.now) result (Ok m) }
 
     // A type whose reading takes no memory is never out of it.
@@ -575,7 +584,7 @@ pub fn parse_single<'a, T: Asn1Readable<'a>>(alloc: Global, data: &'a [u8]) -> P
 /// at one return.
 #[inline(always)]
 fn read_single<'a, T: Asn1Readable<'a>>(alloc: Global, data: &'a [u8]) -> ParseResult<T>
-    ensures { Answers T.der.meaning (T.der.runs_out «data».entry.now) result (whole (T.der.read «data».entry.now)) }
+    ensures { ReadsWhole T.der «data».entry.now result }
 {
     let mut parser = Parser::new(alloc, data);
     let value = parser.read_element::<T>()?;

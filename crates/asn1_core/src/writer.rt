@@ -75,7 +75,8 @@ impl Model for LengthText {
 
     ghost view = { λ text. drop text.start text.octets };
 
-    ghost invariant = { λ text. (text.start ≤ MAX_LENGTH_OCTETS) × (length text.octets ≡ MAX_LENGTH_OCTETS) };
+    ghost invariant = { λ text. (text.start ≤ MAX_LENGTH_OCTETS)
+        × (length text.octets ≡ MAX_LENGTH_OCTETS) };
 }
 
 impl LengthText {
@@ -130,7 +131,8 @@ fn length_octets(n: usize) -> usize
 /// which it isn't below 2^63 contents octets.
 #[inline]
 pub fn full_length(tag: Tag, content_length: usize) -> Option<usize>
-    ensures value { SomeIff result (full_count tag content_length < 2 ^ 64) (full_count tag content_length) }
+    ensures value { SomeIff result (full_count tag content_length < 2 ^ 64)
+        (full_count tag content_length) }
     ensures fits { content_length < 2 ^ 63 → full_count tag content_length < 2 ^ 64 }
 {
     let header = tag.encoded_length() + length_octets(content_length);
@@ -149,7 +151,10 @@ impl Model for WriteBuf {
 
     ghost Value = { Buffer };
 
-    ghost view = { λ b. record { bytes = b.octets.items; room = vec_capacity b.octets - vec_len b.octets } };
+    ghost view = { λ b. record {
+      bytes = b.octets.items;
+      room = vec_capacity b.octets - vec_len b.octets;
+    } };
 }
 
 impl WriteBuf {
@@ -254,7 +259,8 @@ impl WriteBuf {
     pub(crate) fn patch_length(&mut self, start: usize) -> WriteResult<()>
         requires from { 0 < start }
         requires within { start ≤ length self.old.bytes }
-        ensures ok { OnOk result (self.new.bytes ≡ take (start - 1) self.old.bytes ++ length_text (length self.old.bytes - start) ++ drop start self.old.bytes) }
+        ensures ok { OnOk result (self.new.bytes ≡ take (start - 1) self.old.bytes
+            ++ length_text (length self.old.bytes - start) ++ drop start self.old.bytes) }
         ensures err { OnErr result (self.new.bytes ≡ self.old.bytes) }
         ensures error { IsOkUnless result WriteError.AllocationError }
     {
@@ -270,7 +276,8 @@ impl WriteBuf {
     fn patch_long_length(&mut self, start: usize) -> WriteResult<()>
         requires from { 0 < start }
         requires long { start + 0x7f < length self.old.bytes }
-        ensures ok { OnOk result (self.new.bytes ≡ take (start - 1) self.old.bytes ++ length_text (length self.old.bytes - start) ++ drop start self.old.bytes) }
+        ensures ok { OnOk result (self.new.bytes ≡ take (start - 1) self.old.bytes
+            ++ length_text (length self.old.bytes - start) ++ drop start self.old.bytes) }
         ensures err { OnErr result (self.new.bytes ≡ self.old.bytes) }
         ensures error { IsOkUnless result WriteError.AllocationError }
     {
@@ -315,7 +322,8 @@ impl WriteBuf {
     /// Appends the octets of a span of the buffer.
     fn push_part(&mut self, span: &Span) -> WriteResult<()>
         requires { span.now.from + span.now.len ≤ length self.old.bytes }
-        ensures ok { OnOk result (self.new.bytes ≡ self.old.bytes ++ take span.now.len (drop span.now.from self.old.bytes)) }
+        ensures ok { OnOk result (self.new.bytes
+            ≡ self.old.bytes ++ take span.now.len (drop span.now.from self.old.bytes)) }
         ensures err { OnErr result (self.new.bytes ≡ self.old.bytes) }
         ensures error { IsOkUnless result WriteError.AllocationError }
     {

@@ -47,7 +47,8 @@ impl<'a> BitString<'a> {
     /// The bits of `octets` but for the last `padding`, which are unused. `None` where `padding` is above 7, or isn't 0
     /// for an empty string, or one of the unused bits is set.
     pub const fn new(octets: &'a [u8], padding: u8) -> Option<BitString<'a>>
-        ensures { MatchOption result (¬ IsBits (bits octets.entry.now padding)) (λ b. bits_of b ≡ bits octets.entry.now padding) }
+        ensures { MatchOption result (¬ IsBits (bits octets.entry.now padding))
+            (λ b. bits_of b ≡ bits octets.entry.now padding) }
     {
         if !has_padding(octets, padding) {
             return None;
@@ -183,7 +184,8 @@ impl OwnedBitString {
     /// The bits of `octets` but for the last `padding`, which are unused. `None` where `padding` is above 7, or isn't 0
     /// for an empty string, or one of the unused bits is set.
     pub fn new(octets: Vec<u8>, padding: u8) -> Option<OwnedBitString>
-        ensures { MatchOption result (¬ IsBits (bits octets.items padding)) (λ b. owned_bits_of b ≡ bits octets.items padding) }
+        ensures { MatchOption result (¬ IsBits (bits octets.items padding))
+            (λ b. owned_bits_of b ≡ bits octets.items padding) }
     {
         if !has_padding(octets.as_slice(), padding) {
             return None;

@@ -25,7 +25,8 @@ const MAX_OCTETS: usize = 63;
 
 /// The number in base 128 at the start of the octets, and the remaining octets. `None` where there is none.
 fn number_before(octets: &[u8]) -> Option<(u128, &[u8])>
-    ensures { MatchOption result ((kind : ParseErrorKind) × (number_front octets.now ≡ Err kind)) (λ x. number_front octets.now ≡ Ok (x.0, x.1.now)) }
+    ensures { MatchOption result ((kind : ParseErrorKind) × (number_front octets.now ≡ Err kind))
+        (λ x. number_front octets.now ≡ Ok (x.0, x.1.now)) }
 {
     base128::read(octets).ok()
 }
@@ -68,7 +69,8 @@ fn part_number(part: &str) -> Option<u128>
 
 /// The number at the start of a dotted form, and what follows its dot, where there is one.
 fn next_part(text: &str) -> Option<(u128, Option<&str>)>
-    ensures value { MatchOption result (text_numbers text.now ≡ None) (λ x. text_numbers text.now ≡ option_map (λ numbers. x.0 ∷ numbers) (left_numbers x.1)) }
+    ensures value { MatchOption result (text_numbers text.now ≡ None)
+        (λ x. text_numbers text.now ≡ option_map (λ numbers. x.0 ∷ numbers) (left_numbers x.1)) }
     ensures shorter { IfSome result (λ x. left_size x.1 ≤ length text.now) }
     ensures small { IfSome result (λ x. x.0 < 2 ^ 128) }
 {
@@ -113,7 +115,10 @@ pub struct ObjectIdentifier {
 /// where there is no room for it.
 fn append_number(octets: &mut [u8; 63], count: usize, number: u128) -> Option<usize>
     requires { count ≤ 63 }
-    ensures { MatchOption result (63 < count + length (number_text number)) (λ total. (total ≡ count + length (number_text number)) × (total ≤ 63) × (octets.new ≡ take count octets.old ++ (number_text number ++ drop (length (number_text number)) (drop count octets.old)))) }
+    ensures { MatchOption result (63 < count + length (number_text number))
+        (λ total. (total ≡ count + length (number_text number)) × (total ≤ 63)
+        × (octets.new ≡ take count octets.old ++ (number_text number
+        ++ drop (length (number_text number)) (drop count octets.old)))) }
 {
     let added = base128::write(number, &mut octets[count..])?;
     Some(count + added)
@@ -124,7 +129,8 @@ impl ObjectIdentifier {
 
     /// The identifier with this first encoded number, and with those of the dotted form after it.
     fn with_others(first: u128, mut rest: Option<&str>) -> Option<ObjectIdentifier>
-        ensures { option_map identifier_of result ≡ and_then (option_map (λ numbers. first ∷ numbers) (left_numbers rest.entry)) if_few }
+        ensures { option_map identifier_of result
+            ≡ and_then (option_map (λ numbers. first ∷ numbers) (left_numbers rest.entry)) if_few }
     {
         let mut octets = [0; 63];
         let mut count = append_number(&mut octets, 0, first)?;

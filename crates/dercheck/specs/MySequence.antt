@@ -9,7 +9,7 @@ use Rattle.asn1.specs.DefinedBy.{DefinedBy}
 use Rattle.asn1.specs.IdentifierContent.{identifier_basic}
 use Rattle.asn1.specs.IdentifierValues.{identifier_of}
 use Rattle.asn1.specs.Sized.{signed_der}
-use Rattle.asn1.specs.VariantLaws.{Known}
+use Rattle.asn1.specs.DefinedReads.{Known}
 use Rattle.asn1.specs.Variants.{variant}
 use Rattle.asn1.specs.ItemsAndValues.{ItemAndValue}
 use Rattle.dercheck.specs.declared.own_types.my_sequence.Content.{Content}

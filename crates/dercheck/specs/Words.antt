@@ -3,7 +3,8 @@ use Rattle.std.specs.Prelude.{ℕ, ◌-◌, ◌^◌, ℤ, pos, ◌-ℤ◌, List,
 use Rattle.std.specs.List.{find}
 use Rattle.std.specs.Str.{bytes_eq}
 use Rattle.asn1.specs.Tag.{universal}
-use Rattle.asn1.specs.Der.{Der, Content, simple_der, tlv_der, bool_content}
+use Rattle.asn1.specs.BooleanContent.{bool_content}
+use Rattle.asn1.specs.Der.{Der, Content, simple_der, tlv_der}
 use Rattle.asn1.specs.Element.{Element}
 use Rattle.asn1.specs.Sized.{sized_content, signed_der, unsigned_der}
 use Rattle.asn1.specs.OctetContents.{null_content, octets_content}

@@ -103,7 +103,8 @@ impl Lines {
     /// Appends the line of remaining octets that need so many more.
     fn push_short(&mut self, needed: usize)
         requires { self.old.count + MAX_LINE ≤ MAX_LINES }
-        ensures { line_octets self.new ≡ line_octets self.old ++ (codes "short " ++ decimal needed ++ codes "\n") }
+        ensures { line_octets self.new ≡ line_octets self.old
+            ++ (codes "short " ++ decimal needed ++ codes "\n") }
     {
         self.push(b"short ");
         self.push_number(needed);
@@ -133,7 +134,8 @@ impl Lines {
 
 /// Puts all the octets. False where the sink failed, which then has a prefix of them.
 pub fn put_all<W: Sink>(sink: &mut W, octets: &[u8]) -> bool
-    ensures { Puts result (W.held sink.old) (W.held sink.new) (W.has_failed sink.old) (W.has_failed sink.new) octets.now }
+    ensures { Puts result (W.held sink.old) (W.held sink.new) (W.has_failed sink.old)
+        (W.has_failed sink.new) octets.now }
 {
     let mut rest = octets;
     while !rest.is_empty() {
@@ -147,7 +149,8 @@ pub fn put_all<W: Sink>(sink: &mut W, octets: &[u8]) -> bool
 
 /// Puts the line of remaining octets that need so many more. False where the sink failed.
 pub fn put_short<W: Sink>(sink: &mut W, needed: usize) -> bool
-    ensures { Puts result (W.held sink.old) (W.held sink.new) (W.has_failed sink.old) (W.has_failed sink.new) (codes "short " ++ decimal needed ++ codes "\n") }
+    ensures { Puts result (W.held sink.old) (W.held sink.new) (W.has_failed sink.old)
+        (W.has_failed sink.new) (codes "short " ++ decimal needed ++ codes "\n") }
 {
     let mut lines = Lines::new();
     lines.push_short(needed);

@@ -18,15 +18,18 @@ use crate::stream::{MAX_PULL, Sink, Source};
 /// is a concatenation of whole elements.
 ///
 /// Errors: `Read` where the source fails: the lines of the elements that it gave are written, and nothing else. `Write`
-/// where the sink fails: it has a prefix of the lines. Never `Memory`: none is taken.
+/// where the sink fails: it has a prefix of the lines. Never `Memory`: nothing is allocated.
 pub fn frames<R: Source, W: Sink>(r: &mut R, w: &mut W) -> Result<bool, Fault>
     // The lines of the framing of what was read were written: of all, or of a prefix with an error near its end.
-    ensures ok { IfOk result (λ whole. Framed (R.left r.old) (R.left r.new) (W.held w.old) (W.held w.new) whole) }
+    ensures ok { IfOk result (λ whole. Framed (R.left r.old) (R.left r.new) (W.held w.old)
+        (W.held w.new) whole) }
     ensures end { result ≡ Ok true → IsAtEnd (R.left r.new) }
     // The lines of each element that was read were written, and nothing else.
-    ensures read { result ≡ Err Fault.Read → FramedSoFar (R.left r.old) (R.left r.new) (W.held w.old) (W.held w.new) }
+    ensures read { result ≡ Err Fault.Read → FramedSoFar (R.left r.old) (R.left r.new)
+        (W.held w.old) (W.held w.new) }
     // A prefix of the lines for what was read was written.
-    ensures write { result ≡ Err Fault.Write → FramedInPart (R.left r.old) (R.left r.new) (W.held w.old) (W.held w.new) }
+    ensures write { result ≡ Err Fault.Write → FramedInPart (R.left r.old) (R.left r.new)
+        (W.held w.old) (W.held w.new) }
     ensures source_failed { result ≡ Err Fault.Read → R.has_failed r.new ≡ true }
     ensures sink_failed { result ≡ Err Fault.Write → W.has_failed w.new ≡ true }
     ensures source_kept { OnOk result (R.has_failed r.new ≡ R.has_failed r.old) }

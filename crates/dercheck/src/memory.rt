@@ -49,12 +49,15 @@ impl Source for Pieces<'_> {
 
     fn pull(&mut self, buf: &mut [u8]) -> Option<usize>
         ensures within { IfSome result (λ n. n ≤ length buf.new) }
-        ensures octets { PullTakes (Some (pieces_left self.old)) (Some (pieces_left self.new)) result buf.new }
-        ensures bound { MatchOption result (length self.new.first.now + length self.new.second.now ≤ length self.old.first.now + length self.old.second.now)
+        ensures octets { PullTakes (Some (pieces_left self.old)) (Some (pieces_left self.new))
+            result buf.new }
+        ensures bound { MatchOption result (length self.new.first.now + length self.new.second.now
+            ≤ length self.old.first.now + length self.old.second.now)
             (λ n. length self.new.first.now + length self.new.second.now + n ≤ length self.old.first.now + length self.old.second.now) }
         ensures flag { FlagFollows (pieces_failed self.old) (pieces_failed self.new) result }
         ensures most { IfSome result (λ n. n ≤ piece_of self.old) }
-        ensures end { IsNone result ↔ ((pieces_left self.old ≡ []) × IsTrue (fails_at_end self.old)) }
+        ensures end { IsNone result
+            ↔ ((pieces_left self.old ≡ []) × IsTrue (fails_at_end self.old)) }
         ensures piece { piece_of self.new ≡ piece_of self.old }
         ensures fails { fails_at_end self.new ≡ fails_at_end self.old }
     {
@@ -130,7 +133,8 @@ impl Sink for Held {
     fn put(&mut self, octets: &[u8]) -> Option<usize>
         ensures within { IfSome result (λ n. n ≤ length octets.now) }
         ensures some { IfSome result (λ n. 0 < length octets.now → 0 < n) }
-        ensures octets { PutAppends (Some (held_octets self.old)) (Some (held_octets self.new)) result octets.now }
+        ensures octets { PutAppends (Some (held_octets self.old)) (Some (held_octets self.new))
+            result octets.now }
         ensures flag { FlagFollows (held_failed self.old) (held_failed self.new) result }
         ensures full { IsNone result ↔ ((room_left self.old ≡ 0) × (0 < length octets.now)) }
         ensures most { IfSome result (λ n. n ≡ min (length octets.now) (room_left self.old)) }

@@ -8,6 +8,8 @@ pub mod signature;
 pub mod some_sequence;
 pub mod time;
 
+ghost use Rattle.asn1.specs.Reads.{HasOneEncoding};
+
 use asn1::Asn1Type;
 use entry::Entry;
 use my_sequence::MySequence;
@@ -17,14 +19,14 @@ use signature::Signature;
 use some_sequence::SomeSequence;
 use time::Time;
 
-/// The types here are lawful, and a write appends their one text: both round trips of `asn1` hold of them.
-#[tactic(auto, using(asn1::specs::FieldLaws::tags_differ))]
+/// Each value of the types here has one encoding, which is read back: both round trips of `asn1` hold of them.
+#[tactic(auto, using(asn1::specs::Lemmas::Fields::tags_differ))]
 pub fn own_types_are_lawful()
-    ensures entry { ⟦<Entry as Asn1Type>⟧.der.lawful × ⟦<Entry as Asn1Type>⟧.der.plain }
-    ensures my_sequence { ⟦<MySequence as Asn1Type>⟧.der.lawful × ⟦<MySequence as Asn1Type>⟧.der.plain }
-    ensures reason { ⟦<Reason as Asn1Type>⟧.der.lawful × ⟦<Reason as Asn1Type>⟧.der.plain }
-    ensures sealable { ⟦<Sealable as Asn1Type>⟧.der.lawful × ⟦<Sealable as Asn1Type>⟧.der.plain }
-    ensures signature { ⟦<Signature as Asn1Type>⟧.der.lawful × ⟦<Signature as Asn1Type>⟧.der.plain }
-    ensures some_sequence { ⟦<SomeSequence<'static> as Asn1Type>⟧.der.lawful × ⟦<SomeSequence<'static> as Asn1Type>⟧.der.plain }
-    ensures time { ⟦<Time as Asn1Type>⟧.der.lawful × ⟦<Time as Asn1Type>⟧.der.plain }
+    ensures entry { HasOneEncoding ⟦<Entry as Asn1Type>⟧.der }
+    ensures my_sequence { HasOneEncoding ⟦<MySequence as Asn1Type>⟧.der }
+    ensures reason { HasOneEncoding ⟦<Reason as Asn1Type>⟧.der }
+    ensures sealable { HasOneEncoding ⟦<Sealable as Asn1Type>⟧.der }
+    ensures signature { HasOneEncoding ⟦<Signature as Asn1Type>⟧.der }
+    ensures some_sequence { HasOneEncoding ⟦<SomeSequence<'static> as Asn1Type>⟧.der }
+    ensures time { HasOneEncoding ⟦<Time as Asn1Type>⟧.der }
 {}

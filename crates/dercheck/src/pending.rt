@@ -22,7 +22,7 @@ pub enum Progress {
 /// An unfinished element. Its contents octets are counted and not kept.
 #[derive(Drop)]
 pub struct Pending {
-    // The header while it goes on, and then the identifier octets, which the element's line tells.
+    // The header while it goes on, and then the identifier octets, which the element's line shows.
     octets: [u8; MAX_HEADER],
     count: usize,
     in_content: bool,
@@ -88,7 +88,8 @@ impl Pending {
     fn take_content(&mut self, count: usize) -> Progress
         requires stage { self.old.in_content ≡ true }
         requires within { count ≤ self.old.needed }
-        ensures { (octets : List ℕ) → length octets ≡ count → Advances self.old self.new result octets }
+        ensures { (octets : List ℕ) → length octets ≡ count
+            → Advances self.old self.new result octets }
     {
         if count == self.needed {
             return Progress::Completes;
@@ -118,8 +119,10 @@ impl Pending {
     pub fn take_octets(&mut self, octets: &[u8], lines: &mut Lines) -> bool
         requires few { length octets.now ≤ MAX_PULL }
         requires room { lines.old.count ≡ 0 }
-        ensures goes_on { IsTrue result → (text : List ℕ) → Stands self.old text → Taken self.new (text ++ octets.now) (line_octets lines.new) }
-        ensures fault { result ≡ false → (text : List ℕ) → Stands self.old text → TakenToFault (text ++ octets.now) (line_octets lines.new) }
+        ensures goes_on { IsTrue result → (text : List ℕ) → Stands self.old text
+            → Taken self.new (text ++ octets.now) (line_octets lines.new) }
+        ensures fault { result ≡ false → (text : List ℕ) → Stands self.old text
+            → TakenToFault (text ++ octets.now) (line_octets lines.new) }
     {
         let mut rest = octets;
         while !rest.is_empty() {
@@ -143,9 +146,12 @@ impl Pending {
     /// Writes what is missing at the end of the input. True where nothing is pending. The error is `Write`, where the
     /// sink fails.
     pub fn finish<W: Sink>(&self, sink: &mut W) -> Result<bool, Fault>
-        ensures answer { IfOk result (λ whole. (text : List ℕ) → Stands self.now text → (IsTrue whole ↔ (text ≡ []))) }
-        ensures line { OnOk result ((text : List ℕ) → Stands self.now text → Appends (W.held sink.old) (W.held sink.new) (end_line text)) }
-        ensures cut { OnErr result ((text : List ℕ) → Stands self.now text → AppendsInPart (W.held sink.old) (W.held sink.new) (end_line text)) }
+        ensures answer { IfOk result (λ whole. (text : List ℕ) → Stands self.now text
+            → (IsTrue whole ↔ (text ≡ []))) }
+        ensures line { OnOk result ((text : List ℕ) → Stands self.now text
+            → Appends (W.held sink.old) (W.held sink.new) (end_line text)) }
+        ensures cut { OnErr result ((text : List ℕ) → Stands self.now text
+            → AppendsInPart (W.held sink.old) (W.held sink.new) (end_line text)) }
         ensures kept { OnOk result (W.has_failed sink.new ≡ W.has_failed sink.old) }
         ensures fails { IfErr result (λ e. (e ≡ Fault.Write) × (W.has_failed sink.new ≡ true)) }
     {

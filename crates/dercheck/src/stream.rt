@@ -8,7 +8,7 @@ pub(crate) const MAX_PULL: usize = 256;
 
 /// A stream of octets to read.
 pub trait Source {
-    // The octets left, where the source tells them.
+    // The octets left, where the source says them.
     ghost left: { Self → Option (List ℕ) };
 
     // Whether it has failed.
@@ -22,7 +22,8 @@ pub trait Source {
     fn pull(&mut self, buf: &mut [u8]) -> Option<usize>
         ensures within { IfSome result (λ n. n ≤ length buf.new) }
         ensures octets { PullTakes (left self.old) (left self.new) result buf.new }
-        ensures bound { MatchOption result (bound self.new ≤ bound self.old) (λ n. bound self.new + n ≤ bound self.old) }
+        ensures bound { MatchOption result (bound self.new ≤ bound self.old)
+            (λ n. bound self.new + n ≤ bound self.old) }
         ensures flag { FlagFollows (has_failed self.old) (has_failed self.new) result };
 
     /// Whether a pull has failed.
@@ -32,7 +33,7 @@ pub trait Source {
 
 /// A stream of octets to write.
 pub trait Sink {
-    // The octets that it holds, where the sink tells them.
+    // The octets that it holds, where the sink says them.
     ghost held: { Self → Option (List ℕ) };
 
     // Whether it has failed.

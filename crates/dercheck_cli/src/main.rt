@@ -1,5 +1,5 @@
-//! Answers the lines of standard input, each a DER text in hex, on standard output; or, with the word `frames`, writes
-//! a line for each element of standard input. All that it does with them is in the library `dercheck`.
+//! Answers the lines of standard input, each a DER encoding in hex, on standard output; or, with the word `frames`,
+//! writes a line for each element of standard input. All that it does with them is in the library `dercheck`.
 #![tactic(auto)]
 
 use dercheck::{Fault, Input, Mode, Output, check, frames, mode, status};
@@ -7,7 +7,7 @@ use std::io::{Read, Write};
 use std::process::ExitCode;
 use std::{env, io};
 
-/// The words behind the program's name, where all of them are text.
+/// The words after the program's name, where all of them are UTF-8.
 fn words(rt: &HostRuntime) -> Option<Vec<String>> {
     env::args(rt).ok()?.skip(1).collect(rt.alloc()).ok()
 }

@@ -102,7 +102,10 @@ impl<T: Asn1Type, C: Asn1DefinedBy<T>> Asn1DefinedBy<T> for Borrowed<'_, C> {
 }
 
 impl<T: Asn1Type, C: DefinedField<T>> DefinedField<T> for Borrowed<'_, C> {
-    ghost both = { record { item = C.both.item; value = defined_seen (λ x. x.value.now) C.both.value } };
+    ghost both = { record {
+      item = C.both.item;
+      value = defined_seen (λ x. x.value.now) C.both.value;
+    } };
 
     fn known_item(&self) {
         self.value.known_item()
@@ -145,7 +148,8 @@ pub fn both_have_one_text<
 
 /// Reads the item, as both are said together.
 fn read_item<'a, T: Asn1Readable<'a>, C: DefinedField<T>>(parser: &mut Parser<'a>) -> ParseResult<T>
-    ensures { Answers (λ v. (C.both.item.meaning v, parser.new)) (C.both.item.runs_out parser.old) result (C.both.item.read parser.old) }
+    ensures { Answers (λ v. (C.both.item.meaning v, parser.new)) (C.both.item.runs_out parser.old)
+        result (C.both.item.read parser.old) }
 {
     parser.read_element::<T>()
 }
@@ -155,7 +159,9 @@ fn read_value<'a, T: Asn1Readable<'a>, C: DefinedField<T> + Asn1DefinedByReadabl
     item: T,
     parser: &mut Parser<'a>,
 ) -> ParseResult<C>
-    ensures { Answers (λ v. (C.both.value.meaning v, parser.new)) (C.both.value.runs_out (C.both.item.meaning item) parser.old) result (C.both.value.read (C.both.item.meaning item) parser.old) }
+    ensures { Answers (λ v. (C.both.value.meaning v, parser.new))
+        (C.both.value.runs_out (C.both.item.meaning item) parser.old) result
+        (C.both.value.read (C.both.item.meaning item) parser.old) }
 {
     C::parse(item, parser)
 }
@@ -174,10 +180,12 @@ fn write_item<T: Asn1Writable + Drop, C: DefinedField<T> + Asn1DefinedByWritable
 ) -> Result<(), T::Error>
     requires { C.both.item.closures (C.both.value.item (C.both.value.meaning value.now)) }
     ensures same_buffer { buffer_name dest.new ≡ buffer_name dest.old }
-    ensures ok { OnOk result (Appends (C.both.item.texts (C.both.value.item (C.both.value.meaning value.now)))
+    ensures ok { OnOk result (Appends (C.both.item.texts
+        (C.both.value.item (C.both.value.meaning value.now)))
         (octets_of dest.old) (octets_of dest.new)) }
     ensures err { OnErr result (KeepsFront (octets_of dest.old) (octets_of dest.new)) }
-    ensures error { IfErr result (Refuses T.Error.from_gives (ItemOf C.both value.now T.write_errors)) }
+    ensures error { IfErr result (Refuses T.Error.from_gives
+        (ItemOf C.both value.now T.write_errors)) }
 {
     let item = value.item();
     dest.write_element(&item)
@@ -202,7 +210,8 @@ fn write_value<T: Asn1Writable, C: DefinedField<T> + Asn1DefinedByWritable<T>>(
 fn item_length<T: Asn1Writable + Drop, C: DefinedField<T> + Asn1DefinedByWritable<T>>(
     value: &C,
 ) -> Option<usize>
-    ensures { KnowsLength (C.both.item.texts (C.both.value.item (C.both.value.meaning value.now))) result }
+    ensures { KnowsLength (C.both.item.texts (C.both.value.item (C.both.value.meaning value.now)))
+        result }
 {
     let item = value.item();
     item.encoded_length()
@@ -247,7 +256,8 @@ impl<
     T: Asn1Writable<Error = E> + Drop,
     C: DefinedField<T> + Asn1DefinedByWritable<T, Error = E>,
 > RowWritable<E> for DefinedLast<T, C> {
-    ghost write_errors = { λ x e. (ItemOf C.both x.value T.write_errors e) ⊎ C.write_errors_by x.value e };
+    ghost write_errors = { λ x e. (ItemOf C.both x.value T.write_errors e)
+        ⊎ C.write_errors_by x.value e };
 
     fn write(&self, dest: &mut Writer<'_>) -> Result<(), E> {
         write_item::<T, C>(&self.value, dest)?;
@@ -299,7 +309,8 @@ impl<
     C: DefinedField<T> + Asn1DefinedByWritable<T, Error = E>,
     R: RowWritable<E>,
 > RowWritable<E> for Defined<T, C, R> {
-    ghost write_errors = { λ x e. (ItemOf C.both x.value T.write_errors e) ⊎ (C.write_errors_by x.value e ⊎ R.write_errors x.rest e) };
+    ghost write_errors = { λ x e. (ItemOf C.both x.value T.write_errors e)
+        ⊎ (C.write_errors_by x.value e ⊎ R.write_errors x.rest e) };
 
     fn write(&self, dest: &mut Writer<'_>) -> Result<(), E> {
         write_item::<T, C>(&self.value, dest)?;

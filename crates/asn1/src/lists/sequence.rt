@@ -34,7 +34,9 @@ impl<'a> Sequence<'a> {
         f: F,
     ) -> Result<T, E>
         requires { F.IsAlwaysCallable f }
-        ensures { (rest : List ℕ) × (answer : Result T E) × FnOnceReturnsAtMut F.FnOnce f (sequence_octets self.entry) answer rest × IsHandedOn E.from_gives answer rest result }
+        ensures { (rest : List ℕ) × (answer : Result T E)
+            × FnOnceReturnsAtMut F.FnOnce f (sequence_octets self.entry) answer rest
+            × IsHandedOn E.from_gives answer rest result }
     {
         parse(alloc, self.data, f)
     }

@@ -60,14 +60,16 @@ impl<'a, T: Asn1Readable<'a>, const MINIMUM_LEN: usize, const MAXIMUM_LEN: usize
 > {
     /// How many items remain. The count is kept: no item is read.
     pub fn len(&self) -> usize
-        ensures { result ≡ length (left T.der.read self.now.content.now) }
+        ensures { result ≡ length
+            (⟦<SequenceOf<'a, T, MINIMUM_LEN, MAXIMUM_LEN> as Asn1Type>⟧.der.meaning self.now) }
     {
         self.count
     }
 
     /// Whether no item remains.
     pub fn is_empty(&self) -> bool
-        ensures { result ≡ (length (left T.der.read self.now.content.now) == 0) }
+        ensures { result ≡ (length
+            (⟦<SequenceOf<'a, T, MINIMUM_LEN, MAXIMUM_LEN> as Asn1Type>⟧.der.meaning self.now) == 0) }
     {
         self.count == 0
     }
@@ -118,7 +120,8 @@ impl<'a, T: Asn1Type, const MINIMUM_LEN: usize, const MAXIMUM_LEN: usize> Hash
 
 impl<'a, T: Asn1Type, const MINIMUM_LEN: usize, const MAXIMUM_LEN: usize> Asn1Type
     for SequenceOf<'a, T, MINIMUM_LEN, MAXIMUM_LEN> {
-    ghost der = { simple_der (λ s. left T.der.read s.content.now) (items_inside MINIMUM_LEN MAXIMUM_LEN T.der) };
+    ghost der = { simple_der (λ s. left T.der.read s.content.now)
+        (items_inside MINIMUM_LEN MAXIMUM_LEN T.der) };
 
     fn known(&self) {
         self.content.known();
@@ -143,7 +146,10 @@ impl<
     }
 
     fn parse_data(alloc: Global, data: &'a [u8]) -> ParseResult<Self>
-        ensures { Answers (λ s. left T.der.read s.content.now) (λ places. items_out T.der.read T.der.runs_out (length «data».entry.now) 0 «data».entry.now places) result (sequence_read T.der.read MINIMUM_LEN MAXIMUM_LEN «data».entry.now) }
+        ensures { Answers (λ s. left T.der.read s.content.now)
+            (λ places. items_out T.der.read T.der.runs_out (length «data».entry.now) 0
+            «data».entry.now places) result (sequence_read T.der.read MINIMUM_LEN MAXIMUM_LEN
+            «data».entry.now) }
     {
         let count = count_items::<T>(alloc, data)?;
         if count < MINIMUM_LEN || count > MAXIMUM_LEN {
@@ -165,7 +171,8 @@ impl<
 /// Reads the item at an index. One without octets is rejected.
 #[inline]
 fn read_item<'a, T: Asn1Readable<'a>>(parser: &mut Parser<'a>, index: usize) -> ParseResult<T>
-    ensures answers { Answers (λ v. (T.der.meaning v, parser.new)) (item_out T.der.runs_out index parser.old) result (item T.der.read index parser.old) }
+    ensures answers { Answers (λ v. (T.der.meaning v, parser.new))
+        (item_out T.der.runs_out index parser.old) result (item T.der.read index parser.old) }
     ensures rest { EndsWith parser.old parser.new }
 {
     let before = parser.rest().len();
@@ -182,7 +189,8 @@ fn read_item<'a, T: Asn1Readable<'a>>(parser: &mut Parser<'a>, index: usize) -> 
 
 /// Counts the items of contents octets, each of which it reads.
 fn count_items<'a, T: Asn1Readable<'a>>(alloc: Global, content: &'a [u8]) -> ParseResult<usize>
-    ensures { Answers (λ n. n) (items_out T.der.read T.der.runs_out (length content.entry.now) 0 content.entry.now) result (counted T.der.read 0 content.entry.now) }
+    ensures { Answers (λ n. n) (items_out T.der.read T.der.runs_out (length content.entry.now) 0
+        content.entry.now) result (counted T.der.read 0 content.entry.now) }
 {
     let mut parser = Parser::new(alloc, content);
     let mut count = 0;
@@ -208,7 +216,8 @@ fn behind_element<'a>(alloc: Global, content: &'a [u8]) -> &'a [u8]
 fn read_first<'a, T: Asn1Readable<'a>>(parser: &mut Parser<'a>, count: usize) -> ParseResult<T>
     requires some { 0 < length parser.now }
     requires are_items { AreItems T.der.read parser.now count }
-    ensures item { NextItem (T.der.runs_out parser.old) T.der.meaning (left T.der.read parser.old) (Some result) (left T.der.read parser.new) }
+    ensures item { NextItem (T.der.runs_out parser.old) T.der.meaning (left T.der.read parser.old)
+        (Some result) (left T.der.read parser.new) }
     ensures after { AreItems T.der.read parser.new (count - 1) }
     ensures counted { 0 < count }
 {
@@ -228,7 +237,8 @@ impl<'a, T: Asn1Readable<'a>, const MINIMUM_LEN: usize, const MAXIMUM_LEN: usize
     for SequenceOf<'a, T, MINIMUM_LEN, MAXIMUM_LEN> {
     type Item = ParseResult<T>;
 
-    ghost next_gives = { λ s r t. NextItem (T.der.runs_out s.content.now) T.der.meaning (left T.der.read s.content.now) r (left T.der.read t.content.now) };
+    ghost next_gives = { λ s r t. NextItem (T.der.runs_out s.content.now) T.der.meaning
+        (left T.der.read s.content.now) r (left T.der.read t.content.now) };
 
     ghost remaining = { λ s. at_most s.count };
 

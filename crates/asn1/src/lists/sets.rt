@@ -40,7 +40,9 @@ fn read_in_order<'a, T: Asn1Readable<'a>>(
     before: &'a [u8],
     index: usize,
 ) -> ParseResult<(T, &'a [u8])>
-    ensures answers { Answers (λ x. (T.der.meaning x.0, x.1.now, parser.new)) (set_item_out text_less T.der.runs_out before.now index parser.old) result (set_item text_less T.der.read before.now index parser.old) }
+    ensures answers { Answers (λ x. (T.der.meaning x.0, x.1.now, parser.new))
+        (set_item_out text_less T.der.runs_out before.now index parser.old) result
+        (set_item text_less T.der.read before.now index parser.old) }
     ensures rest { EndsWith parser.old parser.new }
 {
     let tlv = match parser.read_element::<Tlv<'a>>() {
@@ -59,7 +61,9 @@ fn read_in_order<'a, T: Asn1Readable<'a>>(
 
 /// Reads the items of contents octets, and rejects them where they aren't in order.
 fn check_items<'a, T: Asn1Readable<'a>>(alloc: Global, content: &'a [u8]) -> ParseResult<()>
-    ensures { Answers (λ x. x) (set_out text_less T.der.read T.der.runs_out [] (length content.entry.now) 0 content.entry.now) result (checked text_less T.der.read [] 0 content.entry.now) }
+    ensures { Answers (λ x. x) (set_out text_less T.der.read T.der.runs_out []
+        (length content.entry.now) 0 content.entry.now) result
+        (checked text_less T.der.read [] 0 content.entry.now) }
 {
     let mut parser = Parser::new(alloc, content);
     let mut before = &content[..0];
@@ -74,7 +78,8 @@ fn check_items<'a, T: Asn1Readable<'a>>(alloc: Global, content: &'a [u8]) -> Par
 
 /// Reads the element at an index, after one with the tag `last`: framing, then its place in the order of tags.
 fn read_behind<'a>(parser: &mut Parser<'a>, last: Option<Tag>, index: usize) -> ParseResult<Tlv<'a>>
-    ensures answers { Answers (λ t. (element_of t, parser.new)) (λ places. ⊥) result (element_behind last index parser.old) }
+    ensures answers { Answers (λ t. (element_of t, parser.new)) (λ places. ⊥) result
+        (element_behind last index parser.old) }
     ensures rest { EndsWith parser.old parser.new }
 {
     let tlv = match parser.read_element::<Tlv<'a>>() {
@@ -92,7 +97,8 @@ fn read_behind<'a>(parser: &mut Parser<'a>, last: Option<Tag>, index: usize) -> 
 
 /// Reads the elements of contents octets, and rejects them where their tags aren't in order.
 fn check_elements(alloc: Global, content: &[u8]) -> ParseResult<()>
-    ensures { Answers (λ x. x) (λ places. ⊥) result (checked tag_less element_front [] 0 content.entry.now) }
+    ensures { Answers (λ x. x) (λ places. ⊥) result
+        (checked tag_less element_front [] 0 content.entry.now) }
 {
     let mut parser = Parser::new(alloc, content);
     let mut last = None;
@@ -267,7 +273,8 @@ impl<'a, T: Asn1Type> Hash for SetOf<'a, T> {
 }
 
 impl<'a, T: Asn1Type> Asn1Type for SetOf<'a, T> {
-    ghost der = { simple_der (λ s. set_left text_less T.der.read s.content.now) (set_inside T.der) };
+    ghost der = { simple_der (λ s. set_left text_less T.der.read s.content.now)
+        (set_inside T.der) };
 
     fn known(&self) {
         self.content.known();
@@ -287,7 +294,9 @@ impl<'a, T: Asn1Readable<'a>> SimpleAsn1Readable<'a> for SetOf<'a, T> {
     }
 
     fn parse_data(alloc: Global, data: &'a [u8]) -> ParseResult<Self>
-        ensures { Answers (λ s. set_left text_less T.der.read s.content.now) (λ places. set_out text_less T.der.read T.der.runs_out [] (length «data».entry.now) 0 «data».entry.now places) result (set_read text_less T.der.read «data».entry.now) }
+        ensures { Answers (λ s. set_left text_less T.der.read s.content.now)
+            (λ places. set_out text_less T.der.read T.der.runs_out [] (length «data».entry.now) 0
+            «data».entry.now places) result (set_read text_less T.der.read «data».entry.now) }
     {
         check_items::<T>(alloc, data)?;
         Ok(SetOf {
@@ -303,7 +312,9 @@ impl<'a, T: Asn1Readable<'a>> SimpleAsn1Readable<'a> for SetOf<'a, T> {
 fn read_first<'a, T: Asn1Readable<'a>>(parser: &mut Parser<'a>) -> ParseResult<T>
     requires some { 0 < length parser.now }
     requires are_ordered { AreOrdered text_less T.der.read parser.now }
-    ensures item { NextItem (first_out T.der.runs_out parser.old) T.der.meaning (set_left text_less T.der.read parser.old) (Some result) (set_left text_less T.der.read parser.new) }
+    ensures item { NextItem (first_out T.der.runs_out parser.old) T.der.meaning
+        (set_left text_less T.der.read parser.old) (Some result)
+        (set_left text_less T.der.read parser.new) }
     ensures after { AreOrdered text_less T.der.read parser.new }
     ensures shorter { length parser.new < length parser.old }
 {
@@ -317,7 +328,9 @@ fn read_first<'a, T: Asn1Readable<'a>>(parser: &mut Parser<'a>) -> ParseResult<T
 impl<'a, T: Asn1Readable<'a>> Iterator for SetOf<'a, T> {
     type Item = ParseResult<T>;
 
-    ghost next_gives = { λ s r t. NextItem (first_out T.der.runs_out s.content.now) T.der.meaning (set_left text_less T.der.read s.content.now) r (set_left text_less T.der.read t.content.now) };
+    ghost next_gives = { λ s r t. NextItem (first_out T.der.runs_out s.content.now) T.der.meaning
+        (set_left text_less T.der.read s.content.now) r
+        (set_left text_less T.der.read t.content.now) };
 
     ghost remaining = { λ s. at_most (length s.content.now) };
 
@@ -368,7 +381,8 @@ fn set_items_length<'a, T: Asn1Readable<'a> + Asn1Writable>(
     items: &'a [u8],
 ) -> Option<usize>
     requires { AreOrdered text_less T.der.read items.now }
-    ensures { KnowsLength (Joins T.der.texts (set_left text_less T.der.read items.entry.now)) result }
+    ensures { KnowsLength
+        (Joins T.der.texts (set_left text_less T.der.read items.entry.now)) result }
 {
     let mut parser = Parser::new(alloc, items);
     let mut total = 0usize;

@@ -12,7 +12,7 @@ use asn1_core::{
 ///
 /// Reading frames the element first. `UnexpectedTag` where the alternative doesn't accept its tag; else the error is
 /// the alternative's. Writing returns `AllocationError`, or an error that the alternative names.
-#[derive(Debug, PartialEq, Eq, Drop)]
+#[derive(Debug, Clone, Copy, PartialEq, Eq, Hash)]
 pub enum Choice1<T1> {
     /// A value of the first type.
     ChoiceA(T1),
@@ -65,7 +65,7 @@ impl<T1: Asn1Writable<Error = WriteError>> Asn1Writable for Choice1<T1> {
 /// Reading frames the element first. The first alternative that accepts its tag reads it, and where that rejects it,
 /// the second isn't tried. `UnexpectedTag` where none accepts the tag. What is written is read back where no tag is
 /// accepted by both ([`crate::laws_wrappers::choices_are_lawful`]).
-#[derive(Debug, PartialEq, Eq, Drop)]
+#[derive(Debug, Clone, Copy, PartialEq, Eq, Hash)]
 pub enum Choice2<T1, T2> {
     /// A value of the first type.
     ChoiceA(T1),
@@ -74,7 +74,8 @@ pub enum Choice2<T1, T2> {
 }
 
 impl<T1: Asn1Type, T2: Asn1Type> Asn1Type for Choice2<T1, T2> {
-    ghost der = { choice_der (choice2_meaning T1.der.meaning T2.der.meaning) (or T1.der (only T2.der)) };
+    ghost der = { choice_der (choice2_meaning T1.der.meaning T2.der.meaning)
+        (or T1.der (only T2.der)) };
 
     fn known(&self) {
         match self {
@@ -130,7 +131,7 @@ impl<T1: Asn1Writable<Error = WriteError>, T2: Asn1Writable<Error = WriteError>>
 /// Reading frames the element first. The first alternative that accepts its tag reads it, and where that rejects it, no
 /// further one is tried. `UnexpectedTag` where none accepts the tag. What is written is read back where no tag is
 /// accepted by two ([`crate::laws_wrappers::choices_are_lawful`]).
-#[derive(Debug, PartialEq, Eq, Drop)]
+#[derive(Debug, Clone, Copy, PartialEq, Eq, Hash)]
 pub enum Choice3<T1, T2, T3> {
     /// A value of the first type.
     ChoiceA(T1),
@@ -141,7 +142,8 @@ pub enum Choice3<T1, T2, T3> {
 }
 
 impl<T1: Asn1Type, T2: Asn1Type, T3: Asn1Type> Asn1Type for Choice3<T1, T2, T3> {
-    ghost der = { choice_der (choice3_meaning T1.der.meaning T2.der.meaning T3.der.meaning) (or T1.der (or T2.der (only T3.der))) };
+    ghost der = { choice_der (choice3_meaning T1.der.meaning T2.der.meaning T3.der.meaning)
+        (or T1.der (or T2.der (only T3.der))) };
 
     fn known(&self) {
         match self {

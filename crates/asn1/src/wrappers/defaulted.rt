@@ -3,7 +3,7 @@
 ghost use Rattle.std.specs.Prelude.{◌≡◌};
 ghost use Rattle.asn1.specs.InHand.{defaulted_inner};
 ghost use Rattle.asn1.specs.Defaults.{or_read_default, same_text, seen_ok};
-ghost use Rattle.asn1.specs.Defaulted.{EqualityTells, default_der};
+ghost use Rattle.asn1.specs.Defaulted.{ContentTells, EqualityTells, default_der};
 
 use crate::wrappers::defaults::from_optional_default;
 use asn1_core::{
@@ -16,6 +16,13 @@ use std::marker::PhantomData;
 pub trait MeaningEq: Asn1Type + PartialEq {
     // Values that are equal mean the same, and values with the same encoding are equal.
     ghost tells: { (a b : Self) → EqualityTells Self.der.meaning Self.der.text Self.eq a b };
+}
+
+/// The same of a type with a tag of its own, by its contents octets: so it may have another tag ([`crate::Implicit`]).
+pub trait SimpleMeaningEq: MeaningEq + Asn1Type + PartialEq {
+    // Values with the same contents octets are equal.
+    ghost content_tells: { (a b : Self) → ContentTells Self.der.meaning Self.der.content.text
+        Self.eq a b };
 }
 
 /// A default of the type `T`, said once.
@@ -31,7 +38,7 @@ pub trait DefaultValue<T: Asn1Type> {
 ///
 /// Reading returns the default where no tag that the type accepts is next. A default that is encoded nevertheless is
 /// rejected with `EncodedDefault`; other errors are the type's.
-#[derive(Debug, PartialEq, Eq, Drop)]
+#[derive_where(Debug, Clone, Copy, PartialEq, Eq, Hash; T)]
 pub struct Defaulted<T, D> {
     inner: T,
     default: PhantomData<D>,

@@ -72,7 +72,10 @@ impl<T: Asn1Writable, U: Asn1DefinedByWritable<T>, const TAG: u32> Asn1DefinedBy
 }
 
 impl<T: Asn1Type, U: DefinedField<T>, const TAG: u32> DefinedField<T> for Explicit<U, TAG> {
-    ghost both = { record { item = U.both.item; value = defined_inside (explicit_tag_of TAG) explicit_inner U.both.value } };
+    ghost both = { record {
+      item = U.both.item;
+      value = defined_inside (explicit_tag_of TAG) explicit_inner U.both.value;
+    } };
 
     fn known_item(&self) {
         self.as_inner().known_item()

@@ -18,7 +18,7 @@ use std::fmt;
 ///
 /// Errors of reading, after framing's: `UnexpectedTag`, the first error of `T` in the contents octets, `ExtraData`
 /// where octets remain there. Writing returns what writing `T` does.
-#[derive(Debug, PartialEq, Eq, Drop)]
+#[derive(Debug, Clone, Copy, PartialEq, Eq, Hash)]
 pub struct Explicit<T, const TAG: u32> {
     inner: T,
 }
@@ -55,7 +55,8 @@ impl<T, const TAG: u32> From<T> for Explicit<T, TAG> {
 }
 
 impl<T: Asn1Type, const TAG: u32> Asn1Type for Explicit<T, TAG> {
-    ghost der = { simple_der (λ x. T.der.meaning (explicit_inner x)) (one_inside (explicit_tag_of TAG) T.der) };
+    ghost der = { simple_der (λ x. T.der.meaning (explicit_inner x))
+        (one_inside (explicit_tag_of TAG) T.der) };
 
     fn known(&self) {
         self.inner.known()
@@ -98,7 +99,7 @@ impl<T: Asn1Writable, const TAG: u32> SimpleAsn1Writable for Explicit<T, TAG> {
 ///
 /// Errors of reading, after framing's: `UnexpectedTag`, then the first error of `T` in the contents octets. Writing
 /// returns what writing `T` does.
-#[derive(Debug, PartialEq, Eq, Drop)]
+#[derive(Debug, Clone, Copy, PartialEq, Eq, Hash)]
 pub struct Implicit<T, const TAG: u32> {
     inner: T,
 }
@@ -135,7 +136,8 @@ impl<T, const TAG: u32> From<T> for Implicit<T, TAG> {
 }
 
 impl<T: Asn1Type, const TAG: u32> Asn1Type for Implicit<T, TAG> {
-    ghost der = { simple_der (λ x. T.der.meaning (implicit_inner x)) (retagged (implicit_tag_of TAG) T.der.content) };
+    ghost der = { simple_der (λ x. T.der.meaning (implicit_inner x))
+        (retagged (implicit_tag_of TAG) T.der.content) };
 
     fn known(&self) {
         self.inner.known()
@@ -174,7 +176,7 @@ impl<T: SimpleAsn1Writable, const TAG: u32> SimpleAsn1Writable for Implicit<T, T
 ///
 /// Errors of reading, after framing's: `UnexpectedTag`, the first error of `T` in the contents octets, `ExtraData`
 /// where octets remain there. Writing returns what writing `T` does.
-#[derive(PartialEq, Eq, Drop)]
+#[derive(Clone, Copy, PartialEq, Eq, Hash)]
 pub struct OctetStringEncoded<T> {
     inner: T,
 }
@@ -211,7 +213,8 @@ impl<T> OctetStringEncoded<T> {
 }
 
 impl<T: Asn1Type> Asn1Type for OctetStringEncoded<T> {
-    ghost der = { simple_der (λ x. T.der.meaning (octet_string_inner x)) (one_inside (universal 4) T.der) };
+    ghost der = { simple_der (λ x. T.der.meaning (octet_string_inner x))
+        (one_inside (universal 4) T.der) };
 
     fn known(&self) {
         self.inner.known()

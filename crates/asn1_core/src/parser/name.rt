@@ -57,7 +57,8 @@ impl Model for Name {
 
     ghost view = { λ n. n.lasting.octets };
 
-    ghost invariant = { λ n. (n.start ≡ n.lasting.start) × (n.count ≡ length n.lasting.octets) × IsUtf8 n.lasting.octets };
+    ghost invariant = { λ n. (n.start ≡ n.lasting.start) × (n.count ≡ length n.lasting.octets)
+        × IsUtf8 n.lasting.octets };
 }
 
 // The octets are never changed, and nothing of them is freed.

@@ -2,7 +2,8 @@
 
 ghost use Rattle.std.specs.Prelude.{◌≡◌, OnOk, OnErr, IfErr};
 ghost use Rattle.asn1_core.specs.Buffer.{Appends, KeepsFront};
-ghost use Rattle.asn1_core.specs.Reading.{Answers, EndsWith};
+ghost use Rattle.asn1_core.specs.Reading.{EndsWith};
+ghost use Rattle.asn1_core.specs.Reads.{ReadsDefined};
 ghost use Rattle.asn1_core.specs.Writers.{buffer_name, octets_of};
 ghost use Rattle.asn1_core.specs.Writing.{KnowsLength, Refuses};
 ghost use Rattle.asn1_core.specs.DefinedBy.{ByItem};
@@ -27,9 +28,10 @@ pub trait Asn1DefinedByReadable<'a, T: Asn1Readable<'a>>: Asn1DefinedBy<T> + Siz
     /// Reads a value that `item` defines. Returns the value, or the first error for that item, as `UnknownDefinedBy`,
     /// or `AllocationError` where the type takes memory; the parser is then before a suffix of what remained.
     fn parse(item: T, parser: &mut Parser<'a>) -> ParseResult<Self>
-        ensures answers { Answers (λ v. (Self.by.means.meaning v, parser.new)) (Self.by.means.runs_out (Self.by.seen item) parser.old) result (Self.by.means.read (Self.by.seen item) parser.old) }
+        ensures answers { ReadsDefined Self.by item parser.old parser.new result }
         ensures rest { EndsWith parser.old parser.new }
-        ensures stops { OnErr result (Self.by.means.stops (Self.by.seen item) parser.old parser.new) };
+        ensures stops { OnErr result
+            (Self.by.means.stops (Self.by.seen item) parser.old parser.new) };
 
     /// States that each value has one encoding. It does nothing at run time, or calls that of the parts.
     fn one_text()

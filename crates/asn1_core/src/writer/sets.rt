@@ -85,7 +85,8 @@ fn write_items<T: Asn1Writable>(
 ) -> Result<(), T::Error>
     requires closures { Each T.der.closures (map T.der.meaning items.now) }
     requires spans { spans.old.items ≡ [] }
-    ensures ok { OnOk result (NotesTexts (λ v. T.der.texts (T.der.meaning v)) items.now dest.new.bytes spans.new.items) }
+    ensures ok { OnOk result (NotesTexts (λ v. T.der.texts (T.der.meaning v)) items.now
+        dest.new.bytes spans.new.items) }
     ensures front { KeepsFront dest.old.bytes dest.new.bytes }
     ensures error { IfErr result (Refuses T.Error.from_gives (AnyNames T.write_errors items.now)) }
 {
@@ -106,7 +107,8 @@ fn write_items<T: Asn1Writable>(
 /// Appends the octets of the spans of the buffer, in this order.
 fn push_spans(dest: &mut WriteBuf, spans: &[Span]) -> WriteResult<()>
     requires { All (IsWithin (length dest.old.bytes)) spans.now }
-    ensures ok { OnOk result (dest.new.bytes ≡ dest.old.bytes ++ join (map (part_of dest.old.bytes) spans.now)) }
+    ensures ok { OnOk result (dest.new.bytes
+        ≡ dest.old.bytes ++ join (map (part_of dest.old.bytes) spans.now)) }
     ensures err { OnErr result (KeepsFront dest.old.bytes dest.new.bytes) }
     ensures error { IsOkUnless result WriteError.AllocationError }
 {
@@ -120,7 +122,8 @@ fn push_spans(dest: &mut WriteBuf, spans: &[Span]) -> WriteResult<()>
 /// are moved down over the first.
 fn write_listing<T: Asn1Writable>(items: &[T], dest: &mut WriteBuf) -> Result<(), T::Error>
     requires { Each T.der.closures (map T.der.meaning items.now) }
-    ensures ok { OnOk result (Appends (ListingOf T.der.texts (map T.der.meaning items.now)) dest.old.bytes dest.new.bytes) }
+    ensures ok { OnOk result (Appends (ListingOf T.der.texts (map T.der.meaning items.now))
+        dest.old.bytes dest.new.bytes) }
     ensures err { OnErr result (KeepsFront dest.old.bytes dest.new.bytes) }
     ensures error { IfErr result (Refuses T.Error.from_gives (AnyNames T.write_errors items.now)) }
 {
@@ -209,7 +212,11 @@ impl<'a> Model for SetElementWriter<'a> {
 
     ghost Value = { SetState };
 
-    ghost view = { λ s. record { front = take s.start s.buf.bytes; done = drop s.start s.buf.bytes; last = s.last } };
+    ghost view = { λ s. record {
+      front = take s.start s.buf.bytes;
+      done = drop s.start s.buf.bytes;
+      last = s.last;
+    } };
 
     ghost invariant = { λ s. IsSetWithin s.buf.bytes s.start s.last };
 }
@@ -260,7 +267,9 @@ impl<'a> SetElementWriter<'a> {
         ensures elements { IsElementWritten T.der (T.der.meaning val.now)
             → OnOk result (KeepsElements self.old self.new) }
         ensures err { OnErr result (self.new ≡ self.old) }
-        ensures error { IfErr result (λ e. Refuses T.Error.from_gives (T.write_errors val.now) e ⊎ (IsOutOfOrder (T.der.texts (T.der.meaning val.now)) self.old × T.Error.from_gives InvalidSetOrdering e)) }
+        ensures error { IfErr result (λ e. Refuses T.Error.from_gives (T.write_errors val.now) e
+            ⊎ (IsOutOfOrder (T.der.texts (T.der.meaning val.now)) self.old
+            × T.Error.from_gives InvalidSetOrdering e)) }
     {
         let before = self.buf.len();
         Writer::new(&mut self.buf).write_element(val)?;
@@ -280,7 +289,8 @@ impl<'a> SetElementWriter<'a> {
 /// The tag at the start of the octets, where it doesn't come before the last one.
 fn tag_behind(last: Option<Tag>, octets: &[u8]) -> Option<Tag>
     ensures some { IfSome result (StandsBehind last octets.now) }
-    ensures none { result ≡ None → (tag_in_front octets.now ≡ None) ⊎ (before_tag (tag_in_front octets.now) last ≡ true) }
+    ensures none { result ≡ None → (tag_in_front octets.now ≡ None)
+        ⊎ (before_tag (tag_in_front octets.now) last ≡ true) }
 {
     let Ok((tag, _rest)) = Tag::in_front(octets) else {
         return None;

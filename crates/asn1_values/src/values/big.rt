@@ -1,15 +1,16 @@
-//! INTEGER of any length (X.690 8.3), whose contents octets are borrowed.
+//! INTEGER of any length (X.690 8.3), whose contents octets are borrowed; and what is said of contents octets.
 
-ghost use Rattle.std.specs.Prelude.{◌≡◌, ◌^◌, ◌<◌, length, pos, int_lt, Some, MatchOption};
+ghost use Rattle.std.specs.Prelude.{◌≡◌, ℕ, ◌+◌, ◌*◌, ◌-◌, ◌/◌, ◌^◌, ◌∷◌, ◌<◌, ◌≤◌, ◌↔◌, length, pos, int_lt, IsTrue, Some, MatchOption, EachIndex, slice_index};
+ghost use Rattle.asn1_core.specs.Text.{number, signed_number};
 ghost use Rattle.asn1_core.specs.Tag.{universal};
 ghost use Rattle.asn1_core.specs.Integer.{integer_content, read_integer};
 ghost use Rattle.asn1_core.specs.Reading.{Answers};
 ghost use Rattle.asn1_core.specs.Writing.{KnowsLength};
 ghost use Rattle.asn1_core.specs.Der.{simple_der};
-ghost use Rattle.asn1_values.specs.Big.{IsSigned, IsUnsigned, IsSignedForm, IsUnsignedForm, bit_count, read_unsigned};
+ghost use Rattle.asn1_values.specs.Big.{IsSigned, IsUnsigned, IsSignedForm, IsUnsignedForm, IsMagnitude, bit_count, magnitude, read_unsigned};
 ghost use Rattle.asn1_values.specs.BigContents.{signed_content, unsigned_content};
 
-use crate::values::{bit_length, is_negative, is_signed_content, is_unsigned_content};
+use asn1_core::types::is_integer_content;
 use asn1_core::{
     Asn1Type, ParseError, ParseErrorKind, ParseResult, SimpleAsn1Readable, SimpleAsn1Writable, Tag,
     WriteBuf, WriteError, WriteResult,
@@ -34,7 +35,8 @@ impl<'a> BigUint<'a> {
     /// are more than one and the first nine bits are all zero or all one; and where the number is negative, since the
     /// top bit is set.
     pub fn new(octets: &'a [u8]) -> Option<BigUint<'a>>
-        ensures { MatchOption result (¬ IsUnsigned octets.entry.now) (λ n. big_uint_octets n ≡ octets.entry.now) }
+        ensures { MatchOption result (¬ IsUnsigned octets.entry.now)
+            (λ n. big_uint_octets n ≡ octets.entry.now) }
     {
         if !is_unsigned_content(octets) {
             return None;
@@ -131,7 +133,8 @@ impl<'a> BigInt<'a> {
     /// The integer with these contents octets in two's complement, the most significant first. `None` where there is no
     /// octet, and where there are more than one and the first nine bits are all zero or all one.
     pub fn new(octets: &'a [u8]) -> Option<BigInt<'a>>
-        ensures { MatchOption result (¬ IsSigned octets.entry.now) (λ n. big_int_octets n ≡ octets.entry.now) }
+        ensures { MatchOption result (¬ IsSigned octets.entry.now)
+            (λ n. big_int_octets n ≡ octets.entry.now) }
     {
         if !is_signed_content(octets) {
             return None;
@@ -225,5 +228,80 @@ impl SimpleAsn1Writable for BigInt<'_> {
         ensures exact { result ≡ Some (length (integer_content (big_int_number self.now))) }
     {
         Some(self.octets.len())
+    }
+}
+
+/// Whether the octets are contents octets of an INTEGER.
+pub(super) fn is_signed_content(octets: &[u8]) -> bool
+    ensures { IsTrue result ↔ IsSigned octets.now }
+{
+    is_integer_content(octets)
+}
+
+/// Whether the octets are contents octets of an INTEGER that isn't negative.
+pub(super) fn is_unsigned_content(octets: &[u8]) -> bool
+    ensures { IsTrue result ↔ IsUnsigned octets.now }
+{
+    is_integer_content(octets) && octets[0] < 0x80
+}
+
+/// Whether the number of contents octets is negative.
+pub(super) fn is_negative(octets: &[u8]) -> bool
+    requires { IsSigned octets.now }
+    ensures { result ≡ int_lt (signed_number octets.now) (pos 0) }
+{
+    octets[0] >= 0x80
+}
+
+/// Whether each octet is zero.
+fn is_zero(octets: &[u8]) -> bool
+    ensures { IsTrue result ↔ EachIndex octets.now (λ k. slice_index octets.now k ≡ 0) }
+{
+    octets.iter().all(|octet| *octet == 0)
+}
+
+/// The absolute value of the number of octets, in units of the weight of the first. The number is signed or not.
+fn leading(is_negative: bool, first: u8, others: &[u8]) -> u16
+    ensures value { result ≡ magnitude is_negative (first ∷ others.now) / 256 ^ length others.now }
+    ensures small { result < 2 ^ 9 }
+{
+    let first = u16::from(first);
+    if !is_negative {
+        first
+    } else if is_zero(others) {
+        0x100 - first
+    } else {
+        0xff - first
+    }
+}
+
+/// The contents octets without a first one that shows the sign and no more: its bits are all zero or all one.
+fn without_sign(octets: &[u8]) -> &[u8]
+    requires { IsSigned octets.now }
+    ensures magnitude { IsMagnitude octets.now result.now
+        (int_lt (signed_number octets.now) (pos 0)) }
+    ensures few { length result.now ≤ length octets.now }
+{
+    if octets[0] == 0x00 || octets[0] == 0xff {
+        &octets[1..]
+    } else {
+        octets
+    }
+}
+
+/// How many binary digits the absolute value of the number of contents octets has.
+pub(super) fn bit_length(octets: &[u8]) -> usize
+    requires content { IsSigned octets.now }
+    requires few { length octets.now < 2 ^ 61 }
+    ensures { result ≡ bit_count (signed_number octets.now) }
+{
+    let is_negative = is_negative(octets);
+    let rest = without_sign(octets);
+    match rest {
+        [] => usize::from(is_negative),
+        [first, others @ ..] => {
+            let high = leading(is_negative, *first, others);
+            8 * others.len() + high.ilog2() as usize + 1
+        }
     }
 }

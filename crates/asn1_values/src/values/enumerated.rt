@@ -39,7 +39,8 @@ impl Enumerated {
 impl Asn1Type for Enumerated {
     ghost use Rattle.asn1_values.specs.Enumerated.{enumerated_value};
 
-    ghost der = { simple_der (λ e. pos (enumerated_value e)) (sized_content (universal 10) (pos 0) (pos (2 ^ 32) -ℤ pos 1)) };
+    ghost der = { simple_der (λ e. pos (enumerated_value e))
+        (sized_content (universal 10) (pos 0) (pos (2 ^ 32) -ℤ pos 1)) };
 
     fn known(&self) {
         // Reading the number tells that it is in its type's range.

@@ -40,7 +40,9 @@ impl GeneralizedTime {
     /// The time. The error is `InvalidValue`, without a location, where the year is after 9999, or there are
     /// nanoseconds and they are 0 or above 999999999.
     pub fn new(datetime: DateTime, nanoseconds: Option<u32>) -> ParseResult<GeneralizedTime>
-        ensures { MatchResult result (λ t. instant_of t ≡ instant (moment datetime) nanoseconds) (λ e. (e ≡ fault InvalidValue) × ¬ (((moment datetime).year ≤ 9999) × IsNanoseconds nanoseconds)) }
+        ensures { MatchResult result (λ t. instant_of t ≡ instant (moment datetime) nanoseconds)
+            (λ e. (e ≡ fault InvalidValue) × ¬ (((moment datetime).year ≤ 9999)
+            × IsNanoseconds nanoseconds)) }
     {
         if datetime.year() > 9999 || !is_fraction(nanoseconds) {
             return Err(ParseError::new(ParseErrorKind::InvalidValue));

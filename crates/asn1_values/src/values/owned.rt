@@ -7,7 +7,7 @@ ghost use Rattle.asn1_core.specs.Boxed.{boxed};
 ghost use Rattle.asn1_values.specs.Big.{IsSigned, IsUnsigned, IsSignedForm, IsUnsignedForm, bit_count};
 ghost use Rattle.asn1_values.specs.BigContents.{signed_content, unsigned_content};
 
-use crate::values::{bit_length, is_negative, is_signed_content, is_unsigned_content};
+use crate::values::big::{bit_length, is_negative, is_signed_content, is_unsigned_content};
 use asn1_core::{
     Asn1Type, ParseError, ParseErrorKind, ParseResult, SimpleAsn1Readable, SimpleAsn1Writable, Tag,
     WriteBuf, WriteError, WriteResult,
@@ -31,7 +31,8 @@ impl OwnedBigUint {
     /// are more than one and the first nine bits are all zero or all one; and where the number is negative, since the
     /// top bit is set.
     pub fn new(octets: Vec<u8>) -> Option<OwnedBigUint>
-        ensures { MatchOption result (¬ IsUnsigned octets.items) (λ n. owned_big_uint_octets n ≡ octets.items) }
+        ensures { MatchOption result (¬ IsUnsigned octets.items)
+            (λ n. owned_big_uint_octets n ≡ octets.items) }
     {
         if !is_unsigned_content(octets.as_slice()) {
             return None;
@@ -130,7 +131,8 @@ impl OwnedBigInt {
     /// The integer with these contents octets in two's complement, the most significant first. `None` where there is no
     /// octet, and where there are more than one and the first nine bits are all zero or all one.
     pub fn new(octets: Vec<u8>) -> Option<OwnedBigInt>
-        ensures { MatchOption result (¬ IsSigned octets.items) (λ n. owned_big_int_octets n ≡ octets.items) }
+        ensures { MatchOption result (¬ IsSigned octets.items)
+            (λ n. owned_big_int_octets n ≡ octets.items) }
     {
         if !is_signed_content(octets.as_slice()) {
             return None;

@@ -57,7 +57,8 @@ fn is_visible_text(octets: &[u8]) -> bool
 /// The octets as `str`, where they follow their rule. Those that do are UTF-8.
 fn text_in(octets: &[u8], is_text: bool) -> Option<&str>
     requires { is_text ≡ true → IsUtf8 octets.now }
-    ensures { MatchOption result (is_text ≡ false) (λ text. (is_text ≡ true) × (text.now ≡ octets.entry.now)) }
+    ensures { MatchOption result (is_text ≡ false)
+        (λ text. (is_text ≡ true) × (text.now ≡ octets.entry.now)) }
 {
     if !is_text {
         return None;
@@ -78,7 +79,8 @@ impl<'a> PrintableString<'a> {
 
     /// The string with these characters. `None` where one isn't a letter, a digit, a space or one of `'()+,-./:=?`.
     pub fn new(text: &'a str) -> Option<PrintableString<'a>>
-        ensures { MatchOption result (¬ IsTextOf is_printable_text text.entry.now) (λ s. printable_octets s ≡ text.entry.now) }
+        ensures { MatchOption result (¬ IsTextOf is_printable_text text.entry.now)
+            (λ s. printable_octets s ≡ text.entry.now) }
     {
         if !is_printable_text(text.as_bytes()) {
             return None;
@@ -134,7 +136,8 @@ impl<'a> SimpleAsn1Readable<'a> for PrintableString<'a> {
 
     #[inline]
     fn parse_data(_alloc: Global, data: &'a [u8]) -> ParseResult<PrintableString<'a>>
-        ensures { Answers printable_octets (λ _. ⊥) result (read_text is_printable_text «data».entry.now) }
+        ensures { Answers printable_octets (λ _. ⊥) result
+            (read_text is_printable_text «data».entry.now) }
     {
         match text_in(data, is_printable_text(data)) {
             Some(text) => Ok(PrintableString { text }),
@@ -182,7 +185,8 @@ impl<'a> IA5String<'a> {
 
     /// The string with these characters. `None` where one isn't ASCII.
     pub fn new(text: &'a str) -> Option<IA5String<'a>>
-        ensures { MatchOption result (¬ IsTextOf is_ia5_text text.entry.now) (λ s. ia5_octets s ≡ text.entry.now) }
+        ensures { MatchOption result (¬ IsTextOf is_ia5_text text.entry.now)
+            (λ s. ia5_octets s ≡ text.entry.now) }
     {
         if !is_ia5_text(text.as_bytes()) {
             return None;
@@ -286,7 +290,8 @@ impl<'a> VisibleString<'a> {
 
     /// The string with these characters. `None` where one isn't ASCII, or is a control character.
     pub fn new(text: &'a str) -> Option<VisibleString<'a>>
-        ensures { MatchOption result (¬ IsTextOf is_visible_text text.entry.now) (λ s. visible_octets s ≡ text.entry.now) }
+        ensures { MatchOption result (¬ IsTextOf is_visible_text text.entry.now)
+            (λ s. visible_octets s ≡ text.entry.now) }
     {
         if !is_visible_text(text.as_bytes()) {
             return None;
@@ -342,7 +347,8 @@ impl<'a> SimpleAsn1Readable<'a> for VisibleString<'a> {
 
     #[inline]
     fn parse_data(_alloc: Global, data: &'a [u8]) -> ParseResult<VisibleString<'a>>
-        ensures { Answers visible_octets (λ _. ⊥) result (read_text is_visible_text «data».entry.now) }
+        ensures { Answers visible_octets (λ _. ⊥) result
+            (read_text is_visible_text «data».entry.now) }
     {
         match text_in(data, is_visible_text(data)) {
             Some(text) => Ok(VisibleString { text }),

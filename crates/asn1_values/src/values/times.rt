@@ -33,7 +33,9 @@ impl UtcTime {
 
     /// The time. The error is `InvalidValue`, without a location, where the year is before 1950 or after 2049.
     pub fn new(datetime: DateTime) -> ParseResult<UtcTime>
-        ensures { MatchResult result (λ t. utc_moment t ≡ moment datetime) (λ e. (e ≡ fault InvalidValue) × ¬ ((1950 ≤ (moment datetime).year) × ((moment datetime).year ≤ 2049))) }
+        ensures { MatchResult result (λ t. utc_moment t ≡ moment datetime)
+            (λ e. (e ≡ fault InvalidValue) × ¬ ((1950 ≤ (moment datetime).year)
+            × ((moment datetime).year ≤ 2049))) }
     {
         if datetime.year() < 1950 || datetime.year() > 2049 {
             return Err(ParseError::new(ParseErrorKind::InvalidValue));
@@ -127,7 +129,8 @@ impl X509GeneralizedTime {
 
     /// The time. The error is `InvalidValue`, without a location, where the year is after 9999.
     pub fn new(datetime: DateTime) -> ParseResult<X509GeneralizedTime>
-        ensures { MatchResult result (λ t. x509_moment t ≡ moment datetime) (λ e. (e ≡ fault InvalidValue) × ¬ ((moment datetime).year ≤ 9999)) }
+        ensures { MatchResult result (λ t. x509_moment t ≡ moment datetime)
+            (λ e. (e ≡ fault InvalidValue) × ¬ ((moment datetime).year ≤ 9999)) }
     {
         if datetime.year() > 9999 {
             return Err(ParseError::new(ParseErrorKind::InvalidValue));

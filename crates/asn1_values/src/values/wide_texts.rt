@@ -22,7 +22,8 @@ use std::fmt;
 fn utf16_length(octets: &[u8], at: usize) -> usize
     requires { at + 2 ≤ length octets.now }
     ensures unpaired { result ≡ 0 → is_paired (drop at octets.now) ≡ false }
-    ensures paired { 0 < result → is_paired (drop at octets.now) ≡ is_paired (drop (at + result) octets.now) }
+    ensures paired { 0 < result → is_paired (drop at octets.now)
+        ≡ is_paired (drop (at + result) octets.now) }
     ensures units { result % 2 ≡ 0 }
     ensures within { at + result ≤ length octets.now }
 {
@@ -100,7 +101,8 @@ impl<'a> BMPString<'a> {
 
     /// The string with these octets. `None` where their number is odd, or a surrogate has no partner.
     pub fn new(octets: &'a [u8]) -> Option<BMPString<'a>>
-        ensures { MatchOption result (¬ IsTextOf is_utf16_text octets.entry.now) (λ s. bmp_octets s ≡ octets.entry.now) }
+        ensures { MatchOption result (¬ IsTextOf is_utf16_text octets.entry.now)
+            (λ s. bmp_octets s ≡ octets.entry.now) }
     {
         if !is_utf16_text(octets) {
             return None;
@@ -208,7 +210,8 @@ impl<'a> UniversalString<'a> {
     /// The string with these octets. `None` where their number isn't a multiple of four, or four of them are above
     /// 0x10ffff or a surrogate (0xd800 to 0xdfff).
     pub fn new(octets: &'a [u8]) -> Option<UniversalString<'a>>
-        ensures { MatchOption result (¬ IsTextOf is_utf32_text octets.entry.now) (λ s. universal_octets s ≡ octets.entry.now) }
+        ensures { MatchOption result (¬ IsTextOf is_utf32_text octets.entry.now)
+            (λ s. universal_octets s ≡ octets.entry.now) }
     {
         if !is_utf32_text(octets) {
             return None;
@@ -268,7 +271,8 @@ impl<'a> SimpleAsn1Readable<'a> for UniversalString<'a> {
 
     #[inline]
     fn parse_data(_alloc: Global, data: &'a [u8]) -> ParseResult<UniversalString<'a>>
-        ensures { Answers universal_octets (λ _. ⊥) result (read_text is_utf32_text «data».entry.now) }
+        ensures { Answers universal_octets (λ _. ⊥) result
+            (read_text is_utf32_text «data».entry.now) }
     {
         match UniversalString::new(data) {
             Some(text) => Ok(text),

@@ -1,4 +1,4 @@
-//! A structure in which fields stand behind a content that the identifier in front of it defines.
+//! A structure in which fields follow a value that the OBJECT IDENTIFIER before it defines.
 
 ghost use Rattle.std.specs.Prelude.{◌≡◌, map};
 ghost use Rattle.asn1.specs.Der.{seen};
@@ -49,12 +49,12 @@ impl FieldNames for EntryNames {
     }
 }
 
-/// An identifier and the content that it defines, a note that may be missing, and a version, which is 1 by default.
+/// An OBJECT IDENTIFIER and the content that it defines, a note that may be missing, and a version, 1 by default.
 #[derive(Debug, PartialEq, Eq, Drop)]
 pub struct Entry(Fields);
 
 impl Entry {
-    /// An entry with this content, whose identifier it tells.
+    /// An entry with this content, from which the object identifier follows.
     pub fn new(content: Content, note: Option<bool>, version: u8) -> Entry
         ensures content { result.0.fields.value ≡ content }
         ensures note { result.0.fields.rest.value ≡ note }

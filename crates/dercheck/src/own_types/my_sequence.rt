@@ -1,4 +1,4 @@
-//! A structure whose content is defined by the identifier in front of it.
+//! A structure whose content is defined by the OBJECT IDENTIFIER before it.
 
 ghost use Rattle.std.specs.Prelude.{◌≡◌, map};
 ghost use Rattle.asn1.specs.Der.{seen};
@@ -16,7 +16,7 @@ use asn1::{
 };
 use std::alloc::Global;
 
-/// The identifier of the one variant: 1.2.3.
+/// The object identifier of the one variant: 1.2.3.
 pub fn some_oid() -> ObjectIdentifier
     ensures { identifier_of result ≡ some_numbers }
 {
@@ -26,19 +26,19 @@ pub fn some_oid() -> ObjectIdentifier
     ObjectIdentifier::from_der_unchecked(octets, 2)
 }
 
-/// Whether this is the identifier of the one variant.
+/// Whether this is the object identifier of the one variant.
 fn is_some_oid(item: &ObjectIdentifier) -> bool
     ensures { result ≡ are_some (identifier_of item.now) }
 {
-    // Says that identifiers are equal exactly where their numbers are.
+    // Says that object identifiers are equal exactly where their numbers are.
     identifiers_compare();
     *item == some_oid()
 }
 
-/// What stands behind an identifier.
+/// What follows the object identifier.
 #[derive(Debug, Clone, PartialEq, Eq, Hash, Drop)]
 pub enum Content {
-    /// A number, by the identifier 1.2.3.
+    /// A number, by the object identifier 1.2.3.
     SomeVariant(i32),
 }
 
@@ -97,7 +97,7 @@ impl Asn1DefinedByWritable<ObjectIdentifier> for Content {
     }
 }
 
-/// The identifier and the content. The content alone is kept: it tells its identifier.
+/// The object identifier and the content. The content alone is kept: the object identifier follows from it.
 type Fields = Structure<MySequenceNames, DefinedLast<ObjectIdentifier, Content>>;
 
 const NAMES: [&str; 2] = ["MySequence::content_type", "MySequence::content"];
@@ -113,12 +113,12 @@ impl FieldNames for MySequenceNames {
     }
 }
 
-/// An identifier, and the content that it defines.
+/// An OBJECT IDENTIFIER, and the content that it defines.
 #[derive(Debug, Clone, PartialEq, Eq, Hash, Drop)]
 pub struct MySequence(Fields);
 
 impl MySequence {
-    /// This content, with its identifier in front.
+    /// This content, after its object identifier.
     pub fn new(content: Content) -> MySequence
         ensures { result.0.fields.value ≡ content }
     {

@@ -21,7 +21,7 @@ pub struct Sealable {
 /// Why a number was not written.
 #[derive(Debug, PartialEq, Eq, Drop)]
 pub enum SealError {
-    /// The write found no memory.
+    /// The write was out of memory.
     Write(WriteError),
     /// The number is sealed.
     Sealed,

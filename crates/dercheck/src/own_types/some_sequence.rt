@@ -3,7 +3,7 @@
 ghost use Rattle.std.specs.Prelude.{◌≡◌, map};
 ghost use Rattle.asn1.specs.Der.{seen};
 ghost use Rattle.asn1.specs.Options.{option_meaning};
-ghost use Rattle.asn1.specs.Reading.{Answers};
+ghost use Rattle.asn1.specs.Reads.{ReadsContents};
 ghost use Rattle.dercheck.specs.declared.own_types.some_sequence.TheConstants.{NAMES};
 
 use asn1::fields::{Field, FieldNames, Fields2, Last, Names, Structure};
@@ -39,8 +39,10 @@ pub struct SomeSequence<'a>(Fields<'a>);
 impl<'a> SomeSequence<'a> {
     /// These fields in a sequence.
     pub fn new(a: Option<&'a [u8]>, b: Option<u64>) -> SomeSequence<'a>
-        ensures a { option_meaning (λ x. x.inner.now) result.0.fields.value ≡ option_meaning (λ octets. octets.now) a.entry }
-        ensures b { option_meaning (λ x. x.inner) result.0.fields.rest.value ≡ option_meaning (λ n. n) b }
+        ensures a { option_meaning (λ x. x.inner.now) result.0.fields.value
+            ≡ option_meaning (λ octets. octets.now) a.entry }
+        ensures b { option_meaning (λ x. x.inner) result.0.fields.rest.value
+            ≡ option_meaning (λ n. n) b }
     {
         let a = match a {
             Some(octets) => Some(Implicit::new(octets)),
@@ -86,7 +88,7 @@ impl<'a> SimpleAsn1Readable<'a> for SomeSequence<'a> {
     }
 
     fn parse_data(alloc: Global, data: &'a [u8]) -> ParseResult<SomeSequence<'a>>
-        ensures { Answers ⟦<SomeSequence<'a> as Asn1Type>⟧.der.meaning (⟦<SomeSequence<'a> as Asn1Type>⟧.der.content.runs_out «data».entry.now) result (⟦<SomeSequence<'a> as Asn1Type>⟧.der.content.read «data».entry.now) }
+        ensures { ReadsContents ⟦<SomeSequence<'a> as Asn1Type>⟧.der «data».entry.now result }
     {
         match <Fields<'a> as SimpleAsn1Readable<'a>>::parse_data(alloc, data) {
             Ok(fields) => Ok(SomeSequence(fields)),

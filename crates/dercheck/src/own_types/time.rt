@@ -8,7 +8,7 @@ use asn1::{
     WriteResult, Writer, X509GeneralizedTime,
 };
 
-/// A time of either form, told by the tag.
+/// A time of either form, which the tag says.
 #[derive(Debug, PartialEq, Eq, Drop)]
 pub enum Time {
     /// A time from 1950 to 2049.
@@ -18,7 +18,8 @@ pub enum Time {
 }
 
 impl Asn1Type for Time {
-    ghost der = { choice_der time_meaning (or ⟦<UtcTime as Asn1Type>⟧.der (only ⟦<X509GeneralizedTime as Asn1Type>⟧.der)) };
+    ghost der = { choice_der time_meaning
+        (or ⟦<UtcTime as Asn1Type>⟧.der (only ⟦<X509GeneralizedTime as Asn1Type>⟧.der)) };
 
     fn known(&self) {
         match self {

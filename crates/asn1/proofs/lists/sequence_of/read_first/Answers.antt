@@ -1,7 +1,7 @@
 use Rattle.std.proofs.Common.{◌≡◌, [], ◌<◌, List, ℕ, length, refl, ap, subst, ◌∙◌, arith}
 use Rattle.asn1_core.specs.Text.{IsText}
 use Rattle.asn1_core.specs.Element.{front}
-use Rattle.asn1.specs.ListLaws.{next_ok, next_cut, refused}
+use Rattle.asn1.specs.Lemmas.ListItems.{next_ok, next_cut, refused}
 use Rattle.asn1.proofs.lists.sequence_of.read_first.Goals as goal
 
 some : (t : List ℕ) → 0 < length t → t ≡ [] → ⊥

@@ -9,8 +9,8 @@ use Rattle.asn1_core.specs.Tlv.{element_of}
 use Rattle.asn1_core.specs.Lemmas.Texts.{IsText-from_reads}
 use Rattle.asn1_core.specs.Lemmas.TagOrder.{element_tag_in_front}
 use Rattle.asn1.specs.Sets.{set_item, element_behind, with_text}
-use Rattle.asn1.specs.ListLaws.{refused_exit}
-use Rattle.asn1.specs.SetLaws.{element_law, set_item_is, set_item_behind, checked_step, nothing_in_front, behind_refusal}
+use Rattle.asn1.specs.Lemmas.ListItems.{refused_exit}
+use Rattle.asn1.specs.Lemmas.SetItems.{element_law, set_item_is, set_item_behind, checked_step, nothing_in_front, behind_refusal}
 use Rattle.asn1.proofs.lists.sets.check_elements.Goals as goal
 
 pub elements-init : goal.elements-init

@@ -4,7 +4,7 @@ use Rattle.asn1_core.specs.Order.{text_less}
 use Rattle.asn1_core.specs.Element.{front}
 use Rattle.asn1_core.specs.Tlv.{element_of}
 use Rattle.asn1_core.specs.Lemmas.Results.{framed_ok}
-use Rattle.asn1.specs.SetLaws.{none_less, set_next_cut, next_in_set}
+use Rattle.asn1.specs.Lemmas.SetItems.{none_less, set_next_cut, next_in_set}
 use Rattle.asn1.proofs.lists.sets.read_first.Goals as goal
 
 some : (t : List ℕ) → 0 < length t → t ≡ [] → ⊥

@@ -1,6 +1,6 @@
 use Rattle.std.proofs.Common.{sym, ◌∙◌}
 use Rattle.asn1.specs.Fields.{value_last, other_names}
-use Rattle.asn1.specs.FieldSteps.{exit, behind_item, at_last_value}
+use Rattle.asn1.specs.Lemmas.FieldSteps.{exit, behind_item, at_last_value}
 use Rattle.asn1.proofs.fields.defined.DefinedLastRowReadable.read.Goals as goal
 
 pub returns-in_err-value : goal.returns-in_err-value

@@ -1,4 +1,4 @@
-use Rattle.asn1.specs.DefaultSteps.{answers_default, stops_default}
+use Rattle.asn1.specs.Lemmas.DefaultSteps.{answers_default, stops_default}
 use Rattle.asn1.proofs.wrappers.defaulted.DefaultedAsn1Readable.parse.Goals as goal
 
 pub returns-clause-answers : goal.returns-clause-answers

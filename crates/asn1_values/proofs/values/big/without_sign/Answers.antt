@@ -4,8 +4,8 @@ use Rattle.std.proofs.lemmas.Bool.{eqb-true, eqb-false}
 use Rattle.std.proofs.lemmas.List.{take_rest}
 use Rattle.asn1_core.specs.Text.{signed_number}
 use Rattle.asn1_values.proofs.Bits.{whole_magnitude, signless_magnitude}
-use Rattle.asn1_values.proofs.values.without_sign.Goals as goal
-use Rattle.asn1_values.proofs.values.without_sign.Goals.{then-octets-eq0, else-octets-eq0}
+use Rattle.asn1_values.proofs.values.big.without_sign.Goals as goal
+use Rattle.asn1_values.proofs.values.big.without_sign.Goals.{then-octets-eq0, else-octets-eq0}
 
 pub returns-then-octets-clause-magnitude : goal.returns-then-octets-clause-magnitude
 returns-then-octets-clause-magnitude c =

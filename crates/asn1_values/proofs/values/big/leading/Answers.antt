@@ -1,7 +1,7 @@
 use Rattle.std.proofs.Common.{arith}
 use Rattle.asn1_core.specs.Lemmas.Texts.{IsText-from_reads}
 use Rattle.asn1_values.proofs.Bits.{leading_low, leading_zero, leading_high, all_zero, some_number}
-use Rattle.asn1_values.proofs.values.leading.Goals as goal
+use Rattle.asn1_values.proofs.values.big.leading.Goals as goal
 
 pub returns-then-not-is_negative-clause-value : goal.returns-then-not-is_negative-clause-value
 returns-then-not-is_negative-clause-value c =

@@ -1,7 +1,7 @@
 use Rattle.std.proofs.Common.{◌-◌, Bool, get_or, take, drop, length, sym, subst, arith}
 use Rattle.asn1_values.specs.Big.{IsMagnitude}
 use Rattle.asn1_values.proofs.Bits.{small_log, counts_some, some_counted, first_and_others, others_fewer}
-use Rattle.asn1_values.proofs.values.bit_length.Goals as goal
+use Rattle.asn1_values.proofs.values.big.bit_length.Goals as goal
 
 pub ilog2-requires : goal.ilog2-requires
 ilog2-requires c =

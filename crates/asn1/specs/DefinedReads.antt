@@ -1,0 +1,31 @@
+-- What reading a value returns whose type an item defines: an element, or a variant that a test of the item knows.
+use Rattle.std.proofs.Common.{◌≡◌, ℕ, Bool, List, Result, Ok, inr, true, cond, Err, ◌⊎◌, inl}
+use Rattle.asn1_core.specs.Element.{element_text, ◌>>=◌}
+use Rattle.asn1_core.specs.Fault.{Fault, fault}
+use Rattle.asn1_core.specs.Reading.{stands, element_front, whole}
+use Rattle.asn1_core.specs.declared.parser.ParseErrorKind.TheVariants.{UnknownDefinedBy}
+
+-- a content that is one element, read as it stands and then as a value
+abbrev pub element_read : {M : Type 0} → (List ℕ → Result (M × List ℕ) Fault) → List ℕ → Result M Fault
+element_read read c = whole (element_front c) >>= λ e. whole (read (element_text e))
+
+-- An item, and a test for it.
+pub record Known (I : Type 0) : Type 0 where
+  pub item : I
+  pub is : I → Bool
+  pub itself : is item ≡ true
+  pub alone : (i : I) → is i ≡ true → item ≡ i
+
+abbrev pub variant_read : {M : Type 0} → Bool → (List ℕ → Result (M × List ℕ) Fault) → List ℕ → Result (M × List ℕ) Fault
+variant_read known read t = cond known (read t) (Err (fault UnknownDefinedBy))
+
+abbrev pub or_item : {I M N : Type 0} → I → (N → I) → M ⊎ N → I
+or_item i items (inl m) = i
+or_item i items (inr n) = items n
+
+abbrev pub or_known : {M N : Type 0} → Bool → (List ℕ → Result (M × List ℕ) Fault) → (List ℕ → Result (N × List ℕ) Fault) → List ℕ → Result ((M ⊎ N) × List ℕ) Fault
+or_known known read others t = cond known (read t >>= λ x. Ok (inl x.0, x.1)) (others t >>= λ x. Ok (inr x.0, x.1))
+
+-- A value of every item, which keeps the item.
+abbrev pub with_item : {I M : Type 0} → I → M × List ℕ → Result ((I × M) × List ℕ) Fault
+with_item i x = Ok ((i, x.0), x.1)

@@ -1,0 +1,46 @@
+-- What reading the fields of a structure returns (X.690 8.9), and the encodings that they append.
+use Rattle.std.proofs.Common.{◌≡◌, ℕ, List, ◌++◌, length, Result, Ok, Err, ◌+◌, Option, Some, None}
+use Rattle.asn1_core.specs.declared.parser.Place.{Place}
+use Rattle.asn1_core.specs.declared.parser.Place.TheVariants.{Field}
+use Rattle.asn1_core.specs.Element.{◌>>=◌}
+use Rattle.asn1_core.specs.Fault.{Fault, add, within}
+use Rattle.asn1_core.specs.Reading.{all_taken}
+
+-- A fault in a field gets the field's place.
+abbrev pub in_field : {A : Type 0} → List ℕ → Result A Fault → Result A Fault
+in_field name (Ok x) = Ok x
+in_field name (Err f) = Err (within (Field name) f)
+
+abbrev pub field_out : List ℕ → (List ℕ → List Place → Type 0) → List ℕ → List Place → Type 0
+field_out name out c places = (inner : List Place) × out c inner × (places ≡ add (Field name) inner)
+
+-- The last field: nothing may be left behind it.
+abbrev pub last_read : {M : Type 0} → List ℕ → (List ℕ → Result (M × List ℕ) Fault) → List ℕ → Result M Fault
+last_read name read c = in_field name (read c) >>= λ x. all_taken x.0 x.1
+
+-- A field, and the others behind it.
+abbrev pub field_read : {M N : Type 0} → List ℕ → (List ℕ → Result (M × List ℕ) Fault) → (List ℕ → Result N Fault) → List ℕ → Result (M × N) Fault
+field_read name read others c = in_field name (read c) >>= λ x. others x.1 >>= λ n. Ok (x.0, n)
+
+abbrev pub others_out : {M : Type 0} → (List ℕ → Result (M × List ℕ) Fault) → (List ℕ → List Place → Type 0) → List ℕ → List Place → Type 0
+others_out {M} read out c places = (x : M × List ℕ) × (read c ≡ Ok x) × out x.1 places
+
+-- A text of each, one behind the other.
+pub record Both (texts1 texts2 : List ℕ → Type 0) (t : List ℕ) : Type 0 where
+  pub front : List ℕ
+  pub back : List ℕ
+  pub first : texts1 front
+  pub second : texts2 back
+  pub is : t ≡ front ++ back
+
+abbrev pub item_read : {I M : Type 0} → List ℕ → (List ℕ → Result (I × List ℕ) Fault) → (I → List ℕ → Result M Fault) → List ℕ → Result M Fault
+item_read name read behind c = in_field name (read c) >>= λ x. behind x.0 x.1
+
+abbrev pub behind_out : {I : Type 0} → (List ℕ → Result (I × List ℕ) Fault) → (I → List ℕ → List Place → Type 0) → List ℕ → List Place → Type 0
+behind_out {I} read out c places = (x : I × List ℕ) × (read c ≡ Ok x) × out x.0 x.1 places
+
+-- a known length of both
+abbrev pub IsSum : Option ℕ → Option ℕ → Option ℕ → Type 0
+IsSum (Some a) (Some b) (Some n) = n ≡ a + b
+IsSum _ _ (Some n) = ⊥
+IsSum _ _ None = Unit {0}

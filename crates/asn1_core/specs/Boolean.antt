@@ -1,0 +1,15 @@
+-- BOOLEAN (X.690 8.2).
+use Rattle.std.specs.Prelude.{ℕ, List, [], ◌∷◌, nat_eq, cond, Result, Ok, Err, Bool, true, false}
+use Rattle.asn1_core.specs.declared.parser.ParseErrorKind.TheVariants.{InvalidValue}
+use Rattle.asn1_core.specs.Fault.{Fault, fault}
+
+-- The contents octets: one octet, all its bits 0 for false, all 1 for true. (X.690 8.2, 11.1)
+abbrev pub bool_content_text : Bool → List ℕ
+bool_content_text false = 0x00 ∷ []
+bool_content_text true = 0xff ∷ []
+
+-- What reading contents octets returns.
+abbrev pub read_bool : List ℕ → Result Bool Fault
+read_bool [] = Err (fault InvalidValue)
+read_bool (octet ∷ []) = cond (nat_eq octet 0x00) (Ok false) (cond (nat_eq octet 0xff) (Ok true) (Err (fault InvalidValue)))
+read_bool (octet ∷ next ∷ octets) = Err (fault InvalidValue)

@@ -1,0 +1,45 @@
+-- What calls that read return, a word for each: the value, or the first error, or out of memory.
+use Rattle.std.specs.Prelude.{ℕ, ◌≡◌, List, Result}
+use Rattle.asn1_core.specs.declared.tag.Tag.{Tag}
+use Rattle.asn1_core.specs.Fault.{Fault}
+use Rattle.asn1_core.specs.Tag.{implicit_tag_of, explicit_tag_of}
+use Rattle.asn1_core.specs.Reading.{Answers, simple, simple_out, whole}
+use Rattle.asn1_core.specs.Der.{Der}
+use Rattle.asn1_core.specs.DefinedBy.{ByItem}
+
+-- What reading all of these contents octets returns, for a type with a tag of its own.
+abbrev pub ReadsContents : {V : Type 0} → Der V → List ℕ → Result V Fault → Type 0
+ReadsContents d contents result = Answers d.meaning (d.content.runs_out contents) result (d.content.read contents)
+
+-- What reading all of these octets returns.
+abbrev pub ReadsWhole : {V : Type 0} → Der V → List ℕ → Result V Fault → Type 0
+ReadsWhole d octets result = Answers d.meaning (d.runs_out octets) result (whole (d.read octets))
+
+-- What reading a prefix of the first octets returns, where the second remain.
+abbrev pub ReadsPrefix : {V : Type 0} → Der V → List ℕ → List ℕ → Result V Fault → Type 0
+ReadsPrefix d octets remaining result = Answers (λ v. (d.meaning v, remaining)) (d.runs_out octets) result (d.read octets)
+
+-- The same under the explicit tag with this number (X.690 8.14): its contents octets are one encoding.
+abbrev pub ReadsExplicit : {V : Type 0} → ℕ → Der V → List ℕ → List ℕ → Result V Fault → Type 0
+ReadsExplicit number d octets remaining result =
+    let tag = explicit_tag_of number in
+    Answers (λ v. (d.meaning v, remaining)) (simple_out tag d.runs_out octets) result (simple tag (λ c. whole (d.read c)) octets)
+
+-- The same with the implicit tag of this number in place of the type's own (X.690 8.14).
+abbrev pub ReadsImplicit : {V : Type 0} → ℕ → Der V → List ℕ → List ℕ → Result V Fault → Type 0
+ReadsImplicit number d octets remaining result =
+    let tag = implicit_tag_of number d.content.tag in
+    Answers (λ v. (d.meaning v, remaining)) (simple_out tag d.content.runs_out octets) result (simple tag d.content.read octets)
+
+-- The same of a value that an item defines.
+abbrev pub ReadsDefined : {T V : Type 0} → ByItem T V → T → List ℕ → List ℕ → Result V Fault → Type 0
+ReadsDefined by item octets remaining result =
+    Answers (λ v. (by.means.meaning v, remaining)) (by.means.runs_out (by.seen item) octets) result (by.means.read (by.seen item) octets)
+
+-- These octets are the encoding of this value, which is valid and within the type's bounds.
+abbrev pub IsEncodingOf : {V : Type 0} → Der V → V → List ℕ → Type 0
+IsEncodingOf d v octets = (octets ≡ d.text (d.meaning v)) × (d.valid (d.meaning v) × d.allowed (d.meaning v))
+
+-- Each value of the type has one encoding, which is read back as that value, and nothing else is read.
+abbrev pub HasOneEncoding : {V : Type 0} → Der V → Type 0
+HasOneEncoding d = d.lawful × d.plain
