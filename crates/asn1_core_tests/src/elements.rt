@@ -86,7 +86,7 @@ fn what_fronts_need() -> Result<(), Fail> {
     compare_fronts(&[0x1f, 0x81, 0x80, 0x01, 0x00], &[1, 1, 1, 1, 1])
 }
 
-/// So many letters are the content behind the header, and one more is the rest.
+/// So many letters are the contents octets after the header, and one more octet remains.
 fn compare_long(alloc: Global, header: &[u8], count: usize) -> Result<(), Fail> {
     let content = vec![in alloc; b'a'; count]?;
     let mut octets = Vec::from_slice(alloc, header)?;
@@ -140,7 +140,7 @@ fn tags_of_several_octets(rt: HostRuntime) -> Result<(), Fail> {
     Ok(())
 }
 
-/// Any element is written as it was read, behind a reference too.
+/// Any element is written as it was read, by reference too.
 fn compare_written(alloc: Global, octets: &[u8]) -> Result<(), Fail> {
     let tlv = parse_single::<Tlv<'_>>(alloc, octets)?;
     same(tlv.full_data(), octets)?;
@@ -275,7 +275,7 @@ fn compare_displayed(alloc: Global, error: &ParseError, text: &str) -> Result<()
     same(format!(in alloc; "{error}")?.as_str(), wanted.as_str())
 }
 
-/// An error with no place, with a field, or with an index and then a field.
+/// An error with no location, with a field, or with an index and then a field.
 fn with_places(kind: ParseErrorKind, places: usize) -> ParseError {
     let error = ParseError::new(kind);
     let field = ParseLocation::Field("Abc::123");

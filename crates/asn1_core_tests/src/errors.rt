@@ -89,7 +89,7 @@ fn tags_and_elements_are_shown(rt: HostRuntime) -> Result<(), Fail> {
     )
 }
 
-/// Hands the value on, which another thread may take over or see.
+/// Returns the value, which another thread may take over or see.
 fn across_threads<T: Send + Sync>(value: T) -> T {
     value
 }

@@ -22,7 +22,7 @@ fn unexpected_tag() -> ParseErrorKind {
     }
 }
 
-/// The text of 2^65, which no type here has.
+/// The encoding of 2^65, which no type here has.
 const TWO_TO_65: [u8; 11] = [
     0x02, 0x09, 0x02, 0x00, 0x00, 0x00, 0x00, 0x00, 0x00, 0x00, 0x00,
 ];
@@ -34,7 +34,7 @@ fn read<'a, T: Asn1Readable<'a>>(alloc: Global, octets: &'a [u8]) -> Result<T, P
     }
 }
 
-/// Reads numbers from their texts.
+/// Reads numbers from their encodings.
 fn compare_read<'a, T: Asn1Readable<'a> + Copy + PartialEq + Debug>(
     alloc: Global,
     cases: &[(T, &'a [u8])],
@@ -45,7 +45,7 @@ fn compare_read<'a, T: Asn1Readable<'a> + Copy + PartialEq + Debug>(
     Ok(())
 }
 
-/// Writes numbers as their texts.
+/// Writes numbers as their encodings.
 fn compare_written<T: Asn1Writable<Error = WriteError>>(
     alloc: Global,
     cases: &[(T, &[u8])],
@@ -58,7 +58,7 @@ fn compare_written<T: Asn1Writable<Error = WriteError>>(
     Ok(())
 }
 
-/// Numbers and their texts, in both directions.
+/// Numbers and their encodings, in both directions.
 #[test]
 fn long_numbers(rt: HostRuntime) -> Result<(), Fail> {
     let alloc = rt.alloc();
@@ -245,7 +245,7 @@ fn unsigned_numbers(rt: HostRuntime) -> Result<(), Fail> {
     compare_written(alloc, &of_u8)
 }
 
-/// A number beyond the width of its type is refused as one that is too large.
+/// A number beyond the width of its type is rejected as one that is too large.
 #[test]
 fn signed_numbers_end_at_their_width(rt: HostRuntime) -> Result<(), Fail> {
     are_refused::<i16>(rt.alloc(), &[(&[0x02, 0x03, 0x80, 0x00, 0x00], OVERFLOW)])?;
@@ -303,7 +303,7 @@ fn short_unsigned_numbers_have_no_sign(rt: HostRuntime) -> Result<(), Fail> {
     )
 }
 
-/// Both values have one text.
+/// Both values have one encoding.
 fn compare_texts<S: Asn1Writable<Error = WriteError>, T: Asn1Writable<Error = WriteError>>(
     alloc: Global,
     first: &S,
@@ -362,7 +362,7 @@ fn unsigned_numbers_other_than_zero(rt: HostRuntime) -> Result<(), Fail> {
     Ok(())
 }
 
-/// A value in a box, or behind a reference, is read and written as the value.
+/// A value in a box is read and written as the value.
 #[test]
 fn boxes_hold_values(rt: HostRuntime) -> Result<(), Fail> {
     let alloc = rt.alloc();

@@ -100,7 +100,7 @@ fn the_next_tag_is_seen_and_then_read(rt: HostRuntime) -> Result<(), Fail> {
     same(&read, &Ok((Some(Tag::primitive(2)), 127)))
 }
 
-/// Reads a Boolean behind an element that is refused as one.
+/// Reads a Boolean after an element that is rejected as one.
 fn second_boolean(alloc: Global, octets: &[u8]) -> ParseResult<bool> {
     parse(
         alloc,
@@ -161,7 +161,7 @@ fn places_of_an_error(rt: HostRuntime) -> Result<(), Fail> {
     Ok(())
 }
 
-/// An error with the places `Index(1)` to `Index(count)`, but for another in the place of one of these numbers.
+/// An error with the locations `Index(1)` to `Index(count)`, but for another in place of one of these numbers.
 fn deep(count: usize, other: usize) -> ParseError {
     let mut error = ParseError::new(ParseErrorKind::ExtraData);
     for i in 0..count {

@@ -1,4 +1,4 @@
-//! What stands after a refusal, and what is refused behind a value.
+//! What remains after an error, and what is rejected after a value.
 
 ghost use Rattle.std.specs.Prelude.{◌≡◌};
 

@@ -1,4 +1,4 @@
-//! Sets that are written: of slices, of closures, and of a slice by a second buffer for each text.
+//! Sets that are written: of slices, of closures, and of a slice by a second buffer for each encoding.
 
 ghost use Rattle.std.specs.Prelude.{◌≡◌, ◌∷◌, []};
 ghost use Rattle.asn1_core.specs.Tag.{universal};
@@ -152,7 +152,7 @@ fn equal_tags_in_any_order(rt: HostRuntime) -> Result<(), Fail> {
     )
 }
 
-/// Why a digit was refused.
+/// Why a digit was rejected.
 #[derive(Debug, PartialEq, Eq, Drop)]
 enum Custom {
     Memory,
@@ -212,7 +212,7 @@ const VALUES: [u32; 7] = [0, 1, 127, 128, 255, 256, 65535];
 /// How many slices of so many of the values there are.
 const COUNTS: [usize; 6] = [1, 7, 49, 343, 2401, 16807];
 
-/// A set of up to 127 contents octets, by a second buffer for each text.
+/// A set of up to 127 contents octets, by a second buffer for each encoding.
 fn slow_set(alloc: Global, items: &[u32]) -> Result<Vec<u8>, Fail> {
     let mut texts: Vec<Vec<u8>> = Vec::new(alloc);
     for item in items {

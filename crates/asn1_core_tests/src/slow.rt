@@ -5,7 +5,7 @@ use asn1_core::tag::TagClass;
 use std::test::Fail;
 use testing::same_at;
 
-/// The class's two bits, whether it is constructed, the number, and how many octets the content and the rest have.
+/// The class's two bits, whether it is constructed, the number, and how many octets the contents and the remainder have.
 type Seen = Result<(u8, bool, u128, usize, usize), ParseErrorKind>;
 
 const SHORT: ParseErrorKind = ParseErrorKind::ShortData { needed: 1 };
@@ -46,7 +46,7 @@ fn slow_tag(text: &[u8]) -> Result<(u8, bool, u128, &[u8]), ParseErrorKind> {
     Ok((first / 64, first / 32 % 2 == 1, number, rest))
 }
 
-/// The length whose text is in front: the first octet counts those behind it, and the first of these isn't zero.
+/// The length that the octets begin with: the first octet counts those after it, and the first of these isn't zero.
 fn slow_length(text: &[u8]) -> Result<(usize, &[u8]), ParseErrorKind> {
     let [first, after @ ..] = text else {
         return Err(SHORT);
@@ -126,7 +126,7 @@ fn all_texts_of_up_to_three_octets() -> Result<(), Fail> {
     Ok(())
 }
 
-/// Compares on the text with each octet replaced by each other, and on each front of these.
+/// Compares on the octets with each replaced by each other, and on each prefix of these.
 fn compare_damaged<const N: usize>(text: [u8; N]) -> Result<(), Fail> {
     for place in 0..N {
         for octet in 0..=255 {

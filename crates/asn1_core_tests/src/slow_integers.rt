@@ -19,7 +19,7 @@ fn slow_number(content: &[u8]) -> i128 {
     number
 }
 
-/// What reading up to 15 contents octets answers: there are some, and without the first they mean another number.
+/// What reading up to 15 contents octets returns: there are some, and without the first they mean another number.
 fn slow_read(content: &[u8], min: i128, max: i128) -> Result<i128, ParseErrorKind> {
     let number = slow_number(content);
     match content {
@@ -51,7 +51,7 @@ fn slow_content(octets: &[u8; 16], number: i128) -> &[u8] {
     octets
 }
 
-/// Both ways on a text of up to 15 contents octets, where the numbers of the type go from `min` to `max`.
+/// Both ways on an encoding of up to 15 contents octets, where the numbers of the type go from `min` to `max`.
 fn compare<'a, T: Asn1Readable<'a> + Asn1Writable<Error = WriteError> + Copy + Into<i128>>(
     alloc: Global,
     text: &'a [u8],

@@ -94,7 +94,7 @@ fn headers_announced_and_patched(rt: HostRuntime) -> Result<(), Fail> {
     Ok(())
 }
 
-/// A length goes in place of one octet, and what stands behind moves.
+/// A length replaces one octet, and what stands after it moves.
 #[test]
 fn a_length_is_put_between(rt: HostRuntime) -> Result<(), Fail> {
     let octets = patched_element(rt.alloc(), Tag::primitive(1), &[3, 4])?;

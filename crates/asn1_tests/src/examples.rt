@@ -4,21 +4,18 @@ ghost use Rattle.std.specs.Prelude.{◌≡◌};
 ghost use Rattle.asn1.specs.Buffer.{KeepsFront};
 ghost use Rattle.asn1.specs.Writers.{buffer_name, octets_of};
 
-use crate::lists::is_written;
-use crate::same::{same, same_octets, same_text};
 use asn1::{
     Explicit, IA5String, Implicit, ParseResult, Parser, Sequence, SequenceWriter, Tag, TagClass,
     Tlv, VisibleString, WriteResult, Writer, parse_single, write,
 };
 use std::test::Fail;
+use testing::{both_ways, is_written, same, same_at};
 
 /// 8.2.2 and 8.8.2: a Boolean that is true, and null.
 #[test]
 fn true_and_null(rt: HostRuntime) -> Result<(), Fail> {
-    assert!(rt; parse_single::<bool>(rt.alloc(), &[0x01, 0x01, 0xff])?);
-    is_written(&rt, rt.alloc(), &true, &[0x01, 0x01, 0xff])?;
-    parse_single::<()>(rt.alloc(), &[0x05, 0x00])?;
-    is_written(&rt, rt.alloc(), &(), &[0x05, 0x00])
+    both_ways(rt.alloc(), true, &[0x01, 0x01, 0xff])?;
+    both_ways(rt.alloc(), (), &[0x05, 0x00])
 }
 
 /// 8.9.3: `SEQUENCE {name IA5String, ok BOOLEAN}` with `{name "Smith", ok TRUE}`.
@@ -33,8 +30,7 @@ fn a_sequence_is_read(rt: HostRuntime) -> Result<(), Fail> {
             Ok((name.as_str() == "Smith", parser.read_element::<bool>()?))
         },
     );
-    same(&rt, &fields, &Ok((true, true)));
-    Ok(())
+    same(&fields, &Ok((true, true)))
 }
 
 #[test]
@@ -47,7 +43,7 @@ fn a_sequence_is_written(rt: HostRuntime) -> Result<(), Fail> {
         writer.write_element(&name)?;
         writer.write_element(&true)
     };
-    is_written(&rt, rt.alloc(), &SequenceWriter::new(&fields), SMITH)
+    is_written(rt.alloc(), &SequenceWriter::new(&fields), SMITH)
 }
 
 /// 8.14.3: a `VisibleString` and the same under tags, `Type1` to `Type5`.
@@ -63,14 +59,14 @@ const JONES: [&[u8]; 5] = [
 fn texts_under_tags(rt: HostRuntime) -> Result<(), Fail> {
     let alloc = rt.alloc();
     let text = parse_single::<VisibleString<'_>>(alloc, JONES[0])?;
-    same_text(&rt, text.as_str(), "Jones");
-    is_written(&rt, alloc, &text, JONES[0])?;
+    same(text.as_str(), "Jones")?;
+    is_written(alloc, &text, JONES[0])?;
     let implicit = parse_single::<Implicit<VisibleString<'_>, 2>>(alloc, JONES[4])?;
-    same_text(&rt, implicit.as_inner().as_str(), "Jones");
-    is_written(&rt, alloc, &implicit, JONES[4])?;
+    same(implicit.as_inner().as_str(), "Jones")?;
+    is_written(alloc, &implicit, JONES[4])?;
     let explicit = parse_single::<Explicit<Tlv<'_>, 2>>(alloc, JONES[2])?;
-    same_octets(&rt, explicit.as_inner().full_data(), JONES[1]);
-    is_written(&rt, alloc, &explicit, JONES[2])
+    same(explicit.as_inner().full_data(), JONES[1])?;
+    is_written(alloc, &explicit, JONES[2])
 }
 
 /// Tags of the application class, which no wrapper has: as any element.
@@ -79,16 +75,19 @@ fn texts_under_tags_of_an_application(rt: HostRuntime) -> Result<(), Fail> {
     let alloc = rt.alloc();
     for (text, number, content) in [(JONES[1], 3, b"Jones".as_slice()), (JONES[3], 7, JONES[1])] {
         let tlv = parse_single::<Tlv<'_>>(alloc, text)?;
-        same(&rt, &tlv.tag().class(), &TagClass::Application);
-        same(&rt, &tlv.tag().value(), &number);
-        assert!(rt; tlv.tag().is_constructed() == (number == 7));
-        same_octets(&rt, tlv.data(), content);
-        is_written(&rt, alloc, &tlv, text)?;
+        let tag = tlv.tag();
+        same_at(
+            text,
+            (tag.class(), tag.value(), tag.is_constructed()),
+            (TagClass::Application, number, number == 7),
+        )?;
+        same(tlv.data(), content)?;
+        is_written(alloc, &tlv, text)?;
         let (tag, _rest) = Tag::from_bytes(text)?;
         let written = write(alloc, |writer: &mut Writer<'_>| {
             writer.write_tlv(tag, None, |dest| dest.push_slice(content))
         })?;
-        same_octets(&rt, written.as_slice(), text);
+        same(written.as_slice(), text)?;
     }
     Ok(())
 }

@@ -2,6 +2,10 @@
 #![tactic(auto)]
 
 #[cfg(test)]
+mod changed;
+#[cfg(test)]
+mod defaults;
+#[cfg(test)]
 mod examples;
 #[cfg(test)]
 mod lengths;
@@ -20,11 +24,11 @@ mod readme;
 #[cfg(test)]
 mod round_trips;
 #[cfg(test)]
-mod same;
-#[cfg(test)]
 mod sets;
 #[cfg(test)]
 mod slow;
+#[cfg(test)]
+mod structures;
 #[cfg(test)]
 mod values;
 #[cfg(test)]

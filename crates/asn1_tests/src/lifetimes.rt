@@ -1,10 +1,10 @@
 //! What is read outlives the parsers, structures and closures that it went through.
 //!
-//! The closures have clauses, which say nothing, since what is told without one isn't proved.
+//! The closures have clauses, which say nothing, since what is said without one isn't proved.
 
-use crate::same::same_octets;
 use asn1::{BitString, ParseResult, Parser, Sequence, parse};
 use std::test::Fail;
+use testing::same;
 
 #[test]
 fn octets_out_of_a_sequence(rt: HostRuntime) -> Result<(), Fail> {
@@ -25,8 +25,7 @@ fn octets_out_of_a_sequence(rt: HostRuntime) -> Result<(), Fail> {
             )
         },
     )?;
-    same_octets(&rt, octets, &[0x00]);
-    Ok(())
+    same(octets, &[0x00])
 }
 
 #[test]
@@ -39,6 +38,5 @@ fn octets_out_of_a_bit_string(rt: HostRuntime) -> Result<(), Fail> {
             ensures { Unit {0} }
         { Ok(parser.read_element::<BitString<'_>>()?.as_bytes()) },
     )?;
-    same_octets(&rt, octets, &[0x00]);
-    Ok(())
+    same(octets, &[0x00])
 }

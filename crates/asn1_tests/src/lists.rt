@@ -9,7 +9,6 @@ ghost use Rattle.asn1.specs.Der.{simple_der};
 ghost use Rattle.asn1.specs.Written.{written};
 ghost use Rattle.asn1_tests.specs.declared.lists.Custom.TheVariants.{Memory, Refused};
 
-use crate::same::{same, same_octets, same_text};
 use asn1::{
     Asn1Type, Asn1Writable, Choice2, ParseError, ParseErrorKind, ParseLocation, ParseResult,
     Parser, Sequence, SequenceOf, SequenceOfWriter, SequenceWriter, SimpleAsn1Readable,
@@ -17,41 +16,12 @@ use asn1::{
     write, write_single,
 };
 use std::alloc::Global;
-use std::hash::{DefaultHasher, Hash, Hasher};
-use std::process::Abort;
 use std::test::Fail;
-
-/// Why a read was refused.
-pub fn refusal<T: Drop>(answer: ParseResult<T>) -> Option<ParseError> {
-    match answer {
-        Ok(_value) => None,
-        Err(error) => Some(error),
-    }
-}
+use testing::{all_same, are_refused_with, hash_of, is_shown, is_written, same, same_at};
 
 /// An error at the item of this index.
-pub fn at(index: usize, kind: ParseErrorKind) -> Option<ParseError> {
-    Some(ParseError::new(kind).add_location(ParseLocation::Index(index)))
-}
-
-/// The value is written as these octets.
-pub fn is_written<A: Abort, T: Asn1Writable<Error = WriteError>>(
-    rt: &A,
-    alloc: Global,
-    value: &T,
-    octets: &[u8],
-) -> Result<(), Fail>
-    requires { T.der.closures (T.der.meaning value.now) }
-{
-    let written = write_single(alloc, value)?;
-    same_octets(rt, written.as_slice(), octets);
-    Ok(())
-}
-
-pub fn hash_of<T: Hash>(value: &T) -> u64 {
-    let mut state = DefaultHasher::new();
-    value.hash(&mut state);
-    state.finish()
+pub fn at(index: usize, kind: ParseErrorKind) -> ParseError {
+    ParseError::new(kind).add_location(ParseLocation::Index(index))
 }
 
 /// A list of any count of items.
@@ -68,24 +38,19 @@ fn sequences_read_by_the_caller(rt: HostRuntime) -> Result<(), Fail> {
     let alloc = rt.alloc();
     let octets: &[u8] = &[0x30, 0x06, 0x01, 0x01, 0xff, 0x02, 0x01, 0x06];
     let sequence = parse_single::<Sequence<'_>>(alloc, octets)?;
-    is_written(&rt, alloc, &sequence, octets)?;
+    is_written(alloc, &sequence, octets)?;
     let parts = sequence.parse(
         alloc,
         |parser: &mut Parser<'_>| -> ParseResult<(bool, u8)> {
             Ok((parser.read_element::<bool>()?, parser.read_element::<u8>()?))
         },
     );
-    same(&rt, &parts, &Ok((true, 6)));
+    same(&parts, &Ok((true, 6)))?;
     let first = sequence.parse(
         alloc,
         |parser: &mut Parser<'_>| parser.read_element::<bool>(),
     );
-    same(
-        &rt,
-        &first,
-        &Err(ParseError::new(ParseErrorKind::ExtraData)),
-    );
-    Ok(())
+    same(&first, &Err(ParseError::new(ParseErrorKind::ExtraData)))
 }
 
 #[test]
@@ -95,23 +60,17 @@ fn equal_sequences(rt: HostRuntime) -> Result<(), Fail> {
     let other = parse_single::<Sequence<'_>>(alloc, &[0x30, 0x02, 0x05, 0x00])?;
     assert!(rt; none == none.clone()? && none != other);
     assert!(rt; hash_of(&none) != hash_of(&other));
-    same_text(
-        &rt,
-        format!(in alloc; "{none:?}")?.as_str(),
-        "Sequence { data: [] }",
-    );
-    Ok(())
+    is_shown(alloc, &none, "Sequence { data: [] }")
 }
 
 #[test]
 fn lists_have_the_items_left(rt: HostRuntime) -> Result<(), Fail> {
-    let alloc = rt.alloc();
-    let mut list = parse_single::<SequenceOf<'_, u64, 2, 3>>(alloc, FIVE_AND_SEVEN)?;
-    same(&rt, &list.len(), &2);
-    assert!(rt; !list.is_empty());
-    assert!(rt; matches!(list.next(), Some(Ok(5))));
-    assert!(rt; matches!(list.next(), Some(Ok(7))));
-    assert!(rt; list.next().is_none());
+    let mut list = parse_single::<SequenceOf<'_, u64, 2, 3>>(rt.alloc(), FIVE_AND_SEVEN)?;
+    assert!(rt; list.len() == 2 && !list.is_empty());
+    same(
+        &[list.next(), list.next(), list.next()],
+        &[Some(Ok(5)), Some(Ok(7)), None],
+    )?;
     assert!(rt; list.is_empty());
     Ok(())
 }
@@ -123,12 +82,8 @@ fn items_left_are_written(rt: HostRuntime) -> Result<(), Fail> {
     let whole = list.clone()?;
     assert!(rt; matches!(list.next(), Some(Ok(5))));
     assert!(rt; whole != list);
-    let rest: &[u8] = &[0x30, 0x03, 0x02, 0x01, 0x07];
-    is_written(&rt, alloc, &list, rest)?;
-    is_written(&rt, alloc, &whole, FIVE_AND_SEVEN)?;
-    let again = parse_single::<SequenceOf<'_, u64, 2, 3>>(alloc, rest);
-    same(&rt, &refusal(again), &wrong_count(2, 3, 1));
-    Ok(())
+    is_written(alloc, &list, &[0x30, 0x03, 0x02, 0x01, 0x07])?;
+    is_written(alloc, &whole, FIVE_AND_SEVEN)
 }
 
 /// The items that are left.
@@ -141,26 +96,19 @@ fn copies_of_lists(rt: HostRuntime) -> Result<(), Fail> {
     let mut list = parse_single::<List<'_, u64>>(rt.alloc(), ONE_TO_THREE)?;
     assert!(rt; matches!(list.next(), Some(Ok(1))));
     let mut copy = list.clone()?;
-    same(
-        &rt,
-        &items_left(&mut list),
-        &[Some(Ok(2)), Some(Ok(3)), None],
-    );
-    same(
-        &rt,
-        &items_left(&mut copy),
-        &[Some(Ok(2)), Some(Ok(3)), None],
-    );
-    Ok(())
+    all_same(&[
+        (items_left(&mut list), [Some(Ok(2)), Some(Ok(3)), None]),
+        (items_left(&mut copy), [Some(Ok(2)), Some(Ok(3)), None]),
+    ])
 }
 
 #[test]
 fn copies_keep_their_count(rt: HostRuntime) -> Result<(), Fail> {
     let mut list = parse_single::<List<'_, u64>>(rt.alloc(), ONE_TO_THREE)?;
     let whole = list.clone()?;
-    same(&rt, &list.len(), &3);
+    same(list.len(), 3)?;
     assert!(rt; matches!(list.next(), Some(Ok(1))));
-    same(&rt, &(list.len(), whole.len()), &(2, 3));
+    same((list.len(), whole.len()), (2, 3))?;
     let _left = items_left(&mut list);
     assert!(rt; list.len() == 0 && list.is_empty() && list.next().is_none());
     assert!(rt; whole.len() == 3 && !whole.is_empty());
@@ -174,70 +122,78 @@ fn equal_lists(rt: HostRuntime) -> Result<(), Fail> {
     let no = parse_single::<List<'_, bool>>(rt.alloc(), &[0x30, 0x03, 0x01, 0x01, 0x00])?;
     let yes = parse_single::<List<'_, bool>>(rt.alloc(), &[0x30, 0x03, 0x01, 0x01, 0xff])?;
     assert!(rt; none == other && other != no && no == no.clone()? && no != yes);
-    same(&rt, &hash_of(&none), &hash_of(&other));
-    assert!(rt; hash_of(&other) != hash_of(&no) && hash_of(&no) != hash_of(&yes));
+    let [none, other, no, yes] = [hash_of(&none), hash_of(&other), hash_of(&no), hash_of(&yes)];
+    same(none, other)?;
+    assert!(rt; other != no && no != yes);
     Ok(())
 }
 
 /// The bounds of a list, and how many items it has.
-fn wrong_count(min: usize, max: usize, actual: usize) -> Option<ParseError> {
-    Some(ParseError::new(ParseErrorKind::InvalidSize { min, max, actual }))
+fn wrong_count(min: usize, max: usize, actual: usize) -> ParseErrorKind {
+    ParseErrorKind::InvalidSize { min, max, actual }
 }
 
 #[test]
-fn faults_of_lists(rt: HostRuntime) {
+fn faults_of_lists(rt: HostRuntime) -> Result<(), Fail> {
     let alloc = rt.alloc();
-    let many = parse_single::<SequenceOf<'_, u64, 0, 1>>(alloc, FIVE_AND_SEVEN);
-    same(&rt, &refusal(many), &wrong_count(0, 1, 2));
-    let few = parse_single::<SequenceOf<'_, u64, 2, 3>>(alloc, &[0x30, 0x03, 0x02, 0x01, 0x05]);
-    same(&rt, &refusal(few), &wrong_count(2, 3, 1));
-}
-
-#[test]
-fn faults_of_items(rt: HostRuntime) {
-    let alloc = rt.alloc();
-    let inner: &[u8] = &[0x30, 0x05, 0x30, 0x03, 0x02, 0x01, 0x05];
-    let few = parse_single::<List<'_, SequenceOf<'_, u64, 2, 3>>>(alloc, inner);
-    let kind = ParseErrorKind::InvalidSize {
-        min: 2,
-        max: 3,
-        actual: 1,
-    };
-    same(&rt, &refusal(few), &at(0, kind));
-    // A faulty item comes before a wrong count.
-    let faulty: &[u8] = &[0x30, 0x06, 0x02, 0x01, 0x05, 0x02, 0x01, 0xff];
-    let negative = parse_single::<SequenceOf<'_, u64, 0, 1>>(alloc, faulty);
-    same(
-        &rt,
-        &refusal(negative),
-        &at(1, ParseErrorKind::InvalidValue),
-    );
+    are_refused_with::<SequenceOf<'_, u64, 2, 3>>(
+        alloc,
+        &[
+            (
+                &[0x30, 0x03, 0x02, 0x01, 0x05],
+                ParseError::new(wrong_count(2, 3, 1)),
+            ),
+            (
+                &[0x30, 0x03, 0x02, 0x01, 0x07],
+                ParseError::new(wrong_count(2, 3, 1)),
+            ),
+        ],
+    )?;
+    are_refused_with::<SequenceOf<'_, u64, 0, 1>>(
+        alloc,
+        &[
+            (FIVE_AND_SEVEN, ParseError::new(wrong_count(0, 1, 2))),
+            // A faulty item comes before a wrong count.
+            (
+                &[0x30, 0x06, 0x02, 0x01, 0x05, 0x02, 0x01, 0xff],
+                at(1, ParseErrorKind::InvalidValue),
+            ),
+        ],
+    )?;
+    are_refused_with::<List<'_, SequenceOf<'_, u64, 2, 3>>>(
+        alloc,
+        &[(
+            &[0x30, 0x05, 0x30, 0x03, 0x02, 0x01, 0x05],
+            at(0, wrong_count(2, 3, 1)),
+        )],
+    )
 }
 
 #[test]
 fn lists_of_options(rt: HostRuntime) -> Result<(), Fail> {
     let alloc = rt.alloc();
     let other: &[u8] = &[0x30, 0x03, 0x01, 0x01, 0xff];
-    let none = parse_single::<List<'_, Option<u8>>>(alloc, other);
-    same(&rt, &refusal(none), &at(0, ParseErrorKind::ExtraData));
+    are_refused_with::<List<'_, Option<u8>>>(alloc, &[(other, at(0, ParseErrorKind::ExtraData))])?;
     let octets: &[u8] = &[0x30, 0x03, 0x02, 0x01, 0x05];
     let mut list = parse_single::<List<'_, Option<u8>>>(alloc, octets)?;
-    is_written(&rt, alloc, &list, octets)?;
-    same(&rt, &list.len(), &1);
-    assert!(rt; matches!(list.next(), Some(Ok(Some(5)))));
-    assert!(rt; list.next().is_none());
-    Ok(())
+    is_written(alloc, &list, octets)?;
+    same(list.len(), 1)?;
+    same(&[list.next(), list.next()], &[Some(Ok(Some(5))), None])
 }
 
 #[test]
 fn lists_of_choices(rt: HostRuntime) -> Result<(), Fail> {
     let octets: &[u8] = &[0x30, 0x06, 0x01, 0x01, 0xff, 0x02, 0x01, 0x05];
     let mut list = parse_single::<List<'_, Choice2<bool, i64>>>(rt.alloc(), octets)?;
-    same(&rt, &list.len(), &2);
-    assert!(rt; matches!(list.next(), Some(Ok(Choice2::ChoiceA(true)))));
-    assert!(rt; matches!(list.next(), Some(Ok(Choice2::ChoiceB(5)))));
-    assert!(rt; list.next().is_none());
-    Ok(())
+    same(list.len(), 2)?;
+    same(
+        &[list.next(), list.next(), list.next()],
+        &[
+            Some(Ok(Choice2::ChoiceA(true))),
+            Some(Ok(Choice2::ChoiceB(5))),
+            None,
+        ],
+    )
 }
 
 /// The next item, and how many then are left.
@@ -251,14 +207,13 @@ fn next_boxed(list: &mut List<'_, Box<u8>>) -> Result<(Option<u8>, usize), Parse
 #[test]
 fn lists_whose_items_take_memory(rt: HostRuntime) -> Result<(), Fail> {
     let mut list = parse_single::<List<'_, Box<u8>>>(rt.alloc(), ONE_TO_THREE)?;
-    is_written(&rt, rt.alloc(), &list, ONE_TO_THREE)?;
+    is_written(rt.alloc(), &list, ONE_TO_THREE)?;
     // Without a length an item found no memory.
     let length = list.data_length().ok_or(WriteError::AllocationError)?;
-    same(&rt, &length, &9);
-    same(&rt, &next_boxed(&mut list)?, &(Some(1), 2));
-    same(&rt, &next_boxed(&mut list)?, &(Some(2), 1));
-    same(&rt, &next_boxed(&mut list)?, &(Some(3), 0));
-    same(&rt, &next_boxed(&mut list)?, &(None, 0));
+    same(length, 9)?;
+    for left in [(Some(1), 2), (Some(2), 1), (Some(3), 0), (None, 0usize)] {
+        same(next_boxed(&mut list)?, left)?;
+    }
     Ok(())
 }
 
@@ -266,42 +221,23 @@ fn lists_whose_items_take_memory(rt: HostRuntime) -> Result<(), Fail> {
 fn lists_of_a_slice(rt: HostRuntime) -> Result<(), Fail> {
     let alloc = rt.alloc();
     let items = [1u8, 2, 3];
-    is_written(&rt, alloc, &SequenceOfWriter::new(&items), ONE_TO_THREE)?;
-    is_written(
-        &rt,
-        alloc,
-        &SequenceOfWriter::new(&items[..0]),
-        &[0x30, 0x00],
-    )?;
-    same(
-        &rt,
-        &SequenceOfWriter::new(&items[..2]).data_length(),
-        &Some(6),
-    );
     let list = SequenceOfWriter::new(&items);
+    is_written(alloc, &list, ONE_TO_THREE)?;
+    is_written(alloc, &SequenceOfWriter::new(&items[..0]), &[0x30, 0x00])?;
+    same(SequenceOfWriter::new(&items[..2]).data_length(), Some(6))?;
     assert!(rt; list.clone()? == list && list != SequenceOfWriter::new(&items[1..]));
     Ok(())
 }
 
 #[test]
 fn lists_of_closures(rt: HostRuntime) -> Result<(), Fail> {
-    let alloc = rt.alloc();
     let nothing = |_writer: &mut Writer<'_>| -> WriteResult<()> { Ok(()) };
     let sequences = [SequenceWriter::new(&nothing)];
-    is_written(
-        &rt,
-        alloc,
-        &SequenceOfWriter::new(&sequences[..0]),
-        &[0x30, 0],
-    )?;
-    is_written(
-        &rt,
-        alloc,
-        &SequenceOfWriter::new(&sequences),
-        &[0x30, 2, 0x30, 0],
-    )?;
-    same(&rt, &SequenceOfWriter::new(&sequences).data_length(), &None);
-    Ok(())
+    let none = SequenceOfWriter::new(&sequences[..0]);
+    is_written(rt.alloc(), &none, &[0x30, 0])?;
+    let one = SequenceOfWriter::new(&sequences);
+    is_written(rt.alloc(), &one, &[0x30, 2, 0x30, 0])?;
+    same(one.data_length(), None)
 }
 
 #[test]
@@ -309,32 +245,16 @@ fn lists_of_a_closure_with_items(rt: HostRuntime) -> Result<(), Fail> {
     let number = |writer: &mut Writer<'_>| -> WriteResult<()> { writer.write_element(&1u64) };
     let sequences = [SequenceWriter::new(&number)];
     let octets: &[u8] = &[0x30, 5, 0x30, 3, 2, 1, 1];
-    is_written(&rt, rt.alloc(), &SequenceOfWriter::new(&sequences), octets)
+    is_written(rt.alloc(), &SequenceOfWriter::new(&sequences), octets)
 }
 
 #[test]
 fn sequences_of_a_closure(rt: HostRuntime) -> Result<(), Fail> {
     let alloc = rt.alloc();
     let null = |writer: &mut Writer<'_>| -> WriteResult<()> { writer.write_element(&()) };
-    is_written(&rt, alloc, &SequenceWriter::new(&null), &[0x30, 2, 5, 0])?;
+    is_written(alloc, &SequenceWriter::new(&null), &[0x30, 2, 5, 0])?;
     let truth = |writer: &mut Writer<'_>| -> WriteResult<()> { writer.write_element(&true) };
-    is_written(
-        &rt,
-        alloc,
-        &SequenceWriter::new(&truth),
-        &[0x30, 3, 1, 1, 0xff],
-    )?;
-    Ok(())
-}
-
-#[test]
-fn sequences_in_an_implicit_tag(rt: HostRuntime) -> Result<(), Fail> {
-    let nothing = |_writer: &mut Writer<'_>| -> WriteResult<()> { Ok(()) };
-    let octets = write(rt.alloc(), |writer: &mut Writer<'_>| {
-        writer.write_implicit_element(&SequenceWriter::new(&nothing), 2)
-    })?;
-    same_octets(&rt, octets.as_slice(), &[0xa2u8, 0]);
-    Ok(())
+    is_written(alloc, &SequenceWriter::new(&truth), &[0x30, 3, 1, 1, 0xff])
 }
 
 /// A sequence of one octet string, by a closure.
@@ -392,22 +312,20 @@ fn announced_around(alloc: Global, header: &[u8], octets: &[u8]) -> Result<Vec<u
 /// A sequence of one octet string, with these headers, three times: its length is patched, counted by the slice's writer,
 /// and announced by a type of one's own.
 fn compare_patched(
-    rt: &impl Abort,
     alloc: Global,
     octets: &[u8],
     header: &[u8],
     inner_header: &[u8],
 ) -> Result<(), Fail> {
     let patched = sequence_around(alloc, octets)?;
-    assert!(rt; patched.as_slice().starts_with(header), "{header:?}");
+    same_at(header, patched.as_slice().starts_with(header), true)?;
     let listed = write_single(alloc, &SequenceOfWriter::new(&[octets]))?;
-    same_octets(rt, patched.as_slice(), listed.as_slice());
     let announced = announced_around(alloc, inner_header, octets)?;
-    same_octets(rt, patched.as_slice(), announced.as_slice());
     let (tlv, _rest) = strip_tlv(patched.as_slice())?;
     let inner = parse_single::<&[u8]>(alloc, tlv.data())?;
-    same_octets(rt, inner, octets);
-    Ok(())
+    same(patched.as_slice(), listed.as_slice())?;
+    same(patched.as_slice(), announced.as_slice())?;
+    same(inner, octets)
 }
 
 #[test]
@@ -427,7 +345,7 @@ fn patched_lengths(rt: HostRuntime) -> Result<(), Fail> {
     ];
     for (count, header, inner_header) in cases {
         let octets = LETTERS.get(..count).ok_or("too few letters")?;
-        compare_patched(&rt, rt.alloc(), octets, header, inner_header)?;
+        compare_patched(rt.alloc(), octets, header, inner_header)?;
     }
     Ok(())
 }
@@ -443,10 +361,10 @@ fn patched_lengths_in_one_another(rt: HostRuntime) -> Result<(), Fail> {
     ];
     for (octets, header) in cases {
         let outer = two_sequences_around(rt.alloc(), octets)?;
-        assert!(rt; outer.as_slice().starts_with(header));
+        same_at(header, outer.as_slice().starts_with(header), true)?;
         let (tlv, _rest) = strip_tlv(outer.as_slice())?;
         let inner = sequence_around(rt.alloc(), octets)?;
-        same_octets(&rt, tlv.data(), inner.as_slice());
+        same(tlv.data(), inner.as_slice())?;
     }
     Ok(())
 }
@@ -514,7 +432,6 @@ fn refused_items(rt: HostRuntime) -> Result<(), Fail> {
         writer.write_element(&true)
     };
     is_written(
-        &rt,
         alloc,
         &SequenceWriter::new(&goes_on),
         &[0x30, 3, 1, 1, 0xff],
@@ -522,11 +439,13 @@ fn refused_items(rt: HostRuntime) -> Result<(), Fail> {
 }
 
 #[test]
-fn lengths_that_pass_the_largest(rt: HostRuntime) {
+fn lengths_that_pass_the_largest() -> Result<(), Fail> {
     let items = [
         Unwritable(Some(usize::MAX - 10)),
         Unwritable(Some(usize::MAX - 10)),
     ];
-    same(&rt, &items[0].encoded_length(), &Some(usize::MAX));
-    same(&rt, &SequenceOfWriter::new(&items).data_length(), &None);
+    all_same(&[
+        (items[0].encoded_length(), Some(usize::MAX)),
+        (SequenceOfWriter::new(&items).data_length(), None),
+    ])
 }

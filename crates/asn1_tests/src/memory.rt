@@ -7,18 +7,15 @@ ghost use Rattle.std.specs.Prelude.{◌≡◌};
 ghost use Rattle.asn1.specs.Buffer.{KeepsFront};
 ghost use Rattle.asn1.specs.Writers.{buffer_name, octets_of};
 
-use crate::lists::{at, refusal};
-use crate::same::{same, same_octets};
+use crate::lists::{List, at};
 use asn1::{
-    Choice3, OwnedBigInt, OwnedBigUint, OwnedBitString, ParseError, ParseErrorKind, SequenceOf,
-    SequenceWriter, SetOf, WriteError, WriteResult, Writer, parse_single, strip_tlv, write,
+    Choice3, OwnedBigInt, OwnedBigUint, OwnedBitString, ParseError, ParseErrorKind, SequenceWriter,
+    SetOf, WriteError, WriteResult, Writer, parse_single, strip_tlv, write,
 };
 use std::alloc::Global;
 use std::process::Abort;
 use std::test::Fail;
-
-/// A list of any count of items.
-type List<'a, T> = SequenceOf<'a, T, 0, { usize::MAX }>;
+use testing::{are_refused_with, error_of, same};
 
 /// Of these items only the integer takes memory.
 type Item = Choice3<bool, Box<u8>, ()>;
@@ -47,7 +44,7 @@ fn is_next<A: Abort>(
 ) -> Result<(), ParseError> {
     match item {
         Some(Ok(item)) => {
-            same(rt, &*item, &number);
+            assert!(rt; *item == number, "{number}");
             return found;
         }
         item => {
@@ -64,10 +61,9 @@ fn walks_go_on_behind_an_item_without_memory(rt: HostRuntime) -> Result<(), Fail
     let mut found = Ok(());
     for (number, left) in [(1, 2), (2, 1), (3, 0)] {
         found = is_next(&rt, rt.alloc(), list.next(), number, found);
-        same(&rt, &list.len(), &left);
+        same(list.len(), left)?;
     }
-    assert!(rt; list.next().is_none());
-    same(&rt, &list.len(), &0);
+    assert!(rt; list.next().is_none() && list.len() == 0);
     let mut set = parse_single::<SetOf<'_, Box<u8>>>(rt.alloc(), SET)?;
     for number in 1..=3 {
         found = is_next(&rt, rt.alloc(), set.next(), number, found);
@@ -100,23 +96,23 @@ const ONE_OWNED: [(usize, &[u8]); 8] = [
 ];
 
 /// All was read, or this item found no memory; then all ends for want of it.
-fn is_read_or_named<A: Abort>(rt: &A, fault: Option<ParseError>, index: usize) -> WriteResult<()> {
+fn is_read_or_named(fault: Option<ParseError>, index: usize) -> Result<(), Fail> {
     if fault.is_none() {
         return Ok(());
     }
-    same(rt, &fault, &at(index, NO_MEMORY));
-    Err(WriteError::AllocationError)
+    same(&fault, &Some(at(index, NO_MEMORY)))?;
+    Err(WriteError::AllocationError.into())
 }
 
 #[test]
 fn reading_names_the_item_without_memory(rt: HostRuntime) -> Result<(), Fail> {
     for (index, octets) in ONE_BOX {
         let fault = if octets[0] == 0x30 {
-            refusal(parse_single::<List<'_, Item>>(rt.alloc(), octets))
+            error_of(parse_single::<List<'_, Item>>(rt.alloc(), octets))
         } else {
-            refusal(parse_single::<SetOf<'_, Item>>(rt.alloc(), octets))
+            error_of(parse_single::<SetOf<'_, Item>>(rt.alloc(), octets))
         };
-        is_read_or_named(&rt, fault, index)?;
+        is_read_or_named(fault, index)?;
     }
     Ok(())
 }
@@ -125,11 +121,11 @@ fn reading_names_the_item_without_memory(rt: HostRuntime) -> Result<(), Fail> {
 fn reading_names_the_owned_item_without_memory(rt: HostRuntime) -> Result<(), Fail> {
     for (index, octets) in ONE_OWNED {
         let fault = if octets[0] == 0x30 {
-            refusal(parse_single::<List<'_, OwnedItem>>(rt.alloc(), octets))
+            error_of(parse_single::<List<'_, OwnedItem>>(rt.alloc(), octets))
         } else {
-            refusal(parse_single::<SetOf<'_, OwnedItem>>(rt.alloc(), octets))
+            error_of(parse_single::<SetOf<'_, OwnedItem>>(rt.alloc(), octets))
         };
-        is_read_or_named(&rt, fault, index)?;
+        is_read_or_named(fault, index)?;
     }
     Ok(())
 }
@@ -139,7 +135,7 @@ fn lists_of_owned_integers(rt: HostRuntime) -> Result<(), Fail> {
     let mut list = parse_single::<List<'_, OwnedBigInt>>(rt.alloc(), LIST)?;
     for number in 1..=3u8 {
         let item = list.next().ok_or("no item")??;
-        same_octets(&rt, item.as_bytes(), &[number]);
+        same(item.as_bytes(), &[number])?;
     }
     assert!(rt; list.next().is_none());
     Ok(())
@@ -150,7 +146,7 @@ fn lists_of_owned_naturals(rt: HostRuntime) -> Result<(), Fail> {
     let mut list = parse_single::<List<'_, OwnedBigUint>>(rt.alloc(), LIST)?;
     for number in 1..=3u8 {
         let item = list.next().ok_or("no item")??;
-        same_octets(&rt, item.as_bytes(), &[number]);
+        same(item.as_bytes(), &[number])?;
     }
     assert!(rt; list.next().is_none());
     Ok(())
@@ -162,7 +158,7 @@ fn lists_of_owned_bit_strings(rt: HostRuntime) -> Result<(), Fail> {
     let mut list = parse_single::<List<'_, OwnedBitString>>(rt.alloc(), octets)?;
     for bits in [[0x10u8].as_slice(), &[2], &[]] {
         let item = list.next().ok_or("no item")??;
-        same_octets(&rt, item.as_bitstring().as_bytes(), bits);
+        same(item.as_bitstring().as_bytes(), bits)?;
     }
     assert!(rt; list.next().is_none());
     Ok(())
@@ -170,17 +166,13 @@ fn lists_of_owned_bit_strings(rt: HostRuntime) -> Result<(), Fail> {
 
 /// What is refused for its contents is refused so whether or not there is memory: none is asked for.
 #[test]
-fn faulty_contents_ask_for_no_memory(rt: HostRuntime) {
+fn faulty_contents_ask_for_no_memory(rt: HostRuntime) -> Result<(), Fail> {
     let alloc = rt.alloc();
-    let invalid = Some(ParseError::new(ParseErrorKind::InvalidValue));
-    let integer = refusal(parse_single::<OwnedBigInt>(alloc, &[2, 2, 0, 1]));
-    same(&rt, &integer, &invalid);
-    let natural = refusal(parse_single::<OwnedBigUint>(alloc, &[2, 1, 0x80]));
-    same(&rt, &natural, &invalid);
-    let bits = refusal(parse_single::<OwnedBitString>(alloc, &[3, 2, 7, 1]));
-    same(&rt, &bits, &invalid);
-    let boxed = refusal(parse_single::<Box<u8>>(alloc, &[2, 1, 0x80]));
-    same(&rt, &boxed, &invalid);
+    let invalid = || ParseError::new(ParseErrorKind::InvalidValue);
+    are_refused_with::<OwnedBigInt>(alloc, &[(&[2, 2, 0, 1], invalid())])?;
+    are_refused_with::<OwnedBigUint>(alloc, &[(&[2, 1, 0x80], invalid())])?;
+    are_refused_with::<OwnedBitString>(alloc, &[(&[3, 2, 7, 1], invalid())])?;
+    are_refused_with::<Box<u8>>(alloc, &[(&[2, 1, 0x80], invalid())])
 }
 
 /// Where a first write found no memory, and there is some again, a second one succeeds.
@@ -215,6 +207,5 @@ fn an_element_without_memory_is_left_out(rt: HostRuntime) -> Result<(), Fail> {
     if sequence == [0x30u8, 3, 1, 1, 0xff].as_slice() {
         return Err(WriteError::AllocationError.into());
     }
-    same_octets(&rt, sequence, &[0x30u8, 6, 2, 1, 5, 1, 1, 0xff]);
-    Ok(())
+    same(sequence, &[0x30, 6, 2, 1, 5, 1, 1, 0xff])
 }

@@ -1,17 +1,17 @@
-//! Lists in one another: the places of a fault, of which the innermost eight are kept.
+//! Lists in one another: the locations of an error, of which the innermost eight are kept.
 
 ghost use Rattle.std.specs.Prelude.{◌≡◌};
 ghost use Rattle.asn1.specs.Der.{seen};
 ghost use Rattle.asn1.specs.Items.{sequence_tag};
 ghost use Rattle.asn1.specs.Reading.{Answers};
 
-use crate::lists::{List, refusal};
-use crate::same::same;
+use crate::lists::List;
 use asn1::{
     Asn1Type, ParseError, ParseErrorKind, ParseLocation, ParseResult, SimpleAsn1Readable, Tag,
-    parse_single,
 };
 use std::alloc::Global;
+use std::test::Fail;
+use testing::are_refused_with;
 
 type Four<'a> = List<'a, List<'a, List<'a, List<'a, bool>>>>;
 
@@ -47,41 +47,37 @@ impl<'a> SimpleAsn1Readable<'a> for Inner<'a> {
 }
 
 /// An invalid value in so many first items of lists.
-fn in_first_items(count: usize) -> Option<ParseError> {
+fn in_first_items(count: usize) -> ParseError {
     let mut error = ParseError::new(ParseErrorKind::InvalidValue);
     for _ in 0..count {
         error = error.add_location(ParseLocation::Index(0));
     }
-    Some(error)
+    error
 }
 
 #[test]
-fn five_lists_in_one_another(rt: HostRuntime) {
+fn five_lists_in_one_another(rt: HostRuntime) -> Result<(), Fail> {
     let octets: &[u8] = &[
         0x30, 0x0b, 0x30, 0x09, 0x30, 0x07, 0x30, 0x05, 0x30, 0x03, 0x01, 0x01, 0x01,
     ];
-    let read = parse_single::<List<'_, Four<'_>>>(rt.alloc(), octets);
-    same(&rt, &refusal(read), &in_first_items(5));
+    are_refused_with::<List<'_, Four<'_>>>(rt.alloc(), &[(octets, in_first_items(5))])
 }
 
 #[test]
-fn six_lists_in_one_another(rt: HostRuntime) {
+fn six_lists_in_one_another(rt: HostRuntime) -> Result<(), Fail> {
     let octets: &[u8] = &[
         0x30, 0x0d, 0x30, 0x0b, 0x30, 0x09, 0x30, 0x07, 0x30, 0x05, 0x30, 0x03, 0x01, 0x01, 0x01,
     ];
-    let read = parse_single::<List<'_, List<'_, Four<'_>>>>(rt.alloc(), octets);
-    same(&rt, &refusal(read), &in_first_items(6));
+    are_refused_with::<List<'_, List<'_, Four<'_>>>>(rt.alloc(), &[(octets, in_first_items(6))])
 }
 
+type Five<'a> = List<'a, List<'a, List<'a, List<'a, List<'a, Inner<'a>>>>>>;
+
 #[test]
-fn nine_lists_in_one_another(rt: HostRuntime) {
+fn nine_lists_in_one_another(rt: HostRuntime) -> Result<(), Fail> {
     let octets: &[u8] = &[
         0x30, 0x13, 0x30, 0x11, 0x30, 0x0f, 0x30, 0x0d, 0x30, 0x0b, 0x30, 0x09, 0x30, 0x07, 0x30,
         0x05, 0x30, 0x03, 0x01, 0x01, 0x01,
     ];
-    let read = parse_single::<List<'_, List<'_, List<'_, List<'_, List<'_, Inner<'_>>>>>>>(
-        rt.alloc(),
-        octets,
-    );
-    same(&rt, &refusal(read), &in_first_items(8));
+    are_refused_with::<Five<'_>>(rt.alloc(), &[(octets, in_first_items(8))])
 }

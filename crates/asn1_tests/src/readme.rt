@@ -8,7 +8,7 @@ fn reading(rt: HostRuntime) -> Result<(), Fail> {
     let alloc = rt.alloc();
     let octets = [5u8, 0, 1].as_slice();
 
-    // One value, and nothing behind it.
+    // One value, and nothing after it.
     let value = parse_single::<bool>(alloc, &[0x01, 0x01, 0xff])?;
 
     // Several, one after another.

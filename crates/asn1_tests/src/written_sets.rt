@@ -1,4 +1,4 @@
-//! Sets whose elements a closure writes: what is written is the content of a `Set`, and read as one.
+//! Sets whose elements a closure writes: what is written is the contents octets of a `Set`, and read as one.
 
 ghost use Rattle.std.specs.Prelude.{◌≡◌, ◌<◌, ◌^◌, length, OnOk, IfOk};
 ghost use Rattle.asn1.specs.Items.{set_tag};
@@ -11,8 +11,8 @@ use asn1::{
     ParseResult, Parser, Set, SetElementWriter, SetWriter, WriteResult, parse_single, write_single,
 };
 use std::alloc::Global;
-use std::process::Abort;
 use std::test::Fail;
+use testing::same;
 
 /// A set of a Boolean and a number. The closure says that it keeps elements in the order of their
 /// tags, and so a `Set` reads what is written.
@@ -49,7 +49,6 @@ fn read_set(alloc: Global, octets: &[u8]) -> ParseResult<(bool, u64)> {
 fn written_sets_are_read(rt: HostRuntime) -> Result<(), Fail> {
     let alloc = rt.alloc();
     let octets = written_set(alloc, 5)?;
-    assert_eq!(rt; octets.as_slice(), &[0x31, 6, 1, 1, 0xff, 2, 1, 5][..]);
-    assert_eq!(rt; read_set(alloc, octets.as_slice())?, (true, 5));
-    Ok(())
+    same(octets.as_slice(), &[0x31, 6, 1, 1, 0xff, 2, 1, 5])?;
+    same(read_set(alloc, octets.as_slice())?, (true, 5))
 }

@@ -1,13 +1,12 @@
 //! Identifiers: values from outside.
 
-use crate::same::{
-    compare_laid_out, compare_shown, different, hash_of, same, same_octets, same_text,
-};
-use asn1_core::{ParseErrorKind, parse_single, write_single};
+use asn1_core::{ParseErrorKind, parse_single};
 use asn1_values::ObjectIdentifier;
+use std::alloc::Global;
 use std::test::Fail;
+use testing::{both_ways, different, hash_of, is_laid_out, is_shown, kind_of, same, same_at};
 
-const INVALID: Option<ParseErrorKind> = Some(ParseErrorKind::InvalidValue);
+const NONE: &str = "no identifier";
 
 /// The content of the greatest first number, 2^128 - 1.
 const GREATEST: [u8; 19] = [
@@ -21,12 +20,9 @@ const TOO_GREAT: [u8; 19] = [
     0x80, 0x80, 0x00,
 ];
 
-/// Why a content is refused.
-fn fault(octets: &[u8]) -> Option<ParseErrorKind> {
-    match ObjectIdentifier::from_der(octets) {
-        Ok(_) => None,
-        Err(error) => Some(error.kind()),
-    }
+/// The identifier is displayed so.
+fn is_displayed(alloc: Global, identifier: &ObjectIdentifier, text: &str) -> Result<(), Fail> {
+    same(format!(in alloc; "{identifier}")?.as_str(), text)
 }
 
 #[test]
@@ -48,9 +44,8 @@ fn texts_are_read_and_shown(rt: HostRuntime) -> Result<(), Fail> {
         "2.340282366920938463463374607431768211375",
     ];
     for text in texts {
-        let identifier = ObjectIdentifier::from_string(text).expect(&rt, "an identifier");
-        let shown = String::format(alloc, format_args!("{identifier}"))?;
-        same_text(&rt, shown.as_str(), text);
+        let identifier = ObjectIdentifier::from_string(text).ok_or(NONE)?;
+        is_displayed(alloc, &identifier, text)?;
     }
     Ok(())
 }
@@ -58,20 +53,17 @@ fn texts_are_read_and_shown(rt: HostRuntime) -> Result<(), Fail> {
 #[test]
 fn other_texts_of_an_identifier(rt: HostRuntime) -> Result<(), Fail> {
     let alloc = rt.alloc();
-    let identifier = ObjectIdentifier::from_string("1.+2.03").expect(&rt, "an identifier");
-    same_octets(&rt, identifier.as_der(), &[0x2a, 0x03]);
-    let shown = String::format(alloc, format_args!("{identifier}"))?;
-    same_text(&rt, shown.as_str(), "1.2.3");
-    Ok(())
+    let identifier = ObjectIdentifier::from_string("1.+2.03").ok_or(NONE)?;
+    same(identifier.as_der(), &[0x2a, 0x03])?;
+    is_displayed(alloc, &identifier, "1.2.3")
 }
 
 #[test]
 fn identifiers_are_shown(rt: HostRuntime) -> Result<(), Fail> {
     let alloc = rt.alloc();
-    let identifier = ObjectIdentifier::from_string("1.2.3.4").expect(&rt, "an identifier");
-    compare_shown(&rt, alloc, &identifier, "ObjectIdentifier { oid: 1.2.3.4 }")?;
-    compare_laid_out(
-        &rt,
+    let identifier = ObjectIdentifier::from_string("1.2.3.4").ok_or(NONE)?;
+    is_shown(alloc, &identifier, "ObjectIdentifier { oid: 1.2.3.4 }")?;
+    is_laid_out(
         alloc,
         &identifier,
         "ObjectIdentifier {\n    oid: 1.2.3.4,\n}",
@@ -79,7 +71,7 @@ fn identifiers_are_shown(rt: HostRuntime) -> Result<(), Fail> {
 }
 
 #[test]
-fn other_identifiers_are_unequal(rt: HostRuntime) {
+fn other_identifiers_are_unequal() -> Result<(), Fail> {
     let rows = [
         ("1.2.3.4", "1.2.3.5"),
         ("1.2.3.4", "1.2.3"),
@@ -88,23 +80,23 @@ fn other_identifiers_are_unequal(rt: HostRuntime) {
         ("2.5.129", "2.5.1.1"),
     ];
     for (text, other) in rows {
-        let identifier = ObjectIdentifier::from_string(text).expect(&rt, "an identifier");
-        let other = ObjectIdentifier::from_string(other).expect(&rt, "an identifier");
-        different(&rt, &identifier, &other);
+        let identifier = ObjectIdentifier::from_string(text).ok_or(NONE)?;
+        let other = ObjectIdentifier::from_string(other).ok_or(NONE)?;
+        different(&identifier, &other)?;
     }
-}
-
-#[test]
-fn equal_identifiers_hash_alike(rt: HostRuntime) -> Result<(), Fail> {
-    let identifier = ObjectIdentifier::from_string("1.+2.03").expect(&rt, "an identifier");
-    let other = ObjectIdentifier::from_der(&[0x2a, 0x03])?;
-    same(&rt, &other, &identifier);
-    same(&rt, &hash_of(&other), &hash_of(&identifier));
     Ok(())
 }
 
 #[test]
-fn other_texts_are_refused(rt: HostRuntime) {
+fn equal_identifiers_hash_alike() -> Result<(), Fail> {
+    let identifier = ObjectIdentifier::from_string("1.+2.03").ok_or(NONE)?;
+    let other = ObjectIdentifier::from_der(&[0x2a, 0x03])?;
+    same(&other, &identifier)?;
+    same(hash_of(&other), hash_of(&identifier))
+}
+
+#[test]
+fn other_texts_are_refused() -> Result<(), Fail> {
     let texts = [
         "",
         "1",
@@ -124,8 +116,9 @@ fn other_texts_are_refused(rt: HostRuntime) {
         "1.3.6.1.4.1.1248.1.1.2.1.3.21.69.112.115.111.110.32.83.116.121.108.117.115.32.80.114.111.32.52.57.48.48.123.124412.31.213321.123.110.32.83.116.121.108.117.115.32.80.114.111.32.52.57.48.48.123.124412.31.213321.123",
     ];
     for text in texts {
-        same(&rt, &ObjectIdentifier::from_string(text), &None);
+        same_at(text, &ObjectIdentifier::from_string(text), &None)?;
     }
+    Ok(())
 }
 
 #[test]
@@ -149,11 +142,10 @@ fn elements_are_read_and_written(rt: HostRuntime) -> Result<(), Fail> {
         ),
     ];
     for (text, octets) in rows {
-        let identifier = ObjectIdentifier::from_string(text).expect(&rt, "an identifier");
-        same_octets(&rt, write_single(alloc, &identifier)?.as_slice(), octets);
+        let identifier = ObjectIdentifier::from_string(text).ok_or(NONE)?;
         let back = parse_single::<ObjectIdentifier>(alloc, octets)?;
-        same(&rt, &back, &identifier);
-        same(&rt, &back.clone()?, &identifier);
+        same(&back.clone()?, &identifier)?;
+        both_ways(alloc, identifier, octets)?;
     }
     Ok(())
 }
@@ -162,53 +154,46 @@ fn elements_are_read_and_written(rt: HostRuntime) -> Result<(), Fail> {
 fn contents_are_read(rt: HostRuntime) -> Result<(), Fail> {
     let alloc = rt.alloc();
     let identifier = ObjectIdentifier::from_der(&GREATEST)?;
-    let shown = String::format(alloc, format_args!("{identifier}"))?;
-    same_text(
-        &rt,
-        shown.as_str(),
+    is_displayed(
+        alloc,
+        &identifier,
         "2.340282366920938463463374607431768211375",
-    );
+    )
+}
+
+#[test]
+fn other_contents_are_refused() -> Result<(), Fail> {
+    let invalid = Some(ParseErrorKind::InvalidValue);
+    let too_long = Some(ParseErrorKind::OidTooLong);
+    let long = [0x01; 66];
+    let rows: [(&[u8], Option<ParseErrorKind>); 10] = [
+        (&[], invalid),
+        (&[0x80], invalid),
+        (&[0x80, 0x01], invalid),
+        (&[0x81], invalid),
+        (&[0x2a, 0x86], invalid),
+        (&[0x55, 0x02, 0xc0, 0x80, 0x80, 0x80, 0x80], invalid),
+        (&TOO_GREAT, invalid),
+        (&long[..63], None),
+        (&long[..64], too_long),
+        (&long, too_long),
+    ];
+    for (octets, kind) in rows {
+        same_at(octets, kind_of(ObjectIdentifier::from_der(octets)), kind)?;
+    }
     Ok(())
 }
 
 #[test]
-fn other_contents_are_refused(rt: HostRuntime) {
-    let refused: [&[u8]; 7] = [
-        &[],
-        &[0x80],
-        &[0x80, 0x01],
-        &[0x81],
-        &[0x2a, 0x86],
-        &[0x55, 0x02, 0xc0, 0x80, 0x80, 0x80, 0x80],
-        &TOO_GREAT,
-    ];
-    for octets in refused {
-        same(&rt, &fault(octets), &INVALID);
-    }
-    let long = [0x01; 66];
-    same(&rt, &fault(&long[..63]), &None);
-    same(&rt, &fault(&long[..64]), &Some(ParseErrorKind::OidTooLong));
-    same(&rt, &fault(&long), &Some(ParseErrorKind::OidTooLong));
-}
-
-#[test]
-fn contents_that_are_known(rt: HostRuntime) {
+fn contents_that_are_known() -> Result<(), Fail> {
     let mut octets = [0; 63];
     octets[0] = 0x55;
     let identifier = ObjectIdentifier::from_der_unchecked(octets, 1);
-    same(
-        &rt,
-        &ObjectIdentifier::from_string("2.5"),
-        &Some(identifier),
-    );
+    same(&ObjectIdentifier::from_string("2.5"), &Some(identifier))?;
     let mut octets = [0; 63];
     octets[0] = 0x81;
     octets[1] = 0x34;
     octets[2] = 0x03;
     let identifier = ObjectIdentifier::from_der_unchecked(octets, 3);
-    same(
-        &rt,
-        &ObjectIdentifier::from_string("2.100.3"),
-        &Some(identifier),
-    );
+    same(&ObjectIdentifier::from_string("2.100.3"), &Some(identifier))
 }

@@ -1,4 +1,4 @@
-//! What the laws say of values in hand: each function here is proved to answer true.
+//! What the laws say of Rust values: each function here is proved to return true.
 
 ghost use Rattle.std.specs.Prelude.{◌≡◌, IsTrue};
 ghost use Rattle.asn1_values.specs.Values.{owned_big_int_number};
@@ -9,7 +9,7 @@ use asn1_values::laws_values::owned_big_ints_compare;
 use asn1_values::values::{DateTime, IA5String, OwnedBigInt};
 use std::test::Fail;
 
-/// A text has a clone, which equals it.
+/// A string has a clone, which equals it.
 fn text_equals_its_clone(text: &IA5String<'_>) -> bool
     ensures { IsTrue result }
 {

@@ -10,8 +10,6 @@ mod integers;
 #[cfg(test)]
 mod laws;
 #[cfg(test)]
-mod same;
-#[cfg(test)]
 mod slow;
 #[cfg(test)]
 mod texts;

@@ -2,17 +2,14 @@
 
 ghost use Rattle.std.specs.Prelude.{◌<◌, IfSome};
 
-use crate::same::{same_octets, same_text};
-use asn1_core::{
-    Asn1Readable, Asn1Writable, ParseErrorKind, WriteError, parse_single, write_single,
-};
+use asn1_core::{Asn1Readable, Asn1Writable, ParseErrorKind, WriteError, parse_single};
 use asn1_values::{
     BMPString, BitString, DateTime, IA5String, ObjectIdentifier, PrintableString, UtcTime,
     Utf8String, VisibleString, X509GeneralizedTime,
 };
 use std::alloc::Global;
-use std::process::Abort;
 use std::test::Fail;
+use testing::{is_written, is_written_back, kind_of, refused, same, same_at};
 
 /// The bits of contents octets, the first at the top of the first octet, without the padding, which is fewer than eight
 /// zeros (X.690 8.6, 11.2).
@@ -35,36 +32,33 @@ fn slow_bits(alloc: Global, content: &[u8]) -> Result<Option<Vec<bool>>, Fail> {
 }
 
 /// A bit string both ways.
-fn compare_bits(rt: &impl Abort, alloc: Global, text: &[u8]) -> Result<(), Fail> {
-    let slow = slow_bits(alloc, text.get(2..).unwrap_or(&[]))?;
-    match parse_single::<BitString<'_>>(alloc, text) {
-        Ok(value) => {
-            let bits = slow.expect(rt, "a right padding");
-            for place in 0..bits.len() + 9 {
-                let bit = bits.get(place).copied().unwrap_or(false);
-                assert_eq!(rt; value.has_bit_set(place), bit, "{text:?}");
-            }
-            same_octets(rt, write_single(alloc, &value)?.as_slice(), text);
-        }
-        Err(error) => {
-            assert!(rt; slow.is_none(), "{text:?}");
-            assert_eq!(rt; error.kind(), ParseErrorKind::InvalidValue);
-        }
+fn compare_bits(alloc: Global, text: &[u8]) -> Result<(), Fail> {
+    let Some(bits) = slow_bits(alloc, text.get(2..).unwrap_or(&[]))? else {
+        let invalid = Some(ParseErrorKind::InvalidValue);
+        return same_at(text, refused::<BitString<'_>>(alloc, text), invalid);
+    };
+    let value = match parse_single::<BitString<'_>>(alloc, text) {
+        Ok(value) => value,
+        Err(error) => return Err(Fail::new(format_args!("{text:?}: {error:?}"))),
+    };
+    for place in 0..bits.len() + 9 {
+        let bit = bits.get(place).copied().unwrap_or(false);
+        same_at((text, place), value.has_bit_set(place), bit)?;
     }
-    Ok(())
+    is_written(alloc, &value, text)
 }
 
 #[test]
 fn all_bit_strings_of_up_to_two_octets(rt: HostRuntime) -> Result<(), Fail> {
-    compare_bits(&rt, rt.alloc(), &[3, 0])?;
+    compare_bits(rt.alloc(), &[3, 0])?;
     for first in 0..=255 {
-        compare_bits(&rt, rt.alloc(), &[3, 1, first])?;
+        compare_bits(rt.alloc(), &[3, 1, first])?;
         for second in 0..=255 {
-            compare_bits(&rt, rt.alloc(), &[3, 2, first, second])?;
+            compare_bits(rt.alloc(), &[3, 2, first, second])?;
         }
     }
     for last in 0..=255 {
-        compare_bits(&rt, rt.alloc(), &[3, 4, 5, 0xa5, 0xff, last])?;
+        compare_bits(rt.alloc(), &[3, 4, 5, 0xa5, 0xff, last])?;
     }
     Ok(())
 }
@@ -109,31 +103,28 @@ fn slow_dotted(alloc: Global, numbers: &[u128]) -> Result<String, Fail> {
 }
 
 /// Contents octets of an identifier: as the numbers that they mean.
-fn compare_identifiers(rt: &impl Abort, alloc: Global, content: &[u8]) -> Result<(), Fail> {
-    let slow = slow_numbers(alloc, content)?;
-    match ObjectIdentifier::from_der(content) {
-        Ok(value) => {
-            let numbers = slow.expect(rt, "numbers");
-            let shown = format!(in alloc; "{value}")?;
-            let dotted = slow_dotted(alloc, numbers.as_slice())?;
-            same_text(rt, shown.as_str(), dotted.as_str());
-            same_octets(rt, value.as_der(), content);
-        }
-        Err(error) => {
-            assert!(rt; slow.is_none(), "{content:?}");
-            assert_eq!(rt; error.kind(), ParseErrorKind::InvalidValue);
-        }
-    }
-    Ok(())
+fn compare_identifiers(alloc: Global, content: &[u8]) -> Result<(), Fail> {
+    let Some(numbers) = slow_numbers(alloc, content)? else {
+        let found = kind_of(ObjectIdentifier::from_der(content));
+        return same_at(content, found, Some(ParseErrorKind::InvalidValue));
+    };
+    let value = match ObjectIdentifier::from_der(content) {
+        Ok(value) => value,
+        Err(error) => return Err(Fail::new(format_args!("{content:?}: {error:?}"))),
+    };
+    let shown = format!(in alloc; "{value}")?;
+    let dotted = slow_dotted(alloc, numbers.as_slice())?;
+    same_at(content, shown.as_str(), dotted.as_str())?;
+    same(value.as_der(), content)
 }
 
 #[test]
 fn all_identifiers_of_up_to_two_octets(rt: HostRuntime) -> Result<(), Fail> {
-    compare_identifiers(&rt, rt.alloc(), &[])?;
+    compare_identifiers(rt.alloc(), &[])?;
     for first in 0..=255 {
-        compare_identifiers(&rt, rt.alloc(), &[first])?;
+        compare_identifiers(rt.alloc(), &[first])?;
         for second in 0..=255 {
-            compare_identifiers(&rt, rt.alloc(), &[first, second])?;
+            compare_identifiers(rt.alloc(), &[first, second])?;
         }
     }
     Ok(())
@@ -149,9 +140,9 @@ fn longer_identifiers(rt: HostRuntime) -> Result<(), Fail> {
                 content[0] = first;
                 content[1] = second;
                 content[19] = 0x7f;
-                compare_identifiers(&rt, rt.alloc(), &content[..3])?;
-                compare_identifiers(&rt, rt.alloc(), &content[1..])?;
-                compare_identifiers(&rt, rt.alloc(), &content)?;
+                compare_identifiers(rt.alloc(), &content[..3])?;
+                compare_identifiers(rt.alloc(), &content[1..])?;
+                compare_identifiers(rt.alloc(), &content)?;
             }
         }
     }
@@ -160,24 +151,17 @@ fn longer_identifiers(rt: HostRuntime) -> Result<(), Fail> {
 
 /// A text is read and written back where it is right, and else refused.
 fn compare_text<'a, T: Asn1Readable<'a> + Asn1Writable<Error = WriteError>>(
-    rt: &impl Abort,
     alloc: Global,
     text: &'a [u8],
     is_right: bool,
 ) -> Result<(), Fail>
     requires { T.der.plain }
 {
-    match parse_single::<T>(alloc, text) {
-        Ok(value) => {
-            assert!(rt; is_right, "{text:?}");
-            same_octets(rt, write_single(alloc, &value)?.as_slice(), text);
-        }
-        Err(error) => {
-            assert!(rt; !is_right, "{text:?}");
-            assert_eq!(rt; error.kind(), ParseErrorKind::InvalidValue);
-        }
+    if is_right {
+        return is_written_back::<T>(alloc, text);
     }
-    Ok(())
+    let invalid = Some(ParseErrorKind::InvalidValue);
+    same_at(text, refused::<T>(alloc, text), invalid)
 }
 
 /// The characters of a `PrintableString` (X.680 41.4).
@@ -187,24 +171,24 @@ fn is_printable(octet: u8) -> bool {
 }
 
 /// Two octets of each kind of text that has one octet a character, of UTF-8 and of a `BMPString`.
-fn compare_two(rt: &impl Abort, alloc: Global, a: u8, b: u8) -> Result<(), Fail> {
+fn compare_two(alloc: Global, a: u8, b: u8) -> Result<(), Fail> {
     let printable = is_printable(a) && is_printable(b);
     let ia5 = a < 0x80 && b < 0x80;
     let visible = (0x20..0x7f).contains(&a) && (0x20..0x7f).contains(&b);
     let utf8 = ia5 || (0xc2..0xe0).contains(&a) && (0x80..0xc0).contains(&b);
     let bmp = !(0xd8..0xe0).contains(&a);
-    compare_text::<PrintableString<'_>>(rt, alloc, &[19, 2, a, b], printable)?;
-    compare_text::<IA5String<'_>>(rt, alloc, &[22, 2, a, b], ia5)?;
-    compare_text::<VisibleString<'_>>(rt, alloc, &[26, 2, a, b], visible)?;
-    compare_text::<Utf8String<'_>>(rt, alloc, &[12, 2, a, b], utf8)?;
-    compare_text::<BMPString<'_>>(rt, alloc, &[30, 2, a, b], bmp)
+    compare_text::<PrintableString<'_>>(alloc, &[19, 2, a, b], printable)?;
+    compare_text::<IA5String<'_>>(alloc, &[22, 2, a, b], ia5)?;
+    compare_text::<VisibleString<'_>>(alloc, &[26, 2, a, b], visible)?;
+    compare_text::<Utf8String<'_>>(alloc, &[12, 2, a, b], utf8)?;
+    compare_text::<BMPString<'_>>(alloc, &[30, 2, a, b], bmp)
 }
 
 #[test]
 fn all_texts_of_two_octets(rt: HostRuntime) -> Result<(), Fail> {
     for first in 0..=255 {
         for second in 0..=255 {
-            compare_two(&rt, rt.alloc(), first, second)?;
+            compare_two(rt.alloc(), first, second)?;
         }
     }
     Ok(())
@@ -277,33 +261,36 @@ fn numbers_of(time: &DateTime) -> (u16, [u16; 5]) {
     (time.year(), rest.map(u16::from))
 }
 
+fn real_utc(alloc: Global, text: &[u8]) -> Option<(u16, [u16; 5])> {
+    match parse_single::<UtcTime>(alloc, text) {
+        Ok(time) => Some(numbers_of(time.as_datetime())),
+        Err(_) => None,
+    }
+}
+
+fn real_general(alloc: Global, text: &[u8]) -> Option<(u16, [u16; 5])> {
+    match parse_single::<X509GeneralizedTime>(alloc, text) {
+        Ok(time) => Some(numbers_of(time.as_datetime())),
+        Err(_) => None,
+    }
+}
+
 /// A text of either type: its numbers, or a refusal.
-fn compare_times(rt: &impl Abort, alloc: Global, text: &[u8]) -> Result<(), Fail> {
+fn compare_times(alloc: Global, text: &[u8]) -> Result<(), Fail> {
     let content = text.get(2..).unwrap_or(&[]);
     match text {
-        [23, ..] => match parse_single::<UtcTime>(alloc, text) {
-            Ok(time) => assert_eq!(rt; Some(numbers_of(time.as_datetime())), slow_utc(content)),
-            Err(_) => assert!(rt; slow_utc(content).is_none(), "{text:?}"),
-        },
-        _ => match parse_single::<X509GeneralizedTime>(alloc, text) {
-            Ok(time) => assert_eq!(rt; Some(numbers_of(time.as_datetime())), slow_general(content)),
-            Err(_) => assert!(rt; slow_general(content).is_none(), "{text:?}"),
-        },
+        [23, ..] => same_at(text, real_utc(alloc, text), slow_utc(content)),
+        _ => same_at(text, real_general(alloc, text), slow_general(content)),
     }
-    Ok(())
 }
 
 /// Each octet of the contents is replaced by each other.
-fn compare_damaged<const N: usize>(
-    rt: &impl Abort,
-    alloc: Global,
-    text: [u8; N],
-) -> Result<(), Fail> {
+fn compare_damaged<const N: usize>(alloc: Global, text: [u8; N]) -> Result<(), Fail> {
     for place in 2..N {
         for octet in 0..=255 {
             let mut damaged = text;
             damaged[place] = octet;
-            compare_times(rt, alloc, &damaged)?;
+            compare_times(alloc, &damaged)?;
         }
     }
     Ok(())
@@ -312,10 +299,10 @@ fn compare_damaged<const N: usize>(
 #[test]
 fn damaged_times(rt: HostRuntime) -> Result<(), Fail> {
     let alloc = rt.alloc();
-    compare_damaged(&rt, alloc, *b"\x17\x0d000229235959Z")?;
-    compare_damaged(&rt, alloc, *b"\x17\x0d491231000000Z")?;
-    compare_damaged(&rt, alloc, *b"\x17\x0d500430101112Z")?;
-    compare_damaged(&rt, alloc, *b"\x18\x0f20000229235959Z")?;
-    compare_damaged(&rt, alloc, *b"\x18\x0f19001130101112Z")?;
-    compare_damaged(&rt, alloc, *b"\x18\x0f00000131000000Z")
+    compare_damaged(alloc, *b"\x17\x0d000229235959Z")?;
+    compare_damaged(alloc, *b"\x17\x0d491231000000Z")?;
+    compare_damaged(alloc, *b"\x17\x0d500430101112Z")?;
+    compare_damaged(alloc, *b"\x18\x0f20000229235959Z")?;
+    compare_damaged(alloc, *b"\x18\x0f19001130101112Z")?;
+    compare_damaged(alloc, *b"\x18\x0f00000131000000Z")
 }

@@ -5,7 +5,6 @@ ghost use Rattle.asn1.specs.Der.{simple_der};
 ghost use Rattle.dercheck_tests.specs.Code.{code_content};
 
 mod bag;
-mod certificate;
 mod changed;
 mod frames;
 mod nested;
@@ -16,12 +15,12 @@ mod ticket;
 
 use asn1::{
     Asn1Type, ParseError, ParseErrorKind, ParseResult, SimpleAsn1Readable, SimpleAsn1Writable, Tag,
-    WriteBuf, WriteError, WriteResult, parse_single, write_single,
+    WriteBuf, WriteError, WriteResult,
 };
 use dercheck::{kinds, *};
 use std::alloc::Global;
-use std::process::Abort;
 use std::test::Fail;
+use testing::{all_same, are_invalid, both_ways, same, same_at};
 
 /// Lines and the answers to them.
 const LINES: &[(&str, &str)] = &[
@@ -274,62 +273,57 @@ const INPUTS: [(&str, &str, &str, bool); 8] = [
 ];
 
 /// The output behind what stood in it before, and whether each answer is `ok`. After a refusal it is as it was.
-fn answered<A: Abort>(
-    rt: &A,
-    alloc: Global,
-    before: &str,
-    input: &str,
-) -> Result<(Vec<u8>, bool), Fail> {
+fn answered(alloc: Global, before: &str, input: &str) -> Result<(Vec<u8>, bool), Fail> {
     let mut out = Vec::from_slice(alloc, before.as_bytes())?;
     match check(alloc, input.as_bytes(), &mut out) {
         Ok(all_ok) => Ok((out, all_ok)),
         Err(fault) => {
-            assert_eq!(rt; out.as_slice(), before.as_bytes());
+            same(out.as_slice(), before.as_bytes())?;
             Err(fault.into())
         }
     }
 }
 
 /// Each line alone is answered so.
-fn check_lines<A: Abort>(rt: &A, alloc: Global, lines: &[(&str, &str)]) -> Result<(), Fail> {
+fn check_lines(alloc: Global, lines: &[(&str, &str)]) -> Result<(), Fail> {
     for (line, answer) in lines {
         let input = format!(in alloc; "{line}\n")?;
         let output = format!(in alloc; "{answer}\n")?;
-        let (out, all_ok) = answered(rt, alloc, "", input.as_str())?;
-        assert_eq!(rt; out.as_slice(), output.as_bytes(), "at {line}");
-        assert_eq!(rt; all_ok, answer.starts_with("ok "), "at {line}");
+        let (out, all_ok) = answered(alloc, "", input.as_str())?;
+        same_at(*line, out.as_slice(), output.as_bytes())?;
+        same_at(*line, all_ok, answer.starts_with("ok "))?;
     }
     Ok(())
 }
 
 #[test]
 fn each_line(rt: HostRuntime) -> Result<(), Fail> {
-    check_lines(&rt, rt.alloc(), LINES)
+    check_lines(rt.alloc(), LINES)
 }
 
 #[test]
 fn integers(rt: HostRuntime) -> Result<(), Fail> {
-    check_lines(&rt, rt.alloc(), INTEGERS)
+    check_lines(rt.alloc(), INTEGERS)
 }
 
 #[test]
 fn strings(rt: HostRuntime) -> Result<(), Fail> {
-    check_lines(&rt, rt.alloc(), STRINGS)
+    check_lines(rt.alloc(), STRINGS)
 }
 
 #[test]
 fn texts(rt: HostRuntime) -> Result<(), Fail> {
-    check_lines(&rt, rt.alloc(), TEXTS)
+    check_lines(rt.alloc(), TEXTS)
 }
 
 #[test]
 fn times(rt: HostRuntime) -> Result<(), Fail> {
-    check_lines(&rt, rt.alloc(), TIMES)
+    check_lines(rt.alloc(), TIMES)
 }
 
 #[test]
 fn lists(rt: HostRuntime) -> Result<(), Fail> {
-    check_lines(&rt, rt.alloc(), LISTS)
+    check_lines(rt.alloc(), LISTS)
 }
 
 /// A line of the word and the first digits.
@@ -343,7 +337,7 @@ fn cut_line(alloc: Global, word: &str, digits: &str, count: usize) -> Result<Str
 }
 
 /// Each proper front of an accepted element, whose tag and length have one octet each, is too short, and by so much.
-fn check_fronts<A: Abort>(rt: &A, alloc: Global, lines: &[(&str, &str)]) -> Result<(), Fail> {
+fn check_fronts(alloc: Global, lines: &[(&str, &str)]) -> Result<(), Fail> {
     for (line, answer) in lines {
         let Some((word, digits)) = line.split_once(' ') else {
             continue;
@@ -356,8 +350,8 @@ fn check_fronts<A: Abort>(rt: &A, alloc: Global, lines: &[(&str, &str)]) -> Resu
             let needed = if end < 2 { 1 } else { count - end };
             let input = cut_line(alloc, word, digits, 2 * end)?;
             let output = format!(in alloc; "err ShortData {needed}\n")?;
-            let (out, _all_ok) = answered(rt, alloc, "", input.as_str())?;
-            assert_eq!(rt; out.as_slice(), output.as_bytes(), "at {input}");
+            let (out, _all_ok) = answered(alloc, "", input.as_str())?;
+            same_at(input.as_str(), out.as_slice(), output.as_bytes())?;
         }
     }
     Ok(())
@@ -365,19 +359,19 @@ fn check_fronts<A: Abort>(rt: &A, alloc: Global, lines: &[(&str, &str)]) -> Resu
 
 #[test]
 fn fronts_of_elements(rt: HostRuntime) -> Result<(), Fail> {
-    check_fronts(&rt, rt.alloc(), INTEGERS)?;
-    check_fronts(&rt, rt.alloc(), STRINGS)?;
-    check_fronts(&rt, rt.alloc(), TEXTS)?;
-    check_fronts(&rt, rt.alloc(), TIMES)?;
-    check_fronts(&rt, rt.alloc(), LISTS)
+    check_fronts(rt.alloc(), INTEGERS)?;
+    check_fronts(rt.alloc(), STRINGS)?;
+    check_fronts(rt.alloc(), TEXTS)?;
+    check_fronts(rt.alloc(), TIMES)?;
+    check_fronts(rt.alloc(), LISTS)
 }
 
 #[test]
 fn each_input(rt: HostRuntime) -> Result<(), Fail> {
     for (before, input, after, all_ok) in INPUTS {
-        let (out, was_ok) = answered(&rt, rt.alloc(), before, input)?;
-        assert_eq!(rt; out.as_slice(), after.as_bytes(), "at {input}");
-        assert_eq!(rt; was_ok, all_ok, "at {input}");
+        let (out, was_ok) = answered(rt.alloc(), before, input)?;
+        same_at(input, out.as_slice(), after.as_bytes())?;
+        same_at(input, was_ok, all_ok)?;
     }
     Ok(())
 }
@@ -402,7 +396,7 @@ fn other_kinds(rt: HostRuntime) -> Result<(), Fail> {
     ] {
         let mut out = Vec::new(rt.alloc());
         kinds::push_kind(&mut out, kind)?;
-        assert_eq!(rt; out.as_slice(), text.as_bytes());
+        same(out.as_slice(), text.as_bytes())?;
     }
     Ok(())
 }
@@ -410,23 +404,23 @@ fn other_kinds(rt: HostRuntime) -> Result<(), Fail> {
 #[test]
 fn modes(rt: HostRuntime) -> Result<(), Fail> {
     let mut args = Vec::with_capacity(rt.alloc(), 2)?;
-    assert_eq!(rt; mode(&args), Some(Mode::Check));
+    same(&mode(&args), &Some(Mode::Check))?;
     args.push(String::from_str(rt.alloc(), "frames")?)?;
-    assert_eq!(rt; mode(&args), Some(Mode::Frames));
+    same(&mode(&args), &Some(Mode::Frames))?;
     args.push(String::from_str(rt.alloc(), "x")?)?;
-    assert_eq!(rt; mode(&args), None);
-    assert_eq!(rt; mode(&args[1..]), None);
-    Ok(())
+    all_same(&[(mode(&args), None), (mode(&args[1..]), None)])
 }
 
 #[test]
-fn statuses(rt: HostRuntime) {
-    assert_eq!(rt; status(Some(Ok(true))), 0);
-    assert_eq!(rt; status(Some(Ok(false))), 1);
-    for fault in [Fault::Memory, Fault::Read, Fault::Write] {
-        assert_eq!(rt; status(Some(Err(fault))), 2);
-    }
-    assert_eq!(rt; status(None), 2);
+fn statuses() -> Result<(), Fail> {
+    all_same(&[
+        (status(Some(Ok(true))), 0),
+        (status(Some(Ok(false))), 1),
+        (status(Some(Err(Fault::Memory))), 2),
+        (status(Some(Err(Fault::Read))), 2),
+        (status(Some(Err(Fault::Write))), 2),
+        (status(None), 2),
+    ])
 }
 
 /// An enumerated value of one octet.
@@ -476,17 +470,6 @@ impl SimpleAsn1Writable for Code {
 
 #[test]
 fn own_type(rt: HostRuntime) -> Result<(), Fail> {
-    let octets = write_single(rt.alloc(), &Code(7))?;
-    assert_eq!(rt; octets.as_slice(), [0x0au8, 1, 7].as_slice());
-    assert!(rt;
-        matches!(
-            parse_single::<Code>(rt.alloc(), octets.as_slice()),
-            Ok(Code(7))
-        )
-    );
-    match parse_single::<Code>(rt.alloc(), &[0x0au8, 2, 0, 7]) {
-        Ok(_) => assert!(rt; false),
-        Err(error) => assert_eq!(rt; error.kind(), ParseErrorKind::InvalidValue),
-    }
-    Ok(())
+    both_ways(rt.alloc(), Code(7), &[0x0a, 1, 7])?;
+    are_invalid::<Code>(rt.alloc(), &[&[0x0a, 2, 0, 7]])
 }

@@ -53,7 +53,7 @@ fn is_short<'a, T: Asn1Readable<'a>>(
 }
 
 /// Each proper prefix from this length on is too short: one that ends in the header lacks so many octets, and any other
-/// the rest of the encoding.
+/// the remaining ones.
 fn are_prefixes_short<'a, T: Asn1Readable<'a>>(
     alloc: Global,
     header: &[usize],
@@ -67,7 +67,7 @@ fn are_prefixes_short<'a, T: Asn1Readable<'a>>(
     Ok(())
 }
 
-/// Each changed encoding is refused, or written again as it is.
+/// Each changed encoding is rejected, or written again as it is.
 fn are_refused_or_written<'a, T: Asn1Readable<'a> + Asn1Writable<Error = WriteError>>(
     alloc: Global,
     text: &'a Text,
@@ -86,7 +86,7 @@ fn are_refused_or_written<'a, T: Asn1Readable<'a> + Asn1Writable<Error = WriteEr
 pub const TWO_OCTETS: &[usize] = &[1, 1];
 
 /// Each encoding is written again as it is, each of its proper prefixes is too short, and each of the changed ones is
-/// refused or written again. A prefix that ends in the header lacks so many octets, and any other the rest.
+/// rejected or written again. A prefix that ends in the header lacks so many octets, and any other the remaining ones.
 pub fn check<'a, T: Asn1Readable<'a> + Asn1Writable<Error = WriteError>>(
     alloc: Global,
     header: &[usize],

@@ -51,6 +51,14 @@ pub fn different<T: PartialEq + Debug + Copy>(left: T, right: T) -> Result<(), F
     Err(Fail::new(format_args!("{left:?} is {right:?}")))
 }
 
+/// The values of each row differ, or the failure shows the first row where they don't.
+pub fn all_different<T: PartialEq + Debug>(rows: &[(T, T)]) -> Result<(), Fail> {
+    for (left, right) in rows {
+        different(left, right)?;
+    }
+    Ok(())
+}
+
 /// The error of a refusal.
 pub fn error_of<T: Drop>(answer: ParseResult<T>) -> Option<ParseError> {
     match answer {
@@ -122,6 +130,14 @@ pub fn is_written<T: Asn1Writable<Error = WriteError>>(
     same(write_single(alloc, value)?.as_slice(), octets)
 }
 
+/// The failure of a read: the error itself where memory ran out, and else the error with the octets.
+fn unread(octets: &[u8], error: ParseError) -> Fail {
+    if error.kind() == ParseErrorKind::AllocationError {
+        return error.into();
+    }
+    Fail::new(format_args!("{octets:?}: {error:?}"))
+}
+
 /// The octets are read as the type, and written again as they were.
 pub fn is_written_back<'a, T: Asn1Readable<'a> + Asn1Writable<Error = WriteError>>(
     alloc: Global,
@@ -129,8 +145,10 @@ pub fn is_written_back<'a, T: Asn1Readable<'a> + Asn1Writable<Error = WriteError
 ) -> Result<(), Fail>
     requires { T.der.plain }
 {
-    let value = parse_single::<T>(alloc, octets)?;
-    same(write_single(alloc, &value)?.as_slice(), octets)
+    match parse_single::<T>(alloc, octets) {
+        Ok(value) => same(write_single(alloc, &value)?.as_slice(), octets),
+        Err(error) => Err(unread(octets, error)),
+    }
 }
 
 /// The same of each row.
@@ -146,6 +164,19 @@ pub fn are_written_back<'a, T: Asn1Readable<'a> + Asn1Writable<Error = WriteErro
     Ok(())
 }
 
+/// The octets are read as the value.
+fn is_read<'a, T: Asn1Readable<'a> + PartialEq>(
+    alloc: Global,
+    octets: &'a [u8],
+    value: &T,
+) -> Result<(), Fail> {
+    match parse_single::<T>(alloc, octets) {
+        Ok(found) if found == *value => Ok(()),
+        Ok(_) => Err(Fail::new(format_args!("{octets:?} is read as another value"))),
+        Err(error) => Err(unread(octets, error)),
+    }
+}
+
 /// The value is written as these octets, with their length, and read back.
 pub fn both_ways<'a, T: Asn1Readable<'a> + Asn1Writable<Error = WriteError> + PartialEq>(
     alloc: Global,
@@ -156,15 +187,35 @@ pub fn both_ways<'a, T: Asn1Readable<'a> + Asn1Writable<Error = WriteError> + Pa
 {
     is_written(alloc, &value, octets)?;
     same(value.encoded_length(), Some(octets.len()))?;
-    if parse_single::<T>(alloc, octets)? == value {
-        return Ok(());
+    is_read(alloc, octets, &value)
+}
+
+/// The same of each row.
+pub fn are_both_ways<'a, T: Asn1Readable<'a> + Asn1Writable<Error = WriteError> + PartialEq>(
+    alloc: Global,
+    rows: &[(T, &'a [u8])],
+) -> Result<(), Fail>
+    requires { (value : T) → T.der.closures (T.der.meaning value) }
+{
+    for (value, octets) in rows {
+        is_written(alloc, value, octets)?;
+        same_at(*octets, value.encoded_length(), Some(octets.len()))?;
+        is_read(alloc, octets, value)?;
     }
-    Err(Fail::new(format_args!("{octets:?} is read as another value")))
+    Ok(())
 }
 
 /// `Debug` shows the value so, in one line.
 pub fn is_shown<T: Debug>(alloc: Global, value: &T, text: &str) -> Result<(), Fail> {
     same(format!(in alloc; "{value:?}")?.as_str(), text)
+}
+
+/// `Debug` shows the value of each row so, in one line.
+pub fn are_shown<T: Debug>(alloc: Global, rows: &[(T, &str)]) -> Result<(), Fail> {
+    for (value, text) in rows {
+        is_shown(alloc, value, text)?;
+    }
+    Ok(())
 }
 
 /// `Debug` shows the value so, laid out in lines.

@@ -9,6 +9,7 @@ use asn1::{
     Asn1Type, SetOfWriter, SimpleAsn1Writable, Tag, WriteBuf, WriteError, WriteResult, write_single,
 };
 use std::test::Fail;
+use testing::same;
 
 /// The fields.
 type Fields<'a> = Structure<BagNames, Fields2<bool, SetOfWriter<'a, u64>>>;
@@ -70,6 +71,5 @@ fn bags(rt: HostRuntime) -> Result<(), Fail> {
     let alloc = rt.alloc();
     let octets: &[u8] = &[0x30, 11, 1, 1, 0xff, 0x31, 6, 2, 1, 1, 2, 1, 2];
     let written = write_single(alloc, &Bag::new(true, &[2, 1]))?;
-    assert_eq!(rt; written.as_slice(), octets);
-    Ok(())
+    same(written.as_slice(), octets)
 }

@@ -1,17 +1,18 @@
-//! Lists in one another around a structure: the places of a fault in a field.
+//! Lists in one another around a structure: the locations of an error in a field.
 
 ghost use Rattle.std.specs.Prelude.{◌≡◌};
 ghost use Rattle.asn1.specs.Der.{seen};
 ghost use Rattle.asn1.specs.Items.{sequence_tag};
 ghost use Rattle.asn1.specs.Reading.{Answers};
 
-use crate::tests::own_types::refused;
 use asn1::{
     Asn1Type, ParseError, ParseErrorKind, ParseLocation, ParseResult, SequenceOf,
     SimpleAsn1Readable, Tag,
 };
 use dercheck::own_types::signature::Signature;
 use std::alloc::Global;
+use std::test::Fail;
+use testing::are_refused_with;
 
 /// A list of any count of items.
 type List<'a, T> = SequenceOf<'a, T, 0, { usize::MAX }>;
@@ -50,7 +51,7 @@ impl<'a> SimpleAsn1Readable<'a> for Inner<'a> {
 }
 
 #[test]
-fn five_lists_around_a_structure(rt: HostRuntime) {
+fn five_lists_around_a_structure(rt: HostRuntime) -> Result<(), Fail> {
     let octets: &[u8] = &[
         0x30, 0x10, 0x30, 0x0e, 0x30, 0x0c, 0x30, 0x0a, 0x30, 0x08, 0x30, 0x06, 0x02, 0x01, 0x01,
         0x01, 0x01, 0xff,
@@ -62,6 +63,5 @@ fn five_lists_around_a_structure(rt: HostRuntime) {
     for _ in 0..5 {
         error = error.add_location(ParseLocation::Index(0));
     }
-    let read = refused::<List<'_, List<'_, Inner<'_>>>>(rt.alloc(), octets);
-    assert_eq!(rt; read, Some(error));
+    are_refused_with::<List<'_, List<'_, Inner<'_>>>>(rt.alloc(), &[(octets, error)])
 }

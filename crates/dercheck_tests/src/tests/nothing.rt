@@ -2,10 +2,11 @@
 
 ghost use Rattle.std.specs.Prelude.{[]};
 
-use crate::tests::own_types::{both_ways, of, refused};
+use crate::tests::own_types::{of, other_tag};
+use asn1::ParseErrorKind;
 use asn1::fields::{FieldNames, Names, NoFields, Structure};
-use asn1::{ParseErrorKind, Tag};
 use std::test::Fail;
+use testing::{are_refused_with, both_ways};
 
 /// A sequence of nothing.
 type Nothing = Structure<NothingNames, NoFields>;
@@ -24,12 +25,12 @@ impl FieldNames for NothingNames {
 fn nothing(rt: HostRuntime) -> Result<(), Fail> {
     let alloc = rt.alloc();
     let value: Nothing = Structure::new(NoFields);
-    both_ways(&rt, alloc, value, &[0x30, 0])?;
-    let rest = refused::<Nothing>(alloc, &[0x30, 2, 5, 0]);
-    assert_eq!(rt; rest, of(ParseErrorKind::ExtraData));
-    let kind = ParseErrorKind::UnexpectedTag {
-        actual: Tag::primitive(5),
-    };
-    assert_eq!(rt; refused::<Nothing>(alloc, &[5, 0]), of(kind));
-    Ok(())
+    both_ways(alloc, value, &[0x30, 0])?;
+    are_refused_with::<Nothing>(
+        alloc,
+        &[
+            (&[0x30, 2, 5, 0], of(ParseErrorKind::ExtraData)),
+            (&[5, 0], of(other_tag(5))),
+        ],
+    )
 }

@@ -16,30 +16,22 @@ use dercheck::own_types::signature::{Signature, SignatureFields, signature};
 use dercheck::own_types::some_sequence::SomeSequence;
 use dercheck::own_types::time::Time;
 use std::alloc::Global;
-use std::process::Abort;
 use std::test::Fail;
-
-/// Why a read was refused.
-fn refusal<T: Drop>(answer: ParseResult<T>) -> Option<ParseError> {
-    match answer {
-        Ok(_value) => None,
-        Err(error) => Some(error),
-    }
-}
+use testing::{are_both_ways, are_refused_with, both_ways, error_of, is_written, same, same_at};
 
 /// Why the octets are no value of the type.
 pub fn refused<'a, T: Asn1Readable<'a>>(alloc: Global, octets: &'a [u8]) -> Option<ParseError> {
-    refusal(parse_single::<T>(alloc, octets))
+    error_of(parse_single::<T>(alloc, octets))
 }
 
 /// A refusal without a place.
-pub fn of(kind: ParseErrorKind) -> Option<ParseError> {
-    Some(ParseError::new(kind))
+pub fn of(kind: ParseErrorKind) -> ParseError {
+    ParseError::new(kind)
 }
 
 /// A refusal in the field with this name.
-pub fn at(name: &'static str, kind: ParseErrorKind) -> Option<ParseError> {
-    Some(ParseError::new(kind).add_location(ParseLocation::Field(name)))
+pub fn at(name: &'static str, kind: ParseErrorKind) -> ParseError {
+    ParseError::new(kind).add_location(ParseLocation::Field(name))
 }
 
 /// The refusal of an element with this primitive universal tag.
@@ -49,68 +41,67 @@ pub fn other_tag(number: u32) -> ParseErrorKind {
     }
 }
 
-/// The value is written so, with that length, and read back.
-pub fn both_ways<'a, A: Abort, T: Asn1Readable<'a> + Asn1Writable<Error = WriteError> + PartialEq>(
-    rt: &A,
-    alloc: Global,
-    value: T,
-    octets: &'a [u8],
-) -> Result<(), Fail>
-    requires { T.der.closures (T.der.meaning value) }
-{
-    let written = write_single(alloc, &value)?;
-    assert_eq!(rt; written.as_slice(), octets);
-    assert_eq!(rt; value.encoded_length(), Some(octets.len()));
-    let read = parse_single::<T>(alloc, octets)?;
-    assert!(rt; read == value);
-    Ok(())
-}
-
 #[test]
 fn reasons(rt: HostRuntime) -> Result<(), Fail> {
-    let alloc = rt.alloc();
-    both_ways(&rt, alloc, Reason::Unspecified, &[0x0a, 1, 0])?;
-    both_ways(&rt, alloc, Reason::Superseded, &[0x0a, 1, 4])?;
-    let other = refused::<Reason>(alloc, &[0x0a, 1, 1]);
-    assert_eq!(rt; other, of(ParseErrorKind::InvalidValue));
-    Ok(())
+    are_both_ways(
+        rt.alloc(),
+        &[
+            (Reason::Unspecified, &[0x0a, 1, 0]),
+            (Reason::Superseded, &[0x0a, 1, 4]),
+        ],
+    )?;
+    are_refused_with::<Reason>(
+        rt.alloc(),
+        &[(&[0x0a, 1, 1], of(ParseErrorKind::InvalidValue))],
+    )
 }
 
 #[test]
 fn signatures(rt: HostRuntime) -> Result<(), Fail> {
     let alloc = rt.alloc();
     let octets: &[u8] = &[0x30, 6, 2, 1, 1, 2, 1, 2];
-    both_ways(&rt, alloc, signature(1, 2), octets)?;
+    both_ways(alloc, signature(1, 2), octets)?;
     let read = parse_single::<Signature>(alloc, octets)?;
-    assert_eq!(rt; (read.r(), read.s()), (1, 2));
-    let boolean = refused::<Signature>(alloc, &[0x30, 6, 2, 1, 1, 1, 1, 0xff]);
-    assert_eq!(rt; boolean, at("Signature::s", other_tag(1)));
-    let boolean = refused::<Signature>(alloc, &[0x30, 3, 1, 1, 0xff]);
-    assert_eq!(rt; boolean, at("Signature::r", other_tag(1)));
-    let rest = refused::<Signature>(alloc, &[0x30, 8, 2, 1, 1, 2, 1, 2, 5, 0]);
-    assert_eq!(rt; rest, of(ParseErrorKind::ExtraData));
+    same((read.r(), read.s()), (1, 2))?;
+    are_refused_with::<Signature>(
+        alloc,
+        &[
+            (
+                &[0x30, 6, 2, 1, 1, 1, 1, 0xff],
+                at("Signature::s", other_tag(1)),
+            ),
+            (&[0x30, 3, 1, 1, 0xff], at("Signature::r", other_tag(1))),
+            (
+                &[0x30, 8, 2, 1, 1, 2, 1, 2, 5, 0],
+                of(ParseErrorKind::ExtraData),
+            ),
+        ],
+    )?;
     let again = read_and_write_back::<Signature>(alloc, octets)??;
-    assert_eq!(rt; again.as_slice(), octets);
-    Ok(())
+    same(again.as_slice(), octets)
 }
 
 #[test]
 fn some_sequences(rt: HostRuntime) -> Result<(), Fail> {
     let alloc = rt.alloc();
-    let both = SomeSequence::new(Some(b"ab"), Some(5));
-    both_ways(
-        &rt,
+    are_both_ways(
         alloc,
-        both,
-        &[0x30, 9, 0x80, 2, 0x61, 0x62, 0xa1, 3, 2, 1, 5],
+        &[
+            (
+                SomeSequence::new(Some(b"ab"), Some(5)),
+                &[0x30, 9, 0x80, 2, 0x61, 0x62, 0xa1, 3, 2, 1, 5],
+            ),
+            (SomeSequence::new(None, None), &[0x30, 0]),
+        ],
     )?;
-    both_ways(&rt, alloc, SomeSequence::new(None, None), &[0x30, 0])?;
-    let other = refused::<SomeSequence<'_>>(alloc, &[0x30, 3, 0x82, 1, 0]);
-    assert_eq!(rt; other, of(ParseErrorKind::ExtraData));
-    let short = refused::<SomeSequence<'_>>(alloc, &[0x30, 3, 0xa1, 1, 0xff]);
-    let kind = ParseErrorKind::ShortData { needed: 1 };
-    assert_eq!(rt; short, at("SomeSequence::b", kind));
-    Ok(())
+    let short = ParseErrorKind::ShortData { needed: 1 };
+    are_refused_with::<SomeSequence<'_>>(
+        alloc,
+        &[
+            (&[0x30, 3, 0x82, 1, 0], of(ParseErrorKind::ExtraData)),
+            (&[0x30, 3, 0xa1, 1, 0xff], at("SomeSequence::b", short)),
+        ],
+    )
 }
 
 #[test]
@@ -121,13 +112,11 @@ fn times(rt: HostRuntime) -> Result<(), Fail> {
         b"\x18\x0f20500506234540Z".as_slice(),
     ] {
         let time = parse_single::<Time>(alloc, octets)?;
-        assert_eq!(rt; matches!(time, Time::UTCTime(_)), octets[0] == 0x17);
-        assert_eq!(rt; time.encoded_length(), Some(octets.len()));
-        let again = write_single(alloc, &time)?;
-        assert_eq!(rt; again.as_slice(), octets);
+        same_at(octets, matches!(time, Time::UTCTime(_)), octets[0] == 0x17)?;
+        same(time.encoded_length(), Some(octets.len()))?;
+        is_written(alloc, &time, octets)?;
     }
-    assert_eq!(rt; refused::<Time>(alloc, &[5, 0]), of(other_tag(5)));
-    Ok(())
+    same(&refused::<Time>(alloc, &[5, 0]), &Some(of(other_tag(5))))
 }
 
 /// A sequence with the one variant.
@@ -138,20 +127,25 @@ fn sequence_of_seven() -> MySequence {
 #[test]
 fn my_sequences(rt: HostRuntime) -> Result<(), Fail> {
     let alloc = rt.alloc();
-    both_ways(
-        &rt,
+    let octets: &[u8] = &[0x30, 7, 6, 2, 0x2a, 3, 2, 1, 7];
+    both_ways(alloc, sequence_of_seven(), octets)?;
+    are_refused_with::<MySequence>(
         alloc,
-        sequence_of_seven(),
-        &[0x30, 7, 6, 2, 0x2a, 3, 2, 1, 7],
-    )?;
-    let unknown = refused::<MySequence>(alloc, &[0x30, 7, 6, 2, 0x2a, 4, 2, 1, 7]);
-    let kind = ParseErrorKind::UnknownDefinedBy;
-    assert_eq!(rt; unknown, at("MySequence::content", kind));
-    let boolean = refused::<MySequence>(alloc, &[0x30, 3, 1, 1, 0xff]);
-    assert_eq!(rt; boolean, at("MySequence::content_type", other_tag(1)));
-    let rest = refused::<MySequence>(alloc, &[0x30, 9, 6, 2, 0x2a, 3, 2, 1, 7, 5, 0]);
-    assert_eq!(rt; rest, of(ParseErrorKind::ExtraData));
-    Ok(())
+        &[
+            (
+                &[0x30, 7, 6, 2, 0x2a, 4, 2, 1, 7],
+                at("MySequence::content", ParseErrorKind::UnknownDefinedBy),
+            ),
+            (
+                &[0x30, 3, 1, 1, 0xff],
+                at("MySequence::content_type", other_tag(1)),
+            ),
+            (
+                &[0x30, 9, 6, 2, 0x2a, 3, 2, 1, 7, 5, 0],
+                of(ParseErrorKind::ExtraData),
+            ),
+        ],
+    )
 }
 
 /// An entry with the one variant.
@@ -165,38 +159,57 @@ fn entries(rt: HostRuntime) -> Result<(), Fail> {
     let octets: &[u8] = &[
         0x30, 15, 6, 2, 0x2a, 3, 2, 1, 7, 1, 1, 0xff, 0xa0, 3, 2, 1, 2,
     ];
-    both_ways(&rt, alloc, entry(Some(true), 2), octets)?;
-    both_ways(
-        &rt,
+    are_both_ways(
         alloc,
-        entry(None, 1),
-        &[0x30, 7, 6, 2, 0x2a, 3, 2, 1, 7],
+        &[
+            (entry(Some(true), 2), octets),
+            (entry(None, 1), &[0x30, 7, 6, 2, 0x2a, 3, 2, 1, 7]),
+        ],
     )?;
     let again = read_and_write_back::<Entry>(alloc, octets)??;
-    assert_eq!(rt; again.as_slice(), octets);
-    let boolean = refused::<Entry>(alloc, &[0x30, 3, 1, 1, 0xff]);
-    assert_eq!(rt; boolean, at("Entry::content_type", other_tag(1)));
-    let unknown = refused::<Entry>(alloc, &[0x30, 7, 6, 2, 0x2a, 4, 2, 1, 7]);
-    let kind = ParseErrorKind::UnknownDefinedBy;
-    assert_eq!(rt; unknown, at("Entry::content", kind));
-    let other = refused::<Entry>(alloc, &[0x30, 7, 6, 2, 0x2a, 3, 1, 1, 0xff]);
-    assert_eq!(rt; other, at("Entry::content", other_tag(1)));
-    Ok(())
+    same(again.as_slice(), octets)
+}
+
+#[test]
+fn entries_with_faults(rt: HostRuntime) -> Result<(), Fail> {
+    are_refused_with::<Entry>(
+        rt.alloc(),
+        &[
+            (
+                &[0x30, 3, 1, 1, 0xff],
+                at("Entry::content_type", other_tag(1)),
+            ),
+            (
+                &[0x30, 7, 6, 2, 0x2a, 4, 2, 1, 7],
+                at("Entry::content", ParseErrorKind::UnknownDefinedBy),
+            ),
+            (
+                &[0x30, 7, 6, 2, 0x2a, 3, 1, 1, 0xff],
+                at("Entry::content", other_tag(1)),
+            ),
+        ],
+    )
 }
 
 #[test]
 fn entries_with_faults_behind(rt: HostRuntime) -> Result<(), Fail> {
-    let alloc = rt.alloc();
-    let note = refused::<Entry>(alloc, &[0x30, 10, 6, 2, 0x2a, 3, 2, 1, 7, 1, 1, 1]);
-    assert_eq!(rt; note, at("Entry::note", ParseErrorKind::InvalidValue));
-    let default = refused::<Entry>(alloc, &[0x30, 12, 6, 2, 0x2a, 3, 2, 1, 7, 0xa0, 3, 2, 1, 1]);
-    assert_eq!(rt;
-        default,
-        at("Entry::version", ParseErrorKind::EncodedDefault)
-    );
-    let rest = refused::<Entry>(alloc, &[0x30, 9, 6, 2, 0x2a, 3, 2, 1, 7, 5, 0]);
-    assert_eq!(rt; rest, of(ParseErrorKind::ExtraData));
-    Ok(())
+    are_refused_with::<Entry>(
+        rt.alloc(),
+        &[
+            (
+                &[0x30, 10, 6, 2, 0x2a, 3, 2, 1, 7, 1, 1, 1],
+                at("Entry::note", ParseErrorKind::InvalidValue),
+            ),
+            (
+                &[0x30, 12, 6, 2, 0x2a, 3, 2, 1, 7, 0xa0, 3, 2, 1, 1],
+                at("Entry::version", ParseErrorKind::EncodedDefault),
+            ),
+            (
+                &[0x30, 9, 6, 2, 0x2a, 3, 2, 1, 7, 5, 0],
+                of(ParseErrorKind::ExtraData),
+            ),
+        ],
+    )
 }
 
 /// Reads a content under the explicit tag 3, as the item defines it.
@@ -214,24 +227,23 @@ fn contents(rt: HostRuntime) -> Result<(), Fail> {
     let alloc = rt.alloc();
     let other = ObjectIdentifier::from_der(&[0x2a, 4])?;
     let mut parser = Parser::new(alloc, &[2, 1, 7]);
-    let unknown = refusal(Content::parse(other.clone()?, &mut parser));
-    assert_eq!(rt; unknown, of(ParseErrorKind::UnknownDefinedBy));
+    let unknown = error_of(Content::parse(other.clone()?, &mut parser));
+    same(&unknown, &Some(of(ParseErrorKind::UnknownDefinedBy)))?;
 
     let octets: &[u8] = &[0xa3, 3, 2, 1, 7];
     let value = read_defined(alloc, some_oid(), octets)?;
-    assert_eq!(rt; value.as_inner(), &Content::SomeVariant(7));
+    same(value.as_inner(), &Content::SomeVariant(7))?;
     assert!(rt; Asn1DefinedByWritable::<ObjectIdentifier>::item(&value) == some_oid());
     let length = Asn1DefinedByWritable::<ObjectIdentifier>::encoded_length(&value);
-    assert_eq!(rt; length, Some(5));
+    same(length, Some(5))?;
     let written = write(alloc, |writer: &mut Writer<'_>| {
         Asn1DefinedByWritable::<ObjectIdentifier>::write(&value, writer)
     })?;
-    assert_eq!(rt; written.as_slice(), octets);
+    same(written.as_slice(), octets)?;
     let two = read_defined(alloc, some_oid(), &[0xa3, 6, 2, 1, 7, 2, 1, 7]);
-    assert_eq!(rt; refusal(two), of(ParseErrorKind::ExtraData));
-    let unknown = refusal(read_defined(alloc, other, octets));
-    assert_eq!(rt; unknown, of(ParseErrorKind::UnknownDefinedBy));
-    Ok(())
+    same(&error_of(two), &Some(of(ParseErrorKind::ExtraData)))?;
+    let unknown = error_of(read_defined(alloc, other, octets));
+    same(&unknown, &Some(of(ParseErrorKind::UnknownDefinedBy)))
 }
 
 /// The names of an identifier and its content in a row.
@@ -245,14 +257,13 @@ fn contents_under_a_tag(rt: HostRuntime) -> Result<(), Fail> {
     let alloc = rt.alloc();
     let octets: &[u8] = &[6, 2, 0x2a, 3, 0xa3, 3, 2, 1, 7];
     let row = Tagged::read(Parser::new(alloc, octets), Names::new(&TAGGED))?;
-    assert_eq!(rt; row.value.as_inner(), &Content::SomeVariant(7));
-    assert_eq!(rt; row.length(), Some(octets.len()));
+    same(row.value.as_inner(), &Content::SomeVariant(7))?;
+    same(row.length(), Some(octets.len()))?;
     let written = write(alloc, |writer: &mut Writer<'_>| row.write(writer))?;
-    assert_eq!(rt; written.as_slice(), octets);
+    same(written.as_slice(), octets)?;
     let two: &[u8] = &[6, 2, 0x2a, 3, 0xa3, 6, 2, 1, 7, 2, 1, 7];
-    let two = refusal(Tagged::read(Parser::new(alloc, two), Names::new(&TAGGED)));
-    assert_eq!(rt; two, at("content", ParseErrorKind::ExtraData));
-    Ok(())
+    let two = error_of(Tagged::read(Parser::new(alloc, two), Names::new(&TAGGED)));
+    same(&two, &Some(at("content", ParseErrorKind::ExtraData)))
 }
 
 #[test]
@@ -261,16 +272,15 @@ fn contents_where_they_stand(rt: HostRuntime) -> Result<(), Fail> {
     let content = Content::SomeVariant(7);
     let octets: &[u8] = &[6, 2, 0x2a, 3, 2, 1, 7];
     let row = DefinedLast::<ObjectIdentifier, Borrowed<'_, Content>>::new(Borrowed::new(&content));
-    assert_eq!(rt; row.length(), Some(octets.len()));
+    same(row.length(), Some(octets.len()))?;
     let written = write(alloc, |writer: &mut Writer<'_>| row.write(writer))?;
-    assert_eq!(rt; written.as_slice(), octets);
+    same(written.as_slice(), octets)?;
     let behind = Last::new(true);
     let row = Defined::<ObjectIdentifier, _, _>::new(Borrowed::new(&content), behind);
     let octets: &[u8] = &[6, 2, 0x2a, 3, 2, 1, 7, 1, 1, 0xff];
-    assert_eq!(rt; row.length(), Some(octets.len()));
+    same(row.length(), Some(octets.len()))?;
     let written = write(alloc, |writer: &mut Writer<'_>| row.write(writer))?;
-    assert_eq!(rt; written.as_slice(), octets);
-    Ok(())
+    same(written.as_slice(), octets)
 }
 
 /// Writes it; want of memory is handed on, and any other error is in the value.
@@ -294,10 +304,9 @@ fn errors_of_its_own(rt: HostRuntime) -> Result<(), Fail> {
     let open = parse_single::<Sealable>(alloc, octets)?;
     assert!(rt; !open.sealed);
     match sealed(alloc, &open)? {
-        Ok(written) => assert_eq!(rt; written.as_slice(), octets),
-        Err(_) => assert!(rt; false),
+        Ok(written) => same(written.as_slice(), octets)?,
+        Err(error) => return Err(Fail::new(format_args!("{error:?}"))),
     }
     let error = SealError::from(WriteError::AllocationError);
-    assert_eq!(rt; error, SealError::Write(WriteError::AllocationError));
-    Ok(())
+    same(&error, &SealError::Write(WriteError::AllocationError))
 }

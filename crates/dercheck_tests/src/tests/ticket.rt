@@ -2,7 +2,7 @@
 
 ghost use Rattle.std.specs.Prelude.{◌≡◌, map};
 ghost use Rattle.asn1.specs.Der.{seen};
-ghost use Rattle.asn1.specs.Reading.{Answers};
+ghost use Rattle.asn1.specs.Reads.{HasOneEncoding, ReadsContents};
 ghost use Rattle.dercheck_tests.specs.declared.tests.ticket.TheConstants.{NAMES};
 
 use asn1::fields::{Field, FieldNames, Fields3, Last, Names, Structure};
@@ -71,7 +71,7 @@ impl<'a> SimpleAsn1Readable<'a> for Ticket<'a> {
     }
 
     fn parse_data(alloc: Global, data: &'a [u8]) -> ParseResult<Ticket<'a>>
-        ensures { Answers ⟦<Ticket<'a> as Asn1Type>⟧.der.meaning (⟦<Ticket<'a> as Asn1Type>⟧.der.content.runs_out «data».entry.now) result (⟦<Ticket<'a> as Asn1Type>⟧.der.content.read «data».entry.now) }
+        ensures { ReadsContents ⟦<Ticket<'a> as Asn1Type>⟧.der «data».entry.now result }
     {
         match <Fields<'a> as SimpleAsn1Readable<'a>>::parse_data(alloc, data) {
             Ok(fields) => Ok(Ticket(fields)),
@@ -101,10 +101,9 @@ impl<'a> SimpleAsn1Writable for Ticket<'a> {
     }
 }
 
-/// Each ticket is written as one text, which is read back.
+/// Each ticket has one encoding, which is read back.
 pub fn tickets_are_lawful()
-    ensures lawful { ⟦<Ticket<'static> as Asn1Type>⟧.der.lawful }
-    ensures plain { ⟦<Ticket<'static> as Asn1Type>⟧.der.plain }
+    ensures { HasOneEncoding ⟦<Ticket<'static> as Asn1Type>⟧.der }
 {}
 
 #[test]

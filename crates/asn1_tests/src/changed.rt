@@ -1,120 +1,30 @@
-//! Texts that are cut, and texts in which one octet is another.
+//! Encodings of each type that are cut, and encodings in which one octet is another.
 
+use crate::lists::List;
 use asn1::{
-    Asn1Readable, Asn1Writable, BMPString, BigInt, BigUint, BitString, Choice1, Choice2, Choice3,
-    Enumerated, Explicit, GeneralizedTime, IA5String, Implicit, Null, ObjectIdentifier,
-    OctetStringEncoded, OwnedBigInt, OwnedBigUint, OwnedBitString, ParseError, ParseErrorKind,
-    PrintableString, Sequence, SequenceOf, Set, SetOf, Tlv, UniversalString, UtcTime, Utf8String,
-    VisibleString, WriteError, X509GeneralizedTime, parse_single, write_single,
+    BMPString, BigInt, BigUint, BitString, Choice1, Choice2, Choice3, Enumerated, Explicit,
+    GeneralizedTime, IA5String, Implicit, Null, ObjectIdentifier, OctetStringEncoded, OwnedBigInt,
+    OwnedBigUint, OwnedBitString, PrintableString, Sequence, SequenceOf, Set, SetOf, Tlv,
+    UniversalString, UtcTime, Utf8String, VisibleString, X509GeneralizedTime,
 };
 use std::alloc::Global;
-use std::process::Abort;
 use std::test::Fail;
-
-/// A text, and it again and again with each of its octets replaced by each of the 256 values.
-#[derive(Drop)]
-struct Text {
-    whole: Vec<u8>,
-    changed: Vec<u8>,
-}
-
-fn changes_of(alloc: Global, text: &[u8]) -> Result<Vec<u8>, Fail> {
-    let mut changed = Vec::new(alloc);
-    for place in 0..text.len() {
-        for octet in 0..=255 {
-            changed.extend_from_slice(&text[..place])?;
-            changed.push(octet)?;
-            changed.extend_from_slice(&text[place + 1..])?;
-        }
-    }
-    Ok(changed)
-}
-
-fn texts_of(alloc: Global, wholes: &[&[u8]]) -> Result<Vec<Text>, Fail> {
-    let mut texts = Vec::new(alloc);
-    for text in wholes {
-        let whole = Vec::from_slice(alloc, text)?;
-        let changed = changes_of(alloc, text)?;
-        texts.push(Text { whole, changed })?;
-    }
-    Ok(texts)
-}
-
-/// The text is a value's, and written again as it was.
-fn is_accepted<'a, T: Asn1Readable<'a> + Asn1Writable<Error = WriteError>>(
-    rt: &impl Abort,
-    alloc: Global,
-    text: &'a [u8],
-) -> Result<(), Fail>
-    requires { T.der.plain }
-{
-    let value = parse_single::<T>(alloc, text)?;
-    assert_eq!(rt; write_single(alloc, &value)?.as_slice(), text);
-    Ok(())
-}
-
-/// The front of that many octets is too short, and by so much.
-fn is_short<'a, T: Asn1Readable<'a>>(
-    rt: &impl Abort,
-    alloc: Global,
-    text: &'a [u8],
-    end: usize,
-    needed: usize,
-) {
-    let short = ParseError::new(ParseErrorKind::ShortData { needed });
-    match parse_single::<T>(alloc, text.get(..end).unwrap_or(text)) {
-        Ok(_value) => assert!(rt; false, "{end} of {text:?}"),
-        Err(error) => assert_eq!(rt; error, short, "{end} of {text:?}"),
-    }
-}
-
-/// How many octets a text with a header of two lacks, where it is cut before the first and before the second.
-const TWO_OCTETS: &[usize] = &[1, 1];
-
-/// Each text is accepted, each of its proper fronts is too short, and each of the changed texts is refused or accepted.
-/// A front that ends in the header lacks so many octets, and any other the rest of the text.
-fn check<'a, T: Asn1Readable<'a> + Asn1Writable<Error = WriteError>>(
-    rt: &impl Abort,
-    alloc: Global,
-    header: &[usize],
-    texts: &'a [Text],
-) -> Result<(), Fail>
-    requires { T.der.plain }
-{
-    for text in texts {
-        let whole = text.whole.as_slice();
-        is_accepted::<T>(rt, alloc, whole)?;
-        for end in 0..whole.len() {
-            let needed = header.get(end).copied().unwrap_or(whole.len() - end);
-            is_short::<T>(rt, alloc, whole, end, needed);
-        }
-        for other in text.changed.chunks(whole.len().max(1)) {
-            if parse_single::<T>(alloc, other).is_ok() {
-                is_accepted::<T>(rt, alloc, other)?;
-            }
-        }
-    }
-    Ok(())
-}
-
-/// A list of any count of items.
-type List<'a, T> = SequenceOf<'a, T, 0, { usize::MAX }>;
+use testing::changed::{TWO_OCTETS, Text, check, check_optional, texts_of};
 
 #[test]
 fn truth_values_and_null(rt: HostRuntime) -> Result<(), Fail> {
     let alloc = rt.alloc();
     let texts = texts_of(alloc, &[&[0x01, 0x01, 0xff], &[0x01, 0x01, 0x00]])?;
-    check::<bool>(&rt, alloc, TWO_OCTETS, texts.as_slice())?;
+    check::<bool>(alloc, TWO_OCTETS, texts.as_slice())?;
     let texts = texts_of(alloc, &[&[0x05, 0x00]])?;
-    check::<Null>(&rt, alloc, TWO_OCTETS, texts.as_slice())?;
-    Ok(())
+    check::<Null>(alloc, TWO_OCTETS, texts.as_slice())
 }
 
 #[test]
 fn signed_integers(rt: HostRuntime) -> Result<(), Fail> {
     let alloc = rt.alloc();
     let texts = texts_of(alloc, &[&[0x02, 0x01, 0x80], &[0x02, 0x01, 0x05]])?;
-    check::<i8>(&rt, alloc, TWO_OCTETS, texts.as_slice())?;
+    check::<i8>(alloc, TWO_OCTETS, texts.as_slice())?;
     let texts = texts_of(
         alloc,
         &[
@@ -123,10 +33,9 @@ fn signed_integers(rt: HostRuntime) -> Result<(), Fail> {
             &[0x02, 0x02, 0x00, 0x80],
         ],
     )?;
-    check::<i16>(&rt, alloc, TWO_OCTETS, texts.as_slice())?;
-    check::<i32>(&rt, alloc, TWO_OCTETS, texts.as_slice())?;
-    check::<i64>(&rt, alloc, TWO_OCTETS, texts.as_slice())?;
-    Ok(())
+    check::<i16>(alloc, TWO_OCTETS, texts.as_slice())?;
+    check::<i32>(alloc, TWO_OCTETS, texts.as_slice())?;
+    check::<i64>(alloc, TWO_OCTETS, texts.as_slice())
 }
 
 #[test]
@@ -141,13 +50,13 @@ fn unsigned_integers(rt: HostRuntime) -> Result<(), Fail> {
             &[0x02, 0x01, 0x05],
         ],
     )?;
-    check::<u8>(&rt, alloc, TWO_OCTETS, texts.as_slice())?;
+    check::<u8>(alloc, TWO_OCTETS, texts.as_slice())?;
     let texts = texts_of(
         alloc,
         &[&[0x02, 0x03, 0x00, 0xff, 0xff], &[0x02, 0x02, 0x01, 0x00]],
     )?;
-    check::<u16>(&rt, alloc, TWO_OCTETS, texts.as_slice())?;
-    check::<u32>(&rt, alloc, TWO_OCTETS, texts.as_slice())?;
+    check::<u16>(alloc, TWO_OCTETS, texts.as_slice())?;
+    check::<u32>(alloc, TWO_OCTETS, texts.as_slice())?;
     let texts = texts_of(
         alloc,
         &[
@@ -159,8 +68,7 @@ fn unsigned_integers(rt: HostRuntime) -> Result<(), Fail> {
             ],
         ],
     )?;
-    check::<u64>(&rt, alloc, TWO_OCTETS, texts.as_slice())?;
-    Ok(())
+    check::<u64>(alloc, TWO_OCTETS, texts.as_slice())
 }
 
 #[test]
@@ -174,36 +82,20 @@ fn octets_and_elements(rt: HostRuntime) -> Result<(), Fail> {
             &[0x04, 0x03, 0x61, 0x62, 0x63],
         ],
     )?;
-    check::<&[u8]>(&rt, alloc, TWO_OCTETS, texts.as_slice())?;
-    check::<Tlv<'_>>(&rt, alloc, TWO_OCTETS, texts.as_slice())?;
+    check::<&[u8]>(alloc, TWO_OCTETS, texts.as_slice())?;
+    check::<Tlv<'_>>(alloc, TWO_OCTETS, texts.as_slice())?;
     let texts = texts_of(alloc, &[&[0x04, 0x01, 0x61]])?;
-    check::<[u8; 1]>(&rt, alloc, TWO_OCTETS, texts.as_slice())?;
+    check::<[u8; 1]>(alloc, TWO_OCTETS, texts.as_slice())?;
     let texts = texts_of(alloc, &[&[0x04, 0x03, 0x61, 0x62, 0x63]])?;
-    check::<[u8; 3]>(&rt, alloc, TWO_OCTETS, texts.as_slice())?;
-    Ok(())
+    check::<[u8; 3]>(alloc, TWO_OCTETS, texts.as_slice())
 }
 
 #[test]
 fn boxes_and_options(rt: HostRuntime) -> Result<(), Fail> {
     let alloc = rt.alloc();
     let texts = texts_of(alloc, &[&[0x02, 0x01, 0x0c], &[0x02, 0x02, 0x00, 0x80]])?;
-    check::<Box<u8>>(&rt, alloc, TWO_OCTETS, texts.as_slice())?;
-    // The front without octets is the option's text without a value.
-    is_accepted::<Option<u8>>(&rt, alloc, &[])?;
-    for text in &texts {
-        let whole = text.whole.as_slice();
-        is_accepted::<Option<u8>>(&rt, alloc, whole)?;
-        for end in 1..whole.len() {
-            let needed = if end < 2 { 1 } else { whole.len() - end };
-            is_short::<Option<u8>>(&rt, alloc, whole, end, needed);
-        }
-        for other in text.changed.chunks(whole.len().max(1)) {
-            if parse_single::<Option<u8>>(alloc, other).is_ok() {
-                is_accepted::<Option<u8>>(&rt, alloc, other)?;
-            }
-        }
-    }
-    Ok(())
+    check::<Box<u8>>(alloc, TWO_OCTETS, texts.as_slice())?;
+    check_optional::<Option<u8>>(alloc, TWO_OCTETS, texts.as_slice())
 }
 
 #[test]
@@ -217,8 +109,8 @@ fn integers_of_any_length(rt: HostRuntime) -> Result<(), Fail> {
             &[0x02, 0x03, 0x00, 0xff, 0xff],
         ],
     )?;
-    check::<BigUint<'_>>(&rt, alloc, TWO_OCTETS, texts.as_slice())?;
-    check::<OwnedBigUint>(&rt, alloc, TWO_OCTETS, texts.as_slice())?;
+    check::<BigUint<'_>>(alloc, TWO_OCTETS, texts.as_slice())?;
+    check::<OwnedBigUint>(alloc, TWO_OCTETS, texts.as_slice())?;
     let texts = texts_of(
         alloc,
         &[
@@ -231,9 +123,8 @@ fn integers_of_any_length(rt: HostRuntime) -> Result<(), Fail> {
             ],
         ],
     )?;
-    check::<BigInt<'_>>(&rt, alloc, TWO_OCTETS, texts.as_slice())?;
-    check::<OwnedBigInt>(&rt, alloc, TWO_OCTETS, texts.as_slice())?;
-    Ok(())
+    check::<BigInt<'_>>(alloc, TWO_OCTETS, texts.as_slice())?;
+    check::<OwnedBigInt>(alloc, TWO_OCTETS, texts.as_slice())
 }
 
 #[test]
@@ -247,7 +138,7 @@ fn enumerated_values_and_identifiers(rt: HostRuntime) -> Result<(), Fail> {
             &[0x0a, 0x05, 0x00, 0xff, 0xff, 0xff, 0xff],
         ],
     )?;
-    check::<Enumerated>(&rt, alloc, TWO_OCTETS, texts.as_slice())?;
+    check::<Enumerated>(alloc, TWO_OCTETS, texts.as_slice())?;
     let texts = texts_of(
         alloc,
         &[
@@ -261,8 +152,7 @@ fn enumerated_values_and_identifiers(rt: HostRuntime) -> Result<(), Fail> {
             ],
         ],
     )?;
-    check::<ObjectIdentifier>(&rt, alloc, TWO_OCTETS, texts.as_slice())?;
-    Ok(())
+    check::<ObjectIdentifier>(alloc, TWO_OCTETS, texts.as_slice())
 }
 
 #[test]
@@ -276,28 +166,26 @@ fn bit_strings(rt: HostRuntime) -> Result<(), Fail> {
             &[0x03, 0x03, 0x04, 0x81, 0xf0],
         ],
     )?;
-    check::<BitString<'_>>(&rt, alloc, TWO_OCTETS, texts.as_slice())?;
-    check::<OwnedBitString>(&rt, alloc, TWO_OCTETS, texts.as_slice())?;
-    Ok(())
+    check::<BitString<'_>>(alloc, TWO_OCTETS, texts.as_slice())?;
+    check::<OwnedBitString>(alloc, TWO_OCTETS, texts.as_slice())
 }
 
 #[test]
 fn texts_of_single_octets(rt: HostRuntime) -> Result<(), Fail> {
     let alloc = rt.alloc();
     let texts = texts_of(alloc, &[b"\x13\x0bTest User 1"])?;
-    check::<PrintableString<'_>>(&rt, alloc, TWO_OCTETS, texts.as_slice())?;
+    check::<PrintableString<'_>>(alloc, TWO_OCTETS, texts.as_slice())?;
     let texts = texts_of(alloc, &[&[0x16, 0x01, 0x7f], &[0x16, 0x02, 0x0a, 0x7f]])?;
-    check::<IA5String<'_>>(&rt, alloc, TWO_OCTETS, texts.as_slice())?;
+    check::<IA5String<'_>>(alloc, TWO_OCTETS, texts.as_slice())?;
     let texts = texts_of(alloc, &[&[0x1a, 0x02, 0x20, 0x7e]])?;
-    check::<VisibleString<'_>>(&rt, alloc, TWO_OCTETS, texts.as_slice())?;
-    Ok(())
+    check::<VisibleString<'_>>(alloc, TWO_OCTETS, texts.as_slice())
 }
 
 #[test]
 fn texts_of_several_octets(rt: HostRuntime) -> Result<(), Fail> {
     let alloc = rt.alloc();
     let texts = texts_of(alloc, &[&[0x0c, 0x05, 0xe2, 0x82, 0xac, 0xc3, 0xa9]])?;
-    check::<Utf8String<'_>>(&rt, alloc, TWO_OCTETS, texts.as_slice())?;
+    check::<Utf8String<'_>>(alloc, TWO_OCTETS, texts.as_slice())?;
     let texts = texts_of(
         alloc,
         &[
@@ -305,10 +193,9 @@ fn texts_of_several_octets(rt: HostRuntime) -> Result<(), Fail> {
             &[0x1e, 0x06, 0x00, 0x61, 0x00, 0x62, 0x00, 0x63],
         ],
     )?;
-    check::<BMPString<'_>>(&rt, alloc, TWO_OCTETS, texts.as_slice())?;
+    check::<BMPString<'_>>(alloc, TWO_OCTETS, texts.as_slice())?;
     let texts = texts_of(alloc, &[&[0x1c, 0x04, 0x00, 0x10, 0xff, 0xff]])?;
-    check::<UniversalString<'_>>(&rt, alloc, TWO_OCTETS, texts.as_slice())?;
-    Ok(())
+    check::<UniversalString<'_>>(alloc, TWO_OCTETS, texts.as_slice())
 }
 
 #[test]
@@ -323,7 +210,7 @@ fn times(rt: HostRuntime) -> Result<(), Fail> {
             b"\x17\x0d091115225616Z",
         ],
     )?;
-    check::<UtcTime>(&rt, alloc, TWO_OCTETS, texts.as_slice())?;
+    check::<UtcTime>(alloc, TWO_OCTETS, texts.as_slice())?;
     let texts = texts_of(
         alloc,
         &[
@@ -332,8 +219,8 @@ fn times(rt: HostRuntime) -> Result<(), Fail> {
             b"\x18\x0f19700101000000Z",
         ],
     )?;
-    check::<X509GeneralizedTime>(&rt, alloc, TWO_OCTETS, texts.as_slice())?;
-    check::<GeneralizedTime>(&rt, alloc, TWO_OCTETS, texts.as_slice())?;
+    check::<X509GeneralizedTime>(alloc, TWO_OCTETS, texts.as_slice())?;
+    check::<GeneralizedTime>(alloc, TWO_OCTETS, texts.as_slice())?;
     let texts = texts_of(
         alloc,
         &[
@@ -343,47 +230,43 @@ fn times(rt: HostRuntime) -> Result<(), Fail> {
             b"\x18\x1919910506234540.000001234Z",
         ],
     )?;
-    check::<GeneralizedTime>(&rt, alloc, TWO_OCTETS, texts.as_slice())?;
-    Ok(())
+    check::<GeneralizedTime>(alloc, TWO_OCTETS, texts.as_slice())
 }
 
 #[test]
 fn values_in_explicit_tags(rt: HostRuntime) -> Result<(), Fail> {
     let alloc = rt.alloc();
     let texts = texts_of(alloc, &[&[0xa2, 0x03, 0x01, 0x01, 0xff]])?;
-    check::<Explicit<bool, 2>>(&rt, alloc, TWO_OCTETS, texts.as_slice())?;
+    check::<Explicit<bool, 2>>(alloc, TWO_OCTETS, texts.as_slice())?;
     let texts = texts_of(alloc, &[&[0xa0, 0x00], &[0xa0, 0x03, 0x01, 0x01, 0xff]])?;
-    check::<Explicit<Option<bool>, 0>>(&rt, alloc, TWO_OCTETS, texts.as_slice())?;
-    Ok(())
+    check::<Explicit<Option<bool>, 0>>(alloc, TWO_OCTETS, texts.as_slice())
 }
 
 #[test]
 fn values_in_implicit_tags(rt: HostRuntime) -> Result<(), Fail> {
     let alloc = rt.alloc();
     let texts = texts_of(alloc, &[&[0x82, 0x01, 0xff]])?;
-    check::<Implicit<bool, 2>>(&rt, alloc, TWO_OCTETS, texts.as_slice())?;
+    check::<Implicit<bool, 2>>(alloc, TWO_OCTETS, texts.as_slice())?;
     let texts = texts_of(alloc, &[&[0xa2, 0x00], &[0xa2, 0x02, 0x05, 0x00]])?;
-    check::<Implicit<Sequence<'_>, 2>>(&rt, alloc, TWO_OCTETS, texts.as_slice())?;
+    check::<Implicit<Sequence<'_>, 2>>(alloc, TWO_OCTETS, texts.as_slice())?;
     let texts = texts_of(alloc, &[&[0x04, 0x03, 0x01, 0x01, 0xff]])?;
-    check::<OctetStringEncoded<bool>>(&rt, alloc, TWO_OCTETS, texts.as_slice())?;
-    Ok(())
+    check::<OctetStringEncoded<bool>>(alloc, TWO_OCTETS, texts.as_slice())
 }
 
 #[test]
 fn choices(rt: HostRuntime) -> Result<(), Fail> {
     let alloc = rt.alloc();
     let texts = texts_of(alloc, &[&[0x01, 0x01, 0xff]])?;
-    check::<Choice1<bool>>(&rt, alloc, TWO_OCTETS, texts.as_slice())?;
+    check::<Choice1<bool>>(alloc, TWO_OCTETS, texts.as_slice())?;
     let texts = texts_of(alloc, &[&[0x01, 0x01, 0xff], &[0x02, 0x01, 0x12]])?;
-    check::<Choice2<bool, i64>>(&rt, alloc, TWO_OCTETS, texts.as_slice())?;
+    check::<Choice2<bool, i64>>(alloc, TWO_OCTETS, texts.as_slice())?;
     let texts = texts_of(alloc, &[&[0x02, 0x01, 0x05]])?;
-    check::<Choice2<u8, u64>>(&rt, alloc, TWO_OCTETS, texts.as_slice())?;
+    check::<Choice2<u8, u64>>(alloc, TWO_OCTETS, texts.as_slice())?;
     let texts = texts_of(
         alloc,
         &[&[0x01, 0x01, 0xff], &[0x02, 0x01, 0x12], &[0x05, 0x00]],
     )?;
-    check::<Choice3<bool, i64, ()>>(&rt, alloc, TWO_OCTETS, texts.as_slice())?;
-    Ok(())
+    check::<Choice3<bool, i64, ()>>(alloc, TWO_OCTETS, texts.as_slice())
 }
 
 #[test]
@@ -400,15 +283,14 @@ fn sequences(rt: HostRuntime) -> Result<(), Fail> {
             ],
         ],
     )?;
-    check::<Sequence<'_>>(&rt, alloc, TWO_OCTETS, texts.as_slice())?;
-    Ok(())
+    check::<Sequence<'_>>(alloc, TWO_OCTETS, texts.as_slice())
 }
 
 #[test]
 fn lists(rt: HostRuntime) -> Result<(), Fail> {
     let alloc = rt.alloc();
     let texts = texts_of(alloc, &[&[0x30, 0x06, 0x02, 0x01, 0x05, 0x02, 0x01, 0x07]])?;
-    check::<SequenceOf<'_, u64, 2, 3>>(&rt, alloc, TWO_OCTETS, texts.as_slice())?;
+    check::<SequenceOf<'_, u64, 2, 3>>(alloc, TWO_OCTETS, texts.as_slice())?;
     let texts = texts_of(
         alloc,
         &[
@@ -419,9 +301,8 @@ fn lists(rt: HostRuntime) -> Result<(), Fail> {
             ],
         ],
     )?;
-    check::<List<'_, Option<u8>>>(&rt, alloc, TWO_OCTETS, texts.as_slice())?;
-    check::<List<'_, BigInt<'_>>>(&rt, alloc, TWO_OCTETS, texts.as_slice())?;
-    Ok(())
+    check::<List<'_, Option<u8>>>(alloc, TWO_OCTETS, texts.as_slice())?;
+    check::<List<'_, BigInt<'_>>>(alloc, TWO_OCTETS, texts.as_slice())
 }
 
 #[test]
@@ -441,8 +322,7 @@ fn sets(rt: HostRuntime) -> Result<(), Fail> {
             &[0x31, 0x08, 0xa0, 0x03, 0x01, 0x01, 0xff, 0x81, 0x01, 0xff],
         ],
     )?;
-    check::<Set<'_>>(&rt, alloc, TWO_OCTETS, texts.as_slice())?;
-    Ok(())
+    check::<Set<'_>>(alloc, TWO_OCTETS, texts.as_slice())
 }
 
 #[test]
@@ -463,8 +343,8 @@ fn sets_of_one_type(rt: HostRuntime) -> Result<(), Fail> {
             ],
         ],
     )?;
-    check::<SetOf<'_, u64>>(&rt, alloc, TWO_OCTETS, texts.as_slice())?;
-    check::<SetOf<'_, BigInt<'_>>>(&rt, alloc, TWO_OCTETS, texts.as_slice())?;
+    check::<SetOf<'_, u64>>(alloc, TWO_OCTETS, texts.as_slice())?;
+    check::<SetOf<'_, BigInt<'_>>>(alloc, TWO_OCTETS, texts.as_slice())?;
     let texts = texts_of(
         alloc,
         &[&[
@@ -472,17 +352,16 @@ fn sets_of_one_type(rt: HostRuntime) -> Result<(), Fail> {
             0x02,
         ]],
     )?;
-    check::<SetOf<'_, SetOf<'_, u8>>>(&rt, alloc, TWO_OCTETS, texts.as_slice())?;
-    Ok(())
+    check::<SetOf<'_, SetOf<'_, u8>>>(alloc, TWO_OCTETS, texts.as_slice())
 }
 
 #[test]
 fn elements_with_long_tags(rt: HostRuntime) -> Result<(), Fail> {
     let alloc = rt.alloc();
     let texts = texts_of(alloc, &[&[0x1f, 0x81, 0x80, 0x01, 0x00]])?;
-    check::<Tlv<'_>>(&rt, alloc, &[1, 1, 1, 1, 1], texts.as_slice())?;
+    check::<Tlv<'_>>(alloc, &[1, 1, 1, 1, 1], texts.as_slice())?;
     let texts = texts_of(alloc, &[&[0x1f, 0x8f, 0xff, 0xff, 0xff, 0x7f, 0x00]])?;
-    check::<Tlv<'_>>(&rt, alloc, &[1; 7], texts.as_slice())
+    check::<Tlv<'_>>(alloc, &[1; 7], texts.as_slice())
 }
 
 /// A text of so many letters, which isn't changed.
@@ -508,9 +387,9 @@ fn long_texts(rt: HostRuntime) -> Result<(), Fail> {
     ];
     for (count, length, needed) in headers {
         let octets = [long_text(alloc, 0x04, length, count)?];
-        check::<&[u8]>(&rt, alloc, needed, &octets)?;
+        check::<&[u8]>(alloc, needed, &octets)?;
         let sequence = [long_text(alloc, 0x30, length, count)?];
-        check::<Sequence<'_>>(&rt, alloc, needed, &sequence)?;
+        check::<Sequence<'_>>(alloc, needed, &sequence)?;
     }
     Ok(())
 }

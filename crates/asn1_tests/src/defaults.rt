@@ -1,0 +1,127 @@
+//! Fields with a default, of several types.
+
+ghost use Rattle.std.specs.Prelude.{◌∷◌, [], negsuc, pos};
+ghost use Rattle.asn1.specs.Der.{seen};
+ghost use Rattle.asn1.specs.Equalities.{naturals_tell, number_text, seen_tells};
+ghost use Rattle.asn1.specs.Tag.{universal};
+
+use asn1::{
+    Asn1Readable, Asn1Type, Asn1Writable, DefaultValue, Defaulted, Implicit, MeaningEq, ParseError,
+    ParseErrorKind, ParseResult, SimpleAsn1Readable, SimpleAsn1Writable, Tag, WriteBuf, WriteError,
+    WriteResult, parse_single,
+};
+use std::alloc::Global;
+use std::process::Abort;
+use std::test::Fail;
+use testing::{error_of, is_written, same};
+
+/// A port.
+#[derive(Debug, Clone, Copy, PartialEq, Eq)]
+struct Port {
+    number: u16,
+}
+
+impl Asn1Type for Port {
+    ghost der = { seen (λ port. port.number) ⟦<u16 as Asn1Type>⟧.der };
+
+    fn known(&self) {
+        self.number.known()
+    }
+}
+
+impl<'a> SimpleAsn1Readable<'a> for Port {
+    fn tag() -> Tag {
+        <u16 as SimpleAsn1Readable<'_>>::tag()
+    }
+
+    fn parse_data(alloc: Global, data: &'a [u8]) -> ParseResult<Port> {
+        match u16::parse_data(alloc, data) {
+            Ok(number) => Ok(Port { number }),
+            Err(error) => Err(error),
+        }
+    }
+}
+
+impl SimpleAsn1Writable for Port {
+    type Error = WriteError;
+
+    ghost write_errors = { λ _ _. ⊥ };
+
+    fn tag() -> Tag {
+        <u16 as SimpleAsn1Writable>::tag()
+    }
+
+    fn write_data(&self, dest: &mut WriteBuf) -> WriteResult<()> {
+        self.number.write_data(dest)
+    }
+
+    fn data_length(&self) -> Option<usize> {
+        self.number.data_length()
+    }
+}
+
+impl MeaningEq for Port {
+    ghost tells = { λ a b. seen_tells (λ port. port.number) (λ n. pos n) (number_text (universal
+        2)) ⟦<u16 as PartialEq>⟧.eq a b (naturals_tell (universal 2) a.number b.number) };
+}
+
+#[derive(Debug, PartialEq, Eq)]
+struct Defaults;
+
+impl DefaultValue<Port> for Defaults {
+    ghost default = { record { number = 443 } };
+
+    fn value() -> Port {
+        Port { number: 443 }
+    }
+}
+
+impl DefaultValue<Implicit<i64, 0>> for Defaults {
+    ghost default = { record { inner = negsuc 0 } };
+
+    fn value() -> Implicit<i64, 0> {
+        Implicit::new(-1)
+    }
+}
+
+impl DefaultValue<[u8; 2]> for Defaults {
+    ghost default = { 0 ∷ 0 ∷ [] };
+
+    fn value() -> [u8; 2] {
+        [0, 0]
+    }
+}
+
+/// The value is written as these octets and read from them, the default as none, and it isn't read from its own.
+fn has_a_default<
+    'a,
+    A: Abort,
+    T: Asn1Readable<'a> + Asn1Writable<Error = WriteError> + MeaningEq,
+    D: DefaultValue<T>,
+>(rt: &A, alloc: Global, value: T, octets: &'a [u8], encoded_default: &'a [u8]) -> Result<(), Fail>
+    requires { T.der.plain }
+{
+    let value: Defaulted<T, D> = Defaulted::new(value);
+    is_written(alloc, &value, octets)?;
+    let read = parse_single::<Defaulted<T, D>>(alloc, octets)?;
+    assert!(rt; *read.as_inner() == *value.as_inner());
+    let default: Defaulted<T, D> = Defaulted::new(D::value());
+    is_written(alloc, &default, &[])?;
+    let read = parse_single::<Defaulted<T, D>>(alloc, &[])?;
+    assert!(rt; *read.as_inner() == D::value());
+    let refused = error_of(parse_single::<Defaulted<T, D>>(alloc, encoded_default));
+    same(
+        &refused,
+        &Some(ParseError::new(ParseErrorKind::EncodedDefault)),
+    )
+}
+
+#[test]
+fn types_with_a_default(rt: HostRuntime) -> Result<(), Fail> {
+    let alloc = rt.alloc();
+    let encoded: &[u8] = &[2, 2, 1, 0xbb];
+    has_a_default::<_, Port, Defaults>(&rt, alloc, Port { number: 80 }, &[2, 1, 80], encoded)?;
+    let two: Implicit<i64, 0> = Implicit::new(2);
+    has_a_default::<_, _, Defaults>(&rt, alloc, two, &[0x80, 1, 2], &[0x80, 1, 0xff])?;
+    has_a_default::<_, [u8; 2], Defaults>(&rt, alloc, [0, 1], &[4, 2, 0, 1], &[4, 2, 0, 0])
+}
