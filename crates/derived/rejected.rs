@@ -1,0 +1,220 @@
+// What scripts/derive rejects: declarations with a line between them, each with the reason at the line that it names.
+
+#[derive(asn1::Asn1Read)]
+struct Tree<'a> { //~ `Tree` is recursive: it has no form
+    branches: Option<asn1::SequenceOf<'a, Tree<'a>>>,
+}
+
+#[derive(asn1::Asn1Read)]
+struct Left<'a> { //~ `Left` is recursive: it has no form
+    right: Right<'a>,
+}
+#[derive(asn1::Asn1Read)]
+enum Right<'a> {
+    Left(Box<Left<'a>>),
+    Octets(&'a [u8]),
+}
+
+#[derive(asn1::Asn1Read)]
+struct Overlap {
+    first: Option<u64>,
+    second: Option<bool>,
+    third: i8, //~ a tag of `third` is one of `first` too, from which it is told by its tag
+}
+
+#[derive(asn1::Asn1Read)]
+struct Defaults {
+    #[default(1)]
+    first: u8,
+    second: u16, //~ a tag of `second` is one of `first` too, from which it is told by its tag
+}
+
+#[derive(asn1::Asn1Read)]
+struct AnyFirst<'a> {
+    any: Option<asn1::Tlv<'a>>,
+    known: bool, //~ a tag of `known` is one of `any` too, from which it is told by its tag
+}
+
+#[derive(asn1::Asn1Read)]
+struct AfterChoice {
+    either: Option<Either>,
+    flag: bool, //~ a tag of `flag` is one of `either` too, from which it is told by its tag
+}
+#[derive(asn1::Asn1Read)]
+enum Either {
+    Flag(bool),
+    Number(u64),
+}
+
+#[derive(asn1::Asn1Read)]
+enum SameTag {
+    One(u8),
+    Other(i64), //~ a tag of `Other` is one of `One` too, from which it is told by its tag
+}
+
+#[derive(asn1::Asn1Read)]
+struct Sized {
+    #[size(1)] //~ the attribute `size` isn't known
+    numbers: u8,
+}
+
+#[derive(asn1::Asn1Read)]
+struct Unnamed(u8); //~ `Unnamed` has no named fields
+
+#[derive(asn1::Asn1Read)]
+enum NoField {
+    Nothing, //~ `Nothing` has no unnamed field: a variant has exactly one
+}
+
+#[derive(asn1::Asn1Read)]
+enum TwoFields {
+    Both(u8, bool), //~ `Both` has more than one field: a variant has exactly one
+}
+
+#[derive(asn1::Asn1Read)]
+struct Generic<T> { //~ type parameters have no form here: a declaration has one lifetime at most
+    value: T,
+}
+
+#[derive(asn1::Asn1Read)]
+struct TwoLives<'a, 'b> { //~ a declaration has one lifetime at most, and no bounds
+    value: &'a [u8],
+}
+
+#[derive(asn1::Asn1Read)]
+struct NotOptional {
+    #[explicit(0)]
+    value: u8, //~ `value` has a tag: either it is an option, or the tag says `required = true`
+}
+
+#[derive(asn1::Asn1Read)]
+struct OptionalAndRequired {
+    #[implicit(0, required = true)]
+    value: Option<u8>, //~ `value` has a tag: either it is an option, or the tag says `required = true`
+}
+
+#[derive(asn1::Asn1Read)]
+struct TwoTags {
+    #[implicit(0)]
+    #[explicit(1)]
+    value: Option<u8>, //~ `value` is both implicit and explicit
+}
+
+#[derive(asn1::Asn1Read)]
+struct ImplicitChoice {
+    #[implicit(0)]
+    either: Option<Either>, //~ `either` is implicit, and its type has no tag of its own
+}
+#[derive(asn1::Asn1Read)]
+enum Either {
+    Flag(bool),
+    Number(u64),
+}
+
+#[derive(asn1::Asn1Read)]
+enum Inside {
+    #[explicit(0)]
+    Either(Either), //~ `Either` is a choice in a choice, under a tag: put a struct around it
+}
+#[derive(asn1::Asn1Read)]
+enum Either {
+    Flag(bool),
+    Number(u64),
+}
+
+#[derive(asn1::Asn1Read)]
+struct TwiceMissing {
+    value: Option<Option<u8>>, //~ `value` is an option of an option
+}
+
+#[derive(asn1::Asn1Read)]
+struct Written<'a> {
+    items: asn1::SequenceOfWriter<'a, u8>, //~ `items` is a list that is written and not read
+}
+
+#[derive(asn1::Asn1Read)]
+struct NoNumber {
+    #[implicit(ZERO)]
+    value: Option<u8>, //~ `implicit` without a number
+}
+
+#[derive(asn1::Asn1Read)]
+struct NoLiteral {
+    #[default(VERSION)]
+    value: u8, //~ the default of `value` isn't a literal: `true`, `false` or a number
+}
+
+#[derive(asn1::Asn1Read)]
+struct OptionalDefault {
+    #[default(1)]
+    value: Option<u8>, //~ `value` has a default, so it is neither an option nor required
+}
+
+#[derive(Debug, Clone)]
+struct NoDerive { //~ `NoDerive` derives neither `Asn1Read` nor `Asn1Write`
+    value: u8,
+}
+
+#[derive(asn1::Asn1DefinedByRead, asn1::Asn1DefinedByWrite)]
+enum Content { //~ `Content` is defined by an item: its variants are written by hand
+    #[defined_by(SOME_OID)]
+    Number(i32),
+    #[default]
+    Other(u8),
+}
+
+use crate::content::Content;
+#[derive(asn1::Asn1Read)]
+struct Between {
+    kind: asn1::DefinedByMarker<asn1::ObjectIdentifier>, //~ `kind` marks an item: `#[defined_by(kind)]` has to follow
+    number: u8,
+    #[defined_by(kind)]
+    content: Content,
+}
+
+use crate::content::Content;
+#[derive(asn1::Asn1Read)]
+struct Unmarked {
+    kind: asn1::ObjectIdentifier,
+    #[defined_by(kind)]
+    content: Content, //~ `content` doesn't stand right after the marker of its item
+}
+
+const WRONG: asn1::ObjectIdentifier = asn1::oid!(1, 40, 1); //~ `WRONG` is no identifier: its second number is below 40 after 0 and 1
+
+const LONE: asn1::ObjectIdentifier = asn1::oid!(1); //~ `LONE` isn't written as two or more numbers
+
+#[derive(asn1::Asn1Read)]
+enum OneChoice {
+    Number(u8),
+}
+#[derive(asn1::Asn1Read)]
+enum OtherChoice {
+    Number(u8), //~ `Number` is a variant of `OneChoice` too: part them into files
+}
+
+#[derive(asn1::Asn1Read)]
+struct NoType {
+    value: Vec<u8>, //~ `Vec` is no type of the library, and neither declared nor imported here
+}
+
+#[derive(asn1::Asn1Read)]
+struct Referred<'a> {
+    value: &'a bool, //~ a reference other than one to `[u8]` isn't read
+}
+
+#[derive(asn1::Asn1Read)]
+struct Structure { //~ `Structure` is a type of the library, which this file uses: name it otherwise
+    value: bool,
+}
+
+#[derive(asn1::Asn1Read)]
+struct Twice {
+    value: bool,
+}
+#[derive(asn1::Asn1Read)]
+struct Twice { //~ `Twice` is declared twice
+    value: bool,
+}
+
+fn main() {} //~ `fn` isn't a struct, an enum, an alias or an identifier's constant
