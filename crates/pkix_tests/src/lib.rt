@@ -1,0 +1,26 @@
+//! Tests of `pkix`: real objects, made with throwaway keys, are read, looked at and written back; what is cut, changed or
+//! not DER is rejected.
+#![tactic(auto)]
+
+#[cfg(test)]
+mod certificates;
+#[cfg(test)]
+mod extensions;
+#[cfg(test)]
+mod keys;
+#[cfg(test)]
+mod lines;
+#[cfg(test)]
+mod not_der;
+#[cfg(test)]
+mod objects;
+#[cfg(test)]
+mod requests;
+#[cfg(test)]
+mod revocation;
+#[cfg(test)]
+mod signatures;
+#[cfg(test)]
+mod timestamps;
+#[cfg(test)]
+mod walks;

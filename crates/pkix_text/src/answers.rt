@@ -1,0 +1,184 @@
+//! What an input is answered with.
+
+ghost use Rattle.std.specs.Prelude.{IfOk};
+ghost use Rattle.asn1.specs.Reading.{whole};
+ghost use Rattle.pkix_text.specs.Answers.{IsReadIfShown};
+
+use crate::kinds::Kind;
+use crate::pem::{BEGIN, PemError, decode};
+use crate::show::Show;
+use asn1::{
+    Asn1Readable, Asn1Writable, ParseError, Tag, WriteError, parse_single, strip_tlv, write_single,
+};
+use pkix::certificate::Certificate;
+use pkix::common::SubjectPublicKeyInfo;
+use pkix::keys::{EcPrivateKey, OneAsymmetricKey, RsaPrivateKey};
+use pkix::request::CertificationRequest;
+use pkix::revocation::CertificateList;
+use pkix::signatures::{ContentInfo, DigestInfo, EcdsaSigValue};
+use pkix::timestamps::{TimeStampReq, TimeStampResp};
+use std::alloc::{AllocError, Global};
+use std::fmt;
+
+/// Why no lines could be given.
+#[derive(Debug, Drop)]
+pub enum Fault {
+    /// Out of memory.
+    Memory,
+    /// The input could not be read.
+    Read,
+    /// The output could not be written.
+    Write,
+    /// What is inside isn't the encoding of what it is said to be.
+    Inside(ParseError),
+}
+
+impl fmt::Display for Fault {
+    fn fmt<W: fmt::Write>(&self, f: &mut fmt::Formatter<W>) -> fmt::Result {
+        match self {
+            Fault::Memory => write!(f, "out of memory"),
+            Fault::Read => write!(f, "the input could not be read"),
+            Fault::Write => write!(f, "the output could not be written"),
+            Fault::Inside(error) => write!(f, "{error}"),
+        }
+    }
+}
+
+impl From<AllocError> for Fault {
+    fn from(_error: AllocError) -> Fault {
+        Fault::Memory
+    }
+}
+
+impl From<ParseError> for Fault {
+    fn from(error: ParseError) -> Fault {
+        Fault::Inside(error)
+    }
+}
+
+/// Why an input is rejected.
+#[derive(Debug, Drop)]
+pub enum Refusal {
+    /// It begins as PEM does, and isn't that.
+    Pem(PemError),
+    /// It isn't the encoding of what it should be.
+    Der(ParseError),
+}
+
+/// Of an error of DER, what it says and where.
+impl fmt::Display for Refusal {
+    fn fmt<W: fmt::Write>(&self, f: &mut fmt::Formatter<W>) -> fmt::Result {
+        match self {
+            Refusal::Pem(error) => write!(f, "{error}"),
+            Refusal::Der(error) => write!(f, "{error} ({error:?})"),
+        }
+    }
+}
+
+/// What an input is answered with.
+#[derive(Debug, Drop)]
+pub enum Answer {
+    /// The lines of its fields, and `same` or `different`: whether it is written back as the same octets.
+    Shown(String),
+    /// Why it is rejected.
+    Rejected(Refusal),
+}
+
+/// The lines of the value whose encoding the octets are.
+fn shown<'a, T: Asn1Readable<'a> + Asn1Writable<Error = WriteError> + Show>(
+    alloc: Global,
+    octets: &'a [u8],
+) -> Result<Answer, Fault>
+    requires plain { T.der.plain }
+    ensures { IfOk result (IsReadIfShown (whole (T.der.read octets.entry.now))) }
+{
+    let value = match parse_single::<T>(alloc, octets) {
+        Ok(value) => value,
+        Err(error) => return Ok(Answer::Rejected(Refusal::Der(error))),
+    };
+    let mut text = String::new(alloc);
+    match value.show(alloc, "", &mut text) {
+        Ok(()) => {}
+        Err(Fault::Inside(error)) => return Ok(Answer::Rejected(Refusal::Der(error))),
+        Err(fault) => return Err(fault),
+    }
+    let Ok(written) = write_single(alloc, &value) else {
+        return Err(Fault::Memory);
+    };
+    let end = if written.as_slice() == octets {
+        "same\n"
+    } else {
+        "different\n"
+    };
+    text.push_str(end)?;
+    Ok(Answer::Shown(text))
+}
+
+/// The tags of the first two elements within an element, where it has them.
+fn tags(octets: &[u8]) -> (Option<Tag>, Option<Tag>) {
+    let Ok((whole, _)) = strip_tlv(octets) else {
+        return (None, None);
+    };
+    let Ok((first, after)) = strip_tlv(whole.data()) else {
+        return (None, None);
+    };
+    match strip_tlv(after) {
+        Ok((second, _)) => (Some(first.tag()), Some(second.tag())),
+        Err(_) => (Some(first.tag()), None),
+    }
+}
+
+/// The lines of a key, whose first elements tell its form: a OneAsymmetricKey has a version and an algorithm, an
+/// ECPrivateKey a version and octets, an RSAPrivateKey two integers, a SubjectPublicKeyInfo begins with an algorithm.
+fn key(alloc: Global, octets: &[u8]) -> Result<Answer, Fault> {
+    let (first, second) = tags(octets);
+    if first == Some(Tag::constructed(0x10)) {
+        return shown::<SubjectPublicKeyInfo<'_>>(alloc, octets);
+    }
+    if second == Some(Tag::primitive(0x04)) {
+        return shown::<EcPrivateKey<'_>>(alloc, octets);
+    }
+    if second == Some(Tag::primitive(0x02)) {
+        return shown::<RsaPrivateKey<'_>>(alloc, octets);
+    }
+    shown::<OneAsymmetricKey<'_>>(alloc, octets)
+}
+
+/// The lines of a signature, whose first element tells its form: an ECDSA-Sig-Value begins with an integer, a
+/// DigestInfo with an algorithm, a ContentInfo with an identifier.
+fn signature(alloc: Global, octets: &[u8]) -> Result<Answer, Fault> {
+    let (first, _) = tags(octets);
+    if first == Some(Tag::primitive(0x02)) {
+        return shown::<EcdsaSigValue<'_>>(alloc, octets);
+    }
+    if first == Some(Tag::constructed(0x10)) {
+        return shown::<DigestInfo<'_>>(alloc, octets);
+    }
+    shown::<ContentInfo<'_>>(alloc, octets)
+}
+
+/// The lines of the value of this kind whose encoding the octets are.
+fn answer_der(alloc: Global, kind: Kind, octets: &[u8]) -> Result<Answer, Fault> {
+    match kind {
+        Kind::Certificate => shown::<Certificate<'_>>(alloc, octets),
+        Kind::Crl => shown::<CertificateList<'_>>(alloc, octets),
+        Kind::Request => shown::<CertificationRequest<'_>>(alloc, octets),
+        Kind::Key => key(alloc, octets),
+        Kind::Signature => signature(alloc, octets),
+        Kind::TimestampRequest => shown::<TimeStampReq<'_>>(alloc, octets),
+        Kind::TimestampResponse => shown::<TimeStampResp<'_>>(alloc, octets),
+    }
+}
+
+/// The lines of the value of this kind whose encoding the input is, in DER, or in PEM where it begins with
+/// `-----BEGIN `; or why it is rejected. `Memory` where out of memory.
+pub fn answer_to(alloc: Global, kind: Kind, input: &[u8]) -> Result<Answer, Fault> {
+    if !input.starts_with(BEGIN) {
+        return answer_der(alloc, kind, input);
+    }
+    match decode(alloc, input) {
+        Ok(octets) => answer_der(alloc, kind, octets.as_slice()),
+        Err(PemError::OutOfMemory) => Err(Fault::Memory),
+        Err(error) => Ok(Answer::Rejected(Refusal::Pem(error))),
+    }
+}

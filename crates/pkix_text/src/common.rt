@@ -1,0 +1,119 @@
+//! What certificates, revocation lists, requests and keys have in common.
+
+use crate::answers::Fault;
+use crate::identifiers::name_of;
+use crate::show::{Show, empty, item, line, part, read_again};
+use asn1::{ObjectIdentifier, Tlv, parse_single};
+use pkix::common::{
+    AlgorithmIdentifier, Attribute, AttributeTypeAndValue, Attributes, Extensions, Name,
+    SubjectPublicKeyInfo,
+};
+use std::alloc::{AllocError, Global};
+
+/// The identifier's name where it is a known one, else its dotted form.
+pub(crate) fn short_name(
+    alloc: Global,
+    identifier: &ObjectIdentifier,
+) -> Result<String, AllocError> {
+    let dotted = format!(in alloc; "{identifier}")?;
+    match name_of(dotted.as_str()) {
+        Some(name) => format!(in alloc; "{name}"),
+        None => Ok(dotted),
+    }
+}
+
+/// The algorithm, and its parameters: an identifier, as that of a curve, or the octets of another element.
+impl Show for AlgorithmIdentifier<'_> {
+    fn show(&self, alloc: Global, place: &str, out: &mut String) -> Result<(), Fault> {
+        self.algorithm().show(alloc, place, out)?;
+        let Some(parameters) = self.parameters() else {
+            return Ok(());
+        };
+        match parse_single::<ObjectIdentifier>(alloc, parameters.full_data()) {
+            Ok(identifier) => part(alloc, place, "parameters", &identifier, out),
+            Err(_) => part(alloc, place, "parameters", &parameters.full_data(), out),
+        }
+    }
+}
+
+impl Show for SubjectPublicKeyInfo<'_> {
+    fn show(&self, alloc: Global, place: &str, out: &mut String) -> Result<(), Fault> {
+        part(alloc, place, "algorithm", self.algorithm(), out)?;
+        part(
+            alloc,
+            place,
+            "subjectPublicKey",
+            self.subject_public_key(),
+            out,
+        )
+    }
+}
+
+/// The value, with the attribute's type as its place.
+impl Show for AttributeTypeAndValue<'_> {
+    fn show(&self, alloc: Global, place: &str, out: &mut String) -> Result<(), Fault> {
+        let name = short_name(alloc, self.type_id())?;
+        part(alloc, place, name.as_str(), &self.value(), out)
+    }
+}
+
+/// The attributes of each set.
+impl Show for Name<'_> {
+    fn show(&self, alloc: Global, place: &str, out: &mut String) -> Result<(), Fault> {
+        let mut count = 0usize;
+        for set in self.items().clone()? {
+            let place = item(alloc, place, count)?;
+            for attribute in read_again(set)? {
+                read_again(attribute)?.show(alloc, place.as_str(), out)?;
+            }
+            count = count.saturating_add(1);
+        }
+        empty(place, count, out)
+    }
+}
+
+/// Appends the lines of a value of an attribute of this name: of extensions, where they are asked for, and else of an
+/// element of any type.
+fn value(
+    alloc: Global,
+    place: &str,
+    name: &str,
+    value: &Tlv<'_>,
+    out: &mut String,
+) -> Result<(), Fault> {
+    if name != "extensionRequest" {
+        return part(alloc, place, name, value, out);
+    }
+    match parse_single::<Extensions<'_>>(alloc, value.full_data()) {
+        Ok(extensions) => part(alloc, place, name, &extensions, out),
+        Err(_) => part(alloc, place, name, value, out),
+    }
+}
+
+/// Each value, with the attribute's type as its place.
+impl Show for Attribute<'_> {
+    fn show(&self, alloc: Global, place: &str, out: &mut String) -> Result<(), Fault> {
+        let name = short_name(alloc, self.type_id())?;
+        let mut count = 0usize;
+        for element in self.values().clone()? {
+            value(alloc, place, name.as_str(), &read_again(element)?, out)?;
+            count = count.saturating_add(1);
+        }
+        if count == 0 {
+            line(alloc, place, name.as_str(), "(empty)", out)?;
+        }
+        Ok(())
+    }
+}
+
+impl Show for Attributes<'_> {
+    fn show(&self, alloc: Global, place: &str, out: &mut String) -> Result<(), Fault> {
+        let mut count = 0usize;
+        for attribute in self.items().clone()? {
+            let place = item(alloc, place, count)?;
+            read_again(attribute)?.show(alloc, place.as_str(), out)?;
+            count = count.saturating_add(1);
+        }
+        empty(place, count, out)
+    }
+}

@@ -1,0 +1,218 @@
+//! Extensions, the known ones with their values.
+
+use crate::answers::Fault;
+use crate::common::short_name;
+use crate::show::{Show, item, line, optional, part, read_again};
+use asn1::{Asn1Readable, parse_single};
+use pkix::certificate::access::AuthorityInfoAccess;
+use pkix::certificate::extensions::{
+    AuthorityKeyIdentifier, BasicConstraints, ExtendedKeyUsage, KeyUsage, SubjectAltName,
+    SubjectKeyIdentifier,
+};
+use pkix::common::{Extension, Extensions};
+use pkix::revocation::extensions::{CrlNumber, CrlReason};
+use std::alloc::Global;
+
+impl Show for BasicConstraints<'_> {
+    fn show(&self, alloc: Global, place: &str, out: &mut String) -> Result<(), Fault> {
+        part(alloc, place, "cA", &self.ca(), out)?;
+        optional(
+            alloc,
+            place,
+            "pathLenConstraint",
+            self.path_len_constraint().as_ref(),
+            out,
+        )
+    }
+}
+
+impl Show for AuthorityKeyIdentifier<'_> {
+    fn show(&self, alloc: Global, place: &str, out: &mut String) -> Result<(), Fault> {
+        optional(
+            alloc,
+            place,
+            "keyIdentifier",
+            self.key_identifier().as_ref(),
+            out,
+        )?;
+        optional(
+            alloc,
+            place,
+            "authorityCertIssuer",
+            self.authority_cert_issuer(),
+            out,
+        )?;
+        optional(
+            alloc,
+            place,
+            "authorityCertSerialNumber",
+            self.authority_cert_serial_number().as_ref(),
+            out,
+        )
+    }
+}
+
+impl Show for SubjectKeyIdentifier<'_> {
+    fn show(&self, alloc: Global, place: &str, out: &mut String) -> Result<(), Fault> {
+        self.value().show(alloc, place, out)
+    }
+}
+
+/// The usages' names, in the order of their bits (RFC 5280, 4.2.1.3).
+const USAGES: [&str; 9] = [
+    "digitalSignature",
+    "nonRepudiation",
+    "keyEncipherment",
+    "dataEncipherment",
+    "keyAgreement",
+    "keyCertSign",
+    "cRLSign",
+    "encipherOnly",
+    "decipherOnly",
+];
+
+/// The bits, and the name of each usage that they allow.
+impl Show for KeyUsage<'_> {
+    fn show(&self, alloc: Global, place: &str, out: &mut String) -> Result<(), Fault> {
+        self.value().show(alloc, place, out)?;
+        for (bit, name) in USAGES.iter().enumerate() {
+            if self.value().has_bit_set(bit) {
+                line(alloc, place, name, "true", out)?;
+            }
+        }
+        Ok(())
+    }
+}
+
+impl Show for SubjectAltName<'_> {
+    fn show(&self, alloc: Global, place: &str, out: &mut String) -> Result<(), Fault> {
+        self.value().show(alloc, place, out)
+    }
+}
+
+impl Show for ExtendedKeyUsage<'_> {
+    fn show(&self, alloc: Global, place: &str, out: &mut String) -> Result<(), Fault> {
+        let mut count = 0usize;
+        for purpose in self.items().clone()? {
+            let place = item(alloc, place, count)?;
+            read_again(purpose)?.show(alloc, place.as_str(), out)?;
+            count = count.saturating_add(1);
+        }
+        Ok(())
+    }
+}
+
+impl Show for AuthorityInfoAccess<'_> {
+    fn show(&self, alloc: Global, place: &str, out: &mut String) -> Result<(), Fault> {
+        let mut count = 0usize;
+        for description in self.items().clone()? {
+            let place = item(alloc, place, count)?;
+            let description = read_again(description)?;
+            part(
+                alloc,
+                place.as_str(),
+                "accessMethod",
+                description.access_method(),
+                out,
+            )?;
+            part(
+                alloc,
+                place.as_str(),
+                "accessLocation",
+                description.access_location(),
+                out,
+            )?;
+            count = count.saturating_add(1);
+        }
+        Ok(())
+    }
+}
+
+impl Show for CrlNumber<'_> {
+    fn show(&self, alloc: Global, place: &str, out: &mut String) -> Result<(), Fault> {
+        self.value().show(alloc, place, out)
+    }
+}
+
+/// The reason, and its name (RFC 5280, 5.3.1).
+impl Show for CrlReason {
+    fn show(&self, _alloc: Global, place: &str, out: &mut String) -> Result<(), Fault> {
+        let number = self.value().value();
+        let name = match number {
+            0 => "unspecified",
+            1 => "keyCompromise",
+            2 => "cACompromise",
+            3 => "affiliationChanged",
+            4 => "superseded",
+            5 => "cessationOfOperation",
+            6 => "certificateHold",
+            8 => "removeFromCRL",
+            9 => "privilegeWithdrawn",
+            10 => "aACompromise",
+            _ => "unknown",
+        };
+        writeln!(out, "{place}: {number:02x} ({name})")?;
+        Ok(())
+    }
+}
+
+/// Appends the lines of the value that the octets are the encoding of; or the octets, and why they aren't.
+fn known<'a, T: Asn1Readable<'a> + Show>(
+    alloc: Global,
+    place: &str,
+    name: &str,
+    octets: &'a [u8],
+    out: &mut String,
+) -> Result<(), Fault> {
+    match parse_single::<T>(alloc, octets) {
+        Ok(value) => part(alloc, place, name, &value, out),
+        Err(error) => {
+            part(alloc, place, "extnValue", &octets, out)?;
+            let reason = format!(in alloc; "{error} ({error:?})")?;
+            line(alloc, place, "rejected", reason.as_str(), out)
+        }
+    }
+}
+
+/// The value is shown as what the identifier says that it is, where that is known, and else as octets.
+impl Show for Extension<'_> {
+    fn show(&self, alloc: Global, place: &str, out: &mut String) -> Result<(), Fault> {
+        part(alloc, place, "extnID", self.extn_id(), out)?;
+        part(alloc, place, "critical", &self.critical(), out)?;
+        let name = short_name(alloc, self.extn_id())?;
+        let name = name.as_str();
+        let value = self.extn_value();
+        match name {
+            "authorityInfoAccess" => {
+                known::<AuthorityInfoAccess<'_>>(alloc, place, name, value, out)
+            }
+            "authorityKeyIdentifier" => {
+                known::<AuthorityKeyIdentifier<'_>>(alloc, place, name, value, out)
+            }
+            "basicConstraints" => known::<BasicConstraints<'_>>(alloc, place, name, value, out),
+            "cRLNumber" => known::<CrlNumber<'_>>(alloc, place, name, value, out),
+            "cRLReason" => known::<CrlReason>(alloc, place, name, value, out),
+            "extKeyUsage" => known::<ExtendedKeyUsage<'_>>(alloc, place, name, value, out),
+            "issuerAltName" | "subjectAltName" => {
+                known::<SubjectAltName<'_>>(alloc, place, name, value, out)
+            }
+            "keyUsage" => known::<KeyUsage<'_>>(alloc, place, name, value, out),
+            "subjectKeyIdentifier" => {
+                known::<SubjectKeyIdentifier<'_>>(alloc, place, name, value, out)
+            }
+            _ => part(alloc, place, "extnValue", &value, out),
+        }
+    }
+}
+
+impl Show for Extensions<'_> {
+    fn show(&self, alloc: Global, place: &str, out: &mut String) -> Result<(), Fault> {
+        let mut count = 0usize;
+        for extension in self.items().clone()? {
+            let place = item(alloc, place, count)?;
+            read_again(extension)?.show(alloc, place.as_str(), out)?;
+            count = count.saturating_add(1);
+        }
+        Ok(())
+    }
+}

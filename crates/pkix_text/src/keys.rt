@@ -1,0 +1,76 @@
+//! Private keys (RFC 5958, 2; RFC 8017, A.1.2; RFC 5915, 3).
+
+use crate::answers::Fault;
+use crate::common::short_name;
+use crate::show::{Show, optional, part};
+use asn1::parse_single;
+use pkix::keys::{EcPrivateKey, OneAsymmetricKey, RsaPrivateKey};
+use std::alloc::Global;
+
+impl Show for RsaPrivateKey<'_> {
+    fn show(&self, alloc: Global, place: &str, out: &mut String) -> Result<(), Fault> {
+        part(alloc, place, "version", &self.version(), out)?;
+        part(alloc, place, "modulus", &self.modulus(), out)?;
+        part(alloc, place, "publicExponent", &self.public_exponent(), out)?;
+        part(
+            alloc,
+            place,
+            "privateExponent",
+            &self.private_exponent(),
+            out,
+        )?;
+        part(alloc, place, "prime1", &self.prime1(), out)?;
+        part(alloc, place, "prime2", &self.prime2(), out)?;
+        part(alloc, place, "exponent1", &self.exponent1(), out)?;
+        part(alloc, place, "exponent2", &self.exponent2(), out)?;
+        part(alloc, place, "coefficient", &self.coefficient(), out)
+    }
+}
+
+impl Show for EcPrivateKey<'_> {
+    fn show(&self, alloc: Global, place: &str, out: &mut String) -> Result<(), Fault> {
+        part(alloc, place, "version", &self.version(), out)?;
+        part(alloc, place, "privateKey", &self.private_key(), out)?;
+        optional(alloc, place, "parameters", self.parameters(), out)?;
+        optional(alloc, place, "publicKey", self.public_key(), out)
+    }
+}
+
+/// Appends the lines of the key itself: its numbers, where its algorithm is a known one and it has that one's form, and
+/// else its octets.
+fn private_key(
+    alloc: Global,
+    place: &str,
+    key: &OneAsymmetricKey<'_>,
+    out: &mut String,
+) -> Result<(), Fault> {
+    let octets = key.private_key();
+    let algorithm = short_name(alloc, key.private_key_algorithm().algorithm())?;
+    match algorithm.as_str() {
+        "rsaEncryption" => match parse_single::<RsaPrivateKey<'_>>(alloc, octets) {
+            Ok(numbers) => part(alloc, place, "privateKey", &numbers, out),
+            Err(_) => part(alloc, place, "privateKey", &octets, out),
+        },
+        "ecPublicKey" => match parse_single::<EcPrivateKey<'_>>(alloc, octets) {
+            Ok(numbers) => part(alloc, place, "privateKey", &numbers, out),
+            Err(_) => part(alloc, place, "privateKey", &octets, out),
+        },
+        _ => part(alloc, place, "privateKey", &octets, out),
+    }
+}
+
+impl Show for OneAsymmetricKey<'_> {
+    fn show(&self, alloc: Global, place: &str, out: &mut String) -> Result<(), Fault> {
+        part(alloc, place, "version", &self.version(), out)?;
+        part(
+            alloc,
+            place,
+            "privateKeyAlgorithm",
+            self.private_key_algorithm(),
+            out,
+        )?;
+        private_key(alloc, place, self, out)?;
+        optional(alloc, place, "attributes", self.attributes(), out)?;
+        optional(alloc, place, "publicKey", self.public_key(), out)
+    }
+}

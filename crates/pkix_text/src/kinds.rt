@@ -1,0 +1,62 @@
+//! What an input may be.
+
+ghost use Rattle.std.specs.Prelude.{◌≡◌};
+ghost use Rattle.pkix_text.specs.Program.{kind_name, kind_named};
+
+/// What an input should be the encoding of.
+#[derive(Debug, Clone, Copy, PartialEq, Eq)]
+pub enum Kind {
+    /// `certificate`: a Certificate (RFC 5280, 4.1).
+    Certificate,
+    /// `crl`: a CertificateList (RFC 5280, 5.1).
+    Crl,
+    /// `request`: a CertificationRequest (RFC 2986, 4.2).
+    Request,
+    /// `key`: a OneAsymmetricKey (RFC 5958, 2).
+    Key,
+    /// `signature`: a ContentInfo with SignedData (RFC 5652, 3 and 5.1).
+    Signature,
+    /// `timestamp-request`: a TimeStampReq (RFC 3161, 2.4.1).
+    TimestampRequest,
+    /// `timestamp-response`: a TimeStampResp (RFC 3161, 2.4.2).
+    TimestampResponse,
+}
+
+impl Kind {
+    /// Each kind once.
+    pub const ALL: &'static [Kind] = &[
+        Kind::Certificate,
+        Kind::Crl,
+        Kind::Request,
+        Kind::Key,
+        Kind::Signature,
+        Kind::TimestampRequest,
+        Kind::TimestampResponse,
+    ];
+
+    /// The names, for who gave none of them.
+    pub const NAMES: &'static str =
+        "certificate, crl, request, key, signature, timestamp-request, timestamp-response";
+
+    /// The name as an argument has it.
+    fn name(self) -> &'static [u8]
+        ensures { result.now ≡ kind_name self }
+    {
+        match self {
+            Kind::Certificate => b"certificate",
+            Kind::Crl => b"crl",
+            Kind::Request => b"request",
+            Kind::Key => b"key",
+            Kind::Signature => b"signature",
+            Kind::TimestampRequest => b"timestamp-request",
+            Kind::TimestampResponse => b"timestamp-response",
+        }
+    }
+
+    /// The kind with this name.
+    pub fn named(name: &[u8]) -> Option<Kind>
+        ensures { result ≡ kind_named name.now }
+    {
+        Kind::ALL.iter().copied().find(|kind| kind.name() == name)
+    }
+}

@@ -1,0 +1,23 @@
+//! Shows the objects of `pkix` as text: a line for each field, with its place and its value.
+#![tactic(auto)]
+
+mod answers;
+mod certificate;
+mod common;
+mod extensions;
+mod general_names;
+mod identifiers;
+mod keys;
+mod kinds;
+mod pem;
+mod program;
+mod requests;
+mod revocation;
+mod show;
+mod signatures;
+mod timestamps;
+
+pub use answers::{Answer, Fault, Refusal, answer_to};
+pub use kinds::Kind;
+pub use pem::PemError;
+pub use program::{kind, status};

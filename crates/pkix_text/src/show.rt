@@ -1,0 +1,238 @@
+//! Lines of text, and how values of the simple types are shown.
+
+use crate::answers::Fault;
+use crate::identifiers::name_of;
+use asn1::{
+    BigInt, BigUint, BitString, DateTime, GeneralizedTime, IA5String, ObjectIdentifier,
+    ParseResult, PrintableString, Tlv, Utf8String, VisibleString, parse_single,
+};
+use pkix::common::Time;
+use std::alloc::{AllocError, Global};
+
+/// What is shown as lines of text.
+pub(crate) trait Show {
+    /// Appends the lines of the value, whose place is this one. `Memory` where out of memory.
+    fn show(&self, alloc: Global, place: &str, out: &mut String) -> Result<(), Fault>;
+}
+
+/// The place of a part within a place, where the empty place is the whole.
+pub(crate) fn within(alloc: Global, place: &str, part: &str) -> Result<String, AllocError> {
+    if place.is_empty() {
+        return format!(in alloc; "{part}");
+    }
+    format!(in alloc; "{place}.{part}")
+}
+
+/// The place of the item of this number within a place.
+pub(crate) fn item(alloc: Global, place: &str, number: usize) -> Result<String, AllocError> {
+    format!(in alloc; "{place}.{number}")
+}
+
+/// Appends the line of a value that is text already, at this part of the place.
+pub(crate) fn line(
+    alloc: Global,
+    place: &str,
+    part: &str,
+    text: &str,
+    out: &mut String,
+) -> Result<(), Fault> {
+    let place = within(alloc, place, part)?;
+    writeln!(out, "{place}: {text}")?;
+    Ok(())
+}
+
+/// Appends the lines of the value at this part of the place.
+pub(crate) fn part<T: Show>(
+    alloc: Global,
+    place: &str,
+    name: &str,
+    value: &T,
+    out: &mut String,
+) -> Result<(), Fault> {
+    let place = within(alloc, place, name)?;
+    value.show(alloc, place.as_str(), out)
+}
+
+/// Appends the lines of the value at this part of the place, where there is one.
+pub(crate) fn optional<T: Show>(
+    alloc: Global,
+    place: &str,
+    name: &str,
+    value: Option<&T>,
+    out: &mut String,
+) -> Result<(), Fault> {
+    match value {
+        Some(value) => part(alloc, place, name, value, out),
+        None => Ok(()),
+    }
+}
+
+/// An item of a list, all of whose items were read when the list was: so an error means out of memory.
+pub(crate) fn read_again<T>(item: ParseResult<T>) -> Result<T, Fault> {
+    match item {
+        Ok(item) => Ok(item),
+        Err(_) => Err(Fault::Memory),
+    }
+}
+
+/// Appends the line of an empty list, which has no items whose lines would show it.
+pub(crate) fn empty(place: &str, count: usize, out: &mut String) -> Result<(), Fault> {
+    if count == 0 {
+        writeln!(out, "{place}: (empty)")?;
+    }
+    Ok(())
+}
+
+impl Show for bool {
+    fn show(&self, _alloc: Global, place: &str, out: &mut String) -> Result<(), Fault> {
+        writeln!(out, "{place}: {self}")?;
+        Ok(())
+    }
+}
+
+/// In hex.
+impl Show for u8 {
+    fn show(&self, _alloc: Global, place: &str, out: &mut String) -> Result<(), Fault> {
+        writeln!(out, "{place}: {self:02x}")?;
+        Ok(())
+    }
+}
+
+/// In hex, by whole octets.
+impl Show for u16 {
+    fn show(&self, _alloc: Global, place: &str, out: &mut String) -> Result<(), Fault> {
+        if *self < 0x100 {
+            writeln!(out, "{place}: {self:02x}")?;
+        } else {
+            writeln!(out, "{place}: {self:04x}")?;
+        }
+        Ok(())
+    }
+}
+
+/// Octets in hex.
+impl Show for &[u8] {
+    fn show(&self, alloc: Global, place: &str, out: &mut String) -> Result<(), Fault> {
+        let octets = hex::encode(alloc, *self)?;
+        writeln!(out, "{place}: {octets}")?;
+        Ok(())
+    }
+}
+
+impl Show for BigInt<'_> {
+    fn show(&self, alloc: Global, place: &str, out: &mut String) -> Result<(), Fault> {
+        self.as_bytes().show(alloc, place, out)
+    }
+}
+
+impl Show for BigUint<'_> {
+    fn show(&self, alloc: Global, place: &str, out: &mut String) -> Result<(), Fault> {
+        self.as_bytes().show(alloc, place, out)
+    }
+}
+
+/// The octets in hex, and how many bits at their end are unused, if any.
+impl Show for BitString<'_> {
+    fn show(&self, alloc: Global, place: &str, out: &mut String) -> Result<(), Fault> {
+        self.as_bytes().show(alloc, place, out)?;
+        if self.padding_bits() == 0 {
+            return Ok(());
+        }
+        part(alloc, place, "unusedBits", &self.padding_bits(), out)
+    }
+}
+
+/// Dotted, and with its name where it is a known one.
+impl Show for ObjectIdentifier {
+    fn show(&self, alloc: Global, place: &str, out: &mut String) -> Result<(), Fault> {
+        let dotted = format!(in alloc; "{self}")?;
+        match name_of(dotted.as_str()) {
+            Some(name) => writeln!(out, "{place}: {dotted} ({name})")?,
+            None => writeln!(out, "{place}: {dotted}")?,
+        }
+        Ok(())
+    }
+}
+
+/// A date and time, without its end.
+fn date(alloc: Global, time: &DateTime) -> Result<String, AllocError> {
+    let (year, month, day) = (time.year(), time.month(), time.day());
+    let (hour, minute, second) = (time.hour(), time.minute(), time.second());
+    format!(in alloc; "{year:04}-{month:02}-{day:02}T{hour:02}:{minute:02}:{second:02}")
+}
+
+impl Show for Time {
+    fn show(&self, alloc: Global, place: &str, out: &mut String) -> Result<(), Fault> {
+        let text = match self {
+            Time::UtcTime(time) => date(alloc, time.as_datetime())?,
+            Time::GeneralTime(time) => date(alloc, time.as_datetime())?,
+        };
+        writeln!(out, "{place}: {text}Z")?;
+        Ok(())
+    }
+}
+
+impl Show for GeneralizedTime {
+    fn show(&self, alloc: Global, place: &str, out: &mut String) -> Result<(), Fault> {
+        let text = date(alloc, self.as_datetime())?;
+        match self.nanoseconds() {
+            Some(fraction) => {
+                let digits = format!(in alloc; "{fraction:09}")?;
+                writeln!(out, "{place}: {text}.{}Z", digits.trim_end_matches('0'))?
+            }
+            None => writeln!(out, "{place}: {text}Z")?,
+        }
+        Ok(())
+    }
+}
+
+/// Appends characters, with those escaped that can't be printed.
+pub(crate) fn push_escaped(out: &mut String, text: &str) -> Result<(), AllocError> {
+    for c in text.chars() {
+        match c {
+            '"' | '\'' => out.push(c)?,
+            _ => write!(out, "{}", c.escape_debug())?,
+        }
+    }
+    Ok(())
+}
+
+/// Appends the line of a character string.
+pub(crate) fn string_line(place: &str, text: &str, out: &mut String) -> Result<(), Fault> {
+    write!(out, "{place}: ")?;
+    push_escaped(out, text)?;
+    out.push('\n')?;
+    Ok(())
+}
+
+/// The characters of an element that is a character string of ASCII or in UTF-8.
+fn characters<'a>(alloc: Global, element: &Tlv<'a>) -> Option<&'a str> {
+    let octets = element.full_data();
+    if let Ok(text) = parse_single::<Utf8String<'a>>(alloc, octets) {
+        return Some(text.as_str());
+    }
+    if let Ok(text) = parse_single::<PrintableString<'a>>(alloc, octets) {
+        return Some(text.as_str());
+    }
+    if let Ok(text) = parse_single::<IA5String<'a>>(alloc, octets) {
+        return Some(text.as_str());
+    }
+    match parse_single::<VisibleString<'a>>(alloc, octets) {
+        Ok(text) => Some(text.as_str()),
+        Err(_) => None,
+    }
+}
+
+/// A character string of ASCII or in UTF-8 as its characters, another element as its octets in hex behind `#`.
+impl Show for Tlv<'_> {
+    fn show(&self, alloc: Global, place: &str, out: &mut String) -> Result<(), Fault> {
+        match characters(alloc, self) {
+            Some(text) => string_line(place, text, out),
+            None => {
+                let octets = hex::encode(alloc, self.full_data())?;
+                writeln!(out, "{place}: #{octets}")?;
+                Ok(())
+            }
+        }
+    }
+}
