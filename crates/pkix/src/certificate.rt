@@ -1,6 +1,7 @@
 //! Certificates (RFC 5280, 4.1), and the values of extensions that most of them carry (4.2).
 
 pub mod access;
+pub mod distribution;
 pub mod extensions;
 mod whole;
 

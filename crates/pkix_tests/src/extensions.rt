@@ -1,147 +1,83 @@
-//! Values of extensions (RFC 5280, 4.2).
+//! Values of extensions (RFC 5280, 4.2 and 5.2), as they stand in objects made by OpenSSL 3.0.
 
-use crate::objects::FULL;
 use crate::walks::{changed, walk};
-use asn1::parse_single;
-use pkix::certificate::Certificate;
 use pkix::certificate::access::AuthorityInfoAccess;
+use pkix::certificate::distribution::CrlDistributionPoints;
 use pkix::certificate::extensions::{
     AuthorityKeyIdentifier, BasicConstraints, ExtendedKeyUsage, KeyUsage, SubjectAltName,
     SubjectKeyIdentifier,
 };
-use pkix::common::{GeneralName, GeneralNames};
-use std::alloc::Global;
+use pkix::revocation::extensions::{CrlNumber, CrlReason};
 use std::test::Fail;
-use testing::{is_written_back, same};
+use testing::are_written_back;
 
-/// The octets of the extension with this identifier.
-fn value_of<'a>(
-    alloc: Global,
-    certificate: &Certificate<'a>,
-    identifier: &str,
-) -> Result<&'a [u8], Fail> {
-    let Some(extensions) = certificate.tbs_certificate().extensions() else {
-        return Err(Fail::new(format_args!("no extensions")));
-    };
-    for extension in extensions.items().clone()? {
-        let extension = extension?;
-        if format!(in alloc; "{}", extension.extn_id())?.as_str() == identifier {
-            return Ok(extension.extn_value());
-        }
-    }
-    Err(Fail::new(format_args!("no extension {identifier}")))
+/// An authority's key identifier, with the issuer and the serial number.
+const AUTHORITY_KEY: &str = "\
+305c8014c7f2e2721ca1228541f539ddeb9aecdd1ea6b30ba140a43e303c310b3009060355040613\
+02415431163014060355040a0c0d4578616d706c6520576f726b733115301306035504030c0c6675\
+6c6c2e6578616d706c6582021234";
+
+/// A subject's alternative names, of seven forms.
+const NAMES: &str = "\
+3069820c66756c6c2e6578616d706c658704c0000201810e614066756c6c2e6578616d706c658614\
+687474703a2f2f66756c6c2e6578616d706c652f88032a0304a41830163114301206035504030c0b\
+63726c2e6578616d706c65a00e06032a0305a0070c056f74686572";
+
+/// Two purposes of a key.
+const PURPOSES: &str = "\
+301406082b0601050507030106082b06010505070302";
+
+/// A distribution point with each of its fields.
+const POINTS: &str = "\
+3040303ea01ca01a8618687474703a2f2f63726c2e6578616d706c652f612e63726c81020560a21a\
+a41830163114301206035504030c0b63726c2e6578616d706c65";
+
+/// Two places of other data of the authority.
+const ACCESSES: &str = "\
+3047302006082b060105050730018614687474703a2f2f6f6373702e6578616d706c652f30230608\
+2b060105050730028617687474703a2f2f63612e6578616d706c652f632e646572";
+
+#[test]
+fn short_values(rt: HostRuntime) -> Result<(), Fail> {
+    let alloc = rt.alloc();
+    are_written_back::<BasicConstraints<'_>>(
+        alloc,
+        &[b"\x30\x06\x01\x01\xff\x02\x01\x01", b"\x30\x00"],
+    )?;
+    are_written_back::<KeyUsage<'_>>(alloc, &[b"\x03\x02\x01\x06", b"\x03\x02\x07\x80"])?;
+    let key =
+        b"\x04\x14\xc7\xf2\xe2\x72\x1c\xa1\x22\x85\x41\xf5\x39\xdd\xeb\x9a\xec\xdd\x1e\xa6\xb3\x0b";
+    are_written_back::<SubjectKeyIdentifier<'_>>(alloc, &[key])?;
+    are_written_back::<CrlNumber<'_>>(alloc, &[b"\x02\x01\x1f"])?;
+    are_written_back::<CrlReason>(alloc, &[b"\x0a\x01\x01", b"\x0a\x01\x04"])
 }
 
 #[test]
-fn values_are_written_back(rt: HostRuntime) -> Result<(), Fail> {
+fn keys_of_authorities_and_their_data(rt: HostRuntime) -> Result<(), Fail> {
     let alloc = rt.alloc();
-    let octets = hex::decode(alloc, FULL)?;
-    let certificate = parse_single::<Certificate<'_>>(alloc, octets.as_slice())?;
-    let of = &certificate;
-    is_written_back::<BasicConstraints<'_>>(alloc, value_of(alloc, of, "2.5.29.19")?)?;
-    is_written_back::<KeyUsage<'_>>(alloc, value_of(alloc, of, "2.5.29.15")?)?;
-    is_written_back::<SubjectKeyIdentifier<'_>>(alloc, value_of(alloc, of, "2.5.29.14")?)?;
-    is_written_back::<AuthorityKeyIdentifier<'_>>(alloc, value_of(alloc, of, "2.5.29.35")?)?;
-    is_written_back::<SubjectAltName<'_>>(alloc, value_of(alloc, of, "2.5.29.17")?)?;
-    is_written_back::<ExtendedKeyUsage<'_>>(alloc, value_of(alloc, of, "2.5.29.37")?)?;
-    is_written_back::<AuthorityInfoAccess<'_>>(alloc, value_of(alloc, of, "1.3.6.1.5.5.7.1.1")?)
-}
-
-#[test]
-fn keys_and_their_use(rt: HostRuntime) -> Result<(), Fail> {
-    let alloc = rt.alloc();
-    let octets = hex::decode(alloc, FULL)?;
-    let certificate = parse_single::<Certificate<'_>>(alloc, octets.as_slice())?;
-    let value = value_of(alloc, &certificate, "2.5.29.19")?;
-    let basic = parse_single::<BasicConstraints<'_>>(alloc, value)?;
-    same(basic.ca(), true)?;
-    let Some(length) = basic.path_len_constraint() else {
-        return Err(Fail::new(format_args!("no length")));
-    };
-    same(length.as_bytes(), &[1])?;
-    let value = value_of(alloc, &certificate, "2.5.29.15")?;
-    let usage = parse_single::<KeyUsage<'_>>(alloc, value)?;
-    // keyCertSign is bit 5, and cRLSign bit 6.
-    same(usage.value().as_bytes(), &[0x06])?;
-    same(usage.value().padding_bits(), 1)?;
-    let value = value_of(alloc, &certificate, "2.5.29.14")?;
-    let key = parse_single::<SubjectKeyIdentifier<'_>>(alloc, value)?;
-    let value = value_of(alloc, &certificate, "2.5.29.35")?;
-    let issuer = parse_single::<AuthorityKeyIdentifier<'_>>(alloc, value)?;
-    same(issuer.key_identifier(), Some(key.value()))?;
-    same(issuer.authority_cert_issuer().is_some(), true)?;
-    same(issuer.authority_cert_serial_number().is_some(), true)?;
-    let value = value_of(alloc, &certificate, "2.5.29.37")?;
-    let purposes = parse_single::<ExtendedKeyUsage<'_>>(alloc, value)?;
-    same(purposes.items().len(), 2)
-}
-
-/// A name's form, as the number of its tag, and its text where it has one.
-fn name_text(alloc: Global, name: &GeneralName<'_>) -> Result<String, Fail> {
-    let text = match name {
-        GeneralName::OtherName(_) => format!(in alloc; "0;")?,
-        GeneralName::Rfc822Name(name) => format!(in alloc; "1 {};", name.as_inner().as_str())?,
-        GeneralName::DnsName(name) => format!(in alloc; "2 {};", name.as_inner().as_str())?,
-        GeneralName::X400Address(_) => format!(in alloc; "3;")?,
-        GeneralName::DirectoryName(_) => format!(in alloc; "4;")?,
-        GeneralName::EdiPartyName(_) => format!(in alloc; "5;")?,
-        GeneralName::UniformResourceIdentifier(name) => {
-            format!(in alloc; "6 {};", name.as_inner().as_str())?
-        }
-        GeneralName::IpAddress(octets) => {
-            let octets = hex::encode(alloc, octets.as_inner())?;
-            format!(in alloc; "7 {};", octets.as_str())?
-        }
-        GeneralName::RegisteredId(name) => format!(in alloc; "8 {};", name.as_inner())?,
-    };
-    Ok(text)
-}
-
-/// The names, one after another.
-fn names_text(alloc: Global, names: &GeneralNames<'_>) -> Result<String, Fail> {
-    let mut text = String::new(alloc);
-    for name in names.items().clone()? {
-        let name = name?;
-        text.push_str(name_text(alloc, &name)?.as_str())?;
-    }
-    Ok(text)
-}
-
-#[test]
-fn names_of_a_subject(rt: HostRuntime) -> Result<(), Fail> {
-    let alloc = rt.alloc();
-    let octets = hex::decode(alloc, FULL)?;
-    let certificate = parse_single::<Certificate<'_>>(alloc, octets.as_slice())?;
-    let value = value_of(alloc, &certificate, "2.5.29.17")?;
-    let names = parse_single::<SubjectAltName<'_>>(alloc, value)?;
-    same(
-        names_text(alloc, names.value())?.as_str(),
-        "2 full.example;7 c0000201;1 a@full.example;6 http://full.example/;8 1.2.3.4;4;0;",
-    )
-}
-
-#[test]
-fn places_of_other_data(rt: HostRuntime) -> Result<(), Fail> {
-    let alloc = rt.alloc();
-    let octets = hex::decode(alloc, FULL)?;
-    let certificate = parse_single::<Certificate<'_>>(alloc, octets.as_slice())?;
-    let value = value_of(alloc, &certificate, "1.3.6.1.5.5.7.1.1")?;
-    let access = parse_single::<AuthorityInfoAccess<'_>>(alloc, value)?;
-    let mut text = String::new(alloc);
-    for description in access.items().clone()? {
-        let description = description?;
-        text.push_str(name_text(alloc, description.access_location())?.as_str())?;
-    }
-    same(
-        text.as_str(),
-        "6 http://ocsp.example/;6 http://ca.example/c.der;",
-    )
-}
-
-#[test]
-fn a_certificate_with_each(rt: HostRuntime) -> Result<(), Fail> {
-    let alloc = rt.alloc();
-    let whole = hex::decode(alloc, FULL)?;
+    let whole = hex::decode(alloc, AUTHORITY_KEY)?;
     let others = changed(alloc, whole.as_slice())?;
-    walk::<Certificate<'_>>(alloc, whole.as_slice(), others.as_slice())
+    walk::<AuthorityKeyIdentifier<'_>>(alloc, whole.as_slice(), others.as_slice())?;
+    let whole = hex::decode(alloc, ACCESSES)?;
+    let others = changed(alloc, whole.as_slice())?;
+    walk::<AuthorityInfoAccess<'_>>(alloc, whole.as_slice(), others.as_slice())
+}
+
+#[test]
+fn names_and_purposes(rt: HostRuntime) -> Result<(), Fail> {
+    let alloc = rt.alloc();
+    let whole = hex::decode(alloc, NAMES)?;
+    let others = changed(alloc, whole.as_slice())?;
+    walk::<SubjectAltName<'_>>(alloc, whole.as_slice(), others.as_slice())?;
+    let whole = hex::decode(alloc, PURPOSES)?;
+    let others = changed(alloc, whole.as_slice())?;
+    walk::<ExtendedKeyUsage<'_>>(alloc, whole.as_slice(), others.as_slice())
+}
+
+#[test]
+fn distribution_points(rt: HostRuntime) -> Result<(), Fail> {
+    let alloc = rt.alloc();
+    let whole = hex::decode(alloc, POINTS)?;
+    let others = changed(alloc, whole.as_slice())?;
+    walk::<CrlDistributionPoints<'_>>(alloc, whole.as_slice(), others.as_slice())
 }

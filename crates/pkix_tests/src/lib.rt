@@ -1,5 +1,5 @@
-//! Tests of `pkix`: real objects, made with throwaway keys, are read, looked at and written back; what is cut, changed or
-//! not DER is rejected.
+//! Tests of `pkix`: real objects, made with throwaway keys, are read and written back, and shown as lines; what is cut,
+//! changed or not DER is rejected.
 #![tactic(auto)]
 
 #[cfg(test)]
@@ -10,6 +10,8 @@ mod extensions;
 mod keys;
 #[cfg(test)]
 mod lines;
+#[cfg(test)]
+mod listings;
 #[cfg(test)]
 mod not_der;
 #[cfg(test)]

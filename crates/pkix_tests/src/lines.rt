@@ -1,108 +1,47 @@
-//! Objects as lines of text: each line is what OpenSSL 3.0 prints of the same object.
+//! Objects as lines of text.
 
-use crate::objects::{
-    CRL, DIGEST, EC_KEY, EC_PKCS8, ECDSA, ED_PKCS8, EMPTY_CRL, FULL, REQUEST, RSA_KEY, RSA_PKCS8,
-    STAMP_REFUSAL, STAMP_REQUEST, STAMP_RESPONSE,
-};
+use crate::{listings, objects};
 use base64::engine::general_purpose::STANDARD;
 use pkix_text::{Answer, Kind, answer_to};
 use std::alloc::Global;
 use std::test::Fail;
 use testing::same;
 
-/// The lines that an object has among others.
-const LINES: [(Kind, &str, &[&str]); 14] = [
+/// Each object with its lines.
+const SHOWN: [(Kind, &str, &str); 18] = [
+    (Kind::Certificate, objects::RSA, listings::RSA),
+    (Kind::Certificate, objects::CURVE, listings::CURVE),
+    (Kind::Certificate, objects::FULL, listings::FULL),
+    (Kind::Crl, objects::CRL, listings::CRL),
+    (Kind::Crl, objects::EMPTY_CRL, listings::EMPTY_CRL),
+    (Kind::Request, objects::REQUEST, listings::REQUEST),
+    (Kind::Key, objects::RSA_PKCS8, listings::RSA_PKCS8),
+    (Kind::Key, objects::RSA_KEY, listings::RSA_KEY),
+    (Kind::Key, objects::RSA_PUBLIC, listings::RSA_PUBLIC),
+    (Kind::Key, objects::EC_PKCS8, listings::EC_PKCS8),
+    (Kind::Key, objects::EC_KEY, listings::EC_KEY),
+    (Kind::Key, objects::ED_PKCS8, listings::ED_PKCS8),
+    (Kind::Signature, objects::ECDSA, listings::ECDSA),
+    (Kind::Signature, objects::DIGEST, listings::DIGEST),
     (
-        Kind::Certificate,
-        FULL,
-        &[
-            "version: 02",
-            "serialNumber: 1234",
-            "signature: 1.2.840.10045.4.3.2 (ecdsa-with-SHA256)",
-            "issuer.0.countryName: AT",
-            "validity.notAfter: 2036-11-21T10:50:10Z",
-            "subject.2.commonName: full.example",
-            "subjectPublicKeyInfo.algorithm.parameters: 1.2.840.10045.3.1.7 (secp256r1)",
-            "extensions.0.critical: true",
-            "extensions.0.basicConstraints.pathLenConstraint: 01",
-            "extensions.1.keyUsage.keyCertSign: true",
-            "extensions.3.authorityKeyIdentifier.authorityCertSerialNumber: 1234",
-            "extensions.4.subjectAltName.1.iPAddress: c0000201",
-            "extensions.4.subjectAltName.2.rfc822Name: a@full.example",
-            "extensions.4.subjectAltName.4.registeredID: 1.2.3.4",
-            "extensions.4.subjectAltName.5.directoryName.0.commonName: crl.example",
-            "extensions.4.subjectAltName.6.otherName.value: other",
-            "extensions.5.extKeyUsage.1: 1.3.6.1.5.5.7.3.2 (clientAuth)",
-            "extensions.7.authorityInfoAccess.0.accessMethod: 1.3.6.1.5.5.7.48.1 (ocsp)",
-        ],
-    ),
-    (
-        Kind::Crl,
-        CRL,
-        &[
-            "revokedCertificates.0.userCertificate: 0a",
-            "revokedCertificates.0.crlEntryExtensions.0.cRLReason: 01 (keyCompromise)",
-            "revokedCertificates.1.revocationDate: 2026-11-03T14:00:00Z",
-            "revokedCertificates.2.userCertificate: 00ffee",
-            "nextUpdate: 2026-12-24T10:50:10Z",
-            "crlExtensions.1.cRLNumber: 1f",
-        ],
-    ),
-    (Kind::Crl, EMPTY_CRL, &["thisUpdate: 2026-11-24T10:50:10Z"]),
-    (
-        Kind::Request,
-        REQUEST,
-        &[
-            "subject.1.organizationName: Example Works",
-            "attributes.0.extensionRequest.0.subjectAltName.0.dNSName: req.example",
-        ],
-    ),
-    (Kind::Key, RSA_PKCS8, &["privateKey.publicExponent: 010001"]),
-    (Kind::Key, RSA_KEY, &["publicExponent: 010001"]),
-    (
-        Kind::Key,
-        EC_PKCS8,
-        &["privateKeyAlgorithm.parameters: 1.2.840.10045.3.1.7 (secp256r1)"],
-    ),
-    (
-        Kind::Key,
-        EC_KEY,
-        &["parameters: 1.2.840.10045.3.1.7 (secp256r1)"],
-    ),
-    (
-        Kind::Key,
-        ED_PKCS8,
-        &["privateKeyAlgorithm: 1.3.101.112 (Ed25519)"],
-    ),
-    (Kind::Signature, ECDSA, &[]),
-    (
-        Kind::Signature,
-        DIGEST,
-        &["digestAlgorithm: 2.16.840.1.101.3.4.2.1 (sha256)"],
+        Kind::TimestampRequest,
+        objects::STAMP_REQUEST,
+        listings::STAMP_REQUEST,
     ),
     (
         Kind::TimestampRequest,
-        STAMP_REQUEST,
-        &["version: 01", "certReq: true"],
+        objects::SHORT_STAMP_REQUEST,
+        listings::SHORT_STAMP_REQUEST,
     ),
     (
         Kind::TimestampResponse,
-        STAMP_RESPONSE,
-        &[
-            "status.status: 00 (granted)",
-            "timeStampToken.content.encapContentInfo.eContent.policy: 1.2.3.4.1",
-            "timeStampToken.content.encapContentInfo.eContent.accuracy.millis: 01f4",
-            "timeStampToken.content.encapContentInfo.eContent.tsa.directoryName.0.countryName: AT",
-            "timeStampToken.content.signerInfos.0.sid.issuerAndSerialNumber.serialNumber: 4d",
-        ],
+        objects::STAMP_RESPONSE,
+        listings::STAMP_RESPONSE,
     ),
     (
         Kind::TimestampResponse,
-        STAMP_REFUSAL,
-        &[
-            "status.status: 02 (rejection)",
-            "status.statusString.0: Message digest algorithm is not supported.",
-        ],
+        objects::STAMP_REFUSAL,
+        listings::STAMP_REFUSAL,
     ),
 ];
 
@@ -125,44 +64,42 @@ fn reason(alloc: Global, kind: Kind, octets: &[u8]) -> Result<String, Fail> {
 #[test]
 fn objects_are_shown(rt: HostRuntime) -> Result<(), Fail> {
     let alloc = rt.alloc();
-    for (kind, object, wanted) in LINES {
+    for (kind, object, wanted) in SHOWN {
         let octets = hex::decode(alloc, object)?;
-        let text = lines(alloc, kind, octets.as_slice())?;
-        for line in wanted {
-            if !text.lines().any(|other| other == *line) {
-                return Err(Fail::new(format_args!("no line {line}")));
-            }
-        }
-        same(text.lines().last(), Some("same"))?;
+        same(lines(alloc, kind, octets.as_slice())?.as_str(), wanted)?;
     }
     Ok(())
 }
 
-/// Where the octets begin within others.
-fn place_of(octets: &[u8], part: &[u8]) -> Result<usize, Fail> {
-    match octets
-        .windows(part.len().max(1))
-        .position(|window| window == part)
-    {
-        Some(place) => Ok(place),
-        None => Err(Fail::new(format_args!("not found"))),
-    }
+/// The object with these octets in place of as many of its own, from this place on.
+fn with_octets(alloc: Global, object: &str, place: usize, others: &[u8]) -> Result<Vec<u8>, Fail> {
+    let octets = hex::decode(alloc, object)?;
+    let before = octets.as_slice().get(..place);
+    let after = octets.as_slice().get(place.saturating_add(others.len())..);
+    let (Some(before), Some(after)) = (before, after) else {
+        return Err(Fail::new(format_args!("the object ends before")));
+    };
+    let mut changed = Vec::new(alloc);
+    changed.extend_from_slice(before)?;
+    changed.extend_from_slice(others)?;
+    changed.extend_from_slice(after)?;
+    Ok(changed)
 }
 
-/// A name of twelve characters, of which some can't be printed.
+/// The line that begins so, where there is one.
+fn line<'a>(text: &'a str, start: &str) -> Option<&'a str> {
+    text.lines().find(|line| line.starts_with(start))
+}
+
+/// The common name of twelve characters, of which some can't be printed.
 #[test]
 fn characters_are_escaped(rt: HostRuntime) -> Result<(), Fail> {
     let alloc = rt.alloc();
-    let octets = hex::decode(alloc, REQUEST)?;
-    let name = hex::decode(alloc, "0c0c0a1b5c22276578616d706c")?;
-    let place = place_of(&octets, b"\x0c\x0cfull.example")?;
-    let mut changed = Vec::new(alloc);
-    changed.extend_from_slice(&octets[..place])?;
-    changed.extend_from_slice(name.as_slice())?;
-    changed.extend_from_slice(&octets[place + 13..])?;
+    let name = b"\x0c\x0c\n\x1b\\\"'example";
+    let changed = with_octets(alloc, objects::REQUEST, 58, name)?;
     let text = lines(alloc, Kind::Request, changed.as_slice())?;
     same(
-        text.lines().find(|line| line.starts_with("subject.2")),
+        line(text.as_str(), "subject.2"),
         Some("subject.2.commonName: \\n\\u{1b}\\\\\"'example"),
     )
 }
@@ -171,25 +108,15 @@ fn characters_are_escaped(rt: HostRuntime) -> Result<(), Fail> {
 #[test]
 fn values_of_extensions_that_are_not_der(rt: HostRuntime) -> Result<(), Fail> {
     let alloc = rt.alloc();
-    let mut octets = hex::decode(alloc, FULL)?;
-    let place = place_of(&octets, b"\x30\x06\x01\x01\xff\x02\x01\x01")?;
-    octets.as_mut_slice()[place + 4] = 0;
-    let text = lines(alloc, Kind::Certificate, octets.as_slice())?;
-    let mut found = text
-        .lines()
-        .filter(|line| line.starts_with("extensions.0."));
+    let changed = with_octets(alloc, objects::FULL, 300, b"\x00")?;
+    let text = lines(alloc, Kind::Certificate, changed.as_slice())?;
     same(
-        found.next(),
-        Some("extensions.0.extnID: 2.5.29.19 (basicConstraints)"),
-    )?;
-    same(found.next(), Some("extensions.0.critical: true"))?;
-    same(
-        found.next(),
+        line(text.as_str(), "extensions.0.extnValue"),
         Some("extensions.0.extnValue: 3006010100020101"),
     )?;
     let wanted = "extensions.0.rejected: ASN.1 parsing error: DEFAULT value was explicitly encoded \
         (ParseError { kind: EncodedDefault, location: [\"BasicConstraints::ca\"] })";
-    same(found.next(), Some(wanted))
+    same(line(text.as_str(), "extensions.0.rejected"), Some(wanted))
 }
 
 /// The object between lines that name it.
@@ -208,8 +135,13 @@ fn pem(alloc: Global, object: &str, label: &str, end: &str) -> Result<String, Fa
 #[test]
 fn objects_in_pem(rt: HostRuntime) -> Result<(), Fail> {
     let alloc = rt.alloc();
-    let text = pem(alloc, FULL, "CERTIFICATE", "-----END CERTIFICATE-----\n \n")?;
-    let octets = hex::decode(alloc, FULL)?;
+    let text = pem(
+        alloc,
+        objects::FULL,
+        "CERTIFICATE",
+        "-----END CERTIFICATE-----\n \n",
+    )?;
+    let octets = hex::decode(alloc, objects::FULL)?;
     same(
         lines(alloc, Kind::Certificate, text.as_bytes())?.as_str(),
         lines(alloc, Kind::Certificate, octets.as_slice())?.as_str(),
@@ -235,7 +167,7 @@ fn pem_is_rejected(rt: HostRuntime) -> Result<(), Fail> {
         ),
     ];
     for (end, wanted) in rows {
-        let text = pem(alloc, FULL, "CERTIFICATE", end)?;
+        let text = pem(alloc, objects::FULL, "CERTIFICATE", end)?;
         same(
             reason(alloc, Kind::Certificate, text.as_bytes())?.as_str(),
             wanted,
@@ -247,14 +179,14 @@ fn pem_is_rejected(rt: HostRuntime) -> Result<(), Fail> {
 #[test]
 fn other_objects_are_rejected(rt: HostRuntime) -> Result<(), Fail> {
     let alloc = rt.alloc();
-    for (kind, object, _) in LINES {
+    for (kind, object, _) in SHOWN {
         let octets = hex::decode(alloc, object)?;
         let other = match kind {
             Kind::Certificate => Kind::Crl,
             _ => Kind::Certificate,
         };
         reason(alloc, other, octets.as_slice())?;
-        reason(alloc, kind, &octets[1..])?;
+        reason(alloc, kind, octets.as_slice().get(1..).unwrap_or(&[]))?;
     }
     Ok(())
 }

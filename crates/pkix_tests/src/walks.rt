@@ -1,13 +1,12 @@
-//! Walks over encodings that are cut or changed, and what several tests look at.
+//! Walks over encodings that are cut or changed.
 
-use asn1::{Asn1Readable, Asn1Writable, DateTime, ObjectIdentifier, WriteError, parse_single};
-use pkix::common::{Extensions, Time};
-use std::alloc::{AllocError, Global};
+use asn1::{Asn1Readable, Asn1Writable, WriteError, parse_single};
+use std::alloc::Global;
 use std::test::Fail;
-use testing::{is_written_back, same};
+use testing::is_written_back;
 
 /// What each octet is changed by, in turn.
-const MASKS: [u8; 2] = [0x01, 0x80];
+const MASKS: [u8; 4] = [0x01, 0x20, 0x80, 0xff];
 
 /// An encoding again and again, each time with one octet changed: each octet by each of the masks.
 pub fn changed(alloc: Global, whole: &[u8]) -> Result<Vec<u8>, Fail> {
@@ -63,39 +62,4 @@ pub fn walk<'a, T: Asn1Readable<'a> + Asn1Writable<Error = WriteError>>(
     is_written_back::<T>(alloc, whole)?;
     are_prefixes_rejected::<T>(alloc, whole)?;
     are_rejected_or_written::<T>(alloc, others, whole.len())
-}
-
-/// The identifier in dotted form.
-pub fn dotted(alloc: Global, identifier: &ObjectIdentifier) -> Result<String, AllocError> {
-    format!(in alloc; "{identifier}")
-}
-
-/// The extensions, each with its type, whether it is critical, and its value.
-pub fn extensions_text(alloc: Global, extensions: Option<&Extensions<'_>>) -> Result<String, Fail> {
-    let mut text = String::new(alloc);
-    let Some(extensions) = extensions else {
-        return Ok(text);
-    };
-    for extension in extensions.items().clone()? {
-        let extension = extension?;
-        let mark = if extension.critical() {
-            " critical"
-        } else {
-            ""
-        };
-        let value = hex::encode(alloc, extension.extn_value())?;
-        let part = format!(in alloc; "{}{mark} {value};", extension.extn_id())?;
-        text.push_str(part.as_str())?;
-    }
-    Ok(text)
-}
-
-/// The time is this year, month, day, hour, minute and second.
-pub fn is_time(time: &Time, date: (u16, u8, u8, u8, u8, u8)) -> Result<(), Fail> {
-    let (year, month, day, hour, minute, second) = date;
-    let wanted = DateTime::new(year, month, day, hour, minute, second)?;
-    match time {
-        Time::UtcTime(time) => same(time.as_datetime(), &wanted),
-        Time::GeneralTime(time) => same(time.as_datetime(), &wanted),
-    }
 }

@@ -12,7 +12,7 @@ use asn1::{
 };
 use pkix::certificate::Certificate;
 use pkix::common::SubjectPublicKeyInfo;
-use pkix::keys::{EcPrivateKey, OneAsymmetricKey, RsaPrivateKey};
+use pkix::keys::{EcPrivateKey, OneAsymmetricKey, RsaPrivateKey, RsaPublicKey};
 use pkix::request::CertificationRequest;
 use pkix::revocation::CertificateList;
 use pkix::signatures::{ContentInfo, DigestInfo, EcdsaSigValue};
@@ -114,32 +114,55 @@ fn shown<'a, T: Asn1Readable<'a> + Asn1Writable<Error = WriteError> + Show>(
     Ok(Answer::Shown(text))
 }
 
-/// The tags of the first two elements within an element, where it has them.
-fn tags(octets: &[u8]) -> (Option<Tag>, Option<Tag>) {
+/// What tells one form from another.
+#[derive(Clone, Copy)]
+struct Start {
+    /// The tag of the first element within an element, where it has one.
+    first: Option<Tag>,
+    /// The tag of the second.
+    second: Option<Tag>,
+    /// Whether octets follow the second.
+    has_more: bool,
+}
+
+/// How the contents octets of an element begin.
+fn start_of(octets: &[u8]) -> Start {
+    let mut start = Start {
+        first: None,
+        second: None,
+        has_more: false,
+    };
     let Ok((whole, _)) = strip_tlv(octets) else {
-        return (None, None);
+        return start;
     };
     let Ok((first, after)) = strip_tlv(whole.data()) else {
-        return (None, None);
+        return start;
     };
-    match strip_tlv(after) {
-        Ok((second, _)) => (Some(first.tag()), Some(second.tag())),
-        Err(_) => (Some(first.tag()), None),
+    start.first = Some(first.tag());
+    if let Ok((second, after)) = strip_tlv(after) {
+        start.second = Some(second.tag());
+        start.has_more = !after.is_empty();
     }
+    start
 }
 
 /// The lines of a key, whose first elements tell its form: a OneAsymmetricKey has a version and an algorithm, an
-/// ECPrivateKey a version and octets, an RSAPrivateKey two integers, a SubjectPublicKeyInfo begins with an algorithm.
+/// ECPrivateKey a version and octets, an RSAPublicKey two integers, an RSAPrivateKey more of them, a
+/// SubjectPublicKeyInfo begins with an algorithm.
 fn key(alloc: Global, octets: &[u8]) -> Result<Answer, Fault> {
-    let (first, second) = tags(octets);
-    if first == Some(Tag::constructed(0x10)) {
+    let start = start_of(octets);
+    if start.first == Some(Tag::constructed(0x10)) {
         return shown::<SubjectPublicKeyInfo<'_>>(alloc, octets);
     }
-    if second == Some(Tag::primitive(0x04)) {
+    if start.second == Some(Tag::primitive(0x04)) {
         return shown::<EcPrivateKey<'_>>(alloc, octets);
     }
-    if second == Some(Tag::primitive(0x02)) {
-        return shown::<RsaPrivateKey<'_>>(alloc, octets);
+    if start.second == Some(Tag::primitive(0x02)) {
+        return if start.has_more {
+            shown::<RsaPrivateKey<'_>>(alloc, octets)
+        } else {
+            shown::<RsaPublicKey<'_>>(alloc, octets)
+        };
     }
     shown::<OneAsymmetricKey<'_>>(alloc, octets)
 }
@@ -147,7 +170,7 @@ fn key(alloc: Global, octets: &[u8]) -> Result<Answer, Fault> {
 /// The lines of a signature, whose first element tells its form: an ECDSA-Sig-Value begins with an integer, a
 /// DigestInfo with an algorithm, a ContentInfo with an identifier.
 fn signature(alloc: Global, octets: &[u8]) -> Result<Answer, Fault> {
-    let (first, _) = tags(octets);
+    let first = start_of(octets).first;
     if first == Some(Tag::primitive(0x02)) {
         return shown::<EcdsaSigValue<'_>>(alloc, octets);
     }

@@ -2,9 +2,12 @@
 
 use crate::answers::Fault;
 use crate::common::short_name;
-use crate::show::{Show, item, line, optional, part, read_again};
-use asn1::{Asn1Readable, parse_single};
+use crate::show::{Show, item, line, optional, part, read_again, within};
+use asn1::{Asn1Readable, BitString, parse_single};
 use pkix::certificate::access::AuthorityInfoAccess;
+use pkix::certificate::distribution::{
+    CrlDistributionPoints, DistributionPoint, DistributionPointName,
+};
 use pkix::certificate::extensions::{
     AuthorityKeyIdentifier, BasicConstraints, ExtendedKeyUsage, KeyUsage, SubjectAltName,
     SubjectKeyIdentifier,
@@ -71,16 +74,27 @@ const USAGES: [&str; 9] = [
     "decipherOnly",
 ];
 
+/// Appends the lines of bits: the bits, and the name of each that is set.
+fn bits(
+    alloc: Global,
+    place: &str,
+    value: &BitString<'_>,
+    names: &[&str],
+    out: &mut String,
+) -> Result<(), Fault> {
+    value.show(alloc, place, out)?;
+    for (bit, name) in names.iter().enumerate() {
+        if value.has_bit_set(bit) {
+            line(alloc, place, name, "true", out)?;
+        }
+    }
+    Ok(())
+}
+
 /// The bits, and the name of each usage that they allow.
 impl Show for KeyUsage<'_> {
     fn show(&self, alloc: Global, place: &str, out: &mut String) -> Result<(), Fault> {
-        self.value().show(alloc, place, out)?;
-        for (bit, name) in USAGES.iter().enumerate() {
-            if self.value().has_bit_set(bit) {
-                line(alloc, place, name, "true", out)?;
-            }
-        }
-        Ok(())
+        bits(alloc, place, self.value(), &USAGES, out)
     }
 }
 
@@ -156,6 +170,65 @@ impl Show for CrlReason {
     }
 }
 
+/// The reasons' names, in the order of their bits (RFC 5280, 4.2.1.13).
+const REASONS: [&str; 9] = [
+    "unused",
+    "keyCompromise",
+    "cACompromise",
+    "affiliationChanged",
+    "superseded",
+    "cessationOfOperation",
+    "certificateHold",
+    "privilegeWithdrawn",
+    "aACompromise",
+];
+
+impl Show for DistributionPointName<'_> {
+    fn show(&self, alloc: Global, place: &str, out: &mut String) -> Result<(), Fault> {
+        match self {
+            DistributionPointName::FullName(names) => {
+                part(alloc, place, "fullName", names.as_inner(), out)
+            }
+            DistributionPointName::NameRelativeToCrlIssuer(set) => {
+                let place = within(alloc, place, "nameRelativeToCRLIssuer")?;
+                for attribute in set.as_inner().clone()? {
+                    read_again(attribute)?.show(alloc, place.as_str(), out)?;
+                }
+                Ok(())
+            }
+        }
+    }
+}
+
+impl Show for DistributionPoint<'_> {
+    fn show(&self, alloc: Global, place: &str, out: &mut String) -> Result<(), Fault> {
+        optional(
+            alloc,
+            place,
+            "distributionPoint",
+            self.distribution_point(),
+            out,
+        )?;
+        if let Some(reasons) = self.reasons() {
+            let place = within(alloc, place, "reasons")?;
+            bits(alloc, place.as_str(), reasons, &REASONS, out)?;
+        }
+        optional(alloc, place, "cRLIssuer", self.crl_issuer(), out)
+    }
+}
+
+impl Show for CrlDistributionPoints<'_> {
+    fn show(&self, alloc: Global, place: &str, out: &mut String) -> Result<(), Fault> {
+        let mut count = 0usize;
+        for point in self.items().clone()? {
+            let place = item(alloc, place, count)?;
+            read_again(point)?.show(alloc, place.as_str(), out)?;
+            count = count.saturating_add(1);
+        }
+        Ok(())
+    }
+}
+
 /// Appends the lines of the value that the octets are the encoding of; or the octets, and why they aren't.
 fn known<'a, T: Asn1Readable<'a> + Show>(
     alloc: Global,
@@ -190,6 +263,9 @@ impl Show for Extension<'_> {
                 known::<AuthorityKeyIdentifier<'_>>(alloc, place, name, value, out)
             }
             "basicConstraints" => known::<BasicConstraints<'_>>(alloc, place, name, value, out),
+            "cRLDistributionPoints" => {
+                known::<CrlDistributionPoints<'_>>(alloc, place, name, value, out)
+            }
             "cRLNumber" => known::<CrlNumber<'_>>(alloc, place, name, value, out),
             "cRLReason" => known::<CrlReason>(alloc, place, name, value, out),
             "extKeyUsage" => known::<ExtendedKeyUsage<'_>>(alloc, place, name, value, out),

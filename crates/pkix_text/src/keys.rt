@@ -1,11 +1,18 @@
-//! Private keys (RFC 5958, 2; RFC 8017, A.1.2; RFC 5915, 3).
+//! Keys (RFC 5958, 2; RFC 8017, A.1; RFC 5915, 3).
 
 use crate::answers::Fault;
 use crate::common::short_name;
 use crate::show::{Show, optional, part};
 use asn1::parse_single;
-use pkix::keys::{EcPrivateKey, OneAsymmetricKey, RsaPrivateKey};
+use pkix::keys::{EcPrivateKey, OneAsymmetricKey, RsaPrivateKey, RsaPublicKey};
 use std::alloc::Global;
+
+impl Show for RsaPublicKey<'_> {
+    fn show(&self, alloc: Global, place: &str, out: &mut String) -> Result<(), Fault> {
+        part(alloc, place, "modulus", &self.modulus(), out)?;
+        part(alloc, place, "publicExponent", &self.public_exponent(), out)
+    }
+}
 
 impl Show for RsaPrivateKey<'_> {
     fn show(&self, alloc: Global, place: &str, out: &mut String) -> Result<(), Fault> {

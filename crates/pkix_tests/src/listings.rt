@@ -1,0 +1,439 @@
+//! The lines of each object: its values, in order, as a reader written apart finds them in its encoding, under the names
+//! of its document.
+
+/// The lines of the certificate with a key of RSA.
+pub const RSA: &str = "\
+version: 02\n\
+serialNumber: 00c0ffee00112233\n\
+signature: 1.2.840.113549.1.1.11 (sha256WithRSAEncryption)\n\
+signature.parameters: 0500\n\
+issuer.0.countryName: AT\n\
+issuer.1.organizationName: Example Works\n\
+issuer.2.commonName: root.example\n\
+validity.notBefore: 2026-11-23T00:57:56Z\n\
+validity.notAfter: 2036-11-20T00:57:56Z\n\
+subject.0.countryName: AT\n\
+subject.1.organizationName: Example Works\n\
+subject.2.commonName: root.example\n\
+subjectPublicKeyInfo.algorithm: 1.2.840.113549.1.1.1 (rsaEncryption)\n\
+subjectPublicKeyInfo.algorithm.parameters: 0500\n\
+subjectPublicKeyInfo.subjectPublicKey: 3082010a0282010100f2a8cacf1fa1af8c30610bc2eb2e4693ba5db649f98796881e1ee\
+b043e9d1c7de2c37ccab20978c8ed2b76fe1795564f31e80ff714f993d6d3dc5905b678906056a16781aa3f0ffce77d79099cdc580779d\
+70d0d9134fab31f3256599e9ed4abdc0605071e5684ec613def9d98bac3d46b8b541b6f784f247cb514c6a377c9442a35ef42f358cb264\
+f4d4d52df48e7a88200e0d61c1ccc29d83b1409e37537ef87be4cb808c8a81a11d4d43b766000c0f81cec4bddd5924ea19e6b38c91c1b5\
+42d15aeeab3163b91e312cceb4de4a953a41c979315f59f3bd0add3c71c4b58ca94ae7f170b4ca20478dac92529e55eaede56c07b9f681\
+79117cb32569782ad990203010001\n\
+extensions.0.extnID: 2.5.29.19 (basicConstraints)\n\
+extensions.0.critical: true\n\
+extensions.0.basicConstraints.cA: true\n\
+extensions.0.basicConstraints.pathLenConstraint: 01\n\
+extensions.1.extnID: 2.5.29.15 (keyUsage)\n\
+extensions.1.critical: true\n\
+extensions.1.keyUsage: 06\n\
+extensions.1.keyUsage.unusedBits: 01\n\
+extensions.1.keyUsage.keyCertSign: true\n\
+extensions.1.keyUsage.cRLSign: true\n\
+extensions.2.extnID: 2.5.29.17 (subjectAltName)\n\
+extensions.2.critical: false\n\
+extensions.2.subjectAltName.0.dNSName: root.example\n\
+extensions.2.subjectAltName.1.dNSName: www.root.example\n\
+extensions.3.extnID: 2.5.29.14 (subjectKeyIdentifier)\n\
+extensions.3.critical: false\n\
+extensions.3.subjectKeyIdentifier: e8a4474cd5abc573752fff6323570c0b473e06b9\n\
+signatureAlgorithm: 1.2.840.113549.1.1.11 (sha256WithRSAEncryption)\n\
+signatureAlgorithm.parameters: 0500\n\
+signatureValue: 3f3a61dff76f6b5f71a427b8091f174546b3ecdc6a02c62b624992be1e32df8ad81f28e6ee53963ba1fca0257d8f38\
+ff28721950cde789cee7d0e30eb88970ecdb13e7728d2092389f4af39d33073d2b0e315d86cc92add0a51bab8569b5397ce9c015bc92e3\
+1431c0de47ba27faff69271014716b7fc91cb8f8cd5f71f1b4d3031698427074cdf28cefd0a030e471b265ee543dfd2193ec779068df3c\
+d34232b1820962965ac9cd1844031cd12d68541aa4f6615148df9dc331fb259dc435fdb9ac8d73a69411259c5f676dc1ccb1c1cc0054ce\
+ca3e6cce7c69aad0731c1e23b53df0a52b0f2771064653f4b6984cf714e018a40c0d85689cdb85be33f44624\n\
+same\n\
+";
+
+/// The lines of the certificate with a key on P-256.
+pub const CURVE: &str = "\
+version: 02\n\
+serialNumber: 07\n\
+signature: 1.2.840.10045.4.3.2 (ecdsa-with-SHA256)\n\
+issuer.0.countryName: AT\n\
+issuer.1.organizationName: Example Works\n\
+issuer.2.serialNumber: 7\n\
+issuer.2.commonName: leaf.example\n\
+validity.notBefore: 2026-11-23T00:57:56Z\n\
+validity.notAfter: 2076-11-10T00:57:56Z\n\
+subject.0.countryName: AT\n\
+subject.1.organizationName: Example Works\n\
+subject.2.serialNumber: 7\n\
+subject.2.commonName: leaf.example\n\
+subjectPublicKeyInfo.algorithm: 1.2.840.10045.2.1 (ecPublicKey)\n\
+subjectPublicKeyInfo.algorithm.parameters: 1.2.840.10045.3.1.7 (secp256r1)\n\
+subjectPublicKeyInfo.subjectPublicKey: 041e1e2e40204a9d882419ba3191253614a3bcedaa843f68df86403f2a60ee7dc02b86d\
+18f75002c1fa3e84d03b8602d43ec2a62737f4906ce95d50926ff027e35\n\
+extensions.0.extnID: 2.5.29.19 (basicConstraints)\n\
+extensions.0.critical: true\n\
+extensions.0.basicConstraints.cA: false\n\
+extensions.1.extnID: 2.5.29.15 (keyUsage)\n\
+extensions.1.critical: true\n\
+extensions.1.keyUsage: 80\n\
+extensions.1.keyUsage.unusedBits: 07\n\
+extensions.1.keyUsage.digitalSignature: true\n\
+extensions.2.extnID: 2.5.29.17 (subjectAltName)\n\
+extensions.2.critical: false\n\
+extensions.2.subjectAltName.0.dNSName: leaf.example\n\
+extensions.2.subjectAltName.1.iPAddress: c0000201\n\
+extensions.3.extnID: 2.5.29.14 (subjectKeyIdentifier)\n\
+extensions.3.critical: false\n\
+extensions.3.subjectKeyIdentifier: 6f4fec44e0ec0c16602e2e8650438c38b9f20595\n\
+signatureAlgorithm: 1.2.840.10045.4.3.2 (ecdsa-with-SHA256)\n\
+signatureValue: 304402200cd559e10d3aa1885f28b73b2258785d9990edf3fd16d1a89bc3248e540b8d79022071ea066736022bb3a9\
+53d173747b017fce1fe1cdb1ee213b3f3be0971c5945f8\n\
+same\n\
+";
+
+/// The lines of the certificate with many extensions.
+pub const FULL: &str = "\
+version: 02\n\
+serialNumber: 1234\n\
+signature: 1.2.840.10045.4.3.2 (ecdsa-with-SHA256)\n\
+issuer.0.countryName: AT\n\
+issuer.1.organizationName: Example Works\n\
+issuer.2.commonName: full.example\n\
+validity.notBefore: 2026-11-24T10:50:10Z\n\
+validity.notAfter: 2036-11-21T10:50:10Z\n\
+subject.0.countryName: AT\n\
+subject.1.organizationName: Example Works\n\
+subject.2.commonName: full.example\n\
+subjectPublicKeyInfo.algorithm: 1.2.840.10045.2.1 (ecPublicKey)\n\
+subjectPublicKeyInfo.algorithm.parameters: 1.2.840.10045.3.1.7 (secp256r1)\n\
+subjectPublicKeyInfo.subjectPublicKey: 04e73cebd78667ddd2b909d4fae42473d5760b30796608c10a43988621abae771772065\
+3a3c90f8175db821efe684d312dceb3cb5df5d2245364b634df7efc68e4\n\
+extensions.0.extnID: 2.5.29.19 (basicConstraints)\n\
+extensions.0.critical: true\n\
+extensions.0.basicConstraints.cA: true\n\
+extensions.0.basicConstraints.pathLenConstraint: 01\n\
+extensions.1.extnID: 2.5.29.15 (keyUsage)\n\
+extensions.1.critical: true\n\
+extensions.1.keyUsage: 06\n\
+extensions.1.keyUsage.unusedBits: 01\n\
+extensions.1.keyUsage.keyCertSign: true\n\
+extensions.1.keyUsage.cRLSign: true\n\
+extensions.2.extnID: 2.5.29.14 (subjectKeyIdentifier)\n\
+extensions.2.critical: false\n\
+extensions.2.subjectKeyIdentifier: c7f2e2721ca1228541f539ddeb9aecdd1ea6b30b\n\
+extensions.3.extnID: 2.5.29.35 (authorityKeyIdentifier)\n\
+extensions.3.critical: false\n\
+extensions.3.authorityKeyIdentifier.keyIdentifier: c7f2e2721ca1228541f539ddeb9aecdd1ea6b30b\n\
+extensions.3.authorityKeyIdentifier.authorityCertIssuer.0.directoryName.0.countryName: AT\n\
+extensions.3.authorityKeyIdentifier.authorityCertIssuer.0.directoryName.1.organizationName: Example Works\n\
+extensions.3.authorityKeyIdentifier.authorityCertIssuer.0.directoryName.2.commonName: full.example\n\
+extensions.3.authorityKeyIdentifier.authorityCertSerialNumber: 1234\n\
+extensions.4.extnID: 2.5.29.17 (subjectAltName)\n\
+extensions.4.critical: false\n\
+extensions.4.subjectAltName.0.dNSName: full.example\n\
+extensions.4.subjectAltName.1.iPAddress: c0000201\n\
+extensions.4.subjectAltName.2.rfc822Name: a@full.example\n\
+extensions.4.subjectAltName.3.uniformResourceIdentifier: http://full.example/\n\
+extensions.4.subjectAltName.4.registeredID: 1.2.3.4\n\
+extensions.4.subjectAltName.5.directoryName.0.commonName: crl.example\n\
+extensions.4.subjectAltName.6.otherName.type-id: 1.2.3.5\n\
+extensions.4.subjectAltName.6.otherName.value: other\n\
+extensions.5.extnID: 2.5.29.37 (extKeyUsage)\n\
+extensions.5.critical: false\n\
+extensions.5.extKeyUsage.0: 1.3.6.1.5.5.7.3.1 (serverAuth)\n\
+extensions.5.extKeyUsage.1: 1.3.6.1.5.5.7.3.2 (clientAuth)\n\
+extensions.6.extnID: 2.5.29.31 (cRLDistributionPoints)\n\
+extensions.6.critical: false\n\
+extensions.6.cRLDistributionPoints.0.distributionPoint.fullName.0.uniformResourceIdentifier: http://crl.example/a.crl\n\
+extensions.6.cRLDistributionPoints.0.reasons: 60\n\
+extensions.6.cRLDistributionPoints.0.reasons.unusedBits: 05\n\
+extensions.6.cRLDistributionPoints.0.reasons.keyCompromise: true\n\
+extensions.6.cRLDistributionPoints.0.reasons.cACompromise: true\n\
+extensions.6.cRLDistributionPoints.0.cRLIssuer.0.directoryName.0.commonName: crl.example\n\
+extensions.7.extnID: 1.3.6.1.5.5.7.1.1 (authorityInfoAccess)\n\
+extensions.7.critical: false\n\
+extensions.7.authorityInfoAccess.0.accessMethod: 1.3.6.1.5.5.7.48.1 (ocsp)\n\
+extensions.7.authorityInfoAccess.0.accessLocation.uniformResourceIdentifier: http://ocsp.example/\n\
+extensions.7.authorityInfoAccess.1.accessMethod: 1.3.6.1.5.5.7.48.2 (caIssuers)\n\
+extensions.7.authorityInfoAccess.1.accessLocation.uniformResourceIdentifier: http://ca.example/c.der\n\
+signatureAlgorithm: 1.2.840.10045.4.3.2 (ecdsa-with-SHA256)\n\
+signatureValue: 30440220772f463c6043129f94c9ac9381d3bbd18c47b2f2ab1111f3cda37659b5ea7c1c022060e880e5df2387b424\
+8f4f8bea7968c5538b6576eee06c6a2fe7be806b224d3b\n\
+same\n\
+";
+
+/// The lines of the revocation list with three entries.
+pub const CRL: &str = "\
+version: 01\n\
+signature: 1.2.840.10045.4.3.2 (ecdsa-with-SHA256)\n\
+issuer.0.countryName: AT\n\
+issuer.1.organizationName: Example Works\n\
+issuer.2.commonName: full.example\n\
+thisUpdate: 2026-11-24T10:50:10Z\n\
+nextUpdate: 2026-12-24T10:50:10Z\n\
+revokedCertificates.0.userCertificate: 0a\n\
+revokedCertificates.0.revocationDate: 2026-11-01T12:00:00Z\n\
+revokedCertificates.0.crlEntryExtensions.0.extnID: 2.5.29.21 (cRLReason)\n\
+revokedCertificates.0.crlEntryExtensions.0.critical: false\n\
+revokedCertificates.0.crlEntryExtensions.0.cRLReason: 01 (keyCompromise)\n\
+revokedCertificates.1.userCertificate: 0b\n\
+revokedCertificates.1.revocationDate: 2026-11-03T14:00:00Z\n\
+revokedCertificates.2.userCertificate: 00ffee\n\
+revokedCertificates.2.revocationDate: 2026-11-02T13:00:00Z\n\
+revokedCertificates.2.crlEntryExtensions.0.extnID: 2.5.29.21 (cRLReason)\n\
+revokedCertificates.2.crlEntryExtensions.0.critical: false\n\
+revokedCertificates.2.crlEntryExtensions.0.cRLReason: 04 (superseded)\n\
+crlExtensions.0.extnID: 2.5.29.35 (authorityKeyIdentifier)\n\
+crlExtensions.0.critical: false\n\
+crlExtensions.0.authorityKeyIdentifier.keyIdentifier: c7f2e2721ca1228541f539ddeb9aecdd1ea6b30b\n\
+crlExtensions.1.extnID: 2.5.29.20 (cRLNumber)\n\
+crlExtensions.1.critical: false\n\
+crlExtensions.1.cRLNumber: 1f\n\
+signatureAlgorithm: 1.2.840.10045.4.3.2 (ecdsa-with-SHA256)\n\
+signatureValue: 3044022075c8db483850fcfc73b6f8849c8e8dc2edddff25733d85c0477562627068feed022043e15d2bdb35c94a55\
+987efda13e56e650d5eb98dbddddc35b56bc06280deb67\n\
+same\n\
+";
+
+/// The lines of the revocation list without entries.
+pub const EMPTY_CRL: &str = "\
+signature: 1.2.840.10045.4.3.2 (ecdsa-with-SHA256)\n\
+issuer.0.countryName: AT\n\
+issuer.1.organizationName: Example Works\n\
+issuer.2.commonName: full.example\n\
+thisUpdate: 2026-11-24T10:50:10Z\n\
+nextUpdate: 2026-12-24T10:50:10Z\n\
+signatureAlgorithm: 1.2.840.10045.4.3.2 (ecdsa-with-SHA256)\n\
+signatureValue: 30450220140782458e6b3b1bdc32e6e7a77555e3b56a6eab8361d78552a0fc35101930c1022100e24f175a50ba5207\
+4f580dd2dda5a584f6ab945d28fcdee304b3afac73ba9659\n\
+same\n\
+";
+
+/// The lines of the request.
+pub const REQUEST: &str = "\
+version: 00\n\
+subject.0.countryName: AT\n\
+subject.1.organizationName: Example Works\n\
+subject.2.commonName: full.example\n\
+subjectPKInfo.algorithm: 1.2.840.10045.2.1 (ecPublicKey)\n\
+subjectPKInfo.algorithm.parameters: 1.2.840.10045.3.1.7 (secp256r1)\n\
+subjectPKInfo.subjectPublicKey: 04e73cebd78667ddd2b909d4fae42473d5760b30796608c10a43988621abae7717720653a3c90f\
+8175db821efe684d312dceb3cb5df5d2245364b634df7efc68e4\n\
+attributes.0.extensionRequest.0.extnID: 2.5.29.17 (subjectAltName)\n\
+attributes.0.extensionRequest.0.critical: false\n\
+attributes.0.extensionRequest.0.subjectAltName.0.dNSName: req.example\n\
+signatureAlgorithm: 1.2.840.10045.4.3.2 (ecdsa-with-SHA256)\n\
+signature: 304402207ca13b12b433385ce146a514d92d5efce447c8699fc4e4a7387927250de8a66e022045827e683cf62127596a8a0\
+99fda3dd9115bf47564b5d11dabd5a28226fe2674\n\
+same\n\
+";
+
+/// The lines of the key of RSA for any algorithm.
+pub const RSA_PKCS8: &str = "\
+version: 00\n\
+privateKeyAlgorithm: 1.2.840.113549.1.1.1 (rsaEncryption)\n\
+privateKeyAlgorithm.parameters: 0500\n\
+privateKey.version: 00\n\
+privateKey.modulus: 00b8698694b8c44404868a04b2f183f0192c26cde567edb59957398687d1d207fac196f0bb22ecb2cb72bf6728\
+8504c9d1f286e0b4966b6509e8481efbff29f72b71a50b2921f887b0872b8ce5ac436f14ddf65e842467c21e10e86c5b29c9988417dca5\
+2fcddd15aaaf47d24e9c9e58ac26865793194eff64bef55e600f9d7bc1\n\
+privateKey.publicExponent: 010001\n\
+privateKey.privateExponent: 0739db54288948410524935a8fac23d458ae8c92d8a7afddfa54feb883b83f27cc3e25e0af55a70be1\
+cb2e37a03eb7c9ca3f0ebf04c5e087aada689c673b35bc25077cb5559a1d203a78f6600c74867d9d7c8803096cf183317f10446a1999c2\
+254884b458ad4391ee6461fbacb0f4744d6644ed15a9267329427a9536b5f621\n\
+privateKey.prime1: 00de8393e91f39b4f24d72ef0802a133cb129fa78982ef7d06513de25940e89bb4ac63a550b1dcd7ea515e10073\
+48f681a9cacfe825d3bec16e84e952277a65217\n\
+privateKey.prime2: 00d42a10b03aa03ef87bcbac1ec6af7edcefcf6348a4a96c28324845133807ae47f06410ee85e8b0ac3bc9d2392\
+ef94af5d6f36f0fade5352ac6efc614cab07fe7\n\
+privateKey.exponent1: 643f7765f1f177ba2a767b866a58e212bd833c61d1a1bffc16a200d6214e2ac84d5a5f62699f8b8f3fb55717\
+47f0cc002152371fd88d64a2356b21f9735a7565\n\
+privateKey.exponent2: 211c7f86416008f3d6be2e9a8eff8c99068423468f0c31e9040feb57d882ba5c57d40620739da115002fbb33\
+597566917f7e7672c7fce1934f80d435227cf139\n\
+privateKey.coefficient: 00ddcc88175212257a9ee5858b5f4be1d5e90b41acf76a78884951efbeb3dadf28d4e324a7d60bd17d1a9b\
+7f983c65e964cdbda9d9c21fa1e600a097a65ff1ddd5\n\
+same\n\
+";
+
+/// The lines of the key of RSA.
+pub const RSA_KEY: &str = "\
+version: 00\n\
+modulus: 00b8698694b8c44404868a04b2f183f0192c26cde567edb59957398687d1d207fac196f0bb22ecb2cb72bf67288504c9d1f28\
+6e0b4966b6509e8481efbff29f72b71a50b2921f887b0872b8ce5ac436f14ddf65e842467c21e10e86c5b29c9988417dca52fcddd15aaa\
+f47d24e9c9e58ac26865793194eff64bef55e600f9d7bc1\n\
+publicExponent: 010001\n\
+privateExponent: 0739db54288948410524935a8fac23d458ae8c92d8a7afddfa54feb883b83f27cc3e25e0af55a70be1cb2e37a03eb\
+7c9ca3f0ebf04c5e087aada689c673b35bc25077cb5559a1d203a78f6600c74867d9d7c8803096cf183317f10446a1999c2254884b458a\
+d4391ee6461fbacb0f4744d6644ed15a9267329427a9536b5f621\n\
+prime1: 00de8393e91f39b4f24d72ef0802a133cb129fa78982ef7d06513de25940e89bb4ac63a550b1dcd7ea515e1007348f681a9cac\
+fe825d3bec16e84e952277a65217\n\
+prime2: 00d42a10b03aa03ef87bcbac1ec6af7edcefcf6348a4a96c28324845133807ae47f06410ee85e8b0ac3bc9d2392ef94af5d6f3\
+6f0fade5352ac6efc614cab07fe7\n\
+exponent1: 643f7765f1f177ba2a767b866a58e212bd833c61d1a1bffc16a200d6214e2ac84d5a5f62699f8b8f3fb5571747f0cc00215\
+2371fd88d64a2356b21f9735a7565\n\
+exponent2: 211c7f86416008f3d6be2e9a8eff8c99068423468f0c31e9040feb57d882ba5c57d40620739da115002fbb33597566917f7\
+e7672c7fce1934f80d435227cf139\n\
+coefficient: 00ddcc88175212257a9ee5858b5f4be1d5e90b41acf76a78884951efbeb3dadf28d4e324a7d60bd17d1a9b7f983c65e96\
+4cdbda9d9c21fa1e600a097a65ff1ddd5\n\
+same\n\
+";
+
+/// The lines of the public key of RSA.
+pub const RSA_PUBLIC: &str = "\
+modulus: 00b8698694b8c44404868a04b2f183f0192c26cde567edb59957398687d1d207fac196f0bb22ecb2cb72bf67288504c9d1f28\
+6e0b4966b6509e8481efbff29f72b71a50b2921f887b0872b8ce5ac436f14ddf65e842467c21e10e86c5b29c9988417dca52fcddd15aaa\
+f47d24e9c9e58ac26865793194eff64bef55e600f9d7bc1\n\
+publicExponent: 010001\n\
+same\n\
+";
+
+/// The lines of the key on P-256 for any algorithm.
+pub const EC_PKCS8: &str = "\
+version: 00\n\
+privateKeyAlgorithm: 1.2.840.10045.2.1 (ecPublicKey)\n\
+privateKeyAlgorithm.parameters: 1.2.840.10045.3.1.7 (secp256r1)\n\
+privateKey.version: 01\n\
+privateKey.privateKey: 0217564dbc66d4e89b4f56e09e4c1b93c1a467e188fb3c1661c42df930dd5314\n\
+privateKey.publicKey: 04e73cebd78667ddd2b909d4fae42473d5760b30796608c10a43988621abae7717720653a3c90f8175db821e\
+fe684d312dceb3cb5df5d2245364b634df7efc68e4\n\
+same\n\
+";
+
+/// The lines of the key on P-256.
+pub const EC_KEY: &str = "\
+version: 01\n\
+privateKey: 0217564dbc66d4e89b4f56e09e4c1b93c1a467e188fb3c1661c42df930dd5314\n\
+parameters: 1.2.840.10045.3.1.7 (secp256r1)\n\
+publicKey: 04e73cebd78667ddd2b909d4fae42473d5760b30796608c10a43988621abae7717720653a3c90f8175db821efe684d312dc\
+eb3cb5df5d2245364b634df7efc68e4\n\
+same\n\
+";
+
+/// The lines of the key of Ed25519.
+pub const ED_PKCS8: &str = "\
+version: 00\n\
+privateKeyAlgorithm: 1.3.101.112 (Ed25519)\n\
+privateKey: 04201182e18da9e05816380d28fec7342feff3e6ed03d509449512c94e410f50c801\n\
+same\n\
+";
+
+/// The lines of the signature.
+pub const ECDSA: &str = "\
+r: 00b3d58843565aedec872307646a43f3e4985eec0cd82fe7477b6ddf504d988dc5\n\
+s: 00bcbd497273d474f980127015220c16f76f48ca28f237e5951368444061220aff\n\
+same\n\
+";
+
+/// The lines of the digest.
+pub const DIGEST: &str = "\
+digestAlgorithm: 2.16.840.1.101.3.4.2.1 (sha256)\n\
+digestAlgorithm.parameters: 0500\n\
+digest: 5891b5b522d5df086d0ff0b110fbd9d21bb4fc7163af34d08286a2e846f6be03\n\
+same\n\
+";
+
+/// The lines of the request for a time stamp.
+pub const STAMP_REQUEST: &str = "\
+version: 01\n\
+messageImprint.hashAlgorithm: 2.16.840.1.101.3.4.2.1 (sha256)\n\
+messageImprint.hashAlgorithm.parameters: 0500\n\
+messageImprint.hashedMessage: 5891b5b522d5df086d0ff0b110fbd9d21bb4fc7163af34d08286a2e846f6be03\n\
+reqPolicy: 1.2.3.4.1\n\
+nonce: 00ec81714c047be105\n\
+certReq: true\n\
+same\n\
+";
+
+/// The lines of the request with nothing optional.
+pub const SHORT_STAMP_REQUEST: &str = "\
+version: 01\n\
+messageImprint.hashAlgorithm: 2.16.840.1.101.3.4.2.1 (sha256)\n\
+messageImprint.hashAlgorithm.parameters: 0500\n\
+messageImprint.hashedMessage: 5891b5b522d5df086d0ff0b110fbd9d21bb4fc7163af34d08286a2e846f6be03\n\
+certReq: false\n\
+same\n\
+";
+
+/// The lines of the time stamp.
+pub const STAMP_RESPONSE: &str = "\
+status.status: 00 (granted)\n\
+timeStampToken.contentType: 1.2.840.113549.1.7.2 (signedData)\n\
+timeStampToken.content.version: 03\n\
+timeStampToken.content.digestAlgorithms.0: 2.16.840.1.101.3.4.2.1 (sha256)\n\
+timeStampToken.content.digestAlgorithms.0.parameters: 0500\n\
+timeStampToken.content.encapContentInfo.eContentType: 1.2.840.113549.1.9.16.1.4 (tSTInfo)\n\
+timeStampToken.content.encapContentInfo.eContent.version: 01\n\
+timeStampToken.content.encapContentInfo.eContent.policy: 1.2.3.4.1\n\
+timeStampToken.content.encapContentInfo.eContent.messageImprint.hashAlgorithm: 2.16.840.1.101.3.4.2.1 (sha256)\n\
+timeStampToken.content.encapContentInfo.eContent.messageImprint.hashAlgorithm.parameters: 0500\n\
+timeStampToken.content.encapContentInfo.eContent.messageImprint.hashedMessage: 5891b5b522d5df086d0ff0b110fbd9d\
+21bb4fc7163af34d08286a2e846f6be03\n\
+timeStampToken.content.encapContentInfo.eContent.serialNumber: 02\n\
+timeStampToken.content.encapContentInfo.eContent.genTime: 2026-11-24T10:50:10Z\n\
+timeStampToken.content.encapContentInfo.eContent.accuracy.seconds: 01\n\
+timeStampToken.content.encapContentInfo.eContent.accuracy.millis: 01f4\n\
+timeStampToken.content.encapContentInfo.eContent.accuracy.micros: 64\n\
+timeStampToken.content.encapContentInfo.eContent.ordering: true\n\
+timeStampToken.content.encapContentInfo.eContent.nonce: 00ec81714c047be105\n\
+timeStampToken.content.encapContentInfo.eContent.tsa.directoryName.0.countryName: AT\n\
+timeStampToken.content.encapContentInfo.eContent.tsa.directoryName.1.organizationName: Example Works\n\
+timeStampToken.content.encapContentInfo.eContent.tsa.directoryName.2.commonName: full.example\n\
+timeStampToken.content.certificates.0.version: 02\n\
+timeStampToken.content.certificates.0.serialNumber: 4d\n\
+timeStampToken.content.certificates.0.signature: 1.2.840.10045.4.3.2 (ecdsa-with-SHA256)\n\
+timeStampToken.content.certificates.0.issuer.0.countryName: AT\n\
+timeStampToken.content.certificates.0.issuer.1.organizationName: Example Works\n\
+timeStampToken.content.certificates.0.issuer.2.commonName: full.example\n\
+timeStampToken.content.certificates.0.validity.notBefore: 2026-11-24T10:50:10Z\n\
+timeStampToken.content.certificates.0.validity.notAfter: 2036-11-21T10:50:10Z\n\
+timeStampToken.content.certificates.0.subject.0.countryName: AT\n\
+timeStampToken.content.certificates.0.subject.1.organizationName: Example Works\n\
+timeStampToken.content.certificates.0.subject.2.commonName: full.example\n\
+timeStampToken.content.certificates.0.subjectPublicKeyInfo.algorithm: 1.2.840.10045.2.1 (ecPublicKey)\n\
+timeStampToken.content.certificates.0.subjectPublicKeyInfo.algorithm.parameters: 1.2.840.10045.3.1.7 (secp256r\
+1)\n\
+timeStampToken.content.certificates.0.subjectPublicKeyInfo.subjectPublicKey: 04e73cebd78667ddd2b909d4fae42473d\
+5760b30796608c10a43988621abae7717720653a3c90f8175db821efe684d312dceb3cb5df5d2245364b634df7efc68e4\n\
+timeStampToken.content.certificates.0.extensions.0.extnID: 2.5.29.19 (basicConstraints)\n\
+timeStampToken.content.certificates.0.extensions.0.critical: true\n\
+timeStampToken.content.certificates.0.extensions.0.basicConstraints.cA: false\n\
+timeStampToken.content.certificates.0.extensions.1.extnID: 2.5.29.15 (keyUsage)\n\
+timeStampToken.content.certificates.0.extensions.1.critical: true\n\
+timeStampToken.content.certificates.0.extensions.1.keyUsage: 80\n\
+timeStampToken.content.certificates.0.extensions.1.keyUsage.unusedBits: 07\n\
+timeStampToken.content.certificates.0.extensions.1.keyUsage.digitalSignature: true\n\
+timeStampToken.content.certificates.0.extensions.2.extnID: 2.5.29.37 (extKeyUsage)\n\
+timeStampToken.content.certificates.0.extensions.2.critical: true\n\
+timeStampToken.content.certificates.0.extensions.2.extKeyUsage.0: 1.3.6.1.5.5.7.3.8 (timeStamping)\n\
+timeStampToken.content.certificates.0.extensions.3.extnID: 2.5.29.14 (subjectKeyIdentifier)\n\
+timeStampToken.content.certificates.0.extensions.3.critical: false\n\
+timeStampToken.content.certificates.0.extensions.3.subjectKeyIdentifier: c7f2e2721ca1228541f539ddeb9aecdd1ea6b\
+30b\n\
+timeStampToken.content.certificates.0.signatureAlgorithm: 1.2.840.10045.4.3.2 (ecdsa-with-SHA256)\n\
+timeStampToken.content.certificates.0.signatureValue: 3045022034fcae739e7c446c17fbd83efb2c9d526bcc79c85be5c136\
+4e0c3f9e7e0dd0e7022100b9ec85d90ab783a892c32beedb18f95668b0396d27d0300869c1eb06a4541db8\n\
+timeStampToken.content.signerInfos.0.version: 01\n\
+timeStampToken.content.signerInfos.0.sid.issuerAndSerialNumber.issuer.0.countryName: AT\n\
+timeStampToken.content.signerInfos.0.sid.issuerAndSerialNumber.issuer.1.organizationName: Example Works\n\
+timeStampToken.content.signerInfos.0.sid.issuerAndSerialNumber.issuer.2.commonName: full.example\n\
+timeStampToken.content.signerInfos.0.sid.issuerAndSerialNumber.serialNumber: 4d\n\
+timeStampToken.content.signerInfos.0.digestAlgorithm: 2.16.840.1.101.3.4.2.1 (sha256)\n\
+timeStampToken.content.signerInfos.0.digestAlgorithm.parameters: 0500\n\
+timeStampToken.content.signerInfos.0.signedAttrs.0.contentType: #060b2a864886f70d0109100104\n\
+timeStampToken.content.signerInfos.0.signedAttrs.1.signingTime: #170d3236313132343130353031305a\n\
+timeStampToken.content.signerInfos.0.signedAttrs.2.messageDigest: #04203e9e3cb67fc602c8d097ca9882f885f908037fd\
+fc1be805e2e321ae5a83b8e00\n\
+timeStampToken.content.signerInfos.0.signedAttrs.3.signingCertificateV2: #3026302430220420205d3c928894f6272e5a\
+eb3f7a03062f1352b83ccc5289e89beec7b7398bdc00\n\
+timeStampToken.content.signerInfos.0.signatureAlgorithm: 1.2.840.10045.4.3.2 (ecdsa-with-SHA256)\n\
+timeStampToken.content.signerInfos.0.signature: 304402200ebdf9c7cbf68868cedfb74c5fe22097a169d61e988cb29d42dc28\
+63c459485b02200bf890ad032c3b98d574b44357117f98fccb416231afa039209c8f1525eb23af\n\
+same\n\
+";
+
+/// The lines of the rejection of a request.
+pub const STAMP_REFUSAL: &str = "\
+status.status: 02 (rejection)\n\
+status.statusString.0: Message digest algorithm is not supported.\n\
+status.failInfo: 80\n\
+status.failInfo.unusedBits: 07\n\
+same\n\
+";
