@@ -47,7 +47,7 @@ impl FieldNames for OneAsymmetricKeyNames {
 }
 
 /// OneAsymmetricKey (RFC 5958, 2), a SEQUENCE: a private key, and the public key where it is told.
-#[derive(PartialEq, Eq, Drop)]
+#[derive(Clone, PartialEq, Eq, Drop)]
 pub struct OneAsymmetricKey<'a>(OneAsymmetricKeyFields<'a>);
 
 /// PrivateKeyInfo (RFC 5958, 2), another name of OneAsymmetricKey, with which keys of v1 are read too.
@@ -492,7 +492,7 @@ impl FieldNames for EcPrivateKeyNames {
 }
 
 /// ECPrivateKey (RFC 5915, 3), a SEQUENCE.
-#[derive(Debug, PartialEq, Eq, Drop)]
+#[derive(Debug, Clone, PartialEq, Eq, Drop)]
 pub struct EcPrivateKey<'a>(EcPrivateKeyFields<'a>);
 
 impl<'a> EcPrivateKey<'a> {

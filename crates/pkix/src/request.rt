@@ -39,7 +39,7 @@ impl FieldNames for CertificationRequestInfoNames {
 }
 
 /// CertificationRequestInfo (RFC 2986, 4.1), a SEQUENCE: the part of a request that is signed.
-#[derive(PartialEq, Eq, Drop)]
+#[derive(Clone, PartialEq, Eq, Drop)]
 pub struct CertificationRequestInfo<'a>(CertificationRequestInfoFields<'a>);
 
 impl<'a> CertificationRequestInfo<'a> {
@@ -167,7 +167,7 @@ impl FieldNames for CertificationRequestNames {
 }
 
 /// CertificationRequest (RFC 2986, 4.2), a SEQUENCE.
-#[derive(PartialEq, Eq, Drop)]
+#[derive(Clone, PartialEq, Eq, Drop)]
 pub struct CertificationRequest<'a>(CertificationRequestFields<'a>);
 
 impl<'a> CertificationRequest<'a> {
@@ -228,7 +228,8 @@ impl<'a> SimpleAsn1Readable<'a> for CertificationRequest<'a> {
     }
 
     fn parse_data(alloc: Global, data: &'a [u8]) -> ParseResult<CertificationRequest<'a>>
-        ensures { ReadsContents ⟦<CertificationRequest<'a> as Asn1Type>⟧.der «data».entry.now result }
+        ensures { ReadsContents ⟦<CertificationRequest<'a> as Asn1Type>⟧.der «data».entry.now
+            result }
     {
         match <CertificationRequestFields<'a> as SimpleAsn1Readable<'a>>::parse_data(alloc, data) {
             Ok(fields) => Ok(CertificationRequest(fields)),
@@ -263,5 +264,6 @@ impl<'a> SimpleAsn1Writable for CertificationRequest<'a> {
 pub fn requests_are_lawful()
     ensures certification_request_info { HasOneEncoding
         ⟦<CertificationRequestInfo<'static> as Asn1Type>⟧.der }
-    ensures certification_request { HasOneEncoding ⟦<CertificationRequest<'static> as Asn1Type>⟧.der }
+    ensures certification_request { HasOneEncoding
+        ⟦<CertificationRequest<'static> as Asn1Type>⟧.der }
 {}

@@ -41,7 +41,7 @@ impl FieldNames for RevokedCertificateNames {
 }
 
 /// An entry of a revocation list (RFC 5280, 5.1.2.6), a SEQUENCE.
-#[derive(PartialEq, Eq, Drop)]
+#[derive(Clone, PartialEq, Eq, Drop)]
 pub struct RevokedCertificate<'a>(RevokedCertificateFields<'a>);
 
 impl<'a> RevokedCertificate<'a> {
@@ -136,7 +136,7 @@ impl<'a> SimpleAsn1Writable for RevokedCertificate<'a> {
 type RevokedCertificatesItems<'a> = SequenceOf<'a, RevokedCertificate<'a>, 0, { usize::MAX }>;
 
 /// The entries of a revocation list (RFC 5280, 5.1.2.6), a SEQUENCE OF.
-#[derive(PartialEq, Eq, Drop)]
+#[derive(Clone, PartialEq, Eq, Drop)]
 pub struct RevokedCertificates<'a>(RevokedCertificatesItems<'a>);
 
 impl<'a> RevokedCertificates<'a> {
@@ -173,7 +173,8 @@ impl<'a> SimpleAsn1Readable<'a> for RevokedCertificates<'a> {
     }
 
     fn parse_data(alloc: Global, data: &'a [u8]) -> ParseResult<RevokedCertificates<'a>>
-        ensures { ReadsContents ⟦<RevokedCertificates<'a> as Asn1Type>⟧.der «data».entry.now result }
+        ensures { ReadsContents ⟦<RevokedCertificates<'a> as Asn1Type>⟧.der «data».entry.now
+            result }
     {
         match <RevokedCertificatesItems<'a> as SimpleAsn1Readable<'a>>::parse_data(alloc, data) {
             Ok(items) => Ok(RevokedCertificates(items)),
@@ -239,7 +240,7 @@ impl FieldNames for TbsCertListNames {
 }
 
 /// TBSCertList (RFC 5280, 5.1.2), a SEQUENCE: the part of a revocation list that is signed.
-#[derive(PartialEq, Eq, Drop)]
+#[derive(Clone, PartialEq, Eq, Drop)]
 pub struct TbsCertList<'a>(TbsCertListFields<'a>);
 
 impl<'a> TbsCertList<'a> {
@@ -405,7 +406,7 @@ impl FieldNames for CertificateListNames {
 }
 
 /// CertificateList (RFC 5280, 5.1.1), a SEQUENCE: a revocation list.
-#[derive(PartialEq, Eq, Drop)]
+#[derive(Clone, PartialEq, Eq, Drop)]
 pub struct CertificateList<'a>(CertificateListFields<'a>);
 
 impl<'a> CertificateList<'a> {

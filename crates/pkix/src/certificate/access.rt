@@ -36,7 +36,7 @@ impl FieldNames for AccessDescriptionNames {
 }
 
 /// AccessDescription (RFC 5280, 4.2.2.1), a SEQUENCE.
-#[derive(PartialEq, Eq, Drop)]
+#[derive(Clone, PartialEq, Eq, Drop)]
 pub struct AccessDescription<'a>(AccessDescriptionFields<'a>);
 
 impl<'a> AccessDescription<'a> {
@@ -119,7 +119,7 @@ type AuthorityInfoAccessItems<'a> = SequenceOf<'a, AccessDescription<'a>, 1, { u
 
 /// AuthorityInfoAccessSyntax (RFC 5280, 4.2.2.1), a SEQUENCE of at least one AccessDescription; identifier
 /// 1.3.6.1.5.5.7.1.1.
-#[derive(PartialEq, Eq, Drop)]
+#[derive(Clone, PartialEq, Eq, Drop)]
 pub struct AuthorityInfoAccess<'a>(AuthorityInfoAccessItems<'a>);
 
 impl<'a> AuthorityInfoAccess<'a> {
@@ -156,7 +156,8 @@ impl<'a> SimpleAsn1Readable<'a> for AuthorityInfoAccess<'a> {
     }
 
     fn parse_data(alloc: Global, data: &'a [u8]) -> ParseResult<AuthorityInfoAccess<'a>>
-        ensures { ReadsContents ⟦<AuthorityInfoAccess<'a> as Asn1Type>⟧.der «data».entry.now result }
+        ensures { ReadsContents ⟦<AuthorityInfoAccess<'a> as Asn1Type>⟧.der «data».entry.now
+            result }
     {
         match <AuthorityInfoAccessItems<'a> as SimpleAsn1Readable<'a>>::parse_data(alloc, data) {
             Ok(items) => Ok(AuthorityInfoAccess(items)),

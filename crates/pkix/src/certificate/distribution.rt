@@ -25,7 +25,7 @@ type DistributionPointNameChoice<'a> = Choice2<
 >;
 
 /// DistributionPointName (RFC 5280, 4.2.1.13), a CHOICE.
-#[derive(PartialEq, Eq, Drop)]
+#[derive(Clone, PartialEq, Eq, Drop)]
 pub enum DistributionPointName<'a> {
     /// The names of the list, each by itself.
     FullName(Implicit<GeneralNames<'a>, 0>),
@@ -111,7 +111,7 @@ impl FieldNames for DistributionPointNames {
 }
 
 /// DistributionPoint (RFC 5280, 4.2.1.13), a SEQUENCE: where a revocation list is, and what it is for.
-#[derive(PartialEq, Eq, Drop)]
+#[derive(Clone, PartialEq, Eq, Drop)]
 pub struct DistributionPoint<'a>(DistributionPointFields<'a>);
 
 impl<'a> DistributionPoint<'a> {
@@ -232,7 +232,7 @@ impl<'a> SimpleAsn1Writable for DistributionPoint<'a> {
 type CrlDistributionPointsItems<'a> = SequenceOf<'a, DistributionPoint<'a>, 1, { usize::MAX }>;
 
 /// CRLDistributionPoints (RFC 5280, 4.2.1.13), a SEQUENCE of at least one DistributionPoint; identifier 2.5.29.31.
-#[derive(PartialEq, Eq, Drop)]
+#[derive(Clone, PartialEq, Eq, Drop)]
 pub struct CrlDistributionPoints<'a>(CrlDistributionPointsItems<'a>);
 
 impl<'a> CrlDistributionPoints<'a> {
@@ -269,7 +269,8 @@ impl<'a> SimpleAsn1Readable<'a> for CrlDistributionPoints<'a> {
     }
 
     fn parse_data(alloc: Global, data: &'a [u8]) -> ParseResult<CrlDistributionPoints<'a>>
-        ensures { ReadsContents ⟦<CrlDistributionPoints<'a> as Asn1Type>⟧.der «data».entry.now result }
+        ensures { ReadsContents ⟦<CrlDistributionPoints<'a> as Asn1Type>⟧.der «data».entry.now
+            result }
     {
         match <CrlDistributionPointsItems<'a> as SimpleAsn1Readable<'a>>::parse_data(alloc, data) {
             Ok(items) => Ok(CrlDistributionPoints(items)),

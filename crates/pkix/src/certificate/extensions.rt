@@ -17,7 +17,7 @@ use asn1::{
 use std::alloc::Global;
 
 /// The default of `BasicConstraints::ca`: false.
-#[derive(Debug, PartialEq, Eq, Drop)]
+#[derive(Debug, Clone, PartialEq, Eq, Drop)]
 pub struct NotCa;
 
 impl DefaultValue<bool> for NotCa {
@@ -51,7 +51,7 @@ impl FieldNames for BasicConstraintsNames {
 }
 
 /// BasicConstraints (RFC 5280, 4.2.1.9), a SEQUENCE; identifier 2.5.29.19.
-#[derive(Debug, PartialEq, Eq, Drop)]
+#[derive(Debug, Clone, PartialEq, Eq, Drop)]
 pub struct BasicConstraints<'a>(BasicConstraintsFields<'a>);
 
 impl<'a> BasicConstraints<'a> {
@@ -157,7 +157,7 @@ impl FieldNames for AuthorityKeyIdentifierNames {
 }
 
 /// AuthorityKeyIdentifier (RFC 5280, 4.2.1.1), a SEQUENCE; identifier 2.5.29.35.
-#[derive(PartialEq, Eq, Drop)]
+#[derive(Clone, PartialEq, Eq, Drop)]
 pub struct AuthorityKeyIdentifier<'a>(AuthorityKeyIdentifierFields<'a>);
 
 impl<'a> AuthorityKeyIdentifier<'a> {
@@ -314,7 +314,8 @@ impl<'a> SimpleAsn1Readable<'a> for SubjectKeyIdentifier<'a> {
     }
 
     fn parse_data(alloc: Global, data: &'a [u8]) -> ParseResult<SubjectKeyIdentifier<'a>>
-        ensures { ReadsContents ⟦<SubjectKeyIdentifier<'a> as Asn1Type>⟧.der «data».entry.now result }
+        ensures { ReadsContents ⟦<SubjectKeyIdentifier<'a> as Asn1Type>⟧.der «data».entry.now
+            result }
     {
         match <&'a [u8] as SimpleAsn1Readable<'a>>::parse_data(alloc, data) {
             Ok(value) => Ok(SubjectKeyIdentifier(value)),
@@ -413,7 +414,7 @@ impl<'a> SimpleAsn1Writable for KeyUsage<'a> {
 }
 
 /// SubjectAltName (RFC 5280, 4.2.1.6), GeneralNames; identifier 2.5.29.17.
-#[derive(PartialEq, Eq, Drop)]
+#[derive(Clone, PartialEq, Eq, Drop)]
 pub struct SubjectAltName<'a>(GeneralNames<'a>);
 
 impl<'a> SubjectAltName<'a> {
@@ -484,7 +485,7 @@ impl<'a> SimpleAsn1Writable for SubjectAltName<'a> {
 type ExtendedKeyUsageItems<'a> = SequenceOf<'a, ObjectIdentifier, 1, { usize::MAX }>;
 
 /// ExtKeyUsageSyntax (RFC 5280, 4.2.1.12), a SEQUENCE of at least one purpose; identifier 2.5.29.37.
-#[derive(PartialEq, Eq, Drop)]
+#[derive(Clone, PartialEq, Eq, Drop)]
 pub struct ExtendedKeyUsage<'a>(ExtendedKeyUsageItems<'a>);
 
 impl<'a> ExtendedKeyUsage<'a> {

@@ -32,7 +32,7 @@ impl FieldNames for ValidityNames {
 }
 
 /// Validity (RFC 5280, 4.1.2.5), a SEQUENCE: when a certificate is valid, both ends included.
-#[derive(Debug, PartialEq, Eq, Drop)]
+#[derive(Debug, Clone, PartialEq, Eq, Drop)]
 pub struct Validity(ValidityFields);
 
 impl Validity {
@@ -99,7 +99,7 @@ impl SimpleAsn1Writable for Validity {
 }
 
 /// The default of `TbsCertificate::version`: 0.
-#[derive(Debug, PartialEq, Eq, Drop)]
+#[derive(Debug, Clone, PartialEq, Eq, Drop)]
 pub struct V1;
 
 impl DefaultValue<Explicit<u8, 0>> for V1 {
@@ -152,7 +152,7 @@ impl FieldNames for TbsCertificateNames {
 }
 
 /// TBSCertificate (RFC 5280, 4.1.2), a SEQUENCE: the part of a certificate that is signed.
-#[derive(PartialEq, Eq, Drop)]
+#[derive(Clone, PartialEq, Eq, Drop)]
 pub struct TbsCertificate<'a>(TbsCertificateFields<'a>);
 
 impl<'a> TbsCertificate<'a> {
@@ -380,7 +380,7 @@ impl FieldNames for CertificateNames {
 }
 
 /// Certificate (RFC 5280, 4.1.1), a SEQUENCE.
-#[derive(PartialEq, Eq, Drop)]
+#[derive(Clone, PartialEq, Eq, Drop)]
 pub struct Certificate<'a>(CertificateFields<'a>);
 
 impl<'a> Certificate<'a> {

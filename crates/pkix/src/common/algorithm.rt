@@ -81,7 +81,8 @@ impl<'a> SimpleAsn1Readable<'a> for AlgorithmIdentifier<'a> {
     }
 
     fn parse_data(alloc: Global, data: &'a [u8]) -> ParseResult<AlgorithmIdentifier<'a>>
-        ensures { ReadsContents ⟦<AlgorithmIdentifier<'a> as Asn1Type>⟧.der «data».entry.now result }
+        ensures { ReadsContents ⟦<AlgorithmIdentifier<'a> as Asn1Type>⟧.der «data».entry.now
+            result }
     {
         match <AlgorithmIdentifierFields<'a> as SimpleAsn1Readable<'a>>::parse_data(alloc, data) {
             Ok(fields) => Ok(AlgorithmIdentifier(fields)),
@@ -182,7 +183,8 @@ impl<'a> SimpleAsn1Readable<'a> for SubjectPublicKeyInfo<'a> {
     }
 
     fn parse_data(alloc: Global, data: &'a [u8]) -> ParseResult<SubjectPublicKeyInfo<'a>>
-        ensures { ReadsContents ⟦<SubjectPublicKeyInfo<'a> as Asn1Type>⟧.der «data».entry.now result }
+        ensures { ReadsContents ⟦<SubjectPublicKeyInfo<'a> as Asn1Type>⟧.der «data».entry.now
+            result }
     {
         match <SubjectPublicKeyInfoFields<'a> as SimpleAsn1Readable<'a>>::parse_data(alloc, data) {
             Ok(fields) => Ok(SubjectPublicKeyInfo(fields)),

@@ -14,7 +14,7 @@ use asn1::{
 use std::alloc::Global;
 
 /// The default of `Extension::critical`: false.
-#[derive(Debug, PartialEq, Eq, Drop)]
+#[derive(Debug, Clone, PartialEq, Eq, Drop)]
 pub struct NotCritical;
 
 impl DefaultValue<bool> for NotCritical {
@@ -49,7 +49,7 @@ impl FieldNames for ExtensionNames {
 }
 
 /// Extension (RFC 5280, 4.1), a SEQUENCE.
-#[derive(Debug, PartialEq, Eq, Drop)]
+#[derive(Debug, Clone, PartialEq, Eq, Drop)]
 pub struct Extension<'a>(ExtensionFields<'a>);
 
 impl<'a> Extension<'a> {
@@ -139,7 +139,7 @@ impl<'a> SimpleAsn1Writable for Extension<'a> {
 type ExtensionsItems<'a> = SequenceOf<'a, Extension<'a>, 1, { usize::MAX }>;
 
 /// Extensions (RFC 5280, 4.1), a SEQUENCE of at least one Extension.
-#[derive(PartialEq, Eq, Drop)]
+#[derive(Clone, PartialEq, Eq, Drop)]
 pub struct Extensions<'a>(ExtensionsItems<'a>);
 
 impl<'a> Extensions<'a> {

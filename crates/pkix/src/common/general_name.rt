@@ -38,7 +38,7 @@ impl FieldNames for OtherNameNames {
 }
 
 /// OtherName (RFC 5280, 4.2.1.6), a SEQUENCE: a name of a form that an identifier tells.
-#[derive(Debug, PartialEq, Eq, Drop)]
+#[derive(Debug, Clone, PartialEq, Eq, Drop)]
 pub struct OtherName<'a>(OtherNameFields<'a>);
 
 impl<'a> OtherName<'a> {
@@ -133,7 +133,7 @@ impl FieldNames for EdiPartyNameNames {
 }
 
 /// EDIPartyName (RFC 5280, 4.2.1.6), a SEQUENCE. Its strings are elements of any type: of which the RFC allows five.
-#[derive(Debug, PartialEq, Eq, Drop)]
+#[derive(Debug, Clone, PartialEq, Eq, Drop)]
 pub struct EdiPartyName<'a>(EdiPartyNameFields<'a>);
 
 impl<'a> EdiPartyName<'a> {
@@ -248,7 +248,7 @@ type GeneralNameFrom7<'a> = Choice3<
 >;
 
 /// GeneralName (RFC 5280, 4.2.1.6), a CHOICE of nine.
-#[derive(PartialEq, Eq, Drop)]
+#[derive(Clone, PartialEq, Eq, Drop)]
 pub enum GeneralName<'a> {
     /// A name of another form.
     OtherName(Implicit<OtherName<'a>, 0>),
@@ -367,7 +367,7 @@ impl<'a> Asn1Writable for GeneralName<'a> {
 type GeneralNamesItems<'a> = SequenceOf<'a, GeneralName<'a>, 1, { usize::MAX }>;
 
 /// GeneralNames (RFC 5280, 4.2.1.6), a SEQUENCE of at least one GeneralName.
-#[derive(PartialEq, Eq, Drop)]
+#[derive(Clone, PartialEq, Eq, Drop)]
 pub struct GeneralNames<'a>(GeneralNamesItems<'a>);
 
 impl<'a> GeneralNames<'a> {

@@ -116,7 +116,7 @@ type NameItems<'a> = SequenceOf<'a, SetOf<'a, AttributeTypeAndValue<'a>>, 0, { u
 
 /// Name (RFC 5280, 4.1.2.4), an RDNSequence: a SEQUENCE of sets of attributes. Of a set the RFC says `SIZE (1..MAX)`,
 /// which isn't looked at.
-#[derive(PartialEq, Eq, Drop)]
+#[derive(Clone, PartialEq, Eq, Drop)]
 pub struct Name<'a>(NameItems<'a>);
 
 impl<'a> Name<'a> {
@@ -201,7 +201,7 @@ impl FieldNames for AttributeNames {
 
 /// Attribute (RFC 2986, 4.1; RFC 5652, 5.3), a SEQUENCE: a type and a set of values. Of the set the RFC says
 /// `SIZE (1..MAX)`, which isn't looked at.
-#[derive(PartialEq, Eq, Drop)]
+#[derive(Clone, PartialEq, Eq, Drop)]
 pub struct Attribute<'a>(AttributeFields<'a>);
 
 impl<'a> Attribute<'a> {
@@ -280,7 +280,7 @@ impl<'a> SimpleAsn1Writable for Attribute<'a> {
 type AttributesItems<'a> = SetOf<'a, Attribute<'a>>;
 
 /// Attributes (RFC 2986, 4.1), a SET OF Attribute.
-#[derive(PartialEq, Eq, Drop)]
+#[derive(Clone, PartialEq, Eq, Drop)]
 pub struct Attributes<'a>(AttributesItems<'a>);
 
 impl<'a> Attributes<'a> {

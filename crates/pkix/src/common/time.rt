@@ -9,7 +9,7 @@ use asn1::{
 };
 
 /// Time (RFC 5280, 4.1), a CHOICE of two forms of a time in UTC, told by the tag.
-#[derive(Debug, PartialEq, Eq, Drop)]
+#[derive(Debug, Clone, PartialEq, Eq, Drop)]
 pub enum Time {
     /// utcTime: a time from 1950 to 2049.
     UtcTime(UtcTime),

@@ -38,7 +38,7 @@ impl FieldNames for ContentInfoNames {
 }
 
 /// ContentInfo (RFC 5652, 3), a SEQUENCE.
-#[derive(Debug, PartialEq, Eq, Drop)]
+#[derive(Debug, Clone, PartialEq, Eq, Drop)]
 pub struct ContentInfo<'a>(ContentInfoFields<'a>);
 
 impl<'a> ContentInfo<'a> {
@@ -136,7 +136,7 @@ impl FieldNames for EncapsulatedContentInfoNames {
 }
 
 /// EncapsulatedContentInfo (RFC 5652, 5.2), a SEQUENCE.
-#[derive(Debug, PartialEq, Eq, Drop)]
+#[derive(Debug, Clone, PartialEq, Eq, Drop)]
 pub struct EncapsulatedContentInfo<'a>(EncapsulatedContentInfoFields<'a>);
 
 impl<'a> EncapsulatedContentInfo<'a> {
@@ -259,7 +259,7 @@ impl FieldNames for SignedDataNames {
 }
 
 /// SignedData (RFC 5652, 5.1), a SEQUENCE.
-#[derive(PartialEq, Eq, Drop)]
+#[derive(Clone, PartialEq, Eq, Drop)]
 pub struct SignedData<'a>(SignedDataFields<'a>);
 
 impl<'a> SignedData<'a> {

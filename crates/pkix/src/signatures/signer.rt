@@ -40,7 +40,7 @@ impl FieldNames for IssuerAndSerialNumberNames {
 }
 
 /// IssuerAndSerialNumber (RFC 5652, 10.2.4), a SEQUENCE: a certificate's issuer and serial number.
-#[derive(PartialEq, Eq, Drop)]
+#[derive(Clone, PartialEq, Eq, Drop)]
 pub struct IssuerAndSerialNumber<'a>(IssuerAndSerialNumberFields<'a>);
 
 impl<'a> IssuerAndSerialNumber<'a> {
@@ -120,7 +120,7 @@ impl<'a> SimpleAsn1Writable for IssuerAndSerialNumber<'a> {
 type SignerIdentifierChoice<'a> = Choice2<IssuerAndSerialNumber<'a>, Implicit<&'a [u8], 0>>;
 
 /// SignerIdentifier (RFC 5652, 5.3), a CHOICE.
-#[derive(PartialEq, Eq, Drop)]
+#[derive(Clone, PartialEq, Eq, Drop)]
 pub enum SignerIdentifier<'a> {
     /// The certificate's issuer and serial number.
     IssuerAndSerialNumber(IssuerAndSerialNumber<'a>),
@@ -215,7 +215,7 @@ impl FieldNames for SignerInfoNames {
 }
 
 /// SignerInfo (RFC 5652, 5.3), a SEQUENCE.
-#[derive(PartialEq, Eq, Drop)]
+#[derive(Clone, PartialEq, Eq, Drop)]
 pub struct SignerInfo<'a>(SignerInfoFields<'a>);
 
 impl<'a> SignerInfo<'a> {

@@ -119,7 +119,7 @@ impl<'a> SimpleAsn1Writable for MessageImprint<'a> {
 }
 
 /// The default of `TimeStampReq::cert_req`: false.
-#[derive(Debug, PartialEq, Eq, Drop)]
+#[derive(Debug, Clone, PartialEq, Eq, Drop)]
 pub struct NoCertReq;
 
 impl DefaultValue<bool> for NoCertReq {
@@ -164,7 +164,7 @@ impl FieldNames for TimeStampReqNames {
 }
 
 /// TimeStampReq (RFC 3161, 2.4.1), a SEQUENCE.
-#[derive(PartialEq, Eq, Drop)]
+#[derive(Clone, PartialEq, Eq, Drop)]
 pub struct TimeStampReq<'a>(TimeStampReqFields<'a>);
 
 impl<'a> TimeStampReq<'a> {
@@ -318,7 +318,7 @@ impl FieldNames for PkiStatusInfoNames {
 }
 
 /// PKIStatusInfo (RFC 3161, 2.4.2), a SEQUENCE.
-#[derive(PartialEq, Eq, Drop)]
+#[derive(Clone, PartialEq, Eq, Drop)]
 pub struct PkiStatusInfo<'a>(PkiStatusInfoFields<'a>);
 
 impl<'a> PkiStatusInfo<'a> {
@@ -412,7 +412,7 @@ impl<'a> SimpleAsn1Writable for PkiStatusInfo<'a> {
 type PkiFreeTextItems<'a> = SequenceOf<'a, Utf8String<'a>, 1, { usize::MAX }>;
 
 /// PKIFreeText (RFC 3161, 2.4.2), a SEQUENCE of at least one UTF8String.
-#[derive(PartialEq, Eq, Drop)]
+#[derive(Clone, PartialEq, Eq, Drop)]
 pub struct PkiFreeText<'a>(PkiFreeTextItems<'a>);
 
 impl<'a> PkiFreeText<'a> {
@@ -499,7 +499,7 @@ impl FieldNames for TimeStampRespNames {
 }
 
 /// TimeStampResp (RFC 3161, 2.4.2), a SEQUENCE.
-#[derive(PartialEq, Eq, Drop)]
+#[derive(Clone, PartialEq, Eq, Drop)]
 pub struct TimeStampResp<'a>(TimeStampRespFields<'a>);
 
 impl<'a> TimeStampResp<'a> {

@@ -37,7 +37,7 @@ impl FieldNames for AccuracyNames {
 }
 
 /// Accuracy (RFC 3161, 2.4.2), a SEQUENCE: how far the time may be off.
-#[derive(Debug, PartialEq, Eq, Drop)]
+#[derive(Debug, Clone, PartialEq, Eq, Drop)]
 pub struct Accuracy<'a>(AccuracyFields<'a>);
 
 impl<'a> Accuracy<'a> {
@@ -144,7 +144,7 @@ impl<'a> SimpleAsn1Writable for Accuracy<'a> {
 }
 
 /// The default of `TstInfo::ordering`: false.
-#[derive(Debug, PartialEq, Eq, Drop)]
+#[derive(Debug, Clone, PartialEq, Eq, Drop)]
 pub struct NoOrdering;
 
 impl DefaultValue<bool> for NoOrdering {
@@ -197,7 +197,7 @@ impl FieldNames for TstInfoNames {
 }
 
 /// TSTInfo (RFC 3161, 2.4.2), a SEQUENCE.
-#[derive(PartialEq, Eq, Drop)]
+#[derive(Clone, PartialEq, Eq, Drop)]
 pub struct TstInfo<'a>(TstInfoFields<'a>);
 
 impl<'a> TstInfo<'a> {
