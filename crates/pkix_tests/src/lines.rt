@@ -104,6 +104,38 @@ fn characters_are_escaped(rt: HostRuntime) -> Result<(), Fail> {
     )
 }
 
+/// An address of X.400 (RFC 5280, A.1) in place of the first name of a subject: a country, and an administration domain
+/// of no characters.
+#[test]
+fn addresses_of_other_networks(rt: HostRuntime) -> Result<(), Fail> {
+    let alloc = rt.alloc();
+    let name = b"\xa3\x0c\x30\x0a\x61\x04\x13\x02AT\x62\x02\x13\x00";
+    let changed = with_octets(alloc, objects::FULL, 465, name)?;
+    let text = lines(alloc, Kind::Certificate, changed.as_slice())?;
+    same(
+        line(text.as_str(), "extensions.4.subjectAltName.0"),
+        Some("extensions.4.subjectAltName.0.x400Address: #300c300a61041302415462021300"),
+    )
+}
+
+/// Numbers that no document has a name for: a status of 300, and a reason of 7.
+#[test]
+fn unknown_numbers(rt: HostRuntime) -> Result<(), Fail> {
+    let alloc = rt.alloc();
+    let response = b"\x30\x06\x30\x04\x02\x02\x01\x2c";
+    same(
+        lines(alloc, Kind::TimestampResponse, response)?.as_str(),
+        "status.status: 012c (unknown)\nsame\n",
+    )?;
+    let changed = with_octets(alloc, objects::CRL, 149, b"\x07")?;
+    let text = lines(alloc, Kind::Crl, changed.as_slice())?;
+    let place = "revokedCertificates.0.crlEntryExtensions.0.cRLReason";
+    same(
+        line(text.as_str(), place),
+        Some("revokedCertificates.0.crlEntryExtensions.0.cRLReason: 07 (unknown)"),
+    )
+}
+
 /// An extension whose value holds its default, which DER forbids: it is shown, with the reason.
 #[test]
 fn values_of_extensions_that_are_not_der(rt: HostRuntime) -> Result<(), Fail> {

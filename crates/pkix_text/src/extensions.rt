@@ -2,7 +2,7 @@
 
 use crate::answers::Fault;
 use crate::common::short_name;
-use crate::show::{Show, item, line, optional, part, read_again, within};
+use crate::show::{Show, item, line, optional, part, read_again, whole_octets, within};
 use asn1::{Asn1Readable, BitString, parse_single};
 use pkix::certificate::access::AuthorityInfoAccess;
 use pkix::certificate::distribution::{
@@ -150,7 +150,7 @@ impl Show for CrlNumber<'_> {
 
 /// The reason, and its name (RFC 5280, 5.3.1).
 impl Show for CrlReason {
-    fn show(&self, _alloc: Global, place: &str, out: &mut String) -> Result<(), Fault> {
+    fn show(&self, alloc: Global, place: &str, out: &mut String) -> Result<(), Fault> {
         let number = self.value().value();
         let name = match number {
             0 => "unspecified",
@@ -165,7 +165,8 @@ impl Show for CrlReason {
             10 => "aACompromise",
             _ => "unknown",
         };
-        writeln!(out, "{place}: {number:02x} ({name})")?;
+        let digits = whole_octets(alloc, number)?;
+        writeln!(out, "{place}: {digits} ({name})")?;
         Ok(())
     }
 }

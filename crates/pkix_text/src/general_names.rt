@@ -2,6 +2,7 @@
 
 use crate::answers::Fault;
 use crate::show::{Show, item, optional, part, read_again, string_line, within};
+use asn1::{Sequence, write_readable};
 use pkix::common::{EdiPartyName, GeneralName, GeneralNames, OtherName};
 use std::alloc::Global;
 
@@ -15,6 +16,18 @@ fn string(
 ) -> Result<(), Fault> {
     let place = within(alloc, place, name)?;
     string_line(place.as_str(), text, out)
+}
+
+/// The octets of a sequence whose elements aren't looked at, in hex behind `#`.
+impl Show for Sequence<'_> {
+    fn show(&self, alloc: Global, place: &str, out: &mut String) -> Result<(), Fault> {
+        let Ok(octets) = write_readable(alloc, self) else {
+            return Err(Fault::Memory);
+        };
+        let octets = hex::encode(alloc, octets.as_slice())?;
+        writeln!(out, "{place}: #{octets}")?;
+        Ok(())
+    }
 }
 
 impl Show for OtherName<'_> {
@@ -48,7 +61,9 @@ impl Show for GeneralName<'_> {
             GeneralName::DnsName(name) => {
                 string(alloc, place, "dNSName", name.as_inner().as_str(), out)
             }
-            GeneralName::X400Address(_) => string(alloc, place, "x400Address", "(not shown)", out),
+            GeneralName::X400Address(name) => {
+                part(alloc, place, "x400Address", name.as_inner(), out)
+            }
             GeneralName::DirectoryName(name) => {
                 part(alloc, place, "directoryName", name.as_inner(), out)
             }

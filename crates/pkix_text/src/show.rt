@@ -83,6 +83,15 @@ pub(crate) fn empty(place: &str, count: usize, out: &mut String) -> Result<(), F
     Ok(())
 }
 
+/// A number in hex, by whole octets.
+pub(crate) fn whole_octets(alloc: Global, number: u32) -> Result<String, AllocError> {
+    let digits = format!(in alloc; "{number:02x}")?;
+    if digits.len() % 2 == 0 {
+        return Ok(digits);
+    }
+    format!(in alloc; "0{digits}")
+}
+
 impl Show for bool {
     fn show(&self, _alloc: Global, place: &str, out: &mut String) -> Result<(), Fault> {
         writeln!(out, "{place}: {self}")?;

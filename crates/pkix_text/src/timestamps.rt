@@ -1,7 +1,7 @@
 //! Requests for time stamps, responses, and what is stamped (RFC 3161, 2.4).
 
 use crate::answers::Fault;
-use crate::show::{Show, item, optional, part, read_again, string_line, within};
+use crate::show::{Show, item, optional, part, read_again, string_line, whole_octets, within};
 use pkix::timestamps::{
     Accuracy, MessageImprint, PkiFreeText, PkiStatusInfo, TimeStampReq, TimeStampResp, TstInfo,
 };
@@ -51,7 +51,8 @@ impl Show for PkiStatusInfo<'_> {
             _ => "unknown",
         };
         let here = within(alloc, place, "status")?;
-        writeln!(out, "{here}: {status:02x} ({name})")?;
+        let digits = whole_octets(alloc, status)?;
+        writeln!(out, "{here}: {digits} ({name})")?;
         optional(alloc, place, "statusString", self.status_string(), out)?;
         optional(alloc, place, "failInfo", self.fail_info(), out)
     }

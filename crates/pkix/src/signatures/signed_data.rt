@@ -403,4 +403,5 @@ pub fn signed_data_is_lawful()
     ensures content_info { HasOneEncoding ⟦<ContentInfo<'static> as Asn1Type>⟧.der }
     ensures encapsulated_content_info { HasOneEncoding
         ⟦<EncapsulatedContentInfo<'static> as Asn1Type>⟧.der }
+    ensures signed_data { HasOneEncoding ⟦<SignedData<'static> as Asn1Type>⟧.der }
 {}

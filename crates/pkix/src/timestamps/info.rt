@@ -7,7 +7,7 @@ ghost use Rattle.asn1.specs.Options.{option_meaning};
 ghost use Rattle.asn1.specs.Reads.{HasOneEncoding, ReadsContents};
 ghost use Rattle.pkix.specs.declared.timestamps.info.TheConstants.{ACCURACY, TST_INFO};
 
-use crate::common::{Extensions, GeneralName};
+use crate::common::{Extensions, GeneralName, general_names_are_lawful};
 use crate::timestamps::MessageImprint;
 use asn1::fields::{Field, FieldNames, Fields3, Fields10, Last, Names, Structure};
 use asn1::{
@@ -396,4 +396,7 @@ impl<'a> SimpleAsn1Writable for TstInfo<'a> {
 #[tactic(auto, using(asn1::specs::Lemmas::Fields::tags_differ))]
 pub fn infos_are_lawful()
     ensures accuracy { HasOneEncoding ⟦<Accuracy<'static> as Asn1Type>⟧.der }
-{}
+    ensures tst_info { HasOneEncoding ⟦<TstInfo<'static> as Asn1Type>⟧.der }
+{
+    general_names_are_lawful()
+}
