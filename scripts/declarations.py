@@ -60,6 +60,16 @@ class Item:
     parts: list = field(default_factory=list)
     arcs: list = field(default_factory=list)
 
+    @property
+    def wanted(self):
+        """The derives that the declaration asks for."""
+        return [word for word in self.attributes.get("derive", []) if word not in (",", "asn1", "::")]
+
+    @property
+    def is_defined(self):
+        """Whether an item defines the type's values."""
+        return "Asn1DefinedByRead" in self.wanted or "Asn1DefinedByWrite" in self.wanted
+
 
 class Reader:
     """Reads declarations from the tokens of a source."""
@@ -193,11 +203,13 @@ class Reader:
         name = self.word("a variant's name")
         if not self.takes("("):
             raise Rejected(line, f"`{name}` has no unnamed field: a variant has exactly one")
-        found = Item("variant", name, line, doc, attributes, self.type())
-        self.takes(",")
-        if not self.takes(")"):
+        types = [self.type()]
+        while not self.takes(")"):
+            self.expect(",")
+            types += [] if self.tokens[self.at][1] == ")" else [self.type()]
+        if len(types) > 1 and "default" not in attributes:
             raise Rejected(line, f"`{name}` has more than one field: a variant has exactly one")
-        return found
+        return Item("variant", name, line, doc, attributes, types[-1], parts=types)
 
     def parts(self, read):
         found = []

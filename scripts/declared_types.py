@@ -10,7 +10,7 @@ from declarations import Rejected, Type
 
 KEPT = ("Debug", "Clone", "PartialEq", "Eq", "Hash")
 ALL = frozenset(KEPT)
-SIMPLE = ("Asn1Read", "Asn1Write")
+ASN1 = ("Asn1Read", "Asn1Write", "Asn1DefinedByRead", "Asn1DefinedByWrite")
 ANY = "any"
 
 
@@ -69,25 +69,31 @@ LIBRARY = {
 
 
 GHOST = {
-    "std.specs.Prelude": "◌≡◌ ◌∷◌ [] map true false OnErr",
-    "std.proofs.Common": "inl inr",
+    "std.specs.Prelude": "◌≡◌ ◌⊎◌ ◌∷◌ [] map true false ⊤ MatchOption OnErr",
+    "std.specs.Str": "bytes_eq",
+    "std.proofs.Common": "inl inr refl sym",
+    "std.proofs.lemmas.Slice.Eq": "bytes_eq-Decides",
     "asn1.specs.Der": "seen",
     "asn1.specs.Choices": "choice_der only or",
     "asn1.specs.InHand": "defaulted_inner explicit_inner implicit_inner",
     "asn1.specs.IdentifierValues": "identifier_of",
+    "asn1.specs.ItemsAndValues": "by_item word_for_word",
     "asn1.specs.Options": "option_meaning",
     "asn1.specs.Reading": "EndsWith",
-    "asn1.specs.Reads": "HasOneEncoding ReadsContents ReadsPrefix",
+    "asn1.specs.Reads": "HasOneEncoding ReadsContents ReadsDefined ReadsPrefix",
+    "asn1.specs.Variants": "any_variant or_variant variant",
 }
 CODE = {
-    "asn1::fields": "Defined DefinedLast Field FieldNames Fields2 Fields3 Fields4 Fields5 Fields6 Fields7 Fields8 Fields9 "
-    "Fields10 Fields11 Fields12 Last Names NoFields Structure",
-    "asn1": "Asn1Readable Asn1Type Asn1Writable BMPString BigInt BigUint BitString Choice1 Choice2 Choice3 DefaultValue "
-    "Defaulted Enumerated Explicit GeneralizedTime IA5String Implicit Null ObjectIdentifier OctetStringEncoded OwnedBigInt "
-    "OwnedBigUint OwnedBitString ParseResult Parser PrintableString Sequence SequenceOf SequenceOfWriter Set SetOf "
-    "SetOfWriter SimpleAsn1Readable SimpleAsn1Writable Tag Tlv UniversalString UtcTime Utf8String VisibleString WriteBuf "
-    "WriteError WriteResult Writer X509GeneralizedTime",
-    "std::alloc": "Global",
+    "asn1::fields": "Defined DefinedField DefinedLast Field FieldNames Fields2 Fields3 Fields4 Fields5 Fields6 Fields7 "
+    "Fields8 Fields9 Fields10 Fields11 Fields12 Last Names NoFields Structure",
+    "asn1::laws": "identifiers_compare",
+    "asn1": "Asn1DefinedBy Asn1DefinedByReadable Asn1DefinedByWritable Asn1Readable Asn1Type Asn1Writable BMPString "
+    "BigInt BigUint BitString Choice1 Choice2 Choice3 DefaultValue Defaulted Enumerated Explicit "
+    "GeneralizedTime IA5String Implicit Null ObjectIdentifier OctetStringEncoded OwnedBigInt OwnedBigUint "
+    "OwnedBitString ParseError ParseErrorKind ParseResult Parser PrintableString Sequence SequenceOf "
+    "SequenceOfWriter Set SetOf SetOfWriter SimpleAsn1Readable SimpleAsn1Writable Tag Tlv UniversalString "
+    "UtcTime Utf8String VisibleString WriteBuf WriteError WriteResult Writer X509GeneralizedTime",
+    "std::alloc": "AllocError Global",
 }
 
 
@@ -122,15 +128,6 @@ class Module:
                 self.known(Type(item.name, [], item.line))
         for item in items:
             self.check_tags(item)
-        self.check_variants(items)
-
-    def check_variants(self, items):
-        """The file's clauses name each variant by its name alone."""
-        found = {}
-        for item in items:
-            for part in item.parts if item.kind == "enum" else []:
-                if found.setdefault(part.name, item) is not item:
-                    raise Rejected(part.line, f"`{part.name}` is a variant of `{found[part.name].name}` too: part them into files")
 
     def known(self, type):
         """What is known of a type; None where it is declared elsewhere."""
@@ -172,18 +169,20 @@ class Module:
         derives = ALL.intersection(*[part.derives for part in parts if part])
         if item.kind == "type":
             return parts[0] and Known(parts[0].tags, False, derives)
-        wanted = [word for word in item.attributes.get("derive", []) if word not in (",", "asn1", "::")]
-        item.reads, item.writes = "Asn1Read" in wanted, "Asn1Write" in wanted
-        if "Asn1DefinedByRead" in wanted or "Asn1DefinedByWrite" in wanted:
-            raise Rejected(item.line, f"`{item.name}` is defined by an item: its variants are written by hand")
+        wanted, by = item.wanted, "DefinedBy" if item.is_defined else ""
+        item.reads, item.writes = f"Asn1{by}Read" in wanted, f"Asn1{by}Write" in wanted
+        if by and ("Asn1Read" in wanted or "Asn1Write" in wanted or item.kind == "struct"):
+            raise Rejected(item.line, f"`{item.name}` is defined by an item: an enum with no other derive of `asn1`")
         item.derives = [name for name in KEPT if name in wanted and name in derives]
-        item.left_out = [name for name in wanted if name not in item.derives and name not in SIMPLE]
+        item.left_out = [name for name in wanted if name not in item.derives and name not in ASN1]
         if not (item.reads or item.writes):
             raise Rejected(item.line, f"`{item.name}` derives neither `Asn1Read` nor `Asn1Write`")
         kept = frozenset(item.derives)
         if item.kind == "struct":
             return Known(constructed(16), False, kept)
         tags = [part.tags if part else None for part in parts]
+        if by:
+            return Known(None, False, kept)
         if None in tags or ANY in tags:
             return Known(None if None in tags else ANY, False, kept)
         return Known(frozenset().union(*tags), False, kept)
@@ -192,7 +191,8 @@ class Module:
         """Each field that may be missing is told from what may follow it, and each variant from the others."""
         for at, part in enumerate(item.parts):
             self.check_choice(item, part)
-            if item.kind == "enum" or part.is_missing:
+            self.check_item(item, part)
+            if item.kind == "enum" and not item.is_defined or part.is_missing:
                 for other in item.parts[at + 1 :]:
                     self.check_pair(part, other)
                     if item.kind == "struct" and not other.is_missing:
@@ -205,9 +205,20 @@ class Module:
         if part.tag == "implicit" and is_choice:
             raise Rejected(part.line, f"`{part.name}` is implicit, and its type has no tag of its own")
         if part.tag and item.kind == "enum" and is_choice:
-            raise Rejected(part.line, f"`{part.name}` is a choice in a choice, under a tag: put a struct around it")
+            raise Rejected(part.line, f"`{part.name}` is a choice or an option under a tag: put a struct around it")
         if part.form.name == "Option" and part.form.inner[0].name == "Option":
             raise Rejected(part.line, f"`{part.name}` is an option of an option")
+
+    def check_item(self, item, part):
+        """A value that an item defines stands behind it, and under an explicit tag at most."""
+        declared = self.items.get((part.type.inner[0] if part.is_option else part.type).name)
+        by, is_value = "defined_by" in part.attributes and item.kind == "struct", bool(declared and declared.is_defined)
+        if is_value and not by:
+            raise Rejected(part.line, f"`{part.name}` is defined by an item: it follows that, with `#[defined_by(..)]`")
+        if by and part.form.name in ("Option", "Implicit", "Defaulted"):
+            raise Rejected(part.line, f"`{part.name}` is defined by an item: it is there, with an explicit tag or none")
+        if by and not is_value and (declared or part.base.name in LIBRARY):
+            raise Rejected(part.line, f"`{part.name}` is defined by an item, and its type is not")
 
     def check_pair(self, part, other):
         one, two = self.known(part.form), self.known(other.form)
@@ -222,7 +233,10 @@ def set_form(item, part):
     part.tag = next((name for name in ("implicit", "explicit") if name in part.attributes), "")
     if "implicit" in part.attributes and "explicit" in part.attributes:
         raise Rejected(part.line, f"`{part.name}` is both implicit and explicit")
-    if item.kind == "enum" and ("default" in part.attributes and part.tag or "derive" in part.attributes):
+    others = set(part.attributes) - {part.tag}
+    if item.kind == "enum" and item.is_defined and others != {"defined_by"} and set(part.attributes) != {"default"}:
+        raise Rejected(part.line, f"`{part.name}` has neither `#[defined_by(..)]` nor `#[default]` alone")
+    if item.kind == "enum" and others and not item.is_defined:
         raise Rejected(part.line, f"an attribute that `{part.name}` can't have")
     number, required = number_of(part, part.tag) if part.tag else (0, False)
     part.is_option = part.type.name == "Option"
@@ -235,7 +249,7 @@ def set_form(item, part):
             raise Rejected(part.line, f"`{part.name}` has a default, so it is neither an option nor required")
     elif part.tag and part.is_option == required:
         raise Rejected(part.line, f"`{part.name}` has a tag: either it is an option, or the tag says `required = true`")
-    base = part.type.inner[0] if part.is_option and part.tag else part.type
+    base = part.type.inner[0] if part.is_option and part.tag and item.kind == "struct" else part.type
     part.base = base
     part.form = Type(part.tag.capitalize(), [base, str(number)], part.line) if part.tag else base
     if part.is_option and part.tag and item.kind == "struct":

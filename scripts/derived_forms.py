@@ -316,7 +316,12 @@ def alternatives(forms):
     return text
 
 
-def choice(item):
+def variants_of(item, specs):
+    """The import of the variants, which stands in the impl: there no other enum's variants have these names."""
+    return f"ghost use {specs}{item.name}.TheVariants.{{{', '.join(part.name for part in item.parts)}}};"
+
+
+def choice(item, specs):
     """An enum whose variants are told by their tags."""
     own, parts = item.name + angle(item.life), item.parts
     choices = nested(item)
@@ -334,6 +339,8 @@ pub enum {own} {{
 }}
 
 impl{angle(item.life)} Asn1Type for {own} {{
+    {variants_of(item, specs)}
+
     ghost der = {{ choice_der (elim [ {cases} ]) ({alternatives(choices[0][1])}) }};
 
     fn known(&self) {{
@@ -411,7 +418,7 @@ def length_arm(part):
 
 def lawful(items, name):
     """A function whose contract says that the types that are read are lawful, and such of long choices, which it calls."""
-    items = [item for item in items if item.kind == "type" or item.reads]
+    items = [item for item in items if item.kind == "type" or item.reads and not item.is_defined]
     types = [(item, item.name + ("<'static>" if item.life else "")) for item in items]
     lines = [f"ensures {snake(item.name)} {{ HasOneEncoding {der(type)} }}" for item, type in types]
     long = [item for item in items if item.kind == "enum" and len(item.parts) > 3]

@@ -114,7 +114,7 @@ enum Either {
 #[derive(asn1::Asn1Read)]
 enum Inside {
     #[explicit(0)]
-    Either(Either), //~ `Either` is a choice in a choice, under a tag: put a struct around it
+    Either(Either), //~ `Either` is a choice or an option under a tag: put a struct around it
 }
 #[derive(asn1::Asn1Read)]
 enum Either {
@@ -156,11 +156,92 @@ struct NoDerive { //~ `NoDerive` derives neither `Asn1Read` nor `Asn1Write`
 }
 
 #[derive(asn1::Asn1DefinedByRead, asn1::Asn1DefinedByWrite)]
-enum Content { //~ `Content` is defined by an item: its variants are written by hand
+enum Undeclared {
+    #[defined_by(SOME_OID)]
+    Number(i32), //~ `SOME_OID` is no identifier that is declared here
+}
+
+const SOME_OID: asn1::ObjectIdentifier = asn1::oid!(1, 2, 3);
+const SAME_OID: asn1::ObjectIdentifier = asn1::oid!(1, 2, 3);
+#[derive(asn1::Asn1DefinedByRead, asn1::Asn1DefinedByWrite)]
+enum SameIdentifier {
+    #[defined_by(SOME_OID)]
+    Number(i32),
+    #[defined_by(SAME_OID)]
+    Flag(bool), //~ `Flag` has the identifier of `Number`
+}
+
+const SOME_OID: asn1::ObjectIdentifier = asn1::oid!(1, 2, 3);
+#[derive(asn1::Asn1DefinedByRead, asn1::Asn1DefinedByWrite)]
+enum DefaultFirst<'a> {
+    #[default]
+    Other(asn1::ObjectIdentifier, asn1::Tlv<'a>), //~ `Other` is the default, and not the last variant
+    #[defined_by(SOME_OID)]
+    Number(i32),
+}
+
+const SOME_OID: asn1::ObjectIdentifier = asn1::oid!(1, 2, 3);
+#[derive(asn1::Asn1DefinedByRead, asn1::Asn1DefinedByWrite)]
+enum DefaultOfANumber {
     #[defined_by(SOME_OID)]
     Number(i32),
     #[default]
-    Other(u8),
+    Other(asn1::ObjectIdentifier, u8), //~ `Other` is the default, and not of an `ObjectIdentifier` and a `Tlv`
+}
+
+#[derive(asn1::Asn1DefinedByRead, asn1::Asn1DefinedByWrite)]
+enum DefaultAlone<'a> { //~ `DefaultAlone` has no variant of an identifier
+    #[default]
+    Other(asn1::ObjectIdentifier, asn1::Tlv<'a>),
+}
+
+#[derive(asn1::Asn1DefinedByRead, asn1::Asn1DefinedByWrite)]
+enum NoIdentifier {
+    Number(i32), //~ `Number` has neither `#[defined_by(..)]` nor `#[default]` alone
+}
+
+#[derive(asn1::Asn1Read)]
+enum ChoiceWithDefault {
+    #[default]
+    Number(i32), //~ an attribute that `Number` can't have
+}
+
+const SOME_OID: asn1::ObjectIdentifier = asn1::oid!(1, 2, 3);
+#[derive(asn1::Asn1Read, asn1::Asn1DefinedByRead)]
+enum BothDerives { //~ `BothDerives` is defined by an item: an enum with no other derive of `asn1`
+    #[defined_by(SOME_OID)]
+    Number(i32),
+}
+
+const SOME_OID: asn1::ObjectIdentifier = asn1::oid!(1, 2, 3);
+#[derive(asn1::Asn1DefinedByRead, asn1::Asn1DefinedByWrite)]
+enum Content {
+    #[defined_by(SOME_OID)]
+    Number(i32),
+}
+#[derive(asn1::Asn1Read)]
+struct NoItem {
+    content: Content, //~ `content` is defined by an item: it follows that, with `#[defined_by(..)]`
+}
+
+const SOME_OID: asn1::ObjectIdentifier = asn1::oid!(1, 2, 3);
+#[derive(asn1::Asn1DefinedByRead, asn1::Asn1DefinedByWrite)]
+enum Content {
+    #[defined_by(SOME_OID)]
+    Number(i32),
+}
+#[derive(asn1::Asn1Read)]
+struct MayBeMissing {
+    kind: asn1::DefinedByMarker<asn1::ObjectIdentifier>,
+    #[defined_by(kind)]
+    content: Option<Content>, //~ `content` is defined by an item: it is there, with an explicit tag or none
+}
+
+#[derive(asn1::Asn1Read)]
+struct NumberByItem {
+    kind: asn1::DefinedByMarker<asn1::ObjectIdentifier>,
+    #[defined_by(kind)]
+    content: u8, //~ `content` is defined by an item, and its type is not
 }
 
 use crate::content::Content;
@@ -183,15 +264,6 @@ struct Unmarked {
 const WRONG: asn1::ObjectIdentifier = asn1::oid!(1, 40, 1); //~ `WRONG` is no identifier: its second number is below 40 after 0 and 1
 
 const LONE: asn1::ObjectIdentifier = asn1::oid!(1); //~ `LONE` isn't written as two or more numbers
-
-#[derive(asn1::Asn1Read)]
-enum OneChoice {
-    Number(u8),
-}
-#[derive(asn1::Asn1Read)]
-enum OtherChoice {
-    Number(u8), //~ `Number` is a variant of `OneChoice` too: part them into files
-}
 
 #[derive(asn1::Asn1Read)]
 struct NoType {

@@ -3,18 +3,19 @@
 mod data;
 
 use asn1::{
-    Asn1Readable, Asn1Writable, ObjectIdentifier, ParseErrorKind, SetOfWriter, WriteError,
-    parse_single, write_readable, write_single,
+    Asn1Readable, Asn1Writable, ObjectIdentifier, ParseError, ParseErrorKind, ParseLocation,
+    SetOfWriter, Tlv, WriteError, parse_single, write_readable, write_single,
 };
 use data::{CRL, CURVE_KEY, ED_KEY, NAMED_KEY};
 use derived::crl::{CertificateList, Revoked, RevokedCertificate, Time};
 use derived::keys::PrivateKeyInfo;
 use derived::page::{
-    Alternative, Bag, GeneralName, MySequence, Signature, Tagged, sha256_with_rsa, some_oid,
+    Alternative, AnyContent, AnyContentUnknown, AnySequence, Bag, Content, Entry, GeneralName,
+    MySequence, Signature, Tagged, other_oid, sha256_with_rsa, some_oid,
 };
 use std::alloc::Global;
 use std::test::Fail;
-use testing::refused;
+use testing::{are_refused_with, refused};
 
 /// Whether the octets are read as the type and written as the same octets, of which the type says how many they are.
 fn is_written_back<'a, T: Asn1Readable<'a> + Asn1Writable<Error = WriteError>>(
@@ -193,6 +194,7 @@ fn a_name_that_may_be_missing(rt: HostRuntime) -> Result<(), Fail> {
 fn identifiers(rt: HostRuntime) -> Result<(), Fail> {
     let rows = [
         (some_oid(), "1.2.3"),
+        (other_oid(), "1.2.4"),
         (sha256_with_rsa(), "1.2.840.113549.1.1.11"),
     ];
     for (identifier, dotted) in rows {
@@ -209,12 +211,114 @@ fn a_list_made_in_code(rt: HostRuntime) -> Result<(), Fail> {
     Ok(())
 }
 
+/// This error at this field.
+fn at(name: &'static str, kind: ParseErrorKind) -> ParseError {
+    ParseError::new(kind).add_location(ParseLocation::Field(name))
+}
+
 #[test]
 fn a_content_by_its_identifier(rt: HostRuntime) -> Result<(), Fail> {
     let alloc = rt.alloc();
-    let octets: &[u8] = &[0x30, 7, 6, 2, 0x2a, 3, 2, 1, 5];
-    assert!(rt; is_written_back::<MySequence>(alloc, octets)?);
-    let unknown = refused::<MySequence>(alloc, &[0x30, 7, 6, 2, 0x2a, 4, 2, 1, 5]);
-    assert_eq!(rt; unknown, Some(ParseErrorKind::UnknownDefinedBy));
+    let number: &[u8] = &[0x30, 7, 6, 2, 0x2a, 3, 2, 1, 5];
+    let null: &[u8] = &[
+        0x30, 13, 6, 9, 0x2a, 0x86, 0x48, 0x86, 0xf7, 0x0d, 1, 1, 0x0b, 5, 0,
+    ];
+    for octets in [number, null] {
+        assert!(rt; is_written_back::<MySequence>(alloc, octets)?);
+    }
+    let read = parse_single::<MySequence>(alloc, number)?;
+    assert!(rt; *read.content() == Content::SomeVariant(5));
+    let kind = ParseErrorKind::UnknownDefinedBy;
+    let unknown: &[u8] = &[0x30, 7, 6, 2, 0x2a, 4, 2, 1, 5];
+    are_refused_with::<MySequence>(alloc, &[(unknown, at("MySequence::content", kind))])
+}
+
+/// Contents by four identifiers: one that may be missing, twice, and one that no variant is for.
+const CONTENTS: [&[u8]; 5] = [
+    &[0x30, 8, 6, 2, 0x2a, 3, 4, 2, b'a', b'b'],
+    &[0x30, 9, 6, 2, 0x2a, 4, 0xa1, 3, 2, 1, 9],
+    &[
+        0x30, 14, 6, 9, 0x2a, 0x86, 0x48, 0x86, 0xf7, 0x0d, 1, 1, 0x0b, 1, 1, 0xff,
+    ],
+    &[
+        0x30, 11, 6, 9, 0x2a, 0x86, 0x48, 0x86, 0xf7, 0x0d, 1, 1, 0x0b,
+    ],
+    &[0x30, 6, 6, 2, 0x2a, 5, 5, 0],
+];
+
+/// Whether this is the content of an unknown identifier, 1.2.5, with the value null.
+fn is_null_by_another(content: &AnyContent<'_>) -> bool {
+    match content {
+        AnyContent::Unknown(other) => {
+            ObjectIdentifier::from_string("1.2.5").as_ref() == Some(other.item())
+                && other.value().full_data() == [5u8, 0].as_slice()
+        }
+        _ => false,
+    }
+}
+
+#[test]
+fn contents_by_any_identifier(rt: HostRuntime) -> Result<(), Fail> {
+    let alloc = rt.alloc();
+    for octets in CONTENTS {
+        assert!(rt; is_written_back::<AnySequence<'_>>(alloc, octets)?);
+    }
+    let number = parse_single::<AnySequence<'_>>(alloc, CONTENTS[1])?;
+    assert!(rt; *number.content() == AnyContent::Number(9));
+    let other = parse_single::<AnySequence<'_>>(alloc, CONTENTS[4])?;
+    assert!(rt; is_null_by_another(other.content()));
+    assert!(rt; other.clone()? == other);
+    let string = &[0x30, 6, 6, 2, 0x2a, 3, 5, 0];
+    let refusal = refused::<AnySequence<'_>>(alloc, string);
+    assert!(rt; matches!(refusal, Some(ParseErrorKind::UnexpectedTag { .. })));
+    Ok(())
+}
+
+#[test]
+fn contents_that_are_made(rt: HostRuntime) -> Result<(), Fail> {
+    let alloc = rt.alloc();
+    let null = parse_single::<Tlv<'_>>(alloc, &[5, 0])?;
+    for item in [some_oid(), other_oid(), sha256_with_rsa()] {
+        assert!(rt; AnyContentUnknown::new(item, null).is_none());
+    }
+    let Some(item) = ObjectIdentifier::from_string("1.2.5") else {
+        return Err(Fail::new(format_args!("no identifier")));
+    };
+    let Some(other) = AnyContentUnknown::new(item, null) else {
+        return Err(Fail::new(format_args!("no content")));
+    };
+    let rows = [
+        (AnyContent::Octets(b"ab"), CONTENTS[0]),
+        (AnyContent::Number(9), CONTENTS[1]),
+        (AnyContent::Flag(Some(true)), CONTENTS[2]),
+        (AnyContent::Flag(None), CONTENTS[3]),
+        (AnyContent::Unknown(other), CONTENTS[4]),
+    ];
+    for (content, octets) in rows {
+        let written = write_single(alloc, &AnySequence::new(content))?;
+        assert_eq!(rt; written.as_slice(), octets);
+    }
+    Ok(())
+}
+
+/// Entries: of numbers with a note, and of an identifier that no other variant is for, without one.
+const ENTRIES: [&[u8]; 2] = [
+    &[
+        0x30, 17, 6, 2, 0x2a, 4, 0xa0, 8, 0x30, 6, 2, 1, 1, 2, 1, 2, 1, 1, 0xff,
+    ],
+    &[0x30, 8, 6, 2, 0x2a, 5, 0xa0, 2, 5, 0],
+];
+
+#[test]
+fn contents_under_a_tag(rt: HostRuntime) -> Result<(), Fail> {
+    let alloc = rt.alloc();
+    for octets in ENTRIES {
+        assert!(rt; is_written_back::<Entry<'_>>(alloc, octets)?);
+    }
+    let entry = parse_single::<Entry<'_>>(alloc, ENTRIES[0])?;
+    assert_eq!(rt; entry.note(), Some(true));
+    let no_list = &[0x30, 8, 6, 2, 0x2a, 4, 0xa0, 2, 5, 0];
+    let refusal = refused::<Entry<'_>>(alloc, no_list);
+    assert!(rt; matches!(refusal, Some(ParseErrorKind::UnexpectedTag { .. })));
     Ok(())
 }

@@ -8,7 +8,6 @@ ghost use Rattle.asn1.specs.InHand.{defaulted_inner, explicit_inner};
 ghost use Rattle.asn1.specs.Options.{option_meaning};
 ghost use Rattle.asn1.specs.Reads.{HasOneEncoding, ReadsContents};
 ghost use Rattle.derived.specs.declared.crl.TheConstants.{ALGORITHM_IDENTIFIER_NAMES, ATTRIBUTE_NAMES, EXTENSION_NAMES, REVOKED_CERTIFICATE_NAMES, TBS_CERT_LIST_NAMES, CERTIFICATE_LIST_NAMES};
-ghost use Rattle.derived.specs.declared.crl.Time.TheVariants.{ShortTime, LongTime};
 
 use asn1::fields::{Field, FieldNames, Fields2, Fields3, Fields7, Last, Names, Structure};
 use asn1::{
@@ -131,6 +130,8 @@ pub enum Time {
 }
 
 impl Asn1Type for Time {
+    ghost use Rattle.derived.specs.declared.crl.Time.TheVariants.{ShortTime, LongTime};
+
     ghost der = { choice_der (elim [ ShortTime x ↦ inl (⟦<UtcTime as Asn1Type>⟧.der.meaning x) | LongTime x ↦ inr (⟦<X509GeneralizedTime as Asn1Type>⟧.der.meaning x) ]) (or ⟦<UtcTime as Asn1Type>⟧.der (only ⟦<X509GeneralizedTime as Asn1Type>⟧.der)) };
 
     fn known(&self) {

@@ -1,26 +1,41 @@
 //! Each attribute of the original's derives, once.
 
-ghost use Rattle.std.specs.Prelude.{◌≡◌, ◌∷◌, [], map, false, OnErr};
-ghost use Rattle.std.proofs.Common.{inl, inr};
+ghost use Rattle.std.specs.Prelude.{◌≡◌, ◌⊎◌, ◌∷◌, [], map, true, false, ⊤, MatchOption, OnErr};
+ghost use Rattle.std.specs.Str.{bytes_eq};
+ghost use Rattle.std.proofs.Common.{inl, inr, refl, sym};
+ghost use Rattle.std.proofs.lemmas.Slice.Eq.{bytes_eq-Decides};
 ghost use Rattle.asn1.specs.Der.{seen};
 ghost use Rattle.asn1.specs.Choices.{choice_der, only, or};
 ghost use Rattle.asn1.specs.InHand.{defaulted_inner, explicit_inner, implicit_inner};
 ghost use Rattle.asn1.specs.IdentifierValues.{identifier_of};
+ghost use Rattle.asn1.specs.ItemsAndValues.{by_item, word_for_word};
 ghost use Rattle.asn1.specs.Options.{option_meaning};
 ghost use Rattle.asn1.specs.Reading.{EndsWith};
-ghost use Rattle.asn1.specs.Reads.{HasOneEncoding, ReadsContents, ReadsPrefix};
-ghost use Rattle.derived.specs.declared.page.TheConstants.{SIGNATURE_NAMES, TAGGED_NAMES, ALTERNATIVE_NAMES, MY_SEQUENCE_NAMES, BAG_NAMES};
-ghost use Rattle.derived.specs.declared.page.GeneralName.TheVariants.{OtherName, Rfc822Name, DNSName, X400Address, DirectoryName, EDIPartyName, UniformResourceIdentifier, IPAddress, RegisteredID};
+ghost use Rattle.asn1.specs.Reads.{HasOneEncoding, ReadsContents, ReadsDefined, ReadsPrefix};
+ghost use Rattle.asn1.specs.Variants.{any_variant, or_variant, variant};
+ghost use Rattle.derived.specs.declared.page.TheConstants.{SIGNATURE_NAMES, TAGGED_NAMES, ALTERNATIVE_NAMES, MY_SEQUENCE_NAMES, ANY_SEQUENCE_NAMES, ENTRY_NAMES, BAG_NAMES};
 
-use asn1::fields::{DefinedLast, Field, FieldNames, Fields2, Fields6, Last, Names, Structure};
-use asn1::{
-    Asn1Readable, Asn1Type, Asn1Writable, Choice3, DefaultValue, Defaulted, Explicit, IA5String,
-    Implicit, ObjectIdentifier, ParseResult, Parser, PrintableString, Sequence, SequenceOf, SetOf,
-    SetOfWriter, SimpleAsn1Readable, SimpleAsn1Writable, Tag, WriteBuf, WriteError, WriteResult,
-    Writer,
+use asn1::fields::{
+    Defined, DefinedField, DefinedLast, Field, FieldNames, Fields2, Fields6, Last, Names, Structure,
 };
-use dercheck::own_types::my_sequence::Content;
-use std::alloc::Global;
+use asn1::laws::identifiers_compare;
+use asn1::{
+    Asn1DefinedBy, Asn1DefinedByReadable, Asn1DefinedByWritable, Asn1Readable, Asn1Type,
+    Asn1Writable, Choice3, DefaultValue, Defaulted, Explicit, IA5String, Implicit, Null,
+    ObjectIdentifier, ParseError, ParseErrorKind, ParseResult, Parser, PrintableString, Sequence,
+    SequenceOf, SetOf, SetOfWriter, SimpleAsn1Readable, SimpleAsn1Writable, Tag, Tlv, WriteBuf,
+    WriteError, WriteResult, Writer,
+};
+use std::alloc::{AllocError, Global};
+
+/// Whether the two are one identifier.
+fn is_identifier(item: &ObjectIdentifier, known: ObjectIdentifier) -> bool
+    ensures { result ≡ bytes_eq (identifier_of item.now) (identifier_of known) }
+{
+    // Says that identifiers are equal exactly where their numbers are.
+    identifiers_compare();
+    *item == known
+}
 
 /// The identifier 1.2.3.
 pub fn some_oid() -> ObjectIdentifier
@@ -47,6 +62,16 @@ pub fn sha256_with_rsa() -> ObjectIdentifier
     octets[7] = 0x01;
     octets[8] = 0x0b;
     ObjectIdentifier::from_der_unchecked(octets, 9)
+}
+
+/// The identifier 1.2.4.
+pub fn other_oid() -> ObjectIdentifier
+    ensures { identifier_of result ≡ 42 ∷ 4 ∷ [] }
+{
+    let mut octets = [0; 63];
+    octets[0] = 0x2a;
+    octets[1] = 0x04;
+    ObjectIdentifier::from_der_unchecked(octets, 2)
 }
 
 /// The fields.
@@ -372,6 +397,8 @@ pub enum GeneralName<'a> {
 }
 
 impl<'a> Asn1Type for GeneralName<'a> {
+    ghost use Rattle.derived.specs.declared.page.GeneralName.TheVariants.{OtherName, Rfc822Name, DNSName, X400Address, DirectoryName, EDIPartyName, UniformResourceIdentifier, IPAddress, RegisteredID};
+
     ghost der = { choice_der (elim [ OtherName x ↦ inl (⟦<Signature as Asn1Type>⟧.der.meaning x) | Rfc822Name x ↦ inr (inl (⟦<IA5String<'a> as Asn1Type>⟧.der.meaning x)) | DNSName x ↦ inr (inr (inl (⟦<IA5String<'a> as Asn1Type>⟧.der.meaning x))) | X400Address x ↦ inr (inr (inr (inl (⟦<Sequence<'a> as Asn1Type>⟧.der.meaning x)))) | DirectoryName x ↦ inr (inr (inr (inr (inl (⟦<Strings<'a> as Asn1Type>⟧.der.meaning x))))) | EDIPartyName x ↦ inr (inr (inr (inr (inr (inl (⟦<Sequence<'a> as Asn1Type>⟧.der.meaning x)))))) | UniformResourceIdentifier x ↦ inr (inr (inr (inr (inr (inr (inl (⟦<IA5String<'a> as Asn1Type>⟧.der.meaning x))))))) | IPAddress x ↦ inr (inr (inr (inr (inr (inr (inr (inl (⟦<&'a [u8] as Asn1Type>⟧.der.meaning x)))))))) | RegisteredID x ↦ inr (inr (inr (inr (inr (inr (inr (inr (⟦<ObjectIdentifier as Asn1Type>⟧.der.meaning x)))))))) ]) (or ⟦<Implicit<Signature, 0> as Asn1Type>⟧.der (or ⟦<Implicit<IA5String<'a>, 1> as Asn1Type>⟧.der (only ⟦<GeneralNameFrom3<'a> as Asn1Type>⟧.der))) };
 
     fn known(&self) {
@@ -679,6 +706,553 @@ impl SimpleAsn1Writable for MySequence {
     }
 }
 
+/// What an identifier defines that is one of two.
+#[derive(Debug, Clone, PartialEq, Eq, Hash, Drop)]
+pub enum Content {
+    /// A number.
+    SomeVariant(i32),
+    /// Parameters that are null (RFC 8017, A.2.4).
+    RsaParameters(Null),
+}
+
+impl Asn1DefinedBy<ObjectIdentifier> for Content {
+    ghost use Rattle.derived.specs.declared.page.Content.TheVariants.{SomeVariant, RsaParameters};
+
+    ghost by = { by_item (record { item = ⟦<ObjectIdentifier as Asn1Type>⟧.der; value = or_variant (record { item = 42 ∷ 3 ∷ []; is = λ n. bytes_eq n (42 ∷ 3 ∷ []); itself = refl; alone = λ n e. sym ((bytes_eq-Decides n (42 ∷ 3 ∷ [])).0 e) }) ⟦<i32 as Asn1Type>⟧.der (variant (record { item = 42 ∷ 840 ∷ 113549 ∷ 1 ∷ 1 ∷ 11 ∷ []; is = λ n. bytes_eq n (42 ∷ 840 ∷ 113549 ∷ 1 ∷ 1 ∷ 11 ∷ []); itself = refl; alone = λ n e. sym ((bytes_eq-Decides n (42 ∷ 840 ∷ 113549 ∷ 1 ∷ 1 ∷ 11 ∷ [])).0 e) }) ⟦<Null as Asn1Type>⟧.der (λ m. m)) (elim [ SomeVariant x ↦ inl (⟦<i32 as Asn1Type>⟧.der.meaning x) | RsaParameters x ↦ inr (⟦<Null as Asn1Type>⟧.der.meaning x) ]) }) };
+
+    fn known_by(&self) {
+        match self {
+            Content::SomeVariant(x) => x.known(),
+            Content::RsaParameters(x) => x.known(),
+        }
+    }
+}
+
+impl DefinedField<ObjectIdentifier> for Content {
+    ghost both = { record { item = ⟦<ObjectIdentifier as Asn1Type>⟧.der; value = ⟦<Content as Asn1DefinedBy<ObjectIdentifier>>⟧.by.means } };
+
+    fn known_item(&self) {
+        match self {
+            Content::SomeVariant(_) => some_oid().known(),
+            Content::RsaParameters(_) => sha256_with_rsa().known(),
+        }
+    }
+
+    ghost agrees = { word_for_word _ };
+}
+
+impl<'a> Asn1DefinedByReadable<'a, ObjectIdentifier> for Content {
+    fn parse(item: ObjectIdentifier, parser: &mut Parser<'a>) -> ParseResult<Content> {
+        if is_identifier(&item, some_oid()) {
+            return Ok(Content::SomeVariant(parser.read_element::<i32>()?));
+        }
+        if is_identifier(&item, sha256_with_rsa()) {
+            return Ok(Content::RsaParameters(parser.read_element::<Null>()?));
+        }
+        Err(ParseError::new(ParseErrorKind::UnknownDefinedBy))
+    }
+
+    fn one_text() {}
+}
+
+impl Asn1DefinedByWritable<ObjectIdentifier> for Content {
+    type Error = WriteError;
+
+    ghost write_errors_by = { λ _ _. ⊥ };
+
+    fn item(&self) -> ObjectIdentifier {
+        match self {
+            Content::SomeVariant(_) => some_oid(),
+            Content::RsaParameters(_) => sha256_with_rsa(),
+        }
+    }
+
+    fn write(&self, dest: &mut Writer<'_>) -> WriteResult<()> {
+        match self {
+            Content::SomeVariant(x) => dest.write_element(x),
+            Content::RsaParameters(x) => dest.write_element(x),
+        }
+    }
+
+    fn encoded_length(&self) -> Option<usize> {
+        match self {
+            Content::SomeVariant(x) => x.encoded_length(),
+            Content::RsaParameters(x) => x.encoded_length(),
+        }
+    }
+}
+
+/// An identifier that no other variant of `AnyContent` is for, and the value.
+#[derive(Debug, PartialEq, Eq, Hash, Drop)]
+pub struct AnyContentUnknown<'a> {
+    item: ObjectIdentifier,
+    value: Tlv<'a>,
+    pub ghost is_not_some_oid: { bytes_eq (identifier_of item) (42 ∷ 3 ∷ []) ≡ false },
+    pub ghost is_not_other_oid: { bytes_eq (identifier_of item) (42 ∷ 4 ∷ []) ≡ false },
+    pub ghost is_not_sha256_with_rsa: { bytes_eq (identifier_of item) (42 ∷ 840 ∷ 113549 ∷ 1 ∷ 1 ∷ 11 ∷ []) ≡ false },
+}
+
+impl<'a> AnyContentUnknown<'a> {
+    /// Of this identifier and this value; `None` where another variant is for the identifier.
+    pub fn new(item: ObjectIdentifier, value: Tlv<'a>) -> Option<AnyContentUnknown<'a>>
+        ensures { MatchOption result ((bytes_eq (identifier_of item) (42 ∷ 3 ∷ []) ≡ true) ⊎ ((bytes_eq (identifier_of item) (42 ∷ 4 ∷ []) ≡ true) ⊎ (bytes_eq (identifier_of item) (42 ∷ 840 ∷ 113549 ∷ 1 ∷ 1 ∷ 11 ∷ []) ≡ true))) (λ v. (v.item ≡ item) × (v.value ≡ value.entry)) }
+    {
+        if is_identifier(&item, some_oid())
+            || is_identifier(&item, other_oid())
+            || is_identifier(&item, sha256_with_rsa())
+        {
+            return None;
+        }
+        Some(AnyContentUnknown { item, value })
+    }
+
+    /// The identifier.
+    pub fn item(&self) -> &ObjectIdentifier
+        ensures { result.now ≡ self.now.item }
+    {
+        &self.item
+    }
+
+    /// The value.
+    pub fn value(&self) -> Tlv<'a>
+        ensures { result ≡ self.now.value }
+    {
+        self.value
+    }
+}
+
+impl<'a> Clone for AnyContentUnknown<'a> {
+    ghost is_clone = { λ x y. (identifier_of y.item ≡ identifier_of x.item) × (y.value ≡ x.value) };
+
+    ghost is_infallible = { λ _. ⊤ };
+
+    fn clone(&self) -> Result<AnyContentUnknown<'a>, AllocError> {
+        Ok(AnyContentUnknown {
+            item: self.item.clone()?,
+            value: self.value,
+        })
+    }
+}
+
+/// What any identifier defines.
+#[derive(Debug, Clone, PartialEq, Eq, Hash, Drop)]
+pub enum AnyContent<'a> {
+    /// Octets.
+    Octets(&'a [u8]),
+    /// A number under a tag around its own.
+    Number(u32),
+    /// A flag, or none.
+    Flag(Option<bool>),
+    /// Every other identifier, and its value.
+    Unknown(AnyContentUnknown<'a>),
+}
+
+impl<'a> Asn1DefinedBy<ObjectIdentifier> for AnyContent<'a> {
+    ghost use Rattle.derived.specs.declared.page.AnyContent.TheVariants.{Octets, Number, Flag, Unknown};
+
+    ghost by = { by_item (record { item = ⟦<ObjectIdentifier as Asn1Type>⟧.der; value = or_variant (record { item = 42 ∷ 3 ∷ []; is = λ n. bytes_eq n (42 ∷ 3 ∷ []); itself = refl; alone = λ n e. sym ((bytes_eq-Decides n (42 ∷ 3 ∷ [])).0 e) }) ⟦<&'a [u8] as Asn1Type>⟧.der (or_variant (record { item = 42 ∷ 4 ∷ []; is = λ n. bytes_eq n (42 ∷ 4 ∷ []); itself = refl; alone = λ n e. sym ((bytes_eq-Decides n (42 ∷ 4 ∷ [])).0 e) }) ⟦<Explicit<u32, 1> as Asn1Type>⟧.der (or_variant (record { item = 42 ∷ 840 ∷ 113549 ∷ 1 ∷ 1 ∷ 11 ∷ []; is = λ n. bytes_eq n (42 ∷ 840 ∷ 113549 ∷ 1 ∷ 1 ∷ 11 ∷ []); itself = refl; alone = λ n e. sym ((bytes_eq-Decides n (42 ∷ 840 ∷ 113549 ∷ 1 ∷ 1 ∷ 11 ∷ [])).0 e) }) ⟦<Option<bool> as Asn1Type>⟧.der (any_variant ⟦<Tlv<'a> as Asn1Type>⟧.der (λ m. m)) (λ m. m)) (λ m. m)) (elim [ Octets x ↦ inl (⟦<&'a [u8] as Asn1Type>⟧.der.meaning x) | Number x ↦ inr (inl (⟦<u32 as Asn1Type>⟧.der.meaning x)) | Flag x ↦ inr (inr (inl (⟦<Option<bool> as Asn1Type>⟧.der.meaning x))) | Unknown x ↦ inr (inr (inr (⟦<ObjectIdentifier as Asn1Type>⟧.der.meaning x.item, ⟦<Tlv<'a> as Asn1Type>⟧.der.meaning x.value))) ]) }) };
+
+    fn known_by(&self) {
+        match self {
+            AnyContent::Octets(x) => x.known(),
+            AnyContent::Number(x) => x.known(),
+            AnyContent::Flag(x) => x.known(),
+            AnyContent::Unknown(x) => x.value.known(),
+        }
+    }
+}
+
+impl<'a> DefinedField<ObjectIdentifier> for AnyContent<'a> {
+    ghost both = { record { item = ⟦<ObjectIdentifier as Asn1Type>⟧.der; value = ⟦<AnyContent<'a> as Asn1DefinedBy<ObjectIdentifier>>⟧.by.means } };
+
+    fn known_item(&self) {
+        match self {
+            AnyContent::Octets(_) => some_oid().known(),
+            AnyContent::Number(_) => other_oid().known(),
+            AnyContent::Flag(_) => sha256_with_rsa().known(),
+            AnyContent::Unknown(x) => x.item.known(),
+        }
+    }
+
+    ghost agrees = { word_for_word _ };
+}
+
+impl<'a> Asn1DefinedByReadable<'a, ObjectIdentifier> for AnyContent<'a> {
+    fn parse(item: ObjectIdentifier, parser: &mut Parser<'a>) -> ParseResult<AnyContent<'a>>
+        ensures answers { ReadsDefined ⟦<AnyContent<'a> as Asn1DefinedBy<ObjectIdentifier>>⟧.by item parser.old parser.new result }
+        ensures rest { EndsWith parser.old parser.new }
+        ensures stops { OnErr result (⟦<AnyContent<'a> as Asn1DefinedBy<ObjectIdentifier>>⟧.by.means.stops (⟦<AnyContent<'a> as Asn1DefinedBy<ObjectIdentifier>>⟧.by.seen item) parser.old parser.new) }
+    {
+        if is_identifier(&item, some_oid()) {
+            return Ok(AnyContent::Octets(parser.read_element::<&'a [u8]>()?));
+        }
+        if is_identifier(&item, other_oid()) {
+            return Ok(AnyContent::Number(parser.read_element::<Explicit<u32, 1>>()?.into_inner()));
+        }
+        if is_identifier(&item, sha256_with_rsa()) {
+            return Ok(AnyContent::Flag(parser.read_element::<Option<bool>>()?));
+        }
+        Ok(AnyContent::Unknown(AnyContentUnknown {
+            item,
+            value: parser.read_element::<Tlv<'a>>()?,
+        }))
+    }
+
+    fn one_text()
+        ensures { ⟦<AnyContent<'a> as Asn1DefinedBy<ObjectIdentifier>>⟧.by.means.plain }
+    {}
+}
+
+impl<'a> Asn1DefinedByWritable<ObjectIdentifier> for AnyContent<'a> {
+    type Error = WriteError;
+
+    ghost write_errors_by = { λ _ _. ⊥ };
+
+    fn item(&self) -> ObjectIdentifier {
+        match self {
+            AnyContent::Octets(_) => some_oid(),
+            AnyContent::Number(_) => other_oid(),
+            AnyContent::Flag(_) => sha256_with_rsa(),
+            AnyContent::Unknown(x) => x.item.clone().unwrap(),
+        }
+    }
+
+    fn write(&self, dest: &mut Writer<'_>) -> WriteResult<()> {
+        match self {
+            AnyContent::Octets(x) => dest.write_element(x),
+            AnyContent::Number(x) => dest.write_explicit_element(x, 1),
+            AnyContent::Flag(x) => dest.write_element(x),
+            AnyContent::Unknown(x) => dest.write_element(&x.value),
+        }
+    }
+
+    fn encoded_length(&self) -> Option<usize> {
+        match self {
+            AnyContent::Octets(x) => x.encoded_length(),
+            AnyContent::Number(x) => Explicit::<&u32, 1>::new(x).encoded_length(),
+            AnyContent::Flag(x) => x.encoded_length(),
+            AnyContent::Unknown(x) => x.value.encoded_length(),
+        }
+    }
+}
+
+/// The fields.
+type AnySequenceFields<'a> = Structure<
+    AnySequenceNames,
+    DefinedLast<ObjectIdentifier, AnyContent<'a>>,
+>;
+
+const ANY_SEQUENCE_NAMES: [&str; 2] = ["AnySequence::content_type", "AnySequence::content"];
+
+/// The names of the fields.
+struct AnySequenceNames;
+
+impl FieldNames for AnySequenceNames {
+    ghost names = { map (λ s. s.now) ANY_SEQUENCE_NAMES };
+
+    fn names() -> Names {
+        Names::new(&ANY_SEQUENCE_NAMES)
+    }
+}
+
+/// An identifier, and what it defines, whatever it is.
+#[derive(Debug, Clone, PartialEq, Eq, Hash, Drop)]
+pub struct AnySequence<'a>(AnySequenceFields<'a>);
+
+impl<'a> AnySequence<'a> {
+    /// Of these fields.
+    pub fn new(content: AnyContent<'a>) -> AnySequence<'a>
+        ensures content { result.0.fields.value ≡ content.entry }
+    {
+        let row = DefinedLast::new(content);
+        AnySequence(Structure::new(row))
+    }
+
+    /// The content.
+    pub fn content(&self) -> &AnyContent<'a>
+        ensures { result.now ≡ self.now.0.fields.value }
+    {
+        &self.0.fields.value
+    }
+}
+
+impl<'a> Asn1Type for AnySequence<'a> {
+    ghost der = { seen (λ v. v.0) ⟦<AnySequenceFields<'a> as Asn1Type>⟧.der };
+
+    fn known(&self) {
+        self.0.known()
+    }
+}
+
+impl<'a> SimpleAsn1Readable<'a> for AnySequence<'a> {
+    fn tag() -> Tag
+        ensures value { result ≡ ⟦<AnySequence<'a> as Asn1Type>⟧.der.content.tag }
+        ensures simple { ⟦<AnySequence<'a> as Asn1Type>⟧.der.is_simple }
+        ensures plain { ⟦<AnySequence<'a> as Asn1Type>⟧.der.plain }
+    {
+        Tag::constructed(0x10)
+    }
+
+    fn parse_data(alloc: Global, data: &'a [u8]) -> ParseResult<AnySequence<'a>>
+        ensures { ReadsContents ⟦<AnySequence<'a> as Asn1Type>⟧.der «data».entry.now result }
+    {
+        match <AnySequenceFields<'a> as SimpleAsn1Readable<'a>>::parse_data(alloc, data) {
+            Ok(fields) => Ok(AnySequence(fields)),
+            Err(error) => Err(error),
+        }
+    }
+}
+
+impl<'a> SimpleAsn1Writable for AnySequence<'a> {
+    type Error = WriteError;
+
+    ghost write_errors = { λ _ _. ⊥ };
+
+    fn tag() -> Tag
+        ensures value { result ≡ ⟦<AnySequence<'a> as Asn1Type>⟧.der.content.tag }
+        ensures simple { ⟦<AnySequence<'a> as Asn1Type>⟧.der.is_simple }
+    {
+        Tag::constructed(0x10)
+    }
+
+    fn write_data(&self, dest: &mut WriteBuf) -> WriteResult<()> {
+        self.0.write_data(dest)
+    }
+
+    fn data_length(&self) -> Option<usize> {
+        self.0.data_length()
+    }
+}
+
+/// An identifier that no other variant of `Listed` is for, and the value.
+#[derive(PartialEq, Eq, Drop)]
+pub struct ListedUnknown<'a> {
+    item: ObjectIdentifier,
+    value: Tlv<'a>,
+    pub ghost is_not_other_oid: { bytes_eq (identifier_of item) (42 ∷ 4 ∷ []) ≡ false },
+}
+
+impl<'a> ListedUnknown<'a> {
+    /// Of this identifier and this value; `None` where another variant is for the identifier.
+    pub fn new(item: ObjectIdentifier, value: Tlv<'a>) -> Option<ListedUnknown<'a>>
+        ensures { MatchOption result (bytes_eq (identifier_of item) (42 ∷ 4 ∷ []) ≡ true) (λ v. (v.item ≡ item) × (v.value ≡ value.entry)) }
+    {
+        if is_identifier(&item, other_oid()) {
+            return None;
+        }
+        Some(ListedUnknown { item, value })
+    }
+
+    /// The identifier.
+    pub fn item(&self) -> &ObjectIdentifier
+        ensures { result.now ≡ self.now.item }
+    {
+        &self.item
+    }
+
+    /// The value.
+    pub fn value(&self) -> Tlv<'a>
+        ensures { result ≡ self.now.value }
+    {
+        self.value
+    }
+}
+
+impl<'a> Clone for ListedUnknown<'a> {
+    ghost is_clone = { λ x y. (identifier_of y.item ≡ identifier_of x.item) × (y.value ≡ x.value) };
+
+    ghost is_infallible = { λ _. ⊤ };
+
+    fn clone(&self) -> Result<ListedUnknown<'a>, AllocError> {
+        Ok(ListedUnknown {
+            item: self.item.clone()?,
+            value: self.value,
+        })
+    }
+}
+
+/// Numbers, or any other content, before a note.
+#[derive(Clone, PartialEq, Eq, Drop)]
+pub enum Listed<'a> {
+    /// Numbers.
+    Numbers(SequenceOf<'a, u64, 0, { usize::MAX }>),
+    /// Every other identifier, and its value.
+    Unknown(ListedUnknown<'a>),
+}
+
+impl<'a> Asn1DefinedBy<ObjectIdentifier> for Listed<'a> {
+    ghost use Rattle.derived.specs.declared.page.Listed.TheVariants.{Numbers, Unknown};
+
+    ghost by = { by_item (record { item = ⟦<ObjectIdentifier as Asn1Type>⟧.der; value = or_variant (record { item = 42 ∷ 4 ∷ []; is = λ n. bytes_eq n (42 ∷ 4 ∷ []); itself = refl; alone = λ n e. sym ((bytes_eq-Decides n (42 ∷ 4 ∷ [])).0 e) }) ⟦<SequenceOf<'a, u64, 0, { usize::MAX }> as Asn1Type>⟧.der (any_variant ⟦<Tlv<'a> as Asn1Type>⟧.der (λ m. m)) (elim [ Numbers x ↦ inl (⟦<SequenceOf<'a, u64, 0, { usize::MAX }> as Asn1Type>⟧.der.meaning x) | Unknown x ↦ inr (⟦<ObjectIdentifier as Asn1Type>⟧.der.meaning x.item, ⟦<Tlv<'a> as Asn1Type>⟧.der.meaning x.value) ]) }) };
+
+    fn known_by(&self) {
+        match self {
+            Listed::Numbers(x) => x.known(),
+            Listed::Unknown(x) => x.value.known(),
+        }
+    }
+}
+
+impl<'a> DefinedField<ObjectIdentifier> for Listed<'a> {
+    ghost both = { record { item = ⟦<ObjectIdentifier as Asn1Type>⟧.der; value = ⟦<Listed<'a> as Asn1DefinedBy<ObjectIdentifier>>⟧.by.means } };
+
+    fn known_item(&self) {
+        match self {
+            Listed::Numbers(_) => other_oid().known(),
+            Listed::Unknown(x) => x.item.known(),
+        }
+    }
+
+    ghost agrees = { word_for_word _ };
+}
+
+impl<'a> Asn1DefinedByReadable<'a, ObjectIdentifier> for Listed<'a> {
+    fn parse(item: ObjectIdentifier, parser: &mut Parser<'a>) -> ParseResult<Listed<'a>>
+        ensures answers { ReadsDefined ⟦<Listed<'a> as Asn1DefinedBy<ObjectIdentifier>>⟧.by item parser.old parser.new result }
+        ensures rest { EndsWith parser.old parser.new }
+        ensures stops { OnErr result (⟦<Listed<'a> as Asn1DefinedBy<ObjectIdentifier>>⟧.by.means.stops (⟦<Listed<'a> as Asn1DefinedBy<ObjectIdentifier>>⟧.by.seen item) parser.old parser.new) }
+    {
+        if is_identifier(&item, other_oid()) {
+            return Ok(Listed::Numbers(parser.read_element::<
+                SequenceOf<'a, u64, 0, { usize::MAX }>,
+            >()?));
+        }
+        Ok(Listed::Unknown(ListedUnknown {
+            item,
+            value: parser.read_element::<Tlv<'a>>()?,
+        }))
+    }
+
+    fn one_text()
+        ensures { ⟦<Listed<'a> as Asn1DefinedBy<ObjectIdentifier>>⟧.by.means.plain }
+    {}
+}
+
+impl<'a> Asn1DefinedByWritable<ObjectIdentifier> for Listed<'a> {
+    type Error = WriteError;
+
+    ghost write_errors_by = { λ _ _. ⊥ };
+
+    fn item(&self) -> ObjectIdentifier {
+        match self {
+            Listed::Numbers(_) => other_oid(),
+            Listed::Unknown(x) => x.item.clone().unwrap(),
+        }
+    }
+
+    fn write(&self, dest: &mut Writer<'_>) -> WriteResult<()> {
+        match self {
+            Listed::Numbers(x) => dest.write_element(x),
+            Listed::Unknown(x) => dest.write_element(&x.value),
+        }
+    }
+
+    fn encoded_length(&self) -> Option<usize> {
+        match self {
+            Listed::Numbers(x) => x.encoded_length(),
+            Listed::Unknown(x) => x.value.encoded_length(),
+        }
+    }
+}
+
+/// The fields.
+type EntryFields<'a> = Structure<
+    EntryNames,
+    Defined<ObjectIdentifier, Explicit<Listed<'a>, 0>, Last<Option<bool>>>,
+>;
+
+const ENTRY_NAMES: [&str; 3] = ["Entry::kind", "Entry::listed", "Entry::note"];
+
+/// The names of the fields.
+struct EntryNames;
+
+impl FieldNames for EntryNames {
+    ghost names = { map (λ s. s.now) ENTRY_NAMES };
+
+    fn names() -> Names {
+        Names::new(&ENTRY_NAMES)
+    }
+}
+
+/// An identifier, what it defines under a tag, and a note.
+#[derive(PartialEq, Eq, Drop)]
+pub struct Entry<'a>(EntryFields<'a>);
+
+impl<'a> Entry<'a> {
+    /// Of these fields.
+    pub fn new(listed: Listed<'a>, note: Option<bool>) -> Entry<'a>
+        ensures listed { explicit_inner result.0.fields.value ≡ listed.entry }
+        ensures note { result.0.fields.rest.value ≡ note }
+    {
+        let listed = Explicit::new(listed);
+        let row = Last::new(note);
+        let row = Defined::new(listed, row);
+        Entry(Structure::new(row))
+    }
+
+    /// The list, or another content.
+    pub fn listed(&self) -> &Listed<'a>
+        ensures { result.now ≡ explicit_inner self.now.0.fields.value }
+    {
+        self.0.fields.value.as_inner()
+    }
+
+    /// A note, which may be unsaid.
+    pub fn note(&self) -> Option<bool>
+        ensures { result ≡ self.now.0.fields.rest.value }
+    {
+        self.0.fields.rest.value
+    }
+}
+
+impl<'a> Asn1Type for Entry<'a> {
+    ghost der = { seen (λ v. v.0) ⟦<EntryFields<'a> as Asn1Type>⟧.der };
+
+    fn known(&self) {
+        self.0.known()
+    }
+}
+
+impl<'a> SimpleAsn1Readable<'a> for Entry<'a> {
+    fn tag() -> Tag
+        ensures value { result ≡ ⟦<Entry<'a> as Asn1Type>⟧.der.content.tag }
+        ensures simple { ⟦<Entry<'a> as Asn1Type>⟧.der.is_simple }
+        ensures plain { ⟦<Entry<'a> as Asn1Type>⟧.der.plain }
+    {
+        Tag::constructed(0x10)
+    }
+
+    fn parse_data(alloc: Global, data: &'a [u8]) -> ParseResult<Entry<'a>>
+        ensures { ReadsContents ⟦<Entry<'a> as Asn1Type>⟧.der «data».entry.now result }
+    {
+        match <EntryFields<'a> as SimpleAsn1Readable<'a>>::parse_data(alloc, data) {
+            Ok(fields) => Ok(Entry(fields)),
+            Err(error) => Err(error),
+        }
+    }
+}
+
+impl<'a> SimpleAsn1Writable for Entry<'a> {
+    type Error = WriteError;
+
+    ghost write_errors = { λ _ _. ⊥ };
+
+    fn tag() -> Tag
+        ensures value { result ≡ ⟦<Entry<'a> as Asn1Type>⟧.der.content.tag }
+        ensures simple { ⟦<Entry<'a> as Asn1Type>⟧.der.is_simple }
+    {
+        Tag::constructed(0x10)
+    }
+
+    fn write_data(&self, dest: &mut WriteBuf) -> WriteResult<()> {
+        self.0.write_data(dest)
+    }
+
+    fn data_length(&self) -> Option<usize> {
+        self.0.data_length()
+    }
+}
+
 /// The fields.
 type BagFields<'a> = Structure<BagNames, Fields2<bool, SetOfWriter<'a, u64>>>;
 
@@ -788,6 +1362,8 @@ pub fn page_are_lawful()
     ensures strings { HasOneEncoding ⟦<Strings<'static> as Asn1Type>⟧.der }
     ensures alternative { HasOneEncoding ⟦<Alternative<'static> as Asn1Type>⟧.der }
     ensures my_sequence { HasOneEncoding ⟦<MySequence as Asn1Type>⟧.der }
+    ensures any_sequence { HasOneEncoding ⟦<AnySequence<'static> as Asn1Type>⟧.der }
+    ensures entry { HasOneEncoding ⟦<Entry<'static> as Asn1Type>⟧.der }
 {
     general_name_is_lawful();
 }
