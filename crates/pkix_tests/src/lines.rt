@@ -8,12 +8,13 @@ use std::test::Fail;
 use testing::same;
 
 /// Each object with its lines.
-const SHOWN: [(Kind, &str, &str); 18] = [
+const SHOWN: [(Kind, &str, &str); 20] = [
     (Kind::Certificate, objects::RSA, listings::RSA),
     (Kind::Certificate, objects::CURVE, listings::CURVE),
     (Kind::Certificate, objects::FULL, listings::FULL),
     (Kind::Crl, objects::CRL, listings::CRL),
     (Kind::Crl, objects::EMPTY_CRL, listings::EMPTY_CRL),
+    (Kind::Crl, objects::EMPTY_LISTS, listings::EMPTY_LISTS),
     (Kind::Request, objects::REQUEST, listings::REQUEST),
     (Kind::Key, objects::RSA_PKCS8, listings::RSA_PKCS8),
     (Kind::Key, objects::RSA_KEY, listings::RSA_KEY),
@@ -23,6 +24,7 @@ const SHOWN: [(Kind, &str, &str); 18] = [
     (Kind::Key, objects::ED_PKCS8, listings::ED_PKCS8),
     (Kind::Signature, objects::ECDSA, listings::ECDSA),
     (Kind::Signature, objects::DIGEST, listings::DIGEST),
+    (Kind::Signature, objects::EMPTY_SETS, listings::EMPTY_SETS),
     (
         Kind::TimestampRequest,
         objects::STAMP_REQUEST,

@@ -437,3 +437,26 @@ status.failInfo: 80\n\
 status.failInfo.unusedBits: 07\n\
 same\n\
 ";
+
+/// The lines of the revocation list of no entries.
+pub const EMPTY_LISTS: &str = "\
+version: 01\n\
+signature: 1.2.3\n\
+issuer.0: (empty)\n\
+thisUpdate: 2020-01-01T00:00:00Z\n\
+revokedCertificates: (empty)\n\
+signatureAlgorithm: 1.2.3\n\
+signatureValue: \n\
+same\n\
+";
+
+/// The lines of SignedData of no certificates.
+pub const EMPTY_SETS: &str = "\
+contentType: 1.2.840.113549.1.7.2 (signedData)\n\
+content.version: 01\n\
+content.digestAlgorithms: (empty)\n\
+content.encapContentInfo.eContentType: 1.2.840.113549.1.7.1 (data)\n\
+content.certificates: (empty)\n\
+content.signerInfos: (empty)\n\
+same\n\
+";

@@ -63,9 +63,12 @@ impl Show for Name<'_> {
         let mut count = 0usize;
         for set in self.items().clone()? {
             let place = item(alloc, place, count)?;
+            let mut attributes = 0usize;
             for attribute in read_again(set)? {
                 read_again(attribute)?.show(alloc, place.as_str(), out)?;
+                attributes = attributes.saturating_add(1);
             }
+            empty(place.as_str(), attributes, out)?;
             count = count.saturating_add(1);
         }
         empty(place, count, out)

@@ -1,7 +1,7 @@
 //! Revocation lists (RFC 5280, 5.1).
 
 use crate::answers::Fault;
-use crate::show::{Show, item, optional, part, read_again};
+use crate::show::{Show, empty, item, optional, part, read_again};
 use pkix::revocation::{CertificateList, RevokedCertificate, RevokedCertificates, TbsCertList};
 use std::alloc::Global;
 
@@ -33,7 +33,7 @@ impl Show for RevokedCertificates<'_> {
             read_again(entry)?.show(alloc, place.as_str(), out)?;
             count = count.saturating_add(1);
         }
-        Ok(())
+        empty(place, count, out)
     }
 }
 

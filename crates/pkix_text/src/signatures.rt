@@ -2,7 +2,7 @@
 
 use crate::answers::Fault;
 use crate::common::short_name;
-use crate::show::{Show, item, optional, part, read_again, within};
+use crate::show::{Show, empty, item, optional, part, read_again, within};
 use asn1::{Asn1Readable, Asn1Writable, SetOf, parse_single};
 use pkix::signatures::{
     ContentInfo, DigestInfo, EcdsaSigValue, EncapsulatedContentInfo, IssuerAndSerialNumber,
@@ -107,7 +107,7 @@ fn set<'a, T: Asn1Readable<'a> + Asn1Writable + Show>(
         read_again(value)?.show(alloc, place.as_str(), out)?;
         count = count.saturating_add(1);
     }
-    Ok(())
+    empty(place.as_str(), count, out)
 }
 
 impl Show for SignedData<'_> {

@@ -345,7 +345,8 @@ impl<'a> SimpleAsn1Writable for SubjectKeyIdentifier<'a> {
     }
 }
 
-/// KeyUsage (RFC 5280, 4.2.1.3), a BIT STRING; identifier 2.5.29.15.
+/// KeyUsage (RFC 5280, 4.2.1.3), a BIT STRING; identifier 2.5.29.15. Its bits have names: zero bits at the end, which
+/// X.690 11.2.2 then forbids, aren't looked at, and are kept.
 #[derive(Debug, Clone, PartialEq, Eq, Drop)]
 pub struct KeyUsage<'a>(BitString<'a>);
 
