@@ -5,8 +5,10 @@ import re
 from declarations import Rejected
 from declared_types import GHOST, KEPT, LIST, camel, snake
 
+
 def der(type):
-    return f"⟦<{type} as Asn1Type>⟧.der"
+    """What a type means. Its bound is a number here: the kit takes back no library that quotes it as a constant."""
+    return f"⟦<{str(type).replace('{ usize::MAX }', str(2**64 - 1))} as Asn1Type>⟧.der"
 
 
 def clauses(*lines):

@@ -295,7 +295,7 @@ fn contents_that_are_made(rt: HostRuntime) -> Result<(), Fail> {
         (AnyContent::Unknown(other), CONTENTS[4]),
     ];
     for (content, octets) in rows {
-        let written = write_single(alloc, &AnySequence::new(content))?;
+        let written = write_readable(alloc, &AnySequence::new(content))?;
         assert_eq!(rt; written.as_slice(), octets);
     }
     Ok(())

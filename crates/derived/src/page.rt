@@ -1083,7 +1083,7 @@ pub enum Listed<'a> {
 impl<'a> Asn1DefinedBy<ObjectIdentifier> for Listed<'a> {
     ghost use Rattle.derived.specs.declared.page.Listed.TheVariants.{Numbers, Unknown};
 
-    ghost by = { by_item (record { item = ⟦<ObjectIdentifier as Asn1Type>⟧.der; value = or_variant (record { item = 42 ∷ 4 ∷ []; is = λ n. bytes_eq n (42 ∷ 4 ∷ []); itself = refl; alone = λ n e. sym ((bytes_eq-Decides n (42 ∷ 4 ∷ [])).0 e) }) ⟦<SequenceOf<'a, u64, 0, { usize::MAX }> as Asn1Type>⟧.der (any_variant ⟦<Tlv<'a> as Asn1Type>⟧.der (λ m. m)) (elim [ Numbers x ↦ inl (⟦<SequenceOf<'a, u64, 0, { usize::MAX }> as Asn1Type>⟧.der.meaning x) | Unknown x ↦ inr (⟦<ObjectIdentifier as Asn1Type>⟧.der.meaning x.item, ⟦<Tlv<'a> as Asn1Type>⟧.der.meaning x.value) ]) }) };
+    ghost by = { by_item (record { item = ⟦<ObjectIdentifier as Asn1Type>⟧.der; value = or_variant (record { item = 42 ∷ 4 ∷ []; is = λ n. bytes_eq n (42 ∷ 4 ∷ []); itself = refl; alone = λ n e. sym ((bytes_eq-Decides n (42 ∷ 4 ∷ [])).0 e) }) ⟦<SequenceOf<'a, u64, 0, 18446744073709551615> as Asn1Type>⟧.der (any_variant ⟦<Tlv<'a> as Asn1Type>⟧.der (λ m. m)) (elim [ Numbers x ↦ inl (⟦<SequenceOf<'a, u64, 0, 18446744073709551615> as Asn1Type>⟧.der.meaning x) | Unknown x ↦ inr (⟦<ObjectIdentifier as Asn1Type>⟧.der.meaning x.item, ⟦<Tlv<'a> as Asn1Type>⟧.der.meaning x.value) ]) }) };
 
     fn known_by(&self) {
         match self {
