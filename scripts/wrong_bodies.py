@@ -65,13 +65,28 @@ def source_of(crate, function):
     return next(file for file in [*files, crate / "src/lib.rt"] if file.is_file())
 
 
+def opening(lines, head, indent):
+    """The line that opens the body of a function, whose head is at this line; None where it has no body.
+
+    Clauses may hold braces and ends of lines such as `= year;`, and behind them the brace of a body stands alone."""
+    has_clauses = False
+    for place in range(head, len(lines)):
+        line = lines[place]
+        has_clauses = has_clauses or re.match(r" *(ensures|requires|ghost)\b", line) is not None
+        if line == f"{indent}{{\n" or not has_clauses and line.endswith("{\n"):
+            return place
+        if line == f"{indent}{{}}\n" or line.endswith("};\n" if has_clauses else (";\n", "{}\n")):
+            return None
+    return None
+
+
 def body_of(text, function, header):
     """Where the body of a function begins and ends in its file."""
     lines = text.splitlines(keepends=True)
     indent, start = ("    ", impl_with(lines, header)) if header else ("", 0)
     begins = re.compile(rf"{indent}(pub(\(\w+\))? )?(const )?fn {function.rsplit('::', 1)[1]}\b")
     start = next(place for place in range(start, len(lines)) if begins.match(lines[place]))
-    opens = next(place for place in range(start, len(lines)) if lines[place].endswith("{\n"))
+    opens = opening(lines, start, indent)
     closes = lines.index(indent + "}\n", opens)
     before, own = (len("".join(part)) for part in (lines[: opens + 1], lines[opens + 1 : closes]))
     return before, before + own, f"{indent}    "
