@@ -124,8 +124,10 @@ def at(index, after=""):
 
 def accessor(module, part, index):
     """Returns a field: a copy where its type is Copy, else a reference."""
-    known = module.known(part.base if part.default is not None or part.form.name in ("Implicit", "Explicit") else part.form)
+    known = module.known(part.base if part.default is not None or part.tag else part.form)
     copy = bool(known and known.is_copy)
+    if part.form.name == "Option" and part.tag:
+        return missing_accessor(part, index, copy)
     where, after = "self.now.0.fields" + ".rest" * index + ".value", ""
     type = part.form
     if part.default is not None:
@@ -144,6 +146,24 @@ def accessor(module, part, index):
         ensures {{ {'result' if copy else 'result.now'} ≡ {where} }}
     {{
         {before}{body}
+    }}
+"""
+
+
+def missing_accessor(part, index, copy):
+    """Returns a field with a tag that may be missing: the value under the tag, a copy or a reference as above."""
+    inner, view = ("into_inner", "λ v. v") if copy else ("as_inner", "λ v. v.now")
+    call = f"{'' if copy else '.as_ref()'}.map({part.tag.capitalize()}::{inner})"
+    before, path = at(index)
+    if len(path + call) > 60:
+        before, path = f"{before}let field = {'' if copy else '&'}{path};\n        ", "field"
+    where = "self.now.0.fields" + ".rest" * index + ".value"
+    return f"""
+    {comment(part, "The field.")}
+    pub fn {part.name}(&self) -> Option<{'' if copy else '&'}{part.base}>
+        ensures {{ option_meaning ({view}) result ≡ option_meaning {part.tag}_inner {where} }}
+    {{
+        {before}{path}{call}
     }}
 """
 
@@ -190,8 +210,7 @@ def constructor(item, row):
 def wrapped(part, name):
     """The field's value in the row, where its type is another there."""
     if part.form.name == "Option" and part.tag:
-        some = f"Some(value) => Some({part.tag.capitalize()}::new(value))"
-        return f"let {name} = match {name} {{ {some}, None => None, }};\n        "
+        return f"let {name} = {name}.map({part.tag.capitalize()}::new);\n        "
     value = f"{part.tag.capitalize()}::new({name})" if part.tag else name
     value = f"Defaulted::new({value})" if part.default is not None else value
     return "" if value == name else f"let {name} = {value};\n        "

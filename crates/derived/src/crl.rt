@@ -722,10 +722,7 @@ impl<'a> TbsCertList<'a> {
         ensures revoked { result.0.fields.rest.rest.rest.rest.rest.value ≡ revoked.entry }
         ensures extensions { option_meaning explicit_inner result.0.fields.rest.rest.rest.rest.rest.rest.value ≡ option_meaning (λ v. v) extensions.entry }
     {
-        let extensions = match extensions {
-            Some(value) => Some(Explicit::new(value)),
-            None => None,
-        };
+        let extensions = extensions.map(Explicit::new);
         let row = Last::new(extensions);
         let row = Field::new(revoked, row);
         let row = Field::new(next_update, row);
@@ -779,10 +776,11 @@ impl<'a> TbsCertList<'a> {
     }
 
     /// What else is said.
-    pub fn extensions(&self) -> &Option<Explicit<Extensions<'a>, 0>>
-        ensures { result.now ≡ self.now.0.fields.rest.rest.rest.rest.rest.rest.value }
+    pub fn extensions(&self) -> Option<&Extensions<'a>>
+        ensures { option_meaning (λ v. v.now) result ≡ option_meaning explicit_inner self.now.0.fields.rest.rest.rest.rest.rest.rest.value }
     {
-        &self.0.fields.rest.rest.rest.rest.rest.rest.value
+        let field = &self.0.fields.rest.rest.rest.rest.rest.rest.value;
+        field.as_ref().map(Explicit::as_inner)
     }
 }
 

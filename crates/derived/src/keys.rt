@@ -158,10 +158,7 @@ impl<'a> PrivateKeyInfo<'a> {
         ensures key { result.0.fields.rest.rest.value ≡ key.entry }
         ensures attributes { option_meaning implicit_inner result.0.fields.rest.rest.rest.value ≡ option_meaning (λ v. v) attributes.entry }
     {
-        let attributes = match attributes {
-            Some(value) => Some(Implicit::new(value)),
-            None => None,
-        };
+        let attributes = attributes.map(Implicit::new);
         let row = Last::new(attributes);
         let row = Field::new(key, row);
         let row = Field::new(algorithm, row);
@@ -191,10 +188,11 @@ impl<'a> PrivateKeyInfo<'a> {
     }
 
     /// What else is said of it.
-    pub fn attributes(&self) -> &Option<Implicit<SetOf<'a, KeyAttribute<'a>>, 0>>
-        ensures { result.now ≡ self.now.0.fields.rest.rest.rest.value }
+    pub fn attributes(&self) -> Option<&SetOf<'a, KeyAttribute<'a>>>
+        ensures { option_meaning (λ v. v.now) result ≡ option_meaning implicit_inner self.now.0.fields.rest.rest.rest.value }
     {
-        &self.0.fields.rest.rest.rest.value
+        let field = &self.0.fields.rest.rest.rest.value;
+        field.as_ref().map(Implicit::as_inner)
     }
 }
 

@@ -237,14 +237,8 @@ impl<'a> Tagged<'a> {
         ensures numbers { implicit_inner result.0.fields.rest.rest.rest.rest.value ≡ numbers.entry }
         ensures signature { explicit_inner result.0.fields.rest.rest.rest.rest.rest.value ≡ signature }
     {
-        let octets = match octets {
-            Some(value) => Some(Implicit::new(value)),
-            None => None,
-        };
-        let number = match number {
-            Some(value) => Some(Explicit::new(value)),
-            None => None,
-        };
+        let octets = octets.map(Implicit::new);
+        let number = number.map(Explicit::new);
         let critical = Defaulted::new(critical);
         let version = Defaulted::new(Explicit::new(version));
         let numbers = Implicit::new(numbers);
@@ -259,17 +253,17 @@ impl<'a> Tagged<'a> {
     }
 
     /// Octets under a tag in place of their own.
-    pub fn octets(&self) -> &Option<Implicit<&'a [u8], 0>>
-        ensures { result.now ≡ self.now.0.fields.value }
+    pub fn octets(&self) -> Option<&'a [u8]>
+        ensures { option_meaning (λ v. v) result ≡ option_meaning implicit_inner self.now.0.fields.value }
     {
-        &self.0.fields.value
+        self.0.fields.value.map(Implicit::into_inner)
     }
 
     /// A number under a tag around its own.
-    pub fn number(&self) -> &Option<Explicit<u64, 1>>
-        ensures { result.now ≡ self.now.0.fields.rest.value }
+    pub fn number(&self) -> Option<u64>
+        ensures { option_meaning (λ v. v) result ≡ option_meaning explicit_inner self.now.0.fields.rest.value }
     {
-        &self.0.fields.rest.value
+        self.0.fields.rest.value.map(Explicit::into_inner)
     }
 
     /// Whether something is so: false, unless said.

@@ -2,6 +2,7 @@
 
 ghost use Rattle.std.specs.Prelude.{◌≡◌, map};
 ghost use Rattle.asn1.specs.Der.{seen};
+ghost use Rattle.asn1.specs.InHand.{explicit_inner, implicit_inner};
 ghost use Rattle.asn1.specs.Options.{option_meaning};
 ghost use Rattle.asn1.specs.Reads.{ReadsContents};
 ghost use Rattle.dercheck.specs.declared.own_types.some_sequence.TheConstants.{NAMES};
@@ -39,34 +40,29 @@ pub struct SomeSequence<'a>(Fields<'a>);
 impl<'a> SomeSequence<'a> {
     /// These fields in a sequence.
     pub fn new(a: Option<&'a [u8]>, b: Option<u64>) -> SomeSequence<'a>
-        ensures a { option_meaning (λ x. x.inner.now) result.0.fields.value
-            ≡ option_meaning (λ octets. octets.now) a.entry }
-        ensures b { option_meaning (λ x. x.inner) result.0.fields.rest.value
-            ≡ option_meaning (λ n. n) b }
+        ensures a { option_meaning implicit_inner result.0.fields.value
+            ≡ option_meaning (λ v. v) a.entry }
+        ensures b { option_meaning explicit_inner result.0.fields.rest.value
+            ≡ option_meaning (λ v. v) b }
     {
-        let a = match a {
-            Some(octets) => Some(Implicit::new(octets)),
-            None => None,
-        };
-        let b = match b {
-            Some(number) => Some(Explicit::new(number)),
-            None => None,
-        };
-        SomeSequence(Structure::new(Field::new(a, Last::new(b))))
+        let behind = Last::new(b.map(Explicit::new));
+        SomeSequence(Structure::new(Field::new(a.map(Implicit::new), behind)))
     }
 
     /// The octets.
-    pub fn a(&self) -> &Option<Implicit<&'a [u8], 0>>
-        ensures { result.now ≡ self.now.0.fields.value }
+    pub fn a(&self) -> Option<&'a [u8]>
+        ensures { option_meaning (λ v. v) result
+            ≡ option_meaning implicit_inner self.now.0.fields.value }
     {
-        &self.0.fields.value
+        self.0.fields.value.map(Implicit::into_inner)
     }
 
     /// The number.
-    pub fn b(&self) -> &Option<Explicit<u64, 1>>
-        ensures { result.now ≡ self.now.0.fields.rest.value }
+    pub fn b(&self) -> Option<u64>
+        ensures { option_meaning (λ v. v) result
+            ≡ option_meaning explicit_inner self.now.0.fields.rest.value }
     {
-        &self.0.fields.rest.value
+        self.0.fields.rest.value.map(Explicit::into_inner)
     }
 }
 
