@@ -4,6 +4,7 @@ use Rattle.asn1.specs.declared.wrappers.tagged.Explicit.{Explicit}
 use Rattle.asn1.specs.declared.wrappers.tagged.Implicit.{Implicit}
 use Rattle.asn1.specs.declared.wrappers.tagged.OctetStringEncoded.{OctetStringEncoded}
 use Rattle.asn1.specs.declared.wrappers.defaulted.Defaulted.{Defaulted}
+use Rattle.asn1.specs.declared.wrappers.errors.ErrorInto.{ErrorInto}
 use Rattle.asn1.specs.declared.lists.sets.Set.{Set}
 use Rattle.asn1.specs.declared.lists.writers.SequenceOfWriter.{SequenceOfWriter}
 use Rattle.asn1.specs.declared.lists.writers.SequenceWriter.{SequenceWriter}
@@ -20,6 +21,9 @@ octet_string_inner x = x.inner
 
 abbrev pub defaulted_inner : {T D : Type 0} → Defaulted T D → T
 defaulted_inner x = x.inner
+
+abbrev pub error_into_inner : {A E : Type 0} → ErrorInto A E → A
+error_into_inner x = x.inner
 
 -- The items of the slice that is written as a sequence.
 abbrev pub sequence_items : {T : Type 0} → SequenceOfWriter T → List T

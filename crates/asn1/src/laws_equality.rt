@@ -7,8 +7,8 @@ ghost use Rattle.asn1.specs.InHand.{octets_of_set};
 ghost use Rattle.asn1.specs.Sequences.{sequence_octets};
 
 use crate::{
-    Choice1, Choice2, Choice3, Defaulted, Explicit, Implicit, OctetStringEncoded, Sequence, Set,
-    Tlv,
+    Choice1, Choice2, Choice3, Defaulted, ErrorInto, Explicit, Implicit, OctetStringEncoded,
+    Sequence, Set, Tlv,
 };
 use asn1_core::Asn1Type;
 use std::hash::Hash;
@@ -131,4 +131,27 @@ pub fn choices_are_cloned<T1: Clone + PartialEq, T2: Clone + PartialEq, T3: Clon
     ensures choice3_infallible { NeverFails T1.is_infallible → NeverFails T2.is_infallible
         → NeverFails T3.is_infallible
         → NeverFails ⟦<Choice3<T1, T2, T3> as Clone>⟧.is_infallible }
+{}
+
+/// A value whose writes fail with another error compares as it does otherwise.
+pub fn error_into_compares<T: Asn1Type + PartialEq, E>()
+    ensures { IsEqualityOf T.der.meaning T.eq
+        → IsEqualityOf ⟦<ErrorInto<T, E> as Asn1Type>⟧.der.meaning
+        ⟦<ErrorInto<T, E> as PartialEq>⟧.eq }
+{}
+
+/// It hashes as it does otherwise.
+pub fn error_into_hashes<T: Asn1Type + Hash, E>()
+    ensures { HashesAlike T.der.meaning T.hash_input
+        → HashesAlike ⟦<ErrorInto<T, E> as Asn1Type>⟧.der.meaning
+        ⟦<ErrorInto<T, E> as Hash>⟧.hash_input }
+{}
+
+/// It is cloned as it is otherwise.
+pub fn error_into_is_cloned<T: Clone + PartialEq, E>()
+    ensures clone { ClonesAreEqual T.is_clone T.eq
+        → ClonesAreEqual ⟦<ErrorInto<T, E> as Clone>⟧.is_clone
+        ⟦<ErrorInto<T, E> as PartialEq>⟧.eq }
+    ensures infallible { NeverFails T.is_infallible
+        → NeverFails ⟦<ErrorInto<T, E> as Clone>⟧.is_infallible }
 {}

@@ -8,7 +8,7 @@ ghost use Rattle.asn1.specs.TypeLaws.{Inherits, InheritsBoth, IsSound, IsSoundOw
 use crate::fields::{Field, FieldNames, Last, Row, Structure};
 use crate::{
     BMPString, BigInt, BigUint, BitString, Choice1, Choice2, Choice3, DefaultValue, Defaulted,
-    Enumerated, Explicit, GeneralizedTime, IA5String, MeaningEq, Null, ObjectIdentifier,
+    Enumerated, ErrorInto, Explicit, GeneralizedTime, IA5String, MeaningEq, Null, ObjectIdentifier,
     OctetStringEncoded, OwnedBigInt, OwnedBigUint, OwnedBitString, PrintableString, Sequence,
     SequenceOf, SequenceOfWriter, Set, SetOf, SetOfWriter, Tlv, UniversalString, UtcTime,
     Utf8String, VisibleString, X509GeneralizedTime,
@@ -101,6 +101,11 @@ pub fn wrappers_inherit<T: Asn1Type, const TAG: u32>()
 /// A field with a default does so too, by its type.
 pub fn defaults_inherit<T: MeaningEq, D: DefaultValue<T>>()
     ensures { Inherits T.der ⟦<Defaulted<T, D> as Asn1Type>⟧.der }
+{}
+
+/// A value whose writes fail with another error does so too.
+pub fn error_into_inherits<T: Asn1Type, E>()
+    ensures { Inherits T.der ⟦<ErrorInto<T, E> as Asn1Type>⟧.der }
 {}
 
 /// Choices do so too, by each of their alternatives.

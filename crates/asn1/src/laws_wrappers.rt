@@ -4,7 +4,7 @@ ghost use Rattle.std.specs.Prelude.{◌≡◌, true, false};
 ghost use Rattle.asn1.specs.Alternatives.{Disjoint};
 
 use crate::{
-    Choice1, Choice2, Choice3, DefaultValue, Defaulted, Explicit, Implicit, MeaningEq,
+    Choice1, Choice2, Choice3, DefaultValue, Defaulted, ErrorInto, Explicit, Implicit, MeaningEq,
     OctetStringEncoded,
 };
 use asn1_core::{Asn1DefinedBy, Asn1Type};
@@ -23,6 +23,12 @@ pub fn wrappers_are_lawful<T: Asn1Type, const TAG: u32>()
 /// A field with a default is lawful where its part is, and where that is an element, as for an option.
 pub fn defaults_are_lawful<T: MeaningEq, D: DefaultValue<T>>()
     ensures { T.der.lawful → T.der.is_element → ⟦<Defaulted<T, D> as Asn1Type>⟧.der.lawful }
+{}
+
+/// A value whose writes fail with another error is lawful, and an element, where it is so otherwise.
+pub fn error_into_is_lawful<T: Asn1Type, E>()
+    ensures lawful { T.der.lawful → ⟦<ErrorInto<T, E> as Asn1Type>⟧.der.lawful }
+    ensures element { T.der.is_element → ⟦<ErrorInto<T, E> as Asn1Type>⟧.der.is_element }
 {}
 
 /// A choice of lawful elements is lawful where no tag is accepted by two alternatives.

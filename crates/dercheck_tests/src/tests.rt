@@ -10,6 +10,7 @@ mod frames;
 mod nested;
 mod nothing;
 mod own_types;
+mod parcel;
 mod set_pair;
 mod ticket;
 
