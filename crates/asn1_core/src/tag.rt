@@ -128,8 +128,8 @@ impl Tag {
         }
     }
 
-    /// The tag of these parts.
-    fn new(value: u32, class: TagClass, constructed: bool) -> Tag
+    /// The tag with this number and class, of a constructed encoding or of a primitive one.
+    pub fn new(value: u32, class: TagClass, constructed: bool) -> Tag
         ensures { result ≡ tag_with class constructed value }
     {
         Tag {

@@ -69,7 +69,7 @@ fn texts_under_tags(rt: HostRuntime) -> Result<(), Fail> {
     is_written(alloc, &explicit, JONES[2])
 }
 
-/// Tags of the application class, which no wrapper has: as any element.
+/// Tags of the application class as those of any element; `application` has types with them.
 #[test]
 fn texts_under_tags_of_an_application(rt: HostRuntime) -> Result<(), Fail> {
     let alloc = rt.alloc();

@@ -2,6 +2,8 @@
 #![tactic(auto)]
 
 #[cfg(test)]
+mod application;
+#[cfg(test)]
 mod changed;
 #[cfg(test)]
 mod defaults;

@@ -1,9 +1,8 @@
 //! A set of two fields, in the order of their tags.
 
 ghost use Rattle.std.specs.Prelude.{◌≡◌, map};
-ghost use Rattle.asn1.specs.Der.{simple_der};
-ghost use Rattle.asn1.specs.Inside.{retagged};
 ghost use Rattle.asn1.specs.Items.{set_tag};
+ghost use Rattle.asn1.specs.Tagged.{seen_with_tag};
 ghost use Rattle.dercheck_tests.specs.declared.tests.set_pair.TheConstants.{NAMES};
 
 use crate::tests::own_types::{at, other_tag};
@@ -36,7 +35,7 @@ impl FieldNames for PairNames {
 pub struct Pair(Fields);
 
 impl Asn1Type for Pair {
-    ghost der = { simple_der (λ v. ⟦<Fields as Asn1Type>⟧.der.meaning v.0) (retagged (λ _. set_tag) ⟦<Fields as Asn1Type>⟧.der.content) };
+    ghost der = { seen_with_tag (λ v. v.0) set_tag ⟦<Fields as Asn1Type>⟧.der };
 
     fn known(&self) {
         self.0.known()

@@ -1,0 +1,245 @@
+//! Types with tags of the class application: those of the example of X.690, 8.14.3, and a structure.
+
+ghost use Rattle.std.specs.Prelude.{◌≡◌, false, map, true};
+ghost use Rattle.asn1.specs.Reads.{HasOneEncoding, ReadsContents};
+ghost use Rattle.asn1.specs.Tagged.{application_tag, seen_under_tag, seen_with_tag};
+ghost use Rattle.asn1_tests.specs.declared.application.TheConstants.{NAMES};
+
+use asn1::fields::{Field, FieldNames, Fields2, Last, Names, Structure};
+use asn1::{
+    Asn1Type, Asn1Writable, Explicit, Implicit, ParseError, ParseErrorKind, ParseResult,
+    SimpleAsn1Readable, SimpleAsn1Writable, Tag, TagClass, VisibleString, WriteBuf, WriteError,
+    WriteResult, Writer, parse_single,
+};
+use std::alloc::Global;
+use std::test::Fail;
+use testing::{are_refused_with, both_ways, is_written, same};
+
+/// Type2 ::= [APPLICATION 3] IMPLICIT VisibleString
+#[derive(Debug, Clone, PartialEq, Eq, Drop)]
+pub struct Type2<'a>(pub VisibleString<'a>);
+
+impl<'a> Asn1Type for Type2<'a> {
+    ghost der = { seen_with_tag (λ v. v.0) (application_tag false 3)
+        ⟦<VisibleString<'a> as Asn1Type>⟧.der };
+
+    fn known(&self) {
+        self.0.known()
+    }
+}
+
+impl<'a> SimpleAsn1Readable<'a> for Type2<'a> {
+    fn tag() -> Tag
+        ensures value { result ≡ ⟦<Type2<'a> as Asn1Type>⟧.der.content.tag }
+        ensures simple { ⟦<Type2<'a> as Asn1Type>⟧.der.is_simple }
+        ensures plain { ⟦<Type2<'a> as Asn1Type>⟧.der.plain }
+    {
+        Tag::new(3, TagClass::Application, false)
+    }
+
+    fn parse_data(alloc: Global, data: &'a [u8]) -> ParseResult<Type2<'a>>
+        ensures { ReadsContents ⟦<Type2<'a> as Asn1Type>⟧.der «data».entry.now result }
+    {
+        match <VisibleString<'a> as SimpleAsn1Readable<'a>>::parse_data(alloc, data) {
+            Ok(text) => Ok(Type2(text)),
+            Err(error) => Err(error),
+        }
+    }
+}
+
+impl<'a> SimpleAsn1Writable for Type2<'a> {
+    type Error = WriteError;
+
+    ghost write_errors = { λ _ _. ⊥ };
+
+    fn tag() -> Tag
+        ensures value { result ≡ ⟦<Type2<'a> as Asn1Type>⟧.der.content.tag }
+        ensures simple { ⟦<Type2<'a> as Asn1Type>⟧.der.is_simple }
+    {
+        Tag::new(3, TagClass::Application, false)
+    }
+
+    fn write_data(&self, dest: &mut WriteBuf) -> WriteResult<()> {
+        self.0.write_data(dest)
+    }
+
+    fn data_length(&self) -> Option<usize> {
+        self.0.data_length()
+    }
+}
+
+/// Type3 ::= [2] Type2
+type Type3<'a> = Explicit<Type2<'a>, 2>;
+
+/// Type4 ::= [APPLICATION 7] IMPLICIT Type3
+#[derive(Debug, Clone, PartialEq, Eq, Drop)]
+pub struct Type4<'a>(pub Type3<'a>);
+
+impl<'a> Asn1Type for Type4<'a> {
+    ghost der = { seen_with_tag (λ v. v.0) (application_tag true 7)
+        ⟦<Type3<'a> as Asn1Type>⟧.der };
+
+    fn known(&self) {
+        self.0.known()
+    }
+}
+
+impl<'a> SimpleAsn1Readable<'a> for Type4<'a> {
+    fn tag() -> Tag
+        ensures value { result ≡ ⟦<Type4<'a> as Asn1Type>⟧.der.content.tag }
+        ensures simple { ⟦<Type4<'a> as Asn1Type>⟧.der.is_simple }
+        ensures plain { ⟦<Type4<'a> as Asn1Type>⟧.der.plain }
+    {
+        Tag::new(7, TagClass::Application, true)
+    }
+
+    fn parse_data(alloc: Global, data: &'a [u8]) -> ParseResult<Type4<'a>>
+        ensures { ReadsContents ⟦<Type4<'a> as Asn1Type>⟧.der «data».entry.now result }
+    {
+        match <Type3<'a> as SimpleAsn1Readable<'a>>::parse_data(alloc, data) {
+            Ok(inner) => Ok(Type4(inner)),
+            Err(error) => Err(error),
+        }
+    }
+}
+
+impl<'a> SimpleAsn1Writable for Type4<'a> {
+    type Error = WriteError;
+
+    ghost write_errors = { λ _ _. ⊥ };
+
+    fn tag() -> Tag
+        ensures value { result ≡ ⟦<Type4<'a> as Asn1Type>⟧.der.content.tag }
+        ensures simple { ⟦<Type4<'a> as Asn1Type>⟧.der.is_simple }
+    {
+        Tag::new(7, TagClass::Application, true)
+    }
+
+    fn write_data(&self, dest: &mut WriteBuf) -> WriteResult<()> {
+        self.0.write_data(dest)
+    }
+
+    fn data_length(&self) -> Option<usize> {
+        self.0.data_length()
+    }
+}
+
+/// Type5 ::= [2] IMPLICIT Type2
+type Type5<'a> = Implicit<Type2<'a>, 2>;
+
+/// The fields.
+type Fields = Structure<StampNames, Fields2<u64, bool>>;
+
+const NAMES: [&str; 2] = ["Stamp::value", "Stamp::used"];
+
+struct StampNames;
+
+impl FieldNames for StampNames {
+    ghost names = { map (λ s. s.now) NAMES };
+
+    fn names() -> Names {
+        Names::new(&NAMES)
+    }
+}
+
+/// [APPLICATION 1] EXPLICIT SEQUENCE { value INTEGER, used BOOLEAN }
+#[derive(Debug, Clone, PartialEq, Eq, Hash, Drop)]
+pub struct Stamp(Fields);
+
+impl Asn1Type for Stamp {
+    ghost der = { seen_under_tag (λ v. v.0) (application_tag true 1)
+        ⟦<Fields as Asn1Type>⟧.der };
+
+    fn known(&self) {
+        self.0.known()
+    }
+}
+
+impl<'a> SimpleAsn1Readable<'a> for Stamp {
+    fn tag() -> Tag {
+        Tag::new(1, TagClass::Application, true)
+    }
+
+    fn parse_data(alloc: Global, data: &'a [u8]) -> ParseResult<Stamp> {
+        match parse_single::<Fields>(alloc, data) {
+            Ok(fields) => Ok(Stamp(fields)),
+            Err(error) => Err(error),
+        }
+    }
+}
+
+impl SimpleAsn1Writable for Stamp {
+    type Error = WriteError;
+
+    ghost write_errors = { λ _ _. ⊥ };
+
+    fn tag() -> Tag {
+        Tag::new(1, TagClass::Application, true)
+    }
+
+    fn write_data(&self, dest: &mut WriteBuf) -> WriteResult<()> {
+        Writer::new(dest).write_element(&self.0)
+    }
+
+    fn data_length(&self) -> Option<usize> {
+        self.0.encoded_length()
+    }
+}
+
+/// Each value of the types here has one encoding, which is read back.
+pub fn types_with_tags_are_lawful()
+    ensures type2 { HasOneEncoding ⟦<Type2<'static> as Asn1Type>⟧.der }
+    ensures type4 { HasOneEncoding ⟦<Type4<'static> as Asn1Type>⟧.der }
+    ensures type5 { HasOneEncoding ⟦<Type5<'static> as Asn1Type>⟧.der }
+    ensures stamp { HasOneEncoding ⟦<Stamp as Asn1Type>⟧.der }
+{}
+
+/// "Jones" of the types `Type2` to `Type5`, as X.690 has it in 8.14.3.
+#[test]
+fn texts_of_an_application(rt: HostRuntime) -> Result<(), Fail> {
+    let alloc = rt.alloc();
+    let octets: &[u8] = b"\x43\x05Jones";
+    let text = parse_single::<Type2<'_>>(alloc, octets)?;
+    same(text.0.as_str(), "Jones")?;
+    is_written(alloc, &text, octets)?;
+    let octets: &[u8] = b"\xa2\x07\x43\x05Jones";
+    let text = parse_single::<Type3<'_>>(alloc, octets)?;
+    same(text.as_inner().0.as_str(), "Jones")?;
+    is_written(alloc, &text, octets)?;
+    let octets: &[u8] = b"\x67\x07\x43\x05Jones";
+    let text = parse_single::<Type4<'_>>(alloc, octets)?;
+    same(text.0.as_inner().0.as_str(), "Jones")?;
+    is_written(alloc, &text, octets)?;
+    let octets: &[u8] = b"\x82\x05Jones";
+    let text = parse_single::<Type5<'_>>(alloc, octets)?;
+    same(text.as_inner().0.as_str(), "Jones")?;
+    is_written(alloc, &text, octets)
+}
+
+/// The tag without its structure, or with another class, or with an octet more in it.
+#[test]
+fn stamps(rt: HostRuntime) -> Result<(), Fail> {
+    let alloc = rt.alloc();
+    let stamp = Stamp(Structure::new(Field::new(7, Last::new(true))));
+    both_ways(alloc, stamp, &[0x61, 8, 0x30, 6, 2, 1, 7, 1, 1, 0xff])?;
+    let number = ParseErrorKind::UnexpectedTag {
+        actual: Tag::primitive(2),
+    };
+    let private = ParseErrorKind::UnexpectedTag {
+        actual: Tag::new(1, TagClass::Private, true),
+    };
+    are_refused_with::<Stamp>(
+        alloc,
+        &[
+            (&[0x61, 6, 2, 1, 7, 1, 1, 0xff], ParseError::new(number)),
+            (
+                &[0xe1, 8, 0x30, 6, 2, 1, 7, 1, 1, 0xff],
+                ParseError::new(private),
+            ),
+            (
+                &[0x61, 9, 0x30, 6, 2, 1, 7, 1, 1, 0xff, 5],
+                ParseError::new(ParseErrorKind::ExtraData),
+            ),
+        ],
+    )
+}
