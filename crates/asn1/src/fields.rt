@@ -18,8 +18,10 @@ use asn1_core::{
 use std::alloc::Global;
 use std::marker::PhantomData;
 
+mod between;
 mod defined;
 
+pub use between::{Between, BetweenLast};
 pub use defined::{Borrowed, Defined, DefinedField, DefinedLast, both_have_one_text};
 
 /// The names of a structure's fields, as places have them.

@@ -9,6 +9,7 @@ mod changed;
 mod frames;
 mod nested;
 mod nothing;
+mod notice;
 mod own_types;
 mod parcel;
 mod set_pair;

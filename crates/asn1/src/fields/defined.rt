@@ -147,7 +147,9 @@ pub fn both_have_one_text<
 }
 
 /// Reads the item, as both are said together.
-fn read_item<'a, T: Asn1Readable<'a>, C: DefinedField<T>>(parser: &mut Parser<'a>) -> ParseResult<T>
+pub(super) fn read_item<'a, T: Asn1Readable<'a>, C: DefinedField<T>>(
+    parser: &mut Parser<'a>,
+) -> ParseResult<T>
     ensures { Answers (λ v. (C.both.item.meaning v, parser.new)) (C.both.item.runs_out parser.old)
         result (C.both.item.read parser.old) }
 {
@@ -155,10 +157,11 @@ fn read_item<'a, T: Asn1Readable<'a>, C: DefinedField<T>>(parser: &mut Parser<'a
 }
 
 /// Reads the value that the item defines, as both are said together.
-fn read_value<'a, T: Asn1Readable<'a>, C: DefinedField<T> + Asn1DefinedByReadable<'a, T>>(
-    item: T,
-    parser: &mut Parser<'a>,
-) -> ParseResult<C>
+pub(super) fn read_value<
+    'a,
+    T: Asn1Readable<'a>,
+    C: DefinedField<T> + Asn1DefinedByReadable<'a, T>,
+>(item: T, parser: &mut Parser<'a>) -> ParseResult<C>
     ensures { Answers (λ v. (C.both.value.meaning v, parser.new))
         (C.both.value.runs_out (C.both.item.meaning item) parser.old) result
         (C.both.value.read (C.both.item.meaning item) parser.old) }
@@ -167,14 +170,14 @@ fn read_value<'a, T: Asn1Readable<'a>, C: DefinedField<T> + Asn1DefinedByReadabl
 }
 
 /// The value is one of which the laws speak, as both are said together.
-fn known_value<T: Asn1Type, C: DefinedField<T>>(value: &C)
+pub(super) fn known_value<T: Asn1Type, C: DefinedField<T>>(value: &C)
     ensures { C.both.value.valid (C.both.value.meaning value.now) }
 {
     value.known_by()
 }
 
 /// Writes the item that defines the value.
-fn write_item<T: Asn1Writable + Drop, C: DefinedField<T> + Asn1DefinedByWritable<T>>(
+pub(super) fn write_item<T: Asn1Writable + Drop, C: DefinedField<T> + Asn1DefinedByWritable<T>>(
     value: &C,
     dest: &mut Writer<'_>,
 ) -> Result<(), T::Error>
@@ -192,7 +195,7 @@ fn write_item<T: Asn1Writable + Drop, C: DefinedField<T> + Asn1DefinedByWritable
 }
 
 /// Writes the value without its item.
-fn write_value<T: Asn1Writable, C: DefinedField<T> + Asn1DefinedByWritable<T>>(
+pub(super) fn write_value<T: Asn1Writable, C: DefinedField<T> + Asn1DefinedByWritable<T>>(
     value: &C,
     dest: &mut Writer<'_>,
 ) -> Result<(), C::Error>
@@ -207,7 +210,7 @@ fn write_value<T: Asn1Writable, C: DefinedField<T> + Asn1DefinedByWritable<T>>(
 }
 
 /// How many octets the item's text has.
-fn item_length<T: Asn1Writable + Drop, C: DefinedField<T> + Asn1DefinedByWritable<T>>(
+pub(super) fn item_length<T: Asn1Writable + Drop, C: DefinedField<T> + Asn1DefinedByWritable<T>>(
     value: &C,
 ) -> Option<usize>
     ensures { KnowsLength (C.both.item.texts (C.both.value.item (C.both.value.meaning value.now)))
@@ -218,7 +221,7 @@ fn item_length<T: Asn1Writable + Drop, C: DefinedField<T> + Asn1DefinedByWritabl
 }
 
 /// How many octets the value's text has, without its item.
-fn value_length<T: Asn1Writable, C: DefinedField<T> + Asn1DefinedByWritable<T>>(
+pub(super) fn value_length<T: Asn1Writable, C: DefinedField<T> + Asn1DefinedByWritable<T>>(
     value: &C,
 ) -> Option<usize>
     ensures { KnowsLength (C.both.value.texts (C.both.value.meaning value.now)) result }
