@@ -316,26 +316,60 @@ fn compare_texts<S: Asn1Writable<Error = WriteError>, T: Asn1Writable<Error = Wr
     is_written(alloc, second, octets.as_slice())
 }
 
+/// Both values of each row have one encoding, and the second one is there.
+fn compare_all<S: Asn1Writable<Error = WriteError>, T: Asn1Writable<Error = WriteError>>(
+    alloc: Global,
+    rows: &[(S, Option<T>)],
+) -> Result<(), Fail>
+    requires of_first { (value : S) → S.der.closures (S.der.meaning value) }
+    requires of_second { (value : T) → T.der.closures (T.der.meaning value) }
+{
+    for (first, second) in rows {
+        compare_texts(alloc, first, second.as_ref().ok_or("zero")?)?;
+    }
+    Ok(())
+}
+
 /// A number that isn't 0 is written as the number.
 #[test]
 fn signed_numbers_other_than_zero(rt: HostRuntime) -> Result<(), Fail> {
     let alloc = rt.alloc();
-    for number in [1, -1, i8::MIN, i8::MAX] {
-        let other = NonZeroI8::new(number).ok_or("zero")?;
-        compare_texts(alloc, &number, &other)?;
-    }
-    for number in [1, -1, i16::MIN, i16::MAX] {
-        let other = NonZeroI16::new(number).ok_or("zero")?;
-        compare_texts(alloc, &number, &other)?;
-    }
-    for number in [1, -1, i32::MIN, i32::MAX] {
-        let other = NonZeroI32::new(number).ok_or("zero")?;
-        compare_texts(alloc, &number, &other)?;
-    }
-    for number in [1, -1, i64::MIN, i64::MAX] {
-        let other = NonZeroI64::new(number).ok_or("zero")?;
-        compare_texts(alloc, &number, &other)?;
-    }
+    compare_all(
+        alloc,
+        &[
+            (1, NonZeroI8::new(1)),
+            (-1, NonZeroI8::new(-1)),
+            (i8::MIN, NonZeroI8::new(i8::MIN)),
+            (i8::MAX, NonZeroI8::new(i8::MAX)),
+        ],
+    )?;
+    compare_all(
+        alloc,
+        &[
+            (1, NonZeroI16::new(1)),
+            (-1, NonZeroI16::new(-1)),
+            (i16::MIN, NonZeroI16::new(i16::MIN)),
+            (i16::MAX, NonZeroI16::new(i16::MAX)),
+        ],
+    )?;
+    compare_all(
+        alloc,
+        &[
+            (1, NonZeroI32::new(1)),
+            (-1, NonZeroI32::new(-1)),
+            (i32::MIN, NonZeroI32::new(i32::MIN)),
+            (i32::MAX, NonZeroI32::new(i32::MAX)),
+        ],
+    )?;
+    compare_all(
+        alloc,
+        &[
+            (1, NonZeroI64::new(1)),
+            (-1, NonZeroI64::new(-1)),
+            (i64::MIN, NonZeroI64::new(i64::MIN)),
+            (i64::MAX, NonZeroI64::new(i64::MAX)),
+        ],
+    )?;
     let lowest = NonZeroI8::new(-128).ok_or("zero")?;
     is_written(alloc, &lowest, &[0x02, 0x01, 0x80])
 }
@@ -343,23 +377,31 @@ fn signed_numbers_other_than_zero(rt: HostRuntime) -> Result<(), Fail> {
 #[test]
 fn unsigned_numbers_other_than_zero(rt: HostRuntime) -> Result<(), Fail> {
     let alloc = rt.alloc();
-    for number in [1, u8::MAX] {
-        let other = NonZeroU8::new(number).ok_or("zero")?;
-        compare_texts(alloc, &number, &other)?;
-    }
-    for number in [1, u16::MAX] {
-        let other = NonZeroU16::new(number).ok_or("zero")?;
-        compare_texts(alloc, &number, &other)?;
-    }
-    for number in [1, u32::MAX] {
-        let other = NonZeroU32::new(number).ok_or("zero")?;
-        compare_texts(alloc, &number, &other)?;
-    }
-    for number in [1, u64::MAX] {
-        let other = NonZeroU64::new(number).ok_or("zero")?;
-        compare_texts(alloc, &number, &other)?;
-    }
-    Ok(())
+    compare_all(
+        alloc,
+        &[(1, NonZeroU8::new(1)), (u8::MAX, NonZeroU8::new(u8::MAX))],
+    )?;
+    compare_all(
+        alloc,
+        &[
+            (1, NonZeroU16::new(1)),
+            (u16::MAX, NonZeroU16::new(u16::MAX)),
+        ],
+    )?;
+    compare_all(
+        alloc,
+        &[
+            (1, NonZeroU32::new(1)),
+            (u32::MAX, NonZeroU32::new(u32::MAX)),
+        ],
+    )?;
+    compare_all(
+        alloc,
+        &[
+            (1, NonZeroU64::new(1)),
+            (u64::MAX, NonZeroU64::new(u64::MAX)),
+        ],
+    )
 }
 
 /// A value in a box is read and written as the value.
