@@ -17,7 +17,9 @@ use asn1::{
 };
 use std::alloc::Global;
 use std::test::Fail;
-use testing::{all_same, are_refused_with, hash_of, is_shown, is_written, same, same_at};
+use testing::{
+    all_same, are_equal_or_not, are_refused_with, hash_of, is_shown, is_written, same, same_at,
+};
 
 /// An error at the item of this index.
 pub fn at(index: usize, kind: ParseErrorKind) -> ParseError {
@@ -117,14 +119,17 @@ fn copies_keep_their_count(rt: HostRuntime) -> Result<(), Fail> {
 
 #[test]
 fn equal_lists(rt: HostRuntime) -> Result<(), Fail> {
-    let none = parse_single::<List<'_, bool>>(rt.alloc(), &[0x30, 0x00])?;
-    let other = parse_single::<List<'_, bool>>(rt.alloc(), &[0x30, 0x00])?;
-    let no = parse_single::<List<'_, bool>>(rt.alloc(), &[0x30, 0x03, 0x01, 0x01, 0x00])?;
-    let yes = parse_single::<List<'_, bool>>(rt.alloc(), &[0x30, 0x03, 0x01, 0x01, 0xff])?;
-    assert!(rt; none == other && other != no && no == no.clone()? && no != yes);
-    let [none, other, no, yes] = [hash_of(&none), hash_of(&other), hash_of(&no), hash_of(&yes)];
-    same(none, other)?;
-    assert!(rt; other != no && no != yes);
+    let [none, no, yes]: [&[u8]; 3] = [&[0x30, 0], &[0x30, 3, 1, 1, 0], &[0x30, 3, 1, 1, 0xff]];
+    are_equal_or_not::<List<'_, bool>>(
+        rt.alloc(),
+        &[
+            (none, &[0x30, 0], true),
+            (none, no, false),
+            (no, yes, false),
+        ],
+    )?;
+    let no = parse_single::<List<'_, bool>>(rt.alloc(), no)?;
+    assert!(rt; no == no.clone()?);
     Ok(())
 }
 

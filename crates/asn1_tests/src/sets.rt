@@ -9,7 +9,8 @@ use asn1::{
 };
 use std::test::Fail;
 use testing::{
-    are_refused_with, are_written_back, hash_of, is_shown, is_written, is_written_back, same,
+    are_equal_or_not, are_refused_with, are_written_back, hash_of, is_shown, is_written,
+    is_written_back, same,
 };
 
 const FIVE_TWICE: &[u8] = &[0x31, 0x06, 0x02, 0x01, 0x05, 0x02, 0x01, 0x05];
@@ -37,14 +38,17 @@ fn copies_of_sets(rt: HostRuntime) -> Result<(), Fail> {
 
 #[test]
 fn equal_sets(rt: HostRuntime) -> Result<(), Fail> {
-    let none = parse_single::<SetOf<'_, bool>>(rt.alloc(), &[0x31, 0x00])?;
-    let other = parse_single::<SetOf<'_, bool>>(rt.alloc(), &[0x31, 0x00])?;
-    let no = parse_single::<SetOf<'_, bool>>(rt.alloc(), &[0x31, 0x03, 0x01, 0x01, 0x00])?;
-    let yes = parse_single::<SetOf<'_, bool>>(rt.alloc(), &[0x31, 0x03, 0x01, 0x01, 0xff])?;
-    assert!(rt; none == other && other != no && no == no.clone()? && no != yes);
-    let [none, other, no, yes] = [hash_of(&none), hash_of(&other), hash_of(&no), hash_of(&yes)];
-    same(none, other)?;
-    assert!(rt; other != no && no != yes);
+    let [none, no, yes]: [&[u8]; 3] = [&[0x31, 0], &[0x31, 3, 1, 1, 0], &[0x31, 3, 1, 1, 0xff]];
+    are_equal_or_not::<SetOf<'_, bool>>(
+        rt.alloc(),
+        &[
+            (none, &[0x31, 0], true),
+            (none, no, false),
+            (no, yes, false),
+        ],
+    )?;
+    let no = parse_single::<SetOf<'_, bool>>(rt.alloc(), no)?;
+    assert!(rt; no == no.clone()?);
     Ok(())
 }
 

@@ -205,6 +205,25 @@ pub fn are_both_ways<'a, T: Asn1Readable<'a> + Asn1Writable<Error = WriteError> 
     Ok(())
 }
 
+/// The octets of each row are read as two values, which are equal and hashed alike where the row says so, and else
+/// neither.
+pub fn are_equal_or_not<'a, T: Asn1Readable<'a> + PartialEq + Hash>(
+    alloc: Global,
+    rows: &[(&'a [u8], &'a [u8], bool)],
+) -> Result<(), Fail> {
+    for (octets, other, is_equal) in rows {
+        let left = parse_single::<T>(alloc, octets)?;
+        let right = parse_single::<T>(alloc, other)?;
+        let found = (
+            left == right,
+            left != right,
+            hash_of(&left) == hash_of(&right),
+        );
+        same_at((*octets, *other), found, (*is_equal, !*is_equal, *is_equal))?;
+    }
+    Ok(())
+}
+
 /// `Debug` shows the value so, in one line.
 pub fn is_shown<T: Debug>(alloc: Global, value: &T, text: &str) -> Result<(), Fail> {
     same(format!(in alloc; "{value:?}")?.as_str(), text)
