@@ -1,12 +1,15 @@
 //! Readers and writers of certificates, revocation lists, requests, keys, signatures and time stamps, in DER (X.690).
 //!
 //! Each type is that of its document: a value is read by [`asn1::parse_single`] and written by
-//! [`asn1::write_readable`], as the same octets; what isn't DER is rejected. Parameters of algorithms, values of
-//! attributes and of extensions stay elements of any type, or octets.
+//! [`asn1::write_readable`], as the same octets; what isn't DER is rejected. Parameters of algorithms and values of
+//! attributes stay elements of any type, and values of extensions octets; [`common::Extension::value`] reads those of
+//! extensions that are known.
 #![tactic(auto)]
 
 pub mod certificate;
 pub mod common;
+pub mod extension_values;
+pub mod identifiers;
 pub mod keys;
 pub mod request;
 pub mod revocation;

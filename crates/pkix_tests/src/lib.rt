@@ -5,6 +5,8 @@
 #[cfg(test)]
 mod certificates;
 #[cfg(test)]
+mod extension_values;
+#[cfg(test)]
 mod extensions;
 #[cfg(test)]
 mod keys;

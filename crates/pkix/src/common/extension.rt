@@ -1,15 +1,28 @@
-//! Extensions (RFC 5280, 4.1.2.9).
+//! Extensions (RFC 5280, 4.1.2.9), and their values.
 
 ghost use Rattle.std.specs.Prelude.{◌≡◌, map, false};
 ghost use Rattle.asn1.specs.Der.{seen};
+ghost use Rattle.asn1.specs.IdentifierValues.{identifier_of};
 ghost use Rattle.asn1.specs.InHand.{defaulted_inner};
 ghost use Rattle.asn1.specs.Reads.{ReadsContents};
+ghost use Rattle.pkix.specs.Extensions.{extension_with, ReadsExtension, typed};
 ghost use Rattle.pkix.specs.declared.common.extension.TheConstants.{EXTENSION};
+ghost use Rattle.pkix.specs.declared.extension_values.ExtensionValue.TheVariants as value;
+ghost use Rattle.pkix.specs.declared.extension_values.KnownExtension.TheVariants as known;
 
+use crate::certificate::access::AuthorityInfoAccess;
+use crate::certificate::distribution::CrlDistributionPoints;
+use crate::certificate::extensions::{
+    AuthorityKeyIdentifier, BasicConstraints, ExtendedKeyUsage, KeyUsage, SubjectAltName,
+    SubjectKeyIdentifier,
+};
+use crate::common::GeneralNames;
+use crate::extension_values::{ExtensionValue, KnownExtension};
+use crate::revocation::extensions::{CrlNumber, CrlReason};
 use asn1::fields::{Field, FieldNames, Fields3, Last, Names, Structure};
 use asn1::{
     Asn1Type, DefaultValue, Defaulted, ObjectIdentifier, ParseResult, SequenceOf,
-    SimpleAsn1Readable, SimpleAsn1Writable, Tag, WriteBuf, WriteError, WriteResult,
+    SimpleAsn1Readable, SimpleAsn1Writable, Tag, WriteBuf, WriteError, WriteResult, parse_single,
 };
 use std::alloc::Global;
 
@@ -84,6 +97,75 @@ impl<'a> Extension<'a> {
         ensures { result ≡ self.now.0.fields.rest.rest.value }
     {
         self.0.fields.rest.rest.value
+    }
+
+    /// The value, read as [`parse_single`] reads the type that `extn_id` names: of an extension that isn't a
+    /// [`KnownExtension`] the octets. Returns the first error of the octets where they aren't the encoding of a value
+    /// of that type.
+    pub fn value(&self, alloc: Global) -> ParseResult<ExtensionValue<'a>>
+        ensures { ReadsExtension (elim [
+          | known.AuthorityInfoAccess ↦ typed ⟦<AuthorityInfoAccess<'a> as Asn1Type>⟧.der
+              value.AuthorityInfoAccess
+          | known.AuthorityKeyIdentifier ↦ typed ⟦<AuthorityKeyIdentifier<'a> as Asn1Type>⟧.der
+              value.AuthorityKeyIdentifier
+          | known.BasicConstraints ↦ typed ⟦<BasicConstraints<'a> as Asn1Type>⟧.der
+              value.BasicConstraints
+          | known.CrlDistributionPoints ↦ typed ⟦<CrlDistributionPoints<'a> as Asn1Type>⟧.der
+              value.CrlDistributionPoints
+          | known.CrlNumber ↦ typed ⟦<CrlNumber<'a> as Asn1Type>⟧.der
+              value.CrlNumber
+          | known.CrlReason ↦ typed ⟦<CrlReason as Asn1Type>⟧.der
+              value.CrlReason
+          | known.ExtendedKeyUsage ↦ typed ⟦<ExtendedKeyUsage<'a> as Asn1Type>⟧.der
+              value.ExtendedKeyUsage
+          | known.IssuerAltName ↦ typed ⟦<GeneralNames<'a> as Asn1Type>⟧.der
+              value.IssuerAltName
+          | known.KeyUsage ↦ typed ⟦<KeyUsage<'a> as Asn1Type>⟧.der
+              value.KeyUsage
+          | known.SubjectAltName ↦ typed ⟦<SubjectAltName<'a> as Asn1Type>⟧.der
+              value.SubjectAltName
+          | known.SubjectKeyIdentifier ↦ typed ⟦<SubjectKeyIdentifier<'a> as Asn1Type>⟧.der
+              value.SubjectKeyIdentifier
+        ]) value.Other (extension_with (identifier_of self.now.0.fields.value))
+            self.now.0.fields.rest.rest.value result }
+    {
+        let octets = self.extn_value();
+        let Some(extension) = KnownExtension::with_identifier(self.extn_id()) else {
+            return Ok(ExtensionValue::Other(octets));
+        };
+        match extension {
+            KnownExtension::AuthorityInfoAccess => Ok(ExtensionValue::AuthorityInfoAccess(
+                parse_single(alloc, octets)?,
+            )),
+            KnownExtension::AuthorityKeyIdentifier => Ok(ExtensionValue::AuthorityKeyIdentifier(
+                parse_single(alloc, octets)?,
+            )),
+            KnownExtension::BasicConstraints => Ok(ExtensionValue::BasicConstraints(parse_single(
+                alloc, octets,
+            )?)),
+            KnownExtension::CrlDistributionPoints => Ok(ExtensionValue::CrlDistributionPoints(
+                parse_single(alloc, octets)?,
+            )),
+            KnownExtension::CrlNumber => Ok(ExtensionValue::CrlNumber(parse_single(
+                alloc, octets,
+            )?)),
+            KnownExtension::CrlReason => Ok(ExtensionValue::CrlReason(parse_single(
+                alloc, octets,
+            )?)),
+            KnownExtension::ExtendedKeyUsage => Ok(ExtensionValue::ExtendedKeyUsage(parse_single(
+                alloc, octets,
+            )?)),
+            KnownExtension::IssuerAltName => Ok(ExtensionValue::IssuerAltName(parse_single(
+                alloc, octets,
+            )?)),
+            KnownExtension::KeyUsage => Ok(ExtensionValue::KeyUsage(parse_single(alloc, octets)?)),
+            KnownExtension::SubjectAltName => Ok(ExtensionValue::SubjectAltName(parse_single(
+                alloc, octets,
+            )?)),
+            KnownExtension::SubjectKeyIdentifier => Ok(ExtensionValue::SubjectKeyIdentifier(
+                parse_single(alloc, octets)?,
+            )),
+        }
     }
 }
 
