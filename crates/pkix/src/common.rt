@@ -3,6 +3,7 @@
 mod algorithm;
 mod extension;
 mod general_name;
+mod named_bits;
 mod names;
 mod time;
 
@@ -14,6 +15,7 @@ pub use extension::{Extension, Extensions, NotCritical};
 pub use general_name::{
     EdiPartyName, GeneralName, GeneralNames, OtherName, general_names_are_lawful,
 };
+pub use named_bits::NamedBits;
 pub use names::{Attribute, AttributeTypeAndValue, Attributes, Name};
 pub use time::Time;
 
@@ -25,5 +27,6 @@ pub fn common_types_are_lawful()
     ensures name { HasOneEncoding ⟦<Name<'static> as Asn1Type>⟧.der }
     ensures attributes { HasOneEncoding ⟦<Attributes<'static> as Asn1Type>⟧.der }
     ensures extensions { HasOneEncoding ⟦<Extensions<'static> as Asn1Type>⟧.der }
+    ensures named_bits { HasOneEncoding ⟦<NamedBits<'static> as Asn1Type>⟧.der }
     ensures time { HasOneEncoding ⟦<Time as Asn1Type>⟧.der }
 {}

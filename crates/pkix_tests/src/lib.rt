@@ -15,6 +15,8 @@ mod lines;
 #[cfg(test)]
 mod listings;
 #[cfg(test)]
+mod named_bits;
+#[cfg(test)]
 mod not_der;
 #[cfg(test)]
 mod objects;

@@ -3,7 +3,7 @@
 use crate::answers::Fault;
 use crate::common::short_name;
 use crate::show::{Show, item, line, optional, part, read_again, whole_octets, within};
-use asn1::{Asn1Readable, BitString, parse_single};
+use asn1::{Asn1Readable, parse_single};
 use pkix::certificate::access::AuthorityInfoAccess;
 use pkix::certificate::distribution::{
     CrlDistributionPoints, DistributionPoint, DistributionPointName,
@@ -12,7 +12,7 @@ use pkix::certificate::extensions::{
     AuthorityKeyIdentifier, BasicConstraints, ExtendedKeyUsage, KeyUsage, SubjectAltName,
     SubjectKeyIdentifier,
 };
-use pkix::common::{Extension, Extensions};
+use pkix::common::{Extension, Extensions, NamedBits};
 use pkix::revocation::extensions::{CrlNumber, CrlReason};
 use std::alloc::Global;
 
@@ -78,7 +78,7 @@ const USAGES: [&str; 9] = [
 fn bits(
     alloc: Global,
     place: &str,
-    value: &BitString<'_>,
+    value: &NamedBits<'_>,
     names: &[&str],
     out: &mut String,
 ) -> Result<(), Fault> {

@@ -6,7 +6,7 @@ use asn1::{
     BigInt, BigUint, BitString, DateTime, GeneralizedTime, IA5String, ObjectIdentifier,
     ParseResult, PrintableString, Tlv, Utf8String, VisibleString, parse_single,
 };
-use pkix::common::Time;
+use pkix::common::{NamedBits, Time};
 use std::alloc::{AllocError, Global};
 
 /// What is shown as lines of text.
@@ -148,6 +148,12 @@ impl Show for BitString<'_> {
             return Ok(());
         }
         part(alloc, place, "unusedBits", &self.padding_bits(), out)
+    }
+}
+
+impl Show for NamedBits<'_> {
+    fn show(&self, alloc: Global, place: &str, out: &mut String) -> Result<(), Fault> {
+        self.as_bitstring().show(alloc, place, out)
     }
 }
 

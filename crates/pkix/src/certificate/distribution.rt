@@ -9,11 +9,11 @@ ghost use Rattle.asn1.specs.declared.wrappers.choices.Choice2.TheVariants.{Choic
 ghost use Rattle.pkix.specs.declared.certificate.distribution.DistributionPointName.TheVariants.{FullName, NameRelativeToCrlIssuer};
 ghost use Rattle.pkix.specs.declared.certificate.distribution.TheConstants.{DISTRIBUTION_POINT};
 
-use crate::common::{AttributeTypeAndValue, GeneralNames, general_names_are_lawful};
+use crate::common::{AttributeTypeAndValue, GeneralNames, NamedBits, general_names_are_lawful};
 use asn1::fields::{Field, FieldNames, Fields3, Last, Names, Structure};
 use asn1::{
-    Asn1Readable, Asn1Type, Asn1Writable, BitString, Choice2, Explicit, Implicit, ParseResult,
-    Parser, SequenceOf, SetOf, SimpleAsn1Readable, SimpleAsn1Writable, Tag, WriteBuf, WriteError,
+    Asn1Readable, Asn1Type, Asn1Writable, Choice2, Explicit, Implicit, ParseResult, Parser,
+    SequenceOf, SetOf, SimpleAsn1Readable, SimpleAsn1Writable, Tag, WriteBuf, WriteError,
     WriteResult, Writer,
 };
 use std::alloc::Global;
@@ -88,7 +88,7 @@ type DistributionPointFields<'a> = Structure<
     DistributionPointNames,
     Fields3<
         Option<Explicit<DistributionPointName<'a>, 0>>,
-        Option<Implicit<BitString<'a>, 1>>,
+        Option<Implicit<NamedBits<'a>, 1>>,
         Option<Implicit<GeneralNames<'a>, 2>>,
     >,
 >;
@@ -118,7 +118,7 @@ impl<'a> DistributionPoint<'a> {
     /// Of these fields.
     pub fn new(
         distribution_point: Option<DistributionPointName<'a>>,
-        reasons: Option<BitString<'a>>,
+        reasons: Option<NamedBits<'a>>,
         crl_issuer: Option<GeneralNames<'a>>,
     ) -> DistributionPoint<'a>
         ensures distribution_point { option_meaning explicit_inner result.0.fields.value
@@ -158,7 +158,7 @@ impl<'a> DistributionPoint<'a> {
     }
 
     /// The reasons that the list has; all of them where there are none here.
-    pub fn reasons(&self) -> Option<&BitString<'a>>
+    pub fn reasons(&self) -> Option<&NamedBits<'a>>
         ensures { option_meaning (λ v. v.now) result
             ≡ option_meaning implicit_inner self.now.0.fields.rest.value }
     {

@@ -7,12 +7,11 @@ ghost use Rattle.asn1.specs.Options.{option_meaning};
 ghost use Rattle.asn1.specs.Reads.{HasOneEncoding, ReadsContents};
 ghost use Rattle.pkix.specs.declared.certificate.extensions.TheConstants.{BASIC_CONSTRAINTS, AUTHORITY_KEY_IDENTIFIER};
 
-use crate::common::{GeneralNames, general_names_are_lawful};
+use crate::common::{GeneralNames, NamedBits, general_names_are_lawful};
 use asn1::fields::{Field, FieldNames, Fields2, Fields3, Last, Names, Structure};
 use asn1::{
-    Asn1Type, BigInt, BigUint, BitString, DefaultValue, Defaulted, Implicit, ObjectIdentifier,
-    ParseResult, SequenceOf, SimpleAsn1Readable, SimpleAsn1Writable, Tag, WriteBuf, WriteError,
-    WriteResult,
+    Asn1Type, BigInt, BigUint, DefaultValue, Defaulted, Implicit, ObjectIdentifier, ParseResult,
+    SequenceOf, SimpleAsn1Readable, SimpleAsn1Writable, Tag, WriteBuf, WriteError, WriteResult,
 };
 use std::alloc::Global;
 
@@ -345,21 +344,21 @@ impl<'a> SimpleAsn1Writable for SubjectKeyIdentifier<'a> {
     }
 }
 
-/// KeyUsage (RFC 5280, 4.2.1.3), a BIT STRING; identifier 2.5.29.15. Its bits have names: zero bits at the end, which
-/// X.690 11.2.2 then forbids, aren't looked at, and are kept.
+/// KeyUsage (RFC 5280, 4.2.1.3), a BIT STRING with named bits; identifier 2.5.29.15. That one bit is set at least isn't
+/// looked at.
 #[derive(Debug, Clone, PartialEq, Eq, Drop)]
-pub struct KeyUsage<'a>(BitString<'a>);
+pub struct KeyUsage<'a>(NamedBits<'a>);
 
 impl<'a> KeyUsage<'a> {
     /// Of this value.
-    pub fn new(value: BitString<'a>) -> KeyUsage<'a>
+    pub fn new(value: NamedBits<'a>) -> KeyUsage<'a>
         ensures { result.0 ≡ value.entry }
     {
         KeyUsage(value)
     }
 
     /// The value.
-    pub fn value(&self) -> &BitString<'a>
+    pub fn value(&self) -> &NamedBits<'a>
         ensures { result.now ≡ self.now.0 }
     {
         &self.0
@@ -367,7 +366,7 @@ impl<'a> KeyUsage<'a> {
 }
 
 impl<'a> Asn1Type for KeyUsage<'a> {
-    ghost der = { seen (λ v. v.0) ⟦<BitString<'a> as Asn1Type>⟧.der };
+    ghost der = { seen (λ v. v.0) ⟦<NamedBits<'a> as Asn1Type>⟧.der };
 
     fn known(&self) {
         self.0.known()
@@ -386,7 +385,7 @@ impl<'a> SimpleAsn1Readable<'a> for KeyUsage<'a> {
     fn parse_data(alloc: Global, data: &'a [u8]) -> ParseResult<KeyUsage<'a>>
         ensures { ReadsContents ⟦<KeyUsage<'a> as Asn1Type>⟧.der «data».entry.now result }
     {
-        match <BitString<'a> as SimpleAsn1Readable<'a>>::parse_data(alloc, data) {
+        match <NamedBits<'a> as SimpleAsn1Readable<'a>>::parse_data(alloc, data) {
             Ok(value) => Ok(KeyUsage(value)),
             Err(error) => Err(error),
         }

@@ -7,13 +7,12 @@ ghost use Rattle.asn1.specs.Options.{option_meaning};
 ghost use Rattle.asn1.specs.Reads.{HasOneEncoding, ReadsContents};
 ghost use Rattle.pkix.specs.declared.timestamps.exchange.TheConstants.{MESSAGE_IMPRINT, TIME_STAMP_REQ, PKI_STATUS_INFO, TIME_STAMP_RESP};
 
-use crate::common::{AlgorithmIdentifier, Extensions};
+use crate::common::{AlgorithmIdentifier, Extensions, NamedBits};
 use crate::signatures::ContentInfo;
 use asn1::fields::{Field, FieldNames, Fields2, Fields3, Fields6, Last, Names, Structure};
 use asn1::{
-    Asn1Type, BigInt, BitString, DefaultValue, Defaulted, Implicit, ObjectIdentifier, ParseResult,
-    SequenceOf, SimpleAsn1Readable, SimpleAsn1Writable, Tag, Utf8String, WriteBuf, WriteError,
-    WriteResult,
+    Asn1Type, BigInt, DefaultValue, Defaulted, Implicit, ObjectIdentifier, ParseResult, SequenceOf,
+    SimpleAsn1Readable, SimpleAsn1Writable, Tag, Utf8String, WriteBuf, WriteError, WriteResult,
 };
 use std::alloc::Global;
 
@@ -297,7 +296,7 @@ impl<'a> SimpleAsn1Writable for TimeStampReq<'a> {
 /// The fields.
 type PkiStatusInfoFields<'a> = Structure<
     PkiStatusInfoNames,
-    Fields3<u32, Option<PkiFreeText<'a>>, Option<BitString<'a>>>,
+    Fields3<u32, Option<PkiFreeText<'a>>, Option<NamedBits<'a>>>,
 >;
 
 const PKI_STATUS_INFO: [&str; 3] = [
@@ -326,7 +325,7 @@ impl<'a> PkiStatusInfo<'a> {
     pub fn new(
         status: u32,
         status_string: Option<PkiFreeText<'a>>,
-        fail_info: Option<BitString<'a>>,
+        fail_info: Option<NamedBits<'a>>,
     ) -> PkiStatusInfo<'a>
         ensures status { result.0.fields.value ≡ status }
         ensures status_string { result.0.fields.rest.value ≡ status_string.entry }
@@ -353,7 +352,7 @@ impl<'a> PkiStatusInfo<'a> {
     }
 
     /// PKIFailureInfo: why there is no time stamp.
-    pub fn fail_info(&self) -> Option<&BitString<'a>>
+    pub fn fail_info(&self) -> Option<&NamedBits<'a>>
         ensures { option_meaning (λ v. v.now) result ≡ self.now.0.fields.rest.rest.value }
     {
         self.0.fields.rest.rest.value.as_ref()

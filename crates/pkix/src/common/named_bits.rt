@@ -1,0 +1,121 @@
+//! Bit strings whose bits have names (X.690 11.2.2).
+
+ghost use Rattle.std.specs.Prelude.{◌≡◌, true, ⊤, MatchOption};
+ghost use Rattle.asn1.specs.BitStrings.{bits_of};
+ghost use Rattle.asn1.specs.Bits.{has_bit};
+ghost use Rattle.asn1.specs.Der.{simple_der};
+ghost use Rattle.asn1.specs.Reads.{ReadsContents};
+ghost use Rattle.pkix.specs.NamedBits.{ends_with_one, named_bits_content};
+
+use asn1::{
+    Asn1Type, BitString, ParseError, ParseErrorKind, ParseResult, SimpleAsn1Readable,
+    SimpleAsn1Writable, Tag, WriteBuf, WriteError, WriteResult,
+};
+use std::alloc::{AllocError, Global};
+
+/// Whether the last bit is a one, or there is none.
+fn has_one_at_end(bits: &BitString<'_>) -> bool
+    ensures { result ≡ ends_with_one (bits_of bits.now) }
+{
+    match bits.as_bytes() {
+        [] => true,
+        [.., last] => (*last >> bits.padding_bits()) % 2 == 1,
+    }
+}
+
+/// BIT STRING with named bits (X.690 11.2.2; universal 3): zero bits at its end are removed before it is encoded, so
+/// that the last bit, where there is one, is a one. Reading rejects other contents octets with `InvalidValue`. Which
+/// bits have names isn't looked at.
+#[derive(Debug, PartialEq, Eq, Drop)]
+pub struct NamedBits<'a> {
+    bits: BitString<'a>,
+    pub ghost is_named: { ends_with_one (bits_of bits) ≡ true },
+}
+
+impl<'a> NamedBits<'a> {
+    /// These bits. `None` where the last one is a zero.
+    pub fn new(bits: BitString<'a>) -> Option<NamedBits<'a>>
+        ensures { MatchOption result (¬ (ends_with_one (bits_of bits.entry) ≡ true))
+            (λ named. named.bits ≡ bits.entry) }
+    {
+        if !has_one_at_end(&bits) {
+            return None;
+        }
+        Some(NamedBits { bits })
+    }
+
+    /// The bits.
+    pub fn as_bitstring(&self) -> &BitString<'a>
+        ensures { result.now ≡ self.now.bits }
+    {
+        &self.bits
+    }
+
+    /// Whether the bit with the number `n` is set, as [`BitString::has_bit_set`] says: false from the end on.
+    pub fn has_bit_set(&self, n: usize) -> bool
+        ensures { result ≡ has_bit (bits_of self.now.bits) n }
+    {
+        self.bits.has_bit_set(n)
+    }
+}
+
+/// Takes no memory, and never fails.
+impl<'a> Clone for NamedBits<'a> {
+    ghost is_clone = { λ x y. bits_of y.bits ≡ bits_of x.bits };
+
+    ghost is_infallible = { λ _. ⊤ };
+
+    fn clone(&self) -> Result<NamedBits<'a>, AllocError> {
+        Ok(NamedBits {
+            bits: self.bits.clone()?,
+        })
+    }
+}
+
+impl<'a> Asn1Type for NamedBits<'a> {
+    ghost der = { simple_der (λ v. bits_of v.bits) named_bits_content };
+
+    fn known(&self) {
+        self.bits.known()
+    }
+}
+
+impl<'a> SimpleAsn1Readable<'a> for NamedBits<'a> {
+    fn tag() -> Tag
+        ensures value { result ≡ ⟦<NamedBits<'a> as Asn1Type>⟧.der.content.tag }
+        ensures simple { ⟦<NamedBits<'a> as Asn1Type>⟧.der.is_simple }
+        ensures plain { ⟦<NamedBits<'a> as Asn1Type>⟧.der.plain }
+    {
+        Tag::primitive(0x03)
+    }
+
+    fn parse_data(alloc: Global, data: &'a [u8]) -> ParseResult<NamedBits<'a>>
+        ensures { ReadsContents ⟦<NamedBits<'a> as Asn1Type>⟧.der «data».entry.now result }
+    {
+        match NamedBits::new(<BitString<'a> as SimpleAsn1Readable<'a>>::parse_data(alloc, data)?) {
+            Some(named) => Ok(named),
+            None => Err(ParseError::new(ParseErrorKind::InvalidValue)),
+        }
+    }
+}
+
+impl<'a> SimpleAsn1Writable for NamedBits<'a> {
+    type Error = WriteError;
+
+    ghost write_errors = { λ _ _. ⊥ };
+
+    fn tag() -> Tag
+        ensures value { result ≡ ⟦<NamedBits<'a> as Asn1Type>⟧.der.content.tag }
+        ensures simple { ⟦<NamedBits<'a> as Asn1Type>⟧.der.is_simple }
+    {
+        Tag::primitive(0x03)
+    }
+
+    fn write_data(&self, dest: &mut WriteBuf) -> WriteResult<()> {
+        self.bits.write_data(dest)
+    }
+
+    fn data_length(&self) -> Option<usize> {
+        self.bits.data_length()
+    }
+}
