@@ -70,14 +70,8 @@ impl<'a> OneAsymmetricKey<'a> {
         ensures public_key { option_meaning implicit_inner result.0.fields.rest.rest.rest.rest.value
             ≡ option_meaning (λ v. v) public_key.entry }
     {
-        let attributes = match attributes {
-            Some(value) => Some(Implicit::new(value)),
-            None => None,
-        };
-        let public_key = match public_key {
-            Some(value) => Some(Implicit::new(value)),
-            None => None,
-        };
+        let attributes = attributes.map(Implicit::new);
+        let public_key = public_key.map(Implicit::new);
         let fields = Last::new(public_key);
         let fields = Field::new(attributes, fields);
         let fields = Field::new(private_key, fields);
@@ -112,10 +106,8 @@ impl<'a> OneAsymmetricKey<'a> {
         ensures { option_meaning (λ v. v.now) result
             ≡ option_meaning implicit_inner self.now.0.fields.rest.rest.rest.value }
     {
-        match &self.0.fields.rest.rest.rest.value {
-            Some(value) => Some(value.as_inner()),
-            None => None,
-        }
+        let value = &self.0.fields.rest.rest.rest.value;
+        value.as_ref().map(Implicit::as_inner)
     }
 
     /// The public key, whose bits the algorithm defines.
@@ -123,10 +115,8 @@ impl<'a> OneAsymmetricKey<'a> {
         ensures { option_meaning (λ v. v.now) result
             ≡ option_meaning implicit_inner self.now.0.fields.rest.rest.rest.rest.value }
     {
-        match &self.0.fields.rest.rest.rest.rest.value {
-            Some(value) => Some(value.as_inner()),
-            None => None,
-        }
+        let value = &self.0.fields.rest.rest.rest.rest.value;
+        value.as_ref().map(Implicit::as_inner)
     }
 }
 
@@ -510,14 +500,8 @@ impl<'a> EcPrivateKey<'a> {
         ensures public_key { option_meaning explicit_inner result.0.fields.rest.rest.rest.value
             ≡ option_meaning (λ v. v) public_key.entry }
     {
-        let parameters = match parameters {
-            Some(value) => Some(Explicit::new(value)),
-            None => None,
-        };
-        let public_key = match public_key {
-            Some(value) => Some(Explicit::new(value)),
-            None => None,
-        };
+        let parameters = parameters.map(Explicit::new);
+        let public_key = public_key.map(Explicit::new);
         let fields = Last::new(public_key);
         let fields = Field::new(parameters, fields);
         let fields = Field::new(private_key, fields);
@@ -544,10 +528,8 @@ impl<'a> EcPrivateKey<'a> {
         ensures { option_meaning (λ v. v.now) result
             ≡ option_meaning explicit_inner self.now.0.fields.rest.rest.value }
     {
-        match &self.0.fields.rest.rest.value {
-            Some(value) => Some(value.as_inner()),
-            None => None,
-        }
+        let value = &self.0.fields.rest.rest.value;
+        value.as_ref().map(Explicit::as_inner)
     }
 
     /// The public key, a point.
@@ -555,10 +537,8 @@ impl<'a> EcPrivateKey<'a> {
         ensures { option_meaning (λ v. v.now) result
             ≡ option_meaning explicit_inner self.now.0.fields.rest.rest.rest.value }
     {
-        match &self.0.fields.rest.rest.rest.value {
-            Some(value) => Some(value.as_inner()),
-            None => None,
-        }
+        let value = &self.0.fields.rest.rest.rest.value;
+        value.as_ref().map(Explicit::as_inner)
     }
 }
 

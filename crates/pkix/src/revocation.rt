@@ -265,10 +265,7 @@ impl<'a> TbsCertList<'a> {
             result.0.fields.rest.rest.rest.rest.rest.rest.value
             ≡ option_meaning (λ v. v) crl_extensions.entry }
     {
-        let crl_extensions = match crl_extensions {
-            Some(value) => Some(Explicit::new(value)),
-            None => None,
-        };
+        let crl_extensions = crl_extensions.map(Explicit::new);
         let fields = Last::new(crl_extensions);
         let fields = Field::new(revoked_certificates, fields);
         let fields = Field::new(next_update, fields);
@@ -327,10 +324,8 @@ impl<'a> TbsCertList<'a> {
         ensures { option_meaning (λ v. v.now) result
             ≡ option_meaning explicit_inner self.now.0.fields.rest.rest.rest.rest.rest.rest.value }
     {
-        match &self.0.fields.rest.rest.rest.rest.rest.rest.value {
-            Some(value) => Some(value.as_inner()),
-            None => None,
-        }
+        let value = &self.0.fields.rest.rest.rest.rest.rest.rest.value;
+        value.as_ref().map(Explicit::as_inner)
     }
 }
 

@@ -128,18 +128,9 @@ impl<'a> DistributionPoint<'a> {
         ensures crl_issuer { option_meaning implicit_inner result.0.fields.rest.rest.value
             ≡ option_meaning (λ v. v) crl_issuer.entry }
     {
-        let distribution_point = match distribution_point {
-            Some(value) => Some(Explicit::new(value)),
-            None => None,
-        };
-        let reasons = match reasons {
-            Some(value) => Some(Implicit::new(value)),
-            None => None,
-        };
-        let crl_issuer = match crl_issuer {
-            Some(value) => Some(Implicit::new(value)),
-            None => None,
-        };
+        let distribution_point = distribution_point.map(Explicit::new);
+        let reasons = reasons.map(Implicit::new);
+        let crl_issuer = crl_issuer.map(Implicit::new);
         let fields = Last::new(crl_issuer);
         let fields = Field::new(reasons, fields);
         let fields = Field::new(distribution_point, fields);
@@ -151,10 +142,7 @@ impl<'a> DistributionPoint<'a> {
         ensures { option_meaning (λ v. v.now) result
             ≡ option_meaning explicit_inner self.now.0.fields.value }
     {
-        match &self.0.fields.value {
-            Some(value) => Some(value.as_inner()),
-            None => None,
-        }
+        self.0.fields.value.as_ref().map(Explicit::as_inner)
     }
 
     /// The reasons that the list has; all of them where there are none here.
@@ -162,10 +150,7 @@ impl<'a> DistributionPoint<'a> {
         ensures { option_meaning (λ v. v.now) result
             ≡ option_meaning implicit_inner self.now.0.fields.rest.value }
     {
-        match &self.0.fields.rest.value {
-            Some(value) => Some(value.as_inner()),
-            None => None,
-        }
+        self.0.fields.rest.value.as_ref().map(Implicit::as_inner)
     }
 
     /// Who issues the list, where that isn't the certificate's issuer.
@@ -173,10 +158,8 @@ impl<'a> DistributionPoint<'a> {
         ensures { option_meaning (λ v. v.now) result
             ≡ option_meaning implicit_inner self.now.0.fields.rest.rest.value }
     {
-        match &self.0.fields.rest.rest.value {
-            Some(value) => Some(value.as_inner()),
-            None => None,
-        }
+        let value = &self.0.fields.rest.rest.value;
+        value.as_ref().map(Implicit::as_inner)
     }
 }
 

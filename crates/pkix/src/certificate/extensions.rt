@@ -174,18 +174,9 @@ impl<'a> AuthorityKeyIdentifier<'a> {
             result.0.fields.rest.rest.value ≡ option_meaning (λ v. v)
             authority_cert_serial_number.entry }
     {
-        let key_identifier = match key_identifier {
-            Some(value) => Some(Implicit::new(value)),
-            None => None,
-        };
-        let authority_cert_issuer = match authority_cert_issuer {
-            Some(value) => Some(Implicit::new(value)),
-            None => None,
-        };
-        let authority_cert_serial_number = match authority_cert_serial_number {
-            Some(value) => Some(Implicit::new(value)),
-            None => None,
-        };
+        let key_identifier = key_identifier.map(Implicit::new);
+        let authority_cert_issuer = authority_cert_issuer.map(Implicit::new);
+        let authority_cert_serial_number = authority_cert_serial_number.map(Implicit::new);
         let fields = Last::new(authority_cert_serial_number);
         let fields = Field::new(authority_cert_issuer, fields);
         let fields = Field::new(key_identifier, fields);
@@ -196,10 +187,7 @@ impl<'a> AuthorityKeyIdentifier<'a> {
     pub fn key_identifier(&self) -> Option<&'a [u8]>
         ensures { result ≡ option_meaning implicit_inner self.now.0.fields.value }
     {
-        match &self.0.fields.value {
-            Some(value) => Some(*value.as_inner()),
-            None => None,
-        }
+        self.0.fields.value.map(Implicit::into_inner)
     }
 
     /// The issuer of that key's certificate.
@@ -207,20 +195,14 @@ impl<'a> AuthorityKeyIdentifier<'a> {
         ensures { option_meaning (λ v. v.now) result
             ≡ option_meaning implicit_inner self.now.0.fields.rest.value }
     {
-        match &self.0.fields.rest.value {
-            Some(value) => Some(value.as_inner()),
-            None => None,
-        }
+        self.0.fields.rest.value.as_ref().map(Implicit::as_inner)
     }
 
     /// The serial number of that certificate.
     pub fn authority_cert_serial_number(&self) -> Option<BigInt<'a>>
         ensures { result ≡ option_meaning implicit_inner self.now.0.fields.rest.rest.value }
     {
-        match &self.0.fields.rest.rest.value {
-            Some(value) => Some(*value.as_inner()),
-            None => None,
-        }
+        self.0.fields.rest.rest.value.map(Implicit::into_inner)
     }
 }
 

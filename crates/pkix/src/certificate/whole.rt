@@ -266,10 +266,8 @@ impl<'a> TbsCertificate<'a> {
         ensures { option_meaning (λ v. v.now) result ≡ option_meaning implicit_inner
             self.now.0.fields.rest.rest.rest.rest.rest.rest.rest.value }
     {
-        match &self.0.fields.rest.rest.rest.rest.rest.rest.rest.value {
-            Some(value) => Some(value.as_inner()),
-            None => None,
-        }
+        let value = &self.0.fields.rest.rest.rest.rest.rest.rest.rest.value;
+        value.as_ref().map(Implicit::as_inner)
     }
 
     /// A UniqueIdentifier of the subject.
@@ -277,10 +275,8 @@ impl<'a> TbsCertificate<'a> {
         ensures { option_meaning (λ v. v.now) result ≡ option_meaning implicit_inner
             self.now.0.fields.rest.rest.rest.rest.rest.rest.rest.rest.value }
     {
-        match &self.0.fields.rest.rest.rest.rest.rest.rest.rest.rest.value {
-            Some(value) => Some(value.as_inner()),
-            None => None,
-        }
+        let value = &self.0.fields.rest.rest.rest.rest.rest.rest.rest.rest.value;
+        value.as_ref().map(Implicit::as_inner)
     }
 
     /// The extensions.
@@ -288,23 +284,9 @@ impl<'a> TbsCertificate<'a> {
         ensures { option_meaning (λ v. v.now) result ≡ option_meaning explicit_inner
             self.now.0.fields.rest.rest.rest.rest.rest.rest.rest.rest.rest.value }
     {
-        match &self
-            .0
-            .fields
-            .rest
-            .rest
-            .rest
-            .rest
-            .rest
-            .rest
-            .rest
-            .rest
-            .rest
-            .value
-        {
-            Some(value) => Some(value.as_inner()),
-            None => None,
-        }
+        let fields = &self.0.fields.rest.rest.rest.rest.rest;
+        let value = &fields.rest.rest.rest.rest.value;
+        value.as_ref().map(Explicit::as_inner)
     }
 }
 

@@ -143,10 +143,7 @@ impl<'a> EdiPartyName<'a> {
             ≡ option_meaning (λ v. v) name_assigner.entry }
         ensures party_name { explicit_inner result.0.fields.rest.value ≡ party_name.entry }
     {
-        let name_assigner = match name_assigner {
-            Some(value) => Some(Explicit::new(value)),
-            None => None,
-        };
+        let name_assigner = name_assigner.map(Explicit::new);
         EdiPartyName(Structure::new(Field::new(
             name_assigner,
             Last::new(Explicit::new(party_name)),
@@ -157,10 +154,7 @@ impl<'a> EdiPartyName<'a> {
     pub fn name_assigner(&self) -> Option<Tlv<'a>>
         ensures { result ≡ option_meaning explicit_inner self.now.0.fields.value }
     {
-        match &self.0.fields.value {
-            Some(value) => Some(*value.as_inner()),
-            None => None,
-        }
+        self.0.fields.value.map(Explicit::into_inner)
     }
 
     /// The name.

@@ -149,10 +149,7 @@ impl<'a> EncapsulatedContentInfo<'a> {
         ensures e_content { option_meaning explicit_inner result.0.fields.rest.value
             ≡ option_meaning (λ v. v) e_content.entry }
     {
-        let e_content = match e_content {
-            Some(value) => Some(Explicit::new(value)),
-            None => None,
-        };
+        let e_content = e_content.map(Explicit::new);
         EncapsulatedContentInfo(Structure::new(Field::new(e_content_type, Last::new(e_content))))
     }
 
@@ -167,10 +164,7 @@ impl<'a> EncapsulatedContentInfo<'a> {
     pub fn e_content(&self) -> Option<&'a [u8]>
         ensures { result ≡ option_meaning explicit_inner self.now.0.fields.rest.value }
     {
-        match &self.0.fields.rest.value {
-            Some(value) => Some(*value.as_inner()),
-            None => None,
-        }
+        self.0.fields.rest.value.map(Explicit::into_inner)
     }
 }
 
@@ -281,14 +275,8 @@ impl<'a> SignedData<'a> {
             ≡ option_meaning (λ v. v) crls.entry }
         ensures signer_infos { result.0.fields.rest.rest.rest.rest.rest.value ≡ signer_infos.entry }
     {
-        let certificates = match certificates {
-            Some(value) => Some(Implicit::new(value)),
-            None => None,
-        };
-        let crls = match crls {
-            Some(value) => Some(Implicit::new(value)),
-            None => None,
-        };
+        let certificates = certificates.map(Implicit::new);
+        let crls = crls.map(Implicit::new);
         let fields = Last::new(signer_infos);
         let fields = Field::new(crls, fields);
         let fields = Field::new(certificates, fields);
@@ -324,10 +312,8 @@ impl<'a> SignedData<'a> {
         ensures { option_meaning (λ v. v.now) result
             ≡ option_meaning implicit_inner self.now.0.fields.rest.rest.rest.value }
     {
-        match &self.0.fields.rest.rest.rest.value {
-            Some(value) => Some(value.as_inner()),
-            None => None,
-        }
+        let value = &self.0.fields.rest.rest.rest.value;
+        value.as_ref().map(Implicit::as_inner)
     }
 
     /// Revocation lists: RevocationInfoChoices without other forms.
@@ -335,10 +321,8 @@ impl<'a> SignedData<'a> {
         ensures { option_meaning (λ v. v.now) result
             ≡ option_meaning implicit_inner self.now.0.fields.rest.rest.rest.rest.value }
     {
-        match &self.0.fields.rest.rest.rest.rest.value {
-            Some(value) => Some(value.as_inner()),
-            None => None,
-        }
+        let value = &self.0.fields.rest.rest.rest.rest.value;
+        value.as_ref().map(Implicit::as_inner)
     }
 
     /// Who signed.

@@ -241,14 +241,8 @@ impl<'a> SignerInfo<'a> {
             result.0.fields.rest.rest.rest.rest.rest.rest.value
             ≡ option_meaning (λ v. v) unsigned_attrs.entry }
     {
-        let signed_attrs = match signed_attrs {
-            Some(value) => Some(Implicit::new(value)),
-            None => None,
-        };
-        let unsigned_attrs = match unsigned_attrs {
-            Some(value) => Some(Implicit::new(value)),
-            None => None,
-        };
+        let signed_attrs = signed_attrs.map(Implicit::new);
+        let unsigned_attrs = unsigned_attrs.map(Implicit::new);
         let fields = Last::new(unsigned_attrs);
         let fields = Field::new(signature, fields);
         let fields = Field::new(signature_algorithm, fields);
@@ -285,10 +279,8 @@ impl<'a> SignerInfo<'a> {
         ensures { option_meaning (λ v. v.now) result
             ≡ option_meaning implicit_inner self.now.0.fields.rest.rest.rest.value }
     {
-        match &self.0.fields.rest.rest.rest.value {
-            Some(value) => Some(value.as_inner()),
-            None => None,
-        }
+        let value = &self.0.fields.rest.rest.rest.value;
+        value.as_ref().map(Implicit::as_inner)
     }
 
     /// The algorithm of the signature.
@@ -310,10 +302,8 @@ impl<'a> SignerInfo<'a> {
         ensures { option_meaning (λ v. v.now) result
             ≡ option_meaning implicit_inner self.now.0.fields.rest.rest.rest.rest.rest.rest.value }
     {
-        match &self.0.fields.rest.rest.rest.rest.rest.rest.value {
-            Some(value) => Some(value.as_inner()),
-            None => None,
-        }
+        let value = &self.0.fields.rest.rest.rest.rest.rest.rest.value;
+        value.as_ref().map(Implicit::as_inner)
     }
 }
 

@@ -185,10 +185,7 @@ impl<'a> TimeStampReq<'a> {
             result.0.fields.rest.rest.rest.rest.rest.value
             ≡ option_meaning (λ v. v) extensions.entry }
     {
-        let extensions = match extensions {
-            Some(value) => Some(Implicit::new(value)),
-            None => None,
-        };
+        let extensions = extensions.map(Implicit::new);
         let fields = Last::new(extensions);
         let fields = Field::new(Defaulted::new(cert_req), fields);
         let fields = Field::new(nonce, fields);
@@ -238,10 +235,8 @@ impl<'a> TimeStampReq<'a> {
         ensures { option_meaning (λ v. v.now) result
             ≡ option_meaning implicit_inner self.now.0.fields.rest.rest.rest.rest.rest.value }
     {
-        match &self.0.fields.rest.rest.rest.rest.rest.value {
-            Some(value) => Some(value.as_inner()),
-            None => None,
-        }
+        let value = &self.0.fields.rest.rest.rest.rest.rest.value;
+        value.as_ref().map(Implicit::as_inner)
     }
 }
 

@@ -53,14 +53,8 @@ impl<'a> Accuracy<'a> {
         ensures micros { option_meaning implicit_inner result.0.fields.rest.rest.value
             ≡ option_meaning (λ v. v) micros }
     {
-        let millis = match millis {
-            Some(value) => Some(Implicit::new(value)),
-            None => None,
-        };
-        let micros = match micros {
-            Some(value) => Some(Implicit::new(value)),
-            None => None,
-        };
+        let millis = millis.map(Implicit::new);
+        let micros = micros.map(Implicit::new);
         let fields = Last::new(micros);
         let fields = Field::new(millis, fields);
         let fields = Field::new(seconds, fields);
@@ -78,20 +72,14 @@ impl<'a> Accuracy<'a> {
     pub fn millis(&self) -> Option<u16>
         ensures { result ≡ option_meaning implicit_inner self.now.0.fields.rest.value }
     {
-        match &self.0.fields.rest.value {
-            Some(value) => Some(*value.as_inner()),
-            None => None,
-        }
+        self.0.fields.rest.value.map(Implicit::into_inner)
     }
 
     /// Millionths of a second: of 1 to 999, which isn't looked at.
     pub fn micros(&self) -> Option<u16>
         ensures { result ≡ option_meaning implicit_inner self.now.0.fields.rest.rest.value }
     {
-        match &self.0.fields.rest.rest.value {
-            Some(value) => Some(*value.as_inner()),
-            None => None,
-        }
+        self.0.fields.rest.rest.value.map(Implicit::into_inner)
     }
 }
 
@@ -230,14 +218,8 @@ impl<'a> TstInfo<'a> {
             result.0.fields.rest.rest.rest.rest.rest.rest.rest.rest.rest.value
             ≡ option_meaning (λ v. v) extensions.entry }
     {
-        let tsa = match tsa {
-            Some(value) => Some(Explicit::new(value)),
-            None => None,
-        };
-        let extensions = match extensions {
-            Some(value) => Some(Implicit::new(value)),
-            None => None,
-        };
+        let tsa = tsa.map(Explicit::new);
+        let extensions = extensions.map(Implicit::new);
         let fields = Last::new(extensions);
         let fields = Field::new(tsa, fields);
         let fields = Field::new(nonce, fields);
@@ -313,10 +295,8 @@ impl<'a> TstInfo<'a> {
         ensures { option_meaning (λ v. v.now) result ≡ option_meaning explicit_inner
             self.now.0.fields.rest.rest.rest.rest.rest.rest.rest.rest.value }
     {
-        match &self.0.fields.rest.rest.rest.rest.rest.rest.rest.rest.value {
-            Some(value) => Some(value.as_inner()),
-            None => None,
-        }
+        let value = &self.0.fields.rest.rest.rest.rest.rest.rest.rest.rest.value;
+        value.as_ref().map(Explicit::as_inner)
     }
 
     /// The extensions.
@@ -324,23 +304,9 @@ impl<'a> TstInfo<'a> {
         ensures { option_meaning (λ v. v.now) result ≡ option_meaning implicit_inner
             self.now.0.fields.rest.rest.rest.rest.rest.rest.rest.rest.rest.value }
     {
-        match &self
-            .0
-            .fields
-            .rest
-            .rest
-            .rest
-            .rest
-            .rest
-            .rest
-            .rest
-            .rest
-            .rest
-            .value
-        {
-            Some(value) => Some(value.as_inner()),
-            None => None,
-        }
+        let fields = &self.0.fields.rest.rest.rest.rest.rest;
+        let value = &fields.rest.rest.rest.rest.value;
+        value.as_ref().map(Implicit::as_inner)
     }
 }
 
