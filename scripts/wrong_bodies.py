@@ -6,7 +6,8 @@ lines 'key: value':
 
 function: PATH      the function that has to be refused, by its path in the crate, as a check names it
 impl: HEADER        the header of its impl without generic parameters, where it stands in one
-body: TEXT          what stands in place of its whole body; or, in place of impl and body:
+body: TEXT          what stands in place of its whole body; or
+first: TEXT         what stands in front of its body; or, in place of impl and body:
 file: src/NAME.rt   a file, and pairs of
 old: TEXT           a text that stands in the file once, and
 new: TEXT           what stands in its place
@@ -95,10 +96,11 @@ def body_of(text, function, header):
 def changes_of(crate, said):
     """What a wrong body changes."""
     values = dict(said)
-    if "body" in values:
+    if "body" in values or "first" in values:
         file = source_of(crate, values["function"])
         start, end, indent = body_of(file.read_text(), values["function"], values.get("impl"))
-        return [Change(file.relative_to(crate), start, end, f"{indent}{values['body']}\n")]
+        end = end if "body" in values else start
+        return [Change(file.relative_to(crate), start, end, f"{indent}{values.get('body') or values['first']}\n")]
     file, changes = crate / values["file"], []
     for (_, old), (_, new) in zip(*[iter(pair for pair in said if pair[0] in ("old", "new"))] * 2):
         text = file.read_text()
@@ -116,11 +118,12 @@ def wrong_bodies_in(file, crate):
             for text in each_of(block):
                 said = [line.partition(": ")[::2] for line in text.splitlines()]
                 values = {"clause": None, "test": "", "must": "be refused", "no test": None, **dict(said)}
-                function, name, tests = values["function"], values.get("body", file.name), values["test"].split()
+                text = values.get("body") or values.get("first")
+                function, name, tests = values["function"], text or file.name, values["test"].split()
                 if function.split("::")[0] != crate.name:
                     raise ValueError("a function of another crate")
                 others = (values[key] for key in ("must", "no test"))
-                yield Wrong(function, name, changes_of(crate, said), values["clause"], tests, *others, "body" in values)
+                yield Wrong(function, name, changes_of(crate, said), values["clause"], tests, *others, text is not None)
         except (StopIteration, KeyError, ValueError) as error:
             raise ValueError(f"{file.relative_to(TOP)}: {block.splitlines()[0]}: {error!r}") from error
 
