@@ -3,7 +3,6 @@
 use crate::answers::Fault;
 use crate::common::short_name;
 use crate::show::{Show, item, line, optional, part, read_again, whole_octets, within};
-use asn1::{Asn1Readable, parse_single};
 use pkix::certificate::access::AuthorityInfoAccess;
 use pkix::certificate::distribution::{
     CrlDistributionPoints, DistributionPoint, DistributionPointName,
@@ -13,6 +12,7 @@ use pkix::certificate::extensions::{
     SubjectKeyIdentifier,
 };
 use pkix::common::{Extension, Extensions, NamedBits};
+use pkix::extension_values::ExtensionValue;
 use pkix::revocation::extensions::{CrlNumber, CrlReason};
 use std::alloc::Global;
 
@@ -230,54 +230,43 @@ impl Show for CrlDistributionPoints<'_> {
     }
 }
 
-/// Appends the lines of the value that the octets are the encoding of; or the octets, and why they aren't.
-fn known<'a, T: Asn1Readable<'a> + Show>(
-    alloc: Global,
-    place: &str,
-    name: &str,
-    octets: &'a [u8],
-    out: &mut String,
-) -> Result<(), Fault> {
-    match parse_single::<T>(alloc, octets) {
-        Ok(value) => part(alloc, place, name, &value, out),
-        Err(error) => {
-            part(alloc, place, "extnValue", &octets, out)?;
-            let reason = format!(in alloc; "{error} ({error:?})")?;
-            line(alloc, place, "rejected", reason.as_str(), out)
+/// The lines of the value, whichever type it has.
+impl Show for ExtensionValue<'_> {
+    fn show(&self, alloc: Global, place: &str, out: &mut String) -> Result<(), Fault> {
+        match self {
+            ExtensionValue::AuthorityInfoAccess(value) => value.show(alloc, place, out),
+            ExtensionValue::AuthorityKeyIdentifier(value) => value.show(alloc, place, out),
+            ExtensionValue::BasicConstraints(value) => value.show(alloc, place, out),
+            ExtensionValue::CrlDistributionPoints(value) => value.show(alloc, place, out),
+            ExtensionValue::CrlNumber(value) => value.show(alloc, place, out),
+            ExtensionValue::CrlReason(value) => value.show(alloc, place, out),
+            ExtensionValue::ExtendedKeyUsage(value) => value.show(alloc, place, out),
+            ExtensionValue::IssuerAltName(value) => value.show(alloc, place, out),
+            ExtensionValue::KeyUsage(value) => value.show(alloc, place, out),
+            ExtensionValue::SubjectAltName(value) => value.show(alloc, place, out),
+            ExtensionValue::SubjectKeyIdentifier(value) => value.show(alloc, place, out),
+            ExtensionValue::Other(value) => value.show(alloc, place, out),
         }
     }
 }
 
-/// The value is shown as what the identifier says that it is, where that is known, and else as octets.
+/// The value is shown as what the identifier says that it is, under the extension's name, where that is known; and else
+/// as octets, with the reason where they aren't the encoding of such a value.
 impl Show for Extension<'_> {
     fn show(&self, alloc: Global, place: &str, out: &mut String) -> Result<(), Fault> {
         part(alloc, place, "extnID", self.extn_id(), out)?;
         part(alloc, place, "critical", &self.critical(), out)?;
-        let name = short_name(alloc, self.extn_id())?;
-        let name = name.as_str();
-        let value = self.extn_value();
-        match name {
-            "authorityInfoAccess" => {
-                known::<AuthorityInfoAccess<'_>>(alloc, place, name, value, out)
+        match self.value(alloc) {
+            Ok(ExtensionValue::Other(octets)) => part(alloc, place, "extnValue", &octets, out),
+            Ok(value) => {
+                let name = short_name(alloc, self.extn_id())?;
+                part(alloc, place, name.as_str(), &value, out)
             }
-            "authorityKeyIdentifier" => {
-                known::<AuthorityKeyIdentifier<'_>>(alloc, place, name, value, out)
+            Err(error) => {
+                part(alloc, place, "extnValue", &self.extn_value(), out)?;
+                let reason = format!(in alloc; "{error} ({error:?})")?;
+                line(alloc, place, "rejected", reason.as_str(), out)
             }
-            "basicConstraints" => known::<BasicConstraints<'_>>(alloc, place, name, value, out),
-            "cRLDistributionPoints" => {
-                known::<CrlDistributionPoints<'_>>(alloc, place, name, value, out)
-            }
-            "cRLNumber" => known::<CrlNumber<'_>>(alloc, place, name, value, out),
-            "cRLReason" => known::<CrlReason>(alloc, place, name, value, out),
-            "extKeyUsage" => known::<ExtendedKeyUsage<'_>>(alloc, place, name, value, out),
-            "issuerAltName" | "subjectAltName" => {
-                known::<SubjectAltName<'_>>(alloc, place, name, value, out)
-            }
-            "keyUsage" => known::<KeyUsage<'_>>(alloc, place, name, value, out),
-            "subjectKeyIdentifier" => {
-                known::<SubjectKeyIdentifier<'_>>(alloc, place, name, value, out)
-            }
-            _ => part(alloc, place, "extnValue", &value, out),
         }
     }
 }
