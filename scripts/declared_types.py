@@ -84,8 +84,8 @@ GHOST = {
     "asn1.specs.Variants": "any_variant or_variant variant",
 }
 CODE = {
-    "asn1::fields": "Defined DefinedField DefinedLast Field FieldNames Fields2 Fields3 Fields4 Fields5 Fields6 Fields7 "
-    "Fields8 Fields9 Fields10 Fields11 Fields12 Last Names NoFields Structure",
+    "asn1::fields": "Between BetweenLast Defined DefinedField DefinedLast Field FieldNames Fields2 Fields3 Fields4 "
+    "Fields5 Fields6 Fields7 Fields8 Fields9 Fields10 Fields11 Fields12 Last Names NoFields Structure",
     "asn1::laws": "identifiers_compare",
     "asn1": "Asn1DefinedBy Asn1DefinedByReadable Asn1DefinedByWritable Asn1Readable Asn1Type Asn1Writable BMPString "
     "BigInt BigUint BitString Choice1 Choice2 Choice3 DefaultValue Defaulted Enumerated Explicit "

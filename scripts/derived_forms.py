@@ -89,8 +89,8 @@ def row_of(fields):
         return "NoFields"
     first, rest = fields[0], fields[1:]
     if isinstance(first, tuple):
-        item, value = first
-        return f"Defined<{item}, {value.form}, {row_of(rest)}>" if rest else f"DefinedLast<{item}, {value.form}>"
+        forms = ", ".join([str(first[0]), *(str(part.form) for part in first[1:])])
+        return f"{cell_of(first, rest)}<{forms}{', ' + row_of(rest) if rest else ''}>"
     if not rest:
         return f"Last<{first.form}>"
     if len(fields) <= 12 and not any(isinstance(each, tuple) for each in rest):
@@ -98,44 +98,63 @@ def row_of(fields):
     return f"Field<{first.form}, {row_of(rest)}>"
 
 
+def cell_of(step, others):
+    """The type that holds the first fields of a row: one, or an item with the value that it defines, and one between."""
+    cell = {2: "Defined", 3: "Between"}[len(step)] if isinstance(step, tuple) else ""
+    return cell + ("Last" if not others else "" if cell else "Field")
+
+
 def steps(item):
-    """The fields of a row: each alone, or an item's type with the value that it defines."""
+    """The fields of a row: each alone, or an item's type with the value that it defines, or with a field and that."""
     found, parts = [], list(item.parts)
     while parts:
         part = parts.pop(0)
         if "defined_by" in part.attributes:
-            raise Rejected(part.line, f"`{part.name}` doesn't stand right after the marker of its item")
-        if part.type.name == "DefinedByMarker":
-            if not parts or parts[0].attributes.get("defined_by") != [part.name, ","]:
-                raise Rejected(part.line, f"`{part.name}` marks an item: `#[defined_by({part.name})]` has to follow")
-            found.append((part.type.inner[0], parts.pop(0)))
-        else:
+            raise Rejected(part.line, f"`{part.name}` doesn't stand after the marker of its item")
+        if part.type.name != "DefinedByMarker":
             found.append(part)
+            continue
+        by = [part.name, ","]
+        ends = [count for count, each in enumerate(parts[:2], 1) if each.attributes.get("defined_by") == by]
+        if not ends or any(each.type.name == "DefinedByMarker" for each in parts[: ends[0]]):
+            why = f"`#[defined_by({part.name})]` has to follow, with at most one field between"
+            raise Rejected(part.line, f"`{part.name}` marks an item: {why}")
+        found.append((part.type.inner[0], *parts[: ends[0]]))
+        parts = parts[ends[0] :]
     return found
 
 
-def at(index, after=""):
-    """How the field at this index is reached, in two steps where the path is long."""
-    path = "self.0.fields" + ".rest" * index + ".value"
-    if len(path + after) <= 60:
-        return "", path
-    return f"let others = &self.0.fields{'.rest' * 7};\n        ", "others" + ".rest" * (index - 7) + ".value"
+def kept_parts(row):
+    """The fields of a row that are kept, with the path to each."""
+    for index, step in enumerate(row):
+        parts = step[1:] if isinstance(step, tuple) else (step,)
+        for part, name in zip(parts, ("value",) if len(parts) == 1 else ("between", "value")):
+            yield part, ".rest" * index + f".{name}"
 
 
-def accessor(module, part, index):
+def at(path, after=""):
+    """How the field with this path is reached, in two steps where the path is long."""
+    whole = f"self.0.fields{path}"
+    if len(whole + after) <= 60:
+        return "", whole
+    first = ".rest" * 7
+    return f"let others = &self.0.fields{first};\n        ", f"others{path.removeprefix(first)}"
+
+
+def accessor(module, part, path):
     """Returns a field: a copy where its type is Copy, else a reference."""
     known = module.known(part.base if part.default is not None or part.tag else part.form)
     copy = bool(known and known.is_copy)
     if part.form.name == "Option" and part.tag:
-        return missing_accessor(part, index, copy)
-    where, after = "self.now.0.fields" + ".rest" * index + ".value", ""
+        return missing_accessor(part, path, copy)
+    where, after = f"self.now.0.fields{path}", ""
     type = part.form
     if part.default is not None:
         where, after, type = f"defaulted_inner {where}", ".as_inner()", part.base
     if part.tag and part.form.name != "Option":
         where, after, type = f"{part.tag}_inner {group(where)}", after + ".as_inner()", part.base
-    before, path = at(index, after)
-    body = path + after
+    before, reached = at(path, after)
+    body = reached + after
     if after:
         body = "*" + body if copy else body
     elif not copy:
@@ -150,20 +169,20 @@ def accessor(module, part, index):
 """
 
 
-def missing_accessor(part, index, copy):
+def missing_accessor(part, path, copy):
     """Returns a field with a tag that may be missing: the value under the tag, a copy or a reference as above."""
     inner, view = ("into_inner", "λ v. v") if copy else ("as_inner", "λ v. v.now")
     call = f"{'' if copy else '.as_ref()'}.map({part.tag.capitalize()}::{inner})"
-    before, path = at(index)
-    if len(path + call) > 60:
-        before, path = f"{before}let field = {'' if copy else '&'}{path};\n        ", "field"
-    where = "self.now.0.fields" + ".rest" * index + ".value"
+    before, reached = at(path)
+    if len(reached + call) > 60:
+        before, reached = f"{before}let field = {'' if copy else '&'}{reached};\n        ", "field"
+    where = f"self.now.0.fields{path}"
     return f"""
     {comment(part, "The field.")}
     pub fn {part.name}(&self) -> Option<{'' if copy else '&'}{part.base}>
         ensures {{ option_meaning ({view}) result ≡ option_meaning {part.tag}_inner {where} }}
     {{
-        {before}{path}{call}
+        {before}{reached}{call}
     }}
 """
 
@@ -188,16 +207,14 @@ RESERVED = "data record package open as unfold unfolding ruleset infix elim do r
 
 def constructor(item, row):
     """Makes the structure of its fields, as the declaration has them."""
-    params, lets, ensures, own = [], [], [], item.name + angle(item.life)
-    for index, step in reversed([*enumerate(row)]):
-        part, cell = (step[1], "Defined") if isinstance(step, tuple) else (step, "Field")
-        last = "DefinedLast" if cell == "Defined" else "Last"
-        name = parameter(part)
-        params.insert(0, f"{name}: {part.type}")
-        lets.insert(0, wrapped(part, name))
-        ensures.insert(0, f"ensures {name} {{ {kept(part, index)} }}")
-        cell = f"{last}::new({name})" if index == len(row) - 1 else f"{cell}::new({name}, row)"
-        lets.append(f"let row = {cell};\n        ")
+    own, parts = item.name + angle(item.life), [*kept_parts(row)]
+    params = [f"{parameter(part)}: {part.type}" for part, _ in parts]
+    ensures = [f"ensures {parameter(part)} {{ {kept(part, path)} }}" for part, path in parts]
+    lets = [wrapped(part, parameter(part)) for part, _ in parts]
+    for index, step in reversed([*enumerate(row, 1)]):
+        names = [parameter(part) for part in (step[1:] if isinstance(step, tuple) else (step,))]
+        names += ["row"] if row[index:] else []
+        lets.append(f"let row = {cell_of(step, row[index:])}::new({', '.join(names)});\n        ")
     body = "".join(lets) or "let row = NoFields;\n        "
     return f"""
     /// Of these fields.
@@ -216,9 +233,9 @@ def wrapped(part, name):
     return "" if value == name else f"let {name} = {value};\n        "
 
 
-def kept(part, index):
+def kept(part, path):
     """That `new` keeps a field."""
-    where = "result.0.fields" + ".rest" * index + ".value"
+    where = f"result.0.fields{path}"
     if part.form.name == "Option" and part.tag:
         return f"option_meaning {part.tag}_inner {where} ≡ option_meaning (λ v. v) {passed(part)}"
     if part.default is not None:
@@ -256,8 +273,7 @@ impl FieldNames for {item.name}Names {{
 pub struct {item.name}{angle(item.life)}({fields});
 
 impl{angle(item.life)} {item.name}{angle(item.life)} {{"""
-    values = [step[1] if isinstance(step, tuple) else step for step in row]
-    text += constructor(item, row) + "".join(accessor(module, part, index) for index, part in enumerate(values)) + "}\n"
+    text += constructor(item, row) + "".join(accessor(module, part, path) for part, path in kept_parts(row)) + "}\n"
     made = [part for part in item.parts if made_in_code(part.form)]
     if made and item.reads:
         raise Rejected(made[0].line, f"`{made[0].name}` is a list that is written and not read")

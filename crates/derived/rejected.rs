@@ -246,9 +246,10 @@ struct NumberByItem {
 
 use crate::content::Content;
 #[derive(asn1::Asn1Read)]
-struct Between {
-    kind: asn1::DefinedByMarker<asn1::ObjectIdentifier>, //~ `kind` marks an item: `#[defined_by(kind)]` has to follow
+struct TwoBetween {
+    kind: asn1::DefinedByMarker<asn1::ObjectIdentifier>, //~ `kind` marks an item: `#[defined_by(kind)]` has to follow, with at most one field between
     number: u8,
+    other: u8,
     #[defined_by(kind)]
     content: Content,
 }
@@ -258,7 +259,7 @@ use crate::content::Content;
 struct Unmarked {
     kind: asn1::ObjectIdentifier,
     #[defined_by(kind)]
-    content: Content, //~ `content` doesn't stand right after the marker of its item
+    content: Content, //~ `content` doesn't stand after the marker of its item
 }
 
 const WRONG: asn1::ObjectIdentifier = asn1::oid!(1, 40, 1); //~ `WRONG` is no identifier: its second number is below 40 after 0 and 1

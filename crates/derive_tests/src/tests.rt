@@ -11,11 +11,11 @@ use derived::crl::{CertificateList, Revoked, RevokedCertificate, Time};
 use derived::keys::PrivateKeyInfo;
 use derived::page::{
     Alternative, AnyContent, AnyContentUnknown, AnySequence, Bag, Content, Entry, GeneralName,
-    MySequence, Signature, Tagged, other_oid, sha256_with_rsa, some_oid,
+    MySequence, Notice, Signature, Tagged, other_oid, sha256_with_rsa, some_oid,
 };
 use std::alloc::Global;
 use std::test::Fail;
-use testing::{are_refused_with, refused};
+use testing::{are_both_ways, are_refused_with, refused};
 
 /// Whether the octets are read as the type and written as the same octets, of which the type says how many they are.
 fn is_written_back<'a, T: Asn1Readable<'a> + Asn1Writable<Error = WriteError>>(
@@ -231,6 +231,39 @@ fn a_content_by_its_identifier(rt: HostRuntime) -> Result<(), Fail> {
     let kind = ParseErrorKind::UnknownDefinedBy;
     let unknown: &[u8] = &[0x30, 7, 6, 2, 0x2a, 4, 2, 1, 5];
     are_refused_with::<MySequence>(alloc, &[(unknown, at("MySequence::content", kind))])
+}
+
+#[test]
+fn a_field_between_an_identifier_and_its_content(rt: HostRuntime) -> Result<(), Fail> {
+    let alloc = rt.alloc();
+    are_both_ways(
+        alloc,
+        &[
+            (
+                Notice::new(true, Content::SomeVariant(5)),
+                &[0x30, 10, 6, 2, 0x2a, 3, 1, 1, 0xff, 2, 1, 5],
+            ),
+            (
+                Notice::new(false, Content::SomeVariant(5)),
+                &[0x30, 7, 6, 2, 0x2a, 3, 2, 1, 5],
+            ),
+        ],
+    )?;
+    let default: &[u8] = &[0x30, 10, 6, 2, 0x2a, 3, 1, 1, 0, 2, 1, 5];
+    let unknown: &[u8] = &[0x30, 10, 6, 2, 0x2a, 4, 1, 1, 0xff, 2, 1, 5];
+    are_refused_with::<Notice>(
+        alloc,
+        &[
+            (
+                default,
+                at("Notice::critical", ParseErrorKind::EncodedDefault),
+            ),
+            (
+                unknown,
+                at("Notice::content", ParseErrorKind::UnknownDefinedBy),
+            ),
+        ],
+    )
 }
 
 /// Contents by four identifiers: one that may be missing, twice, and one that no variant is for.

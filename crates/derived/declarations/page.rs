@@ -135,6 +135,19 @@ pub struct AnySequence<'a> {
     pub content: AnyContent<'a>,
 }
 
+/// An identifier, whether what it defines has to be known, and that: in the form of an extension of a certificate.
+#[derive(asn1::Asn1Read, asn1::Asn1Write, Debug, Clone, PartialEq, Eq, Hash)]
+pub struct Notice {
+    /// The identifier, which the content tells.
+    pub kind: asn1::DefinedByMarker<asn1::ObjectIdentifier>,
+    /// Whether the content has to be known: it need not, unless said.
+    #[default(false)]
+    pub critical: bool,
+    /// The content.
+    #[defined_by(kind)]
+    pub content: Content,
+}
+
 /// Numbers, or any other content, before a note.
 #[derive(asn1::Asn1DefinedByRead, asn1::Asn1DefinedByWrite, Clone, PartialEq, Eq)]
 pub enum Listed<'a> {

@@ -13,10 +13,11 @@ ghost use Rattle.asn1.specs.Options.{option_meaning};
 ghost use Rattle.asn1.specs.Reading.{EndsWith};
 ghost use Rattle.asn1.specs.Reads.{HasOneEncoding, ReadsContents, ReadsDefined, ReadsPrefix};
 ghost use Rattle.asn1.specs.Variants.{any_variant, or_variant, variant};
-ghost use Rattle.derived.specs.declared.page.TheConstants.{SIGNATURE_NAMES, TAGGED_NAMES, ALTERNATIVE_NAMES, MY_SEQUENCE_NAMES, ANY_SEQUENCE_NAMES, ENTRY_NAMES, BAG_NAMES};
+ghost use Rattle.derived.specs.declared.page.TheConstants.{SIGNATURE_NAMES, TAGGED_NAMES, ALTERNATIVE_NAMES, MY_SEQUENCE_NAMES, ANY_SEQUENCE_NAMES, NOTICE_NAMES, ENTRY_NAMES, BAG_NAMES};
 
 use asn1::fields::{
-    Defined, DefinedField, DefinedLast, Field, FieldNames, Fields2, Fields6, Last, Names, Structure,
+    BetweenLast, Defined, DefinedField, DefinedLast, Field, FieldNames, Fields2, Fields6, Last,
+    Names, Structure,
 };
 use asn1::laws::identifiers_compare;
 use asn1::{
@@ -1018,6 +1019,106 @@ impl<'a> SimpleAsn1Writable for AnySequence<'a> {
     }
 }
 
+/// What `critical` is where it is left out.
+#[derive(Debug, PartialEq, Eq, Drop)]
+pub struct NoticeCritical;
+
+impl DefaultValue<bool> for NoticeCritical {
+    ghost default = { false };
+
+    fn value() -> bool {
+        false
+    }
+}
+
+/// The fields.
+type NoticeFields = Structure<
+    NoticeNames,
+    BetweenLast<ObjectIdentifier, Defaulted<bool, NoticeCritical>, Content>,
+>;
+
+const NOTICE_NAMES: [&str; 3] = ["Notice::kind", "Notice::critical", "Notice::content"];
+
+/// The names of the fields.
+struct NoticeNames;
+
+impl FieldNames for NoticeNames {
+    ghost names = { map (λ s. s.now) NOTICE_NAMES };
+
+    fn names() -> Names {
+        Names::new(&NOTICE_NAMES)
+    }
+}
+
+/// An identifier, whether what it defines has to be known, and that: in the form of an extension of a certificate.
+#[derive(Debug, Clone, PartialEq, Eq, Hash, Drop)]
+pub struct Notice(NoticeFields);
+
+impl Notice {
+    /// Of these fields.
+    pub fn new(critical: bool, content: Content) -> Notice
+        ensures critical { defaulted_inner result.0.fields.between ≡ critical }
+        ensures content { result.0.fields.value ≡ content }
+    {
+        let critical = Defaulted::new(critical);
+        let row = BetweenLast::new(critical, content);
+        Notice(Structure::new(row))
+    }
+
+    /// Whether the content has to be known: it need not, unless said.
+    pub fn critical(&self) -> bool
+        ensures { result ≡ defaulted_inner self.now.0.fields.between }
+    {
+        *self.0.fields.between.as_inner()
+    }
+
+    /// The content.
+    pub fn content(&self) -> &Content
+        ensures { result.now ≡ self.now.0.fields.value }
+    {
+        &self.0.fields.value
+    }
+}
+
+impl Asn1Type for Notice {
+    ghost der = { seen (λ v. v.0) ⟦<NoticeFields as Asn1Type>⟧.der };
+
+    fn known(&self) {
+        self.0.known()
+    }
+}
+
+impl<'a> SimpleAsn1Readable<'a> for Notice {
+    fn tag() -> Tag {
+        Tag::constructed(0x10)
+    }
+
+    fn parse_data(alloc: Global, data: &'a [u8]) -> ParseResult<Notice> {
+        match <NoticeFields as SimpleAsn1Readable<'_>>::parse_data(alloc, data) {
+            Ok(fields) => Ok(Notice(fields)),
+            Err(error) => Err(error),
+        }
+    }
+}
+
+impl SimpleAsn1Writable for Notice {
+    type Error = WriteError;
+
+    ghost write_errors = { λ _ _. ⊥ };
+
+    fn tag() -> Tag {
+        Tag::constructed(0x10)
+    }
+
+    fn write_data(&self, dest: &mut WriteBuf) -> WriteResult<()> {
+        self.0.write_data(dest)
+    }
+
+    fn data_length(&self) -> Option<usize> {
+        self.0.data_length()
+    }
+}
+
 /// An identifier that no other variant of `Listed` is for, and the value.
 #[derive(PartialEq, Eq, Drop)]
 pub struct ListedUnknown<'a> {
@@ -1357,6 +1458,7 @@ pub fn page_are_lawful()
     ensures alternative { HasOneEncoding ⟦<Alternative<'static> as Asn1Type>⟧.der }
     ensures my_sequence { HasOneEncoding ⟦<MySequence as Asn1Type>⟧.der }
     ensures any_sequence { HasOneEncoding ⟦<AnySequence<'static> as Asn1Type>⟧.der }
+    ensures notice { HasOneEncoding ⟦<Notice as Asn1Type>⟧.der }
     ensures entry { HasOneEncoding ⟦<Entry<'static> as Asn1Type>⟧.der }
 {
     general_name_is_lawful();
