@@ -99,7 +99,7 @@ def row_of(fields):
 
 
 def cell_of(step, others):
-    """The type that holds the first fields of a row: one, or an item with the value that it defines, and one between."""
+    """The type that holds the first fields of a row: one, or an item, the value that it defines, and one between."""
     cell = {2: "Defined", 3: "Between"}[len(step)] if isinstance(step, tuple) else ""
     return cell + ("Last" if not others else "" if cell else "Field")
 
