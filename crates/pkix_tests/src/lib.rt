@@ -21,6 +21,8 @@ mod not_der;
 #[cfg(test)]
 mod objects;
 #[cfg(test)]
+mod readme;
+#[cfg(test)]
 mod requests;
 #[cfg(test)]
 mod revocation;
