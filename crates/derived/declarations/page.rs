@@ -135,7 +135,8 @@ pub struct AnySequence<'a> {
     pub content: AnyContent<'a>,
 }
 
-/// An identifier, whether what it defines has to be known, and that: in the form of an extension of a certificate.
+/// An identifier, whether what it defines has to be known, and that, as in an extension of a
+/// certificate.
 #[derive(asn1::Asn1Read, asn1::Asn1Write, Debug, Clone, PartialEq, Eq, Hash)]
 pub struct Notice {
     /// The identifier, which the content tells.

@@ -88,7 +88,8 @@ impl<'a> SimpleAsn1Readable<'a> for AlgorithmIdentifier<'a> {
     }
 
     fn parse_data(alloc: Global, data: &'a [u8]) -> ParseResult<AlgorithmIdentifier<'a>>
-        ensures { ReadsContents ⟦<AlgorithmIdentifier<'a> as Asn1Type>⟧.der «data».entry.now result }
+        ensures { ReadsContents ⟦<AlgorithmIdentifier<'a> as Asn1Type>⟧.der «data».entry.now
+            result }
     {
         match <AlgorithmIdentifierFields<'a> as SimpleAsn1Readable<'a>>::parse_data(alloc, data) {
             Ok(fields) => Ok(AlgorithmIdentifier(fields)),
@@ -132,7 +133,11 @@ pub enum Time {
 impl Asn1Type for Time {
     ghost use Rattle.derived.specs.declared.crl.Time.TheVariants.{ShortTime, LongTime};
 
-    ghost der = { choice_der (elim [ ShortTime x ↦ inl (⟦<UtcTime as Asn1Type>⟧.der.meaning x) | LongTime x ↦ inr (⟦<X509GeneralizedTime as Asn1Type>⟧.der.meaning x) ]) (or ⟦<UtcTime as Asn1Type>⟧.der (only ⟦<X509GeneralizedTime as Asn1Type>⟧.der)) };
+    ghost der = { choice_der (elim [
+      | ShortTime x ↦ inl (⟦<UtcTime as Asn1Type>⟧.der.meaning x)
+      | LongTime x ↦ inr (⟦<X509GeneralizedTime as Asn1Type>⟧.der.meaning x)
+    ]) (or
+        ⟦<UtcTime as Asn1Type>⟧.der (only ⟦<X509GeneralizedTime as Asn1Type>⟧.der)) };
 
     fn known(&self) {
         match self {
@@ -720,7 +725,9 @@ impl<'a> TbsCertList<'a> {
         ensures this_update { result.0.fields.rest.rest.rest.value ≡ this_update }
         ensures next_update { result.0.fields.rest.rest.rest.rest.value ≡ next_update }
         ensures revoked { result.0.fields.rest.rest.rest.rest.rest.value ≡ revoked.entry }
-        ensures extensions { option_meaning explicit_inner result.0.fields.rest.rest.rest.rest.rest.rest.value ≡ option_meaning (λ v. v) extensions.entry }
+        ensures extensions { option_meaning explicit_inner
+            result.0.fields.rest.rest.rest.rest.rest.rest.value ≡ option_meaning (λ v. v)
+            extensions.entry }
     {
         let extensions = extensions.map(Explicit::new);
         let row = Last::new(extensions);
@@ -777,7 +784,8 @@ impl<'a> TbsCertList<'a> {
 
     /// What else is said.
     pub fn extensions(&self) -> Option<&Extensions<'a>>
-        ensures { option_meaning (λ v. v.now) result ≡ option_meaning explicit_inner self.now.0.fields.rest.rest.rest.rest.rest.rest.value }
+        ensures { option_meaning (λ v. v.now) result ≡ option_meaning explicit_inner
+            self.now.0.fields.rest.rest.rest.rest.rest.rest.value }
     {
         let field = &self.0.fields.rest.rest.rest.rest.rest.rest.value;
         field.as_ref().map(Explicit::as_inner)

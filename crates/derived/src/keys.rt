@@ -156,7 +156,8 @@ impl<'a> PrivateKeyInfo<'a> {
         ensures version { result.0.fields.value ≡ version }
         ensures algorithm { result.0.fields.rest.value ≡ algorithm.entry }
         ensures key { result.0.fields.rest.rest.value ≡ key.entry }
-        ensures attributes { option_meaning implicit_inner result.0.fields.rest.rest.rest.value ≡ option_meaning (λ v. v) attributes.entry }
+        ensures attributes { option_meaning implicit_inner result.0.fields.rest.rest.rest.value ≡
+            option_meaning (λ v. v) attributes.entry }
     {
         let attributes = attributes.map(Implicit::new);
         let row = Last::new(attributes);
@@ -189,7 +190,8 @@ impl<'a> PrivateKeyInfo<'a> {
 
     /// What else is said of it.
     pub fn attributes(&self) -> Option<&SetOf<'a, KeyAttribute<'a>>>
-        ensures { option_meaning (λ v. v.now) result ≡ option_meaning implicit_inner self.now.0.fields.rest.rest.rest.value }
+        ensures { option_meaning (λ v. v.now) result ≡ option_meaning implicit_inner
+            self.now.0.fields.rest.rest.rest.value }
     {
         let field = &self.0.fields.rest.rest.rest.value;
         field.as_ref().map(Implicit::as_inner)

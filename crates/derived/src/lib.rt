@@ -1,4 +1,4 @@
-//! Types that `scripts/derive` printed, as it printed them, from the declarations in `declarations`.
+//! Types that `scripts/derive` printed from the declarations in `declarations`, as it printed them.
 #![tactic(auto)]
 
 pub mod crl;

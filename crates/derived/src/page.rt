@@ -231,12 +231,16 @@ impl<'a> Tagged<'a> {
         numbers: SequenceOf<'a, i32, 1, 4>,
         signature: Signature,
     ) -> Tagged<'a>
-        ensures octets { option_meaning implicit_inner result.0.fields.value ≡ option_meaning (λ v. v) octets.entry }
-        ensures number { option_meaning explicit_inner result.0.fields.rest.value ≡ option_meaning (λ v. v) number }
+        ensures octets { option_meaning implicit_inner result.0.fields.value ≡ option_meaning (λ v.
+            v) octets.entry }
+        ensures number { option_meaning explicit_inner result.0.fields.rest.value ≡ option_meaning
+            (λ v. v) number }
         ensures critical { defaulted_inner result.0.fields.rest.rest.value ≡ critical }
-        ensures version { explicit_inner (defaulted_inner result.0.fields.rest.rest.rest.value) ≡ version }
+        ensures version { explicit_inner (defaulted_inner result.0.fields.rest.rest.rest.value) ≡
+            version }
         ensures numbers { implicit_inner result.0.fields.rest.rest.rest.rest.value ≡ numbers.entry }
-        ensures signature { explicit_inner result.0.fields.rest.rest.rest.rest.rest.value ≡ signature }
+        ensures signature { explicit_inner result.0.fields.rest.rest.rest.rest.rest.value ≡
+            signature }
     {
         let octets = octets.map(Implicit::new);
         let number = number.map(Explicit::new);
@@ -255,14 +259,16 @@ impl<'a> Tagged<'a> {
 
     /// Octets under a tag in place of their own.
     pub fn octets(&self) -> Option<&'a [u8]>
-        ensures { option_meaning (λ v. v) result ≡ option_meaning implicit_inner self.now.0.fields.value }
+        ensures { option_meaning (λ v. v) result ≡ option_meaning implicit_inner
+            self.now.0.fields.value }
     {
         self.0.fields.value.map(Implicit::into_inner)
     }
 
     /// A number under a tag around its own.
     pub fn number(&self) -> Option<u64>
-        ensures { option_meaning (λ v. v) result ≡ option_meaning explicit_inner self.now.0.fields.rest.value }
+        ensures { option_meaning (λ v. v) result ≡ option_meaning explicit_inner
+            self.now.0.fields.rest.value }
     {
         self.0.fields.rest.value.map(Explicit::into_inner)
     }
@@ -394,7 +400,24 @@ pub enum GeneralName<'a> {
 impl<'a> Asn1Type for GeneralName<'a> {
     ghost use Rattle.derived.specs.declared.page.GeneralName.TheVariants.{OtherName, Rfc822Name, DNSName, X400Address, DirectoryName, EDIPartyName, UniformResourceIdentifier, IPAddress, RegisteredID};
 
-    ghost der = { choice_der (elim [ OtherName x ↦ inl (⟦<Signature as Asn1Type>⟧.der.meaning x) | Rfc822Name x ↦ inr (inl (⟦<IA5String<'a> as Asn1Type>⟧.der.meaning x)) | DNSName x ↦ inr (inr (inl (⟦<IA5String<'a> as Asn1Type>⟧.der.meaning x))) | X400Address x ↦ inr (inr (inr (inl (⟦<Sequence<'a> as Asn1Type>⟧.der.meaning x)))) | DirectoryName x ↦ inr (inr (inr (inr (inl (⟦<Strings<'a> as Asn1Type>⟧.der.meaning x))))) | EDIPartyName x ↦ inr (inr (inr (inr (inr (inl (⟦<Sequence<'a> as Asn1Type>⟧.der.meaning x)))))) | UniformResourceIdentifier x ↦ inr (inr (inr (inr (inr (inr (inl (⟦<IA5String<'a> as Asn1Type>⟧.der.meaning x))))))) | IPAddress x ↦ inr (inr (inr (inr (inr (inr (inr (inl (⟦<&'a [u8] as Asn1Type>⟧.der.meaning x)))))))) | RegisteredID x ↦ inr (inr (inr (inr (inr (inr (inr (inr (⟦<ObjectIdentifier as Asn1Type>⟧.der.meaning x)))))))) ]) (or ⟦<Implicit<Signature, 0> as Asn1Type>⟧.der (or ⟦<Implicit<IA5String<'a>, 1> as Asn1Type>⟧.der (only ⟦<GeneralNameFrom3<'a> as Asn1Type>⟧.der))) };
+    ghost der = { choice_der (elim [
+      | OtherName x ↦ inl (⟦<Signature as Asn1Type>⟧.der.meaning x)
+      | Rfc822Name x ↦ inr (inl (⟦<IA5String<'a> as Asn1Type>⟧.der.meaning x))
+      | DNSName x ↦ inr (inr (inl (⟦<IA5String<'a> as Asn1Type>⟧.der.meaning x)))
+      | X400Address x ↦ inr (inr (inr (inl (⟦<Sequence<'a> as Asn1Type>⟧.der.meaning x))))
+      | DirectoryName x ↦ inr (inr (inr (inr (inl (⟦<Strings<'a> as Asn1Type>⟧.der.meaning x)))))
+      | EDIPartyName x ↦ inr (inr (inr (inr (inr (inl (⟦<Sequence<'a> as Asn1Type>⟧.der.meaning
+          x))))))
+      | UniformResourceIdentifier x ↦ inr (inr (inr (inr (inr (inr (inl
+          (⟦<IA5String<'a> as Asn1Type>⟧.der.meaning x)))))))
+      | IPAddress x ↦ inr (inr (inr (inr (inr (inr (inr (inl (⟦<&'a [u8] as Asn1Type>⟧.der.meaning
+          x))))))))
+      | RegisteredID x ↦ inr (inr (inr (inr (inr (inr (inr (inr
+          (⟦<ObjectIdentifier as Asn1Type>⟧.der.meaning x))))))))
+    ]) (or
+        ⟦<Implicit<Signature, 0> as Asn1Type>⟧.der (or
+        ⟦<Implicit<IA5String<'a>, 1> as Asn1Type>⟧.der (only
+        ⟦<GeneralNameFrom3<'a> as Asn1Type>⟧.der))) };
 
     fn known(&self) {
         match self {
@@ -413,9 +436,11 @@ impl<'a> Asn1Type for GeneralName<'a> {
 
 impl<'a> Asn1Readable<'a> for GeneralName<'a> {
     fn parse(parser: &mut Parser<'a>) -> ParseResult<GeneralName<'a>>
-        ensures answers { ReadsPrefix ⟦<GeneralName<'a> as Asn1Type>⟧.der parser.old parser.new result }
+        ensures answers { ReadsPrefix ⟦<GeneralName<'a> as Asn1Type>⟧.der parser.old parser.new
+            result }
         ensures rest { EndsWith parser.old parser.new }
-        ensures stops { OnErr result (⟦<GeneralName<'a> as Asn1Type>⟧.der.stops parser.old parser.new) }
+        ensures stops { OnErr result (⟦<GeneralName<'a> as Asn1Type>⟧.der.stops parser.old
+            parser.new) }
     {
         match parser.read_element::<GeneralNameChoice<'a>>()? {
             Choice3::ChoiceA(x) => Ok(GeneralName::OtherName(x.into_inner())),
@@ -713,7 +738,28 @@ pub enum Content {
 impl Asn1DefinedBy<ObjectIdentifier> for Content {
     ghost use Rattle.derived.specs.declared.page.Content.TheVariants.{SomeVariant, RsaParameters};
 
-    ghost by = { by_item (record { item = ⟦<ObjectIdentifier as Asn1Type>⟧.der; value = or_variant (record { item = 42 ∷ 3 ∷ []; is = λ n. bytes_eq n (42 ∷ 3 ∷ []); itself = refl; alone = λ n e. sym ((bytes_eq-Decides n (42 ∷ 3 ∷ [])).0 e) }) ⟦<i32 as Asn1Type>⟧.der (variant (record { item = 42 ∷ 840 ∷ 113549 ∷ 1 ∷ 1 ∷ 11 ∷ []; is = λ n. bytes_eq n (42 ∷ 840 ∷ 113549 ∷ 1 ∷ 1 ∷ 11 ∷ []); itself = refl; alone = λ n e. sym ((bytes_eq-Decides n (42 ∷ 840 ∷ 113549 ∷ 1 ∷ 1 ∷ 11 ∷ [])).0 e) }) ⟦<Null as Asn1Type>⟧.der (λ m. m)) (elim [ SomeVariant x ↦ inl (⟦<i32 as Asn1Type>⟧.der.meaning x) | RsaParameters x ↦ inr (⟦<Null as Asn1Type>⟧.der.meaning x) ]) }) };
+    ghost by = { by_item (record {
+      item = ⟦<ObjectIdentifier as Asn1Type>⟧.der;
+      value = or_variant
+          (record {
+            item = 42 ∷ 3 ∷ [];
+            is = λ n. bytes_eq n (42 ∷ 3 ∷ []);
+            itself = refl;
+            alone = λ n
+                e. sym ((bytes_eq-Decides n (42 ∷ 3 ∷ [])).0 e);
+          }) ⟦<i32 as Asn1Type>⟧.der (variant (record {
+            item = 42 ∷ 840 ∷ 113549 ∷ 1 ∷ 1 ∷ 11 ∷ [];
+            is = λ n. bytes_eq n (42 ∷ 840 ∷ 113549 ∷ 1 ∷
+                1 ∷ 11 ∷ []);
+            itself = refl;
+            alone = λ n e. sym ((bytes_eq-Decides n (42 ∷ 840 ∷ 113549 ∷ 1
+                ∷ 1 ∷ 11 ∷ [])).0 e);
+          }) ⟦<Null as Asn1Type>⟧.der (λ m. m)) (elim [
+            | SomeVariant x ↦ inl
+                (⟦<i32 as Asn1Type>⟧.der.meaning x)
+            | RsaParameters x ↦ inr (⟦<Null as Asn1Type>⟧.der.meaning x)
+          ]);
+    }) };
 
     fn known_by(&self) {
         match self {
@@ -724,7 +770,11 @@ impl Asn1DefinedBy<ObjectIdentifier> for Content {
 }
 
 impl DefinedField<ObjectIdentifier> for Content {
-    ghost both = { record { item = ⟦<ObjectIdentifier as Asn1Type>⟧.der; value = ⟦<Content as Asn1DefinedBy<ObjectIdentifier>>⟧.by.means } };
+    ghost both = { record {
+      item = ⟦<ObjectIdentifier as Asn1Type>⟧.der;
+      value =
+          ⟦<Content as Asn1DefinedBy<ObjectIdentifier>>⟧.by.means;
+    } };
 
     fn known_item(&self) {
         match self {
@@ -784,13 +834,17 @@ pub struct AnyContentUnknown<'a> {
     value: Tlv<'a>,
     pub ghost is_not_some_oid: { bytes_eq (identifier_of item) (42 ∷ 3 ∷ []) ≡ false },
     pub ghost is_not_other_oid: { bytes_eq (identifier_of item) (42 ∷ 4 ∷ []) ≡ false },
-    pub ghost is_not_sha256_with_rsa: { bytes_eq (identifier_of item) (42 ∷ 840 ∷ 113549 ∷ 1 ∷ 1 ∷ 11 ∷ []) ≡ false },
+    pub ghost is_not_sha256_with_rsa: { bytes_eq (identifier_of item) (42 ∷ 840 ∷ 113549 ∷ 1 ∷ 1 ∷
+        11 ∷ []) ≡ false },
 }
 
 impl<'a> AnyContentUnknown<'a> {
     /// Of this identifier and this value; `None` where another variant is for the identifier.
     pub fn new(item: ObjectIdentifier, value: Tlv<'a>) -> Option<AnyContentUnknown<'a>>
-        ensures { MatchOption result ((bytes_eq (identifier_of item) (42 ∷ 3 ∷ []) ≡ true) ⊎ ((bytes_eq (identifier_of item) (42 ∷ 4 ∷ []) ≡ true) ⊎ (bytes_eq (identifier_of item) (42 ∷ 840 ∷ 113549 ∷ 1 ∷ 1 ∷ 11 ∷ []) ≡ true))) (λ v. (v.item ≡ item) × (v.value ≡ value.entry)) }
+        ensures { MatchOption result ((bytes_eq (identifier_of item) (42 ∷ 3 ∷ []) ≡ true) ⊎
+            ((bytes_eq (identifier_of item) (42 ∷ 4 ∷ []) ≡ true) ⊎ (bytes_eq (identifier_of item)
+            (42 ∷ 840 ∷ 113549 ∷ 1 ∷ 1 ∷ 11 ∷ []) ≡ true))) (λ v. (v.item ≡ item) × (v.value ≡
+            value.entry)) }
     {
         if is_identifier(&item, some_oid())
             || is_identifier(&item, other_oid())
@@ -845,7 +899,42 @@ pub enum AnyContent<'a> {
 impl<'a> Asn1DefinedBy<ObjectIdentifier> for AnyContent<'a> {
     ghost use Rattle.derived.specs.declared.page.AnyContent.TheVariants.{Octets, Number, Flag, Unknown};
 
-    ghost by = { by_item (record { item = ⟦<ObjectIdentifier as Asn1Type>⟧.der; value = or_variant (record { item = 42 ∷ 3 ∷ []; is = λ n. bytes_eq n (42 ∷ 3 ∷ []); itself = refl; alone = λ n e. sym ((bytes_eq-Decides n (42 ∷ 3 ∷ [])).0 e) }) ⟦<&'a [u8] as Asn1Type>⟧.der (or_variant (record { item = 42 ∷ 4 ∷ []; is = λ n. bytes_eq n (42 ∷ 4 ∷ []); itself = refl; alone = λ n e. sym ((bytes_eq-Decides n (42 ∷ 4 ∷ [])).0 e) }) ⟦<Explicit<u32, 1> as Asn1Type>⟧.der (or_variant (record { item = 42 ∷ 840 ∷ 113549 ∷ 1 ∷ 1 ∷ 11 ∷ []; is = λ n. bytes_eq n (42 ∷ 840 ∷ 113549 ∷ 1 ∷ 1 ∷ 11 ∷ []); itself = refl; alone = λ n e. sym ((bytes_eq-Decides n (42 ∷ 840 ∷ 113549 ∷ 1 ∷ 1 ∷ 11 ∷ [])).0 e) }) ⟦<Option<bool> as Asn1Type>⟧.der (any_variant ⟦<Tlv<'a> as Asn1Type>⟧.der (λ m. m)) (λ m. m)) (λ m. m)) (elim [ Octets x ↦ inl (⟦<&'a [u8] as Asn1Type>⟧.der.meaning x) | Number x ↦ inr (inl (⟦<u32 as Asn1Type>⟧.der.meaning x)) | Flag x ↦ inr (inr (inl (⟦<Option<bool> as Asn1Type>⟧.der.meaning x))) | Unknown x ↦ inr (inr (inr (⟦<ObjectIdentifier as Asn1Type>⟧.der.meaning x.item, ⟦<Tlv<'a> as Asn1Type>⟧.der.meaning x.value))) ]) }) };
+    ghost by = { by_item (record {
+      item = ⟦<ObjectIdentifier as Asn1Type>⟧.der;
+      value = or_variant
+          (record {
+            item = 42 ∷ 3 ∷ [];
+            is = λ n. bytes_eq n (42 ∷ 3 ∷ []);
+            itself = refl;
+            alone = λ n
+                e. sym ((bytes_eq-Decides n (42 ∷ 3 ∷ [])).0 e);
+          }) ⟦<&'a [u8] as Asn1Type>⟧.der (or_variant
+          (record {
+            item = 42 ∷ 4 ∷ [];
+            is = λ n. bytes_eq n (42 ∷ 4 ∷ []);
+            itself = refl;
+            alone = λ n
+                e. sym ((bytes_eq-Decides n (42 ∷ 4 ∷ [])).0 e);
+          }) ⟦<Explicit<u32, 1> as Asn1Type>⟧.der
+          (or_variant (record {
+            item = 42 ∷ 840 ∷ 113549 ∷ 1 ∷ 1 ∷ 11 ∷ [];
+            is = λ n. bytes_eq n (42 ∷
+                840 ∷ 113549 ∷ 1 ∷ 1 ∷ 11 ∷ []);
+            itself = refl;
+            alone = λ n e. sym ((bytes_eq-Decides n (42
+                ∷ 840 ∷ 113549 ∷ 1 ∷ 1 ∷ 11 ∷ [])).0 e);
+          }) ⟦<Option<bool> as Asn1Type>⟧.der (any_variant
+          ⟦<Tlv<'a> as Asn1Type>⟧.der (λ m. m)) (λ m. m)) (λ m. m)) (elim [
+            | Octets x ↦ inl
+                (⟦<&'a [u8] as Asn1Type>⟧.der.meaning x)
+            | Number x ↦ inr (inl (⟦<u32 as Asn1Type>⟧.der.meaning x))
+            | Flag x ↦ inr (inr (inl (⟦<Option<bool> as Asn1Type>⟧.der.meaning x)))
+            | Unknown x ↦ inr (inr (inr (
+              ⟦<ObjectIdentifier as Asn1Type>⟧.der.meaning x.item,
+              ⟦<Tlv<'a> as Asn1Type>⟧.der.meaning x.value,
+            )))
+          ]);
+    }) };
 
     fn known_by(&self) {
         match self {
@@ -858,7 +947,11 @@ impl<'a> Asn1DefinedBy<ObjectIdentifier> for AnyContent<'a> {
 }
 
 impl<'a> DefinedField<ObjectIdentifier> for AnyContent<'a> {
-    ghost both = { record { item = ⟦<ObjectIdentifier as Asn1Type>⟧.der; value = ⟦<AnyContent<'a> as Asn1DefinedBy<ObjectIdentifier>>⟧.by.means } };
+    ghost both = { record {
+      item = ⟦<ObjectIdentifier as Asn1Type>⟧.der;
+      value =
+          ⟦<AnyContent<'a> as Asn1DefinedBy<ObjectIdentifier>>⟧.by.means;
+    } };
 
     fn known_item(&self) {
         match self {
@@ -874,9 +967,13 @@ impl<'a> DefinedField<ObjectIdentifier> for AnyContent<'a> {
 
 impl<'a> Asn1DefinedByReadable<'a, ObjectIdentifier> for AnyContent<'a> {
     fn parse(item: ObjectIdentifier, parser: &mut Parser<'a>) -> ParseResult<AnyContent<'a>>
-        ensures answers { ReadsDefined ⟦<AnyContent<'a> as Asn1DefinedBy<ObjectIdentifier>>⟧.by item parser.old parser.new result }
+        ensures answers { ReadsDefined ⟦<AnyContent<'a> as Asn1DefinedBy<ObjectIdentifier>>⟧.by item
+            parser.old parser.new result }
         ensures rest { EndsWith parser.old parser.new }
-        ensures stops { OnErr result (⟦<AnyContent<'a> as Asn1DefinedBy<ObjectIdentifier>>⟧.by.means.stops (⟦<AnyContent<'a> as Asn1DefinedBy<ObjectIdentifier>>⟧.by.seen item) parser.old parser.new) }
+        ensures stops { OnErr result
+            (⟦<AnyContent<'a> as Asn1DefinedBy<ObjectIdentifier>>⟧.by.means.stops
+            (⟦<AnyContent<'a> as Asn1DefinedBy<ObjectIdentifier>>⟧.by.seen item) parser.old
+            parser.new) }
     {
         if is_identifier(&item, some_oid()) {
             return Ok(AnyContent::Octets(parser.read_element::<&'a [u8]>()?));
@@ -1050,7 +1147,8 @@ impl FieldNames for NoticeNames {
     }
 }
 
-/// An identifier, whether what it defines has to be known, and that: in the form of an extension of a certificate.
+/// An identifier, whether what it defines has to be known, and that, as in an extension of a
+/// certificate.
 #[derive(Debug, Clone, PartialEq, Eq, Hash, Drop)]
 pub struct Notice(NoticeFields);
 
@@ -1130,7 +1228,8 @@ pub struct ListedUnknown<'a> {
 impl<'a> ListedUnknown<'a> {
     /// Of this identifier and this value; `None` where another variant is for the identifier.
     pub fn new(item: ObjectIdentifier, value: Tlv<'a>) -> Option<ListedUnknown<'a>>
-        ensures { MatchOption result (bytes_eq (identifier_of item) (42 ∷ 4 ∷ []) ≡ true) (λ v. (v.item ≡ item) × (v.value ≡ value.entry)) }
+        ensures { MatchOption result (bytes_eq (identifier_of item) (42 ∷ 4 ∷ []) ≡ true) (λ v.
+            (v.item ≡ item) × (v.value ≡ value.entry)) }
     {
         if is_identifier(&item, other_oid()) {
             return None;
@@ -1178,7 +1277,26 @@ pub enum Listed<'a> {
 impl<'a> Asn1DefinedBy<ObjectIdentifier> for Listed<'a> {
     ghost use Rattle.derived.specs.declared.page.Listed.TheVariants.{Numbers, Unknown};
 
-    ghost by = { by_item (record { item = ⟦<ObjectIdentifier as Asn1Type>⟧.der; value = or_variant (record { item = 42 ∷ 4 ∷ []; is = λ n. bytes_eq n (42 ∷ 4 ∷ []); itself = refl; alone = λ n e. sym ((bytes_eq-Decides n (42 ∷ 4 ∷ [])).0 e) }) ⟦<SequenceOf<'a, u64, 0, 18446744073709551615> as Asn1Type>⟧.der (any_variant ⟦<Tlv<'a> as Asn1Type>⟧.der (λ m. m)) (elim [ Numbers x ↦ inl (⟦<SequenceOf<'a, u64, 0, 18446744073709551615> as Asn1Type>⟧.der.meaning x) | Unknown x ↦ inr (⟦<ObjectIdentifier as Asn1Type>⟧.der.meaning x.item, ⟦<Tlv<'a> as Asn1Type>⟧.der.meaning x.value) ]) }) };
+    ghost by = { by_item (record {
+      item = ⟦<ObjectIdentifier as Asn1Type>⟧.der;
+      value = or_variant
+          (record {
+            item = 42 ∷ 4 ∷ [];
+            is = λ n. bytes_eq n (42 ∷ 4 ∷ []);
+            itself = refl;
+            alone = λ n
+                e. sym ((bytes_eq-Decides n (42 ∷ 4 ∷ [])).0 e);
+          })
+          ⟦<SequenceOf<'a, u64, 0, 18446744073709551615> as Asn1Type>⟧.der (any_variant
+          ⟦<Tlv<'a> as Asn1Type>⟧.der (λ m. m)) (elim [
+            | Numbers x ↦ inl
+                (⟦<SequenceOf<'a, u64, 0, 18446744073709551615> as Asn1Type>⟧.der.meaning x)
+            | Unknown x ↦ inr (
+              ⟦<ObjectIdentifier as Asn1Type>⟧.der.meaning x.item,
+              ⟦<Tlv<'a> as Asn1Type>⟧.der.meaning x.value,
+            )
+          ]);
+    }) };
 
     fn known_by(&self) {
         match self {
@@ -1189,7 +1307,11 @@ impl<'a> Asn1DefinedBy<ObjectIdentifier> for Listed<'a> {
 }
 
 impl<'a> DefinedField<ObjectIdentifier> for Listed<'a> {
-    ghost both = { record { item = ⟦<ObjectIdentifier as Asn1Type>⟧.der; value = ⟦<Listed<'a> as Asn1DefinedBy<ObjectIdentifier>>⟧.by.means } };
+    ghost both = { record {
+      item = ⟦<ObjectIdentifier as Asn1Type>⟧.der;
+      value =
+          ⟦<Listed<'a> as Asn1DefinedBy<ObjectIdentifier>>⟧.by.means;
+    } };
 
     fn known_item(&self) {
         match self {
@@ -1203,9 +1325,13 @@ impl<'a> DefinedField<ObjectIdentifier> for Listed<'a> {
 
 impl<'a> Asn1DefinedByReadable<'a, ObjectIdentifier> for Listed<'a> {
     fn parse(item: ObjectIdentifier, parser: &mut Parser<'a>) -> ParseResult<Listed<'a>>
-        ensures answers { ReadsDefined ⟦<Listed<'a> as Asn1DefinedBy<ObjectIdentifier>>⟧.by item parser.old parser.new result }
+        ensures answers { ReadsDefined ⟦<Listed<'a> as Asn1DefinedBy<ObjectIdentifier>>⟧.by item
+            parser.old parser.new result }
         ensures rest { EndsWith parser.old parser.new }
-        ensures stops { OnErr result (⟦<Listed<'a> as Asn1DefinedBy<ObjectIdentifier>>⟧.by.means.stops (⟦<Listed<'a> as Asn1DefinedBy<ObjectIdentifier>>⟧.by.seen item) parser.old parser.new) }
+        ensures stops { OnErr result
+            (⟦<Listed<'a> as Asn1DefinedBy<ObjectIdentifier>>⟧.by.means.stops
+            (⟦<Listed<'a> as Asn1DefinedBy<ObjectIdentifier>>⟧.by.seen item) parser.old
+            parser.new) }
     {
         if is_identifier(&item, other_oid()) {
             return Ok(Listed::Numbers(parser.read_element::<
