@@ -1,12 +1,11 @@
 -- Values of extensions, whose types their identifiers name (RFC 5280, 4.2 and 5).
-use Rattle.std.specs.Prelude.{ℕ, ◌≡◌, List, [], ◌∷◌, Option, Some, None, Result, Ok, Err}
+use Rattle.std.specs.Prelude.{ℕ, ◌≡◌, List, [], ◌∷◌, Option, Some, None, Result, Ok}
 use Rattle.std.specs.List.{find}
 use Rattle.std.specs.Str.{bytes_eq}
 use Rattle.std.specs.Borrow.{Bor}
-use Rattle.asn1.specs.Der.{Der}
 use Rattle.asn1.specs.Fault.{Fault}
-use Rattle.asn1.specs.Reads.{ReadsWhole}
 use Rattle.pkix.specs.Identifiers.{of_arcs}
+use Rattle.pkix.specs.ValueTypes.{ValueType, ReadsTyped}
 use Rattle.pkix.specs.declared.extension_values.KnownExtension.{KnownExtension}
 use Rattle.pkix.specs.declared.extension_values.KnownExtension.TheVariants as known
 use Rattle.pkix.specs.declared.extension_values.TheConstants.KnownExtension.{ALL}
@@ -29,21 +28,7 @@ extension_numbers known.SubjectKeyIdentifier = of_arcs (2 ∷ 5 ∷ 29 ∷ 14 �
 abbrev pub extension_with : List ℕ → Option KnownExtension
 extension_with numbers = find (λ extension. bytes_eq (extension_numbers extension) numbers) ALL.now
 
--- The type of the values of an extension, and the variant that holds one of them.
-pub record ValueType (E : Type 0) : Type 1 where
-  pub Value : Type 0
-  pub der : Der Value
-  pub variant : Value → E
-
-abbrev pub typed : {V E : Type 0} → Der V → (V → E) → ValueType E
-typed {V = V} d v = record { Value = V; der = d; variant = v }
-
--- What reading all of these octets as a value of that type returns, with the value in its variant.
-abbrev pub ReadsTyped : {E : Type 0} → ValueType E → List ℕ → Result E Fault → Type 0
-ReadsTyped type octets (Ok held) = (value : type.Value) × (held ≡ type.variant value) × ReadsWhole type.der octets (Ok value)
-ReadsTyped type octets (Err error) = ReadsWhole type.der octets (Err error)
-
--- The same of the type of a known extension; every other is held by its octets.
+-- What reading the octets as a value of the type of a known extension returns; every other is held by its octets.
 abbrev pub ReadsExtension : {E : Type 0} → (KnownExtension → ValueType E) → (Bor (List ℕ) → E) → Option KnownExtension → Bor (List ℕ) → Result E Fault → Type 0
 ReadsExtension types other (Some extension) octets result = ReadsTyped (types extension) octets.now result
 ReadsExtension types other None octets result = result ≡ Ok (other octets)

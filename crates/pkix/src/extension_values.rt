@@ -1,7 +1,8 @@
 //! Values of extensions, whose types their identifiers name (RFC 5280, 4.2 and 5).
 
-ghost use Rattle.std.specs.Prelude.{◌≡◌};
+ghost use Rattle.std.specs.Prelude.{◌≡◌, Ok};
 ghost use Rattle.std.specs.Str.{bytes_eq};
+ghost use Rattle.asn1.specs.Identifier.{read_identifier};
 ghost use Rattle.asn1.specs.IdentifierValues.{identifier_of};
 ghost use Rattle.pkix.specs.Extensions.{extension_numbers, extension_with};
 
@@ -60,23 +61,30 @@ impl KnownExtension {
         KnownExtension::SubjectKeyIdentifier,
     ];
 
+    /// The contents octets of its identifier.
+    fn contents(self) -> &'static [u8]
+        ensures { read_identifier result.now ≡ Ok (extension_numbers self) }
+    {
+        match self {
+            KnownExtension::AuthorityInfoAccess => b"\x2b\x06\x01\x05\x05\x07\x01\x01",
+            KnownExtension::AuthorityKeyIdentifier => b"\x55\x1d\x23",
+            KnownExtension::BasicConstraints => b"\x55\x1d\x13",
+            KnownExtension::CrlDistributionPoints => b"\x55\x1d\x1f",
+            KnownExtension::CrlNumber => b"\x55\x1d\x14",
+            KnownExtension::CrlReason => b"\x55\x1d\x15",
+            KnownExtension::ExtendedKeyUsage => b"\x55\x1d\x25",
+            KnownExtension::IssuerAltName => b"\x55\x1d\x12",
+            KnownExtension::KeyUsage => b"\x55\x1d\x0f",
+            KnownExtension::SubjectAltName => b"\x55\x1d\x11",
+            KnownExtension::SubjectKeyIdentifier => b"\x55\x1d\x0e",
+        }
+    }
+
     /// Its identifier.
     pub fn identifier(self) -> ObjectIdentifier
         ensures { identifier_of result ≡ extension_numbers self }
     {
-        match self {
-            KnownExtension::AuthorityInfoAccess => identifiers::authority_info_access(),
-            KnownExtension::AuthorityKeyIdentifier => identifiers::authority_key_identifier(),
-            KnownExtension::BasicConstraints => identifiers::basic_constraints(),
-            KnownExtension::CrlDistributionPoints => identifiers::crl_distribution_points(),
-            KnownExtension::CrlNumber => identifiers::crl_number(),
-            KnownExtension::CrlReason => identifiers::crl_reason(),
-            KnownExtension::ExtendedKeyUsage => identifiers::extended_key_usage(),
-            KnownExtension::IssuerAltName => identifiers::issuer_alt_name(),
-            KnownExtension::KeyUsage => identifiers::key_usage(),
-            KnownExtension::SubjectAltName => identifiers::subject_alt_name(),
-            KnownExtension::SubjectKeyIdentifier => identifiers::subject_key_identifier(),
-        }
+        identifiers::with_contents(self.contents())
     }
 
     /// Whether it has this identifier.

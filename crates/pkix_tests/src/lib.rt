@@ -3,6 +3,8 @@
 #![tactic(auto)]
 
 #[cfg(test)]
+mod algorithm_parameters;
+#[cfg(test)]
 mod certificates;
 #[cfg(test)]
 mod extension_values;

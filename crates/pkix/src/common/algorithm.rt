@@ -2,9 +2,12 @@
 
 ghost use Rattle.std.specs.Prelude.{◌≡◌, map};
 ghost use Rattle.asn1.specs.Der.{seen};
+ghost use Rattle.asn1.specs.IdentifierValues.{identifier_of};
 ghost use Rattle.asn1.specs.Reads.{ReadsContents};
+ghost use Rattle.pkix.specs.Algorithms.{algorithm_with, parameter_octets, ReadsParameters};
 ghost use Rattle.pkix.specs.declared.common.algorithm.TheConstants.{ALGORITHM_IDENTIFIER, SUBJECT_PUBLIC_KEY_INFO};
 
+use crate::algorithm_parameters::{AlgorithmParameters, KnownAlgorithm};
 use asn1::fields::{Field, FieldNames, Fields2, Last, Names, Structure};
 use asn1::{
     Asn1Type, BitString, ObjectIdentifier, ParseResult, SimpleAsn1Readable, SimpleAsn1Writable,
@@ -60,6 +63,32 @@ impl<'a> AlgorithmIdentifier<'a> {
         ensures { result ≡ self.now.0.fields.rest.value }
     {
         self.0.fields.rest.value
+    }
+
+    /// The octets of the parameters: none where there is no element.
+    fn parameter_octets(&self) -> &'a [u8]
+        ensures { result.now ≡ parameter_octets self.now.0.fields.rest.value }
+    {
+        match self.parameters() {
+            Some(element) => element.full_data(),
+            None => &[],
+        }
+    }
+
+    /// The parameters, read as [`asn1::parse_single`] reads the type that `algorithm` defines; those of an algorithm
+    /// that isn't a [`KnownAlgorithm`] stay as they are.
+    ///
+    /// Returns the first error of the element's octets, or of no octets where there is no element: `ShortData` where
+    /// there have to be parameters and are none, `UnexpectedTag` or `InvalidValue` where they aren't of that type, and
+    /// `ExtraData` where there may be none, and they are there, or aren't NULL where that may be there.
+    pub fn read_parameters(&self, alloc: Global) -> ParseResult<AlgorithmParameters<'a>>
+        ensures { ReadsParameters (algorithm_with (identifier_of self.now.0.fields.value))
+            self.now.0.fields.rest.value result }
+    {
+        let Some(algorithm) = KnownAlgorithm::with_identifier(self.algorithm()) else {
+            return Ok(AlgorithmParameters::Other(self.parameters()));
+        };
+        algorithm.form().read(alloc, self.parameter_octets())
     }
 }
 

@@ -1,0 +1,92 @@
+-- Parameters of algorithms, which their identifiers define (RFC 3279, 3370, 4055, 5480, 5754, 5758, 8410).
+use Rattle.std.specs.Prelude.{ℕ, ◌≡◌, List, [], ◌∷◌, Option, Some, None, Result, Ok}
+use Rattle.std.specs.List.{find}
+use Rattle.std.specs.Str.{bytes_eq}
+use Rattle.asn1.specs.declared.Tlv.{Tlv}
+use Rattle.asn1.specs.declared.ObjectIdentifier.{ObjectIdentifier}
+use Rattle.asn1.specs.Der.{simple_der, option_der}
+use Rattle.asn1.specs.Fault.{Fault}
+use Rattle.asn1.specs.IdentifierContent.{identifier_basic}
+use Rattle.asn1.specs.IdentifierValues.{identifier_of}
+use Rattle.asn1.specs.OctetContents.{null_content}
+use Rattle.asn1.specs.Reading.{all_taken}
+use Rattle.asn1.specs.Tlv.{full_octets}
+use Rattle.pkix.specs.Identifiers.{of_arcs}
+use Rattle.pkix.specs.ValueTypes.{ValueType, typed, ReadsTyped}
+use Rattle.pkix.specs.declared.algorithm_parameters.AlgorithmParameters.{AlgorithmParameters}
+use Rattle.pkix.specs.declared.algorithm_parameters.AlgorithmParameters.TheVariants as parameters
+use Rattle.pkix.specs.declared.algorithm_parameters.KnownAlgorithm.{KnownAlgorithm}
+use Rattle.pkix.specs.declared.algorithm_parameters.KnownAlgorithm.TheVariants as known
+use Rattle.pkix.specs.declared.algorithm_parameters.ParametersForm.{ParametersForm}
+use Rattle.pkix.specs.declared.algorithm_parameters.ParametersForm.TheVariants as form
+use Rattle.pkix.specs.declared.algorithm_parameters.TheConstants.KnownAlgorithm.{ALL}
+
+-- The identifier of each known algorithm.
+abbrev pub algorithm_numbers : KnownAlgorithm → List ℕ
+algorithm_numbers known.RsaEncryption = of_arcs (1 ∷ 2 ∷ 840 ∷ 113549 ∷ 1 ∷ 1 ∷ 1 ∷ [])
+algorithm_numbers known.Sha1WithRsaEncryption = of_arcs (1 ∷ 2 ∷ 840 ∷ 113549 ∷ 1 ∷ 1 ∷ 5 ∷ [])
+algorithm_numbers known.Sha224WithRsaEncryption = of_arcs (1 ∷ 2 ∷ 840 ∷ 113549 ∷ 1 ∷ 1 ∷ 14 ∷ [])
+algorithm_numbers known.Sha256WithRsaEncryption = of_arcs (1 ∷ 2 ∷ 840 ∷ 113549 ∷ 1 ∷ 1 ∷ 11 ∷ [])
+algorithm_numbers known.Sha384WithRsaEncryption = of_arcs (1 ∷ 2 ∷ 840 ∷ 113549 ∷ 1 ∷ 1 ∷ 12 ∷ [])
+algorithm_numbers known.Sha512WithRsaEncryption = of_arcs (1 ∷ 2 ∷ 840 ∷ 113549 ∷ 1 ∷ 1 ∷ 13 ∷ [])
+algorithm_numbers known.EcPublicKey = of_arcs (1 ∷ 2 ∷ 840 ∷ 10045 ∷ 2 ∷ 1 ∷ [])
+algorithm_numbers known.EcdsaWithSha1 = of_arcs (1 ∷ 2 ∷ 840 ∷ 10045 ∷ 4 ∷ 1 ∷ [])
+algorithm_numbers known.EcdsaWithSha224 = of_arcs (1 ∷ 2 ∷ 840 ∷ 10045 ∷ 4 ∷ 3 ∷ 1 ∷ [])
+algorithm_numbers known.EcdsaWithSha256 = of_arcs (1 ∷ 2 ∷ 840 ∷ 10045 ∷ 4 ∷ 3 ∷ 2 ∷ [])
+algorithm_numbers known.EcdsaWithSha384 = of_arcs (1 ∷ 2 ∷ 840 ∷ 10045 ∷ 4 ∷ 3 ∷ 3 ∷ [])
+algorithm_numbers known.EcdsaWithSha512 = of_arcs (1 ∷ 2 ∷ 840 ∷ 10045 ∷ 4 ∷ 3 ∷ 4 ∷ [])
+algorithm_numbers known.Ed25519 = of_arcs (1 ∷ 3 ∷ 101 ∷ 112 ∷ [])
+algorithm_numbers known.Ed448 = of_arcs (1 ∷ 3 ∷ 101 ∷ 113 ∷ [])
+algorithm_numbers known.Sha1 = of_arcs (1 ∷ 3 ∷ 14 ∷ 3 ∷ 2 ∷ 26 ∷ [])
+algorithm_numbers known.Sha224 = of_arcs (2 ∷ 16 ∷ 840 ∷ 1 ∷ 101 ∷ 3 ∷ 4 ∷ 2 ∷ 4 ∷ [])
+algorithm_numbers known.Sha256 = of_arcs (2 ∷ 16 ∷ 840 ∷ 1 ∷ 101 ∷ 3 ∷ 4 ∷ 2 ∷ 1 ∷ [])
+algorithm_numbers known.Sha384 = of_arcs (2 ∷ 16 ∷ 840 ∷ 1 ∷ 101 ∷ 3 ∷ 4 ∷ 2 ∷ 2 ∷ [])
+algorithm_numbers known.Sha512 = of_arcs (2 ∷ 16 ∷ 840 ∷ 1 ∷ 101 ∷ 3 ∷ 4 ∷ 2 ∷ 3 ∷ [])
+
+-- The known algorithm with that identifier.
+abbrev pub algorithm_with : List ℕ → Option KnownAlgorithm
+algorithm_with numbers = find (λ algorithm. bytes_eq (algorithm_numbers algorithm) numbers) ALL.now
+
+-- What the parameters of each known algorithm are, by the documents that define it.
+abbrev pub form_of : KnownAlgorithm → ParametersForm
+form_of known.RsaEncryption = form.Null  -- RFC 3279, 2.3.1
+form_of known.Sha1WithRsaEncryption = form.Null  -- RFC 3279, 2.2.1
+form_of known.Sha224WithRsaEncryption = form.Null  -- RFC 4055, 5
+form_of known.Sha256WithRsaEncryption = form.Null  -- RFC 4055, 5
+form_of known.Sha384WithRsaEncryption = form.Null  -- RFC 4055, 5
+form_of known.Sha512WithRsaEncryption = form.Null  -- RFC 4055, 5
+form_of known.EcPublicKey = form.NamedCurve  -- RFC 5480, 2.1.1
+form_of known.EcdsaWithSha1 = form.Absent  -- RFC 3279, 2.2.3
+form_of known.EcdsaWithSha224 = form.Absent  -- RFC 5758, 3.2
+form_of known.EcdsaWithSha256 = form.Absent  -- RFC 5758, 3.2
+form_of known.EcdsaWithSha384 = form.Absent  -- RFC 5758, 3.2
+form_of known.EcdsaWithSha512 = form.Absent  -- RFC 5758, 3.2
+form_of known.Ed25519 = form.Absent  -- RFC 8410, 3
+form_of known.Ed448 = form.Absent  -- RFC 8410, 3
+form_of known.Sha1 = form.NullOrAbsent  -- RFC 3370, 2.1
+form_of known.Sha224 = form.NullOrAbsent  -- RFC 5754, 2.1
+form_of known.Sha256 = form.NullOrAbsent  -- RFC 5754, 2.2
+form_of known.Sha384 = form.NullOrAbsent  -- RFC 5754, 2.3
+form_of known.Sha512 = form.NullOrAbsent  -- RFC 5754, 2.4
+
+-- NULL, or none.
+abbrev pub null_or_absent : Option (Unit {0}) → AlgorithmParameters
+null_or_absent (Some null) = parameters.Null
+null_or_absent None = parameters.Absent
+
+-- What reading all of these octets as parameters of that form returns.
+abbrev pub ReadsForm : ParametersForm → List ℕ → Result AlgorithmParameters Fault → Type 0
+ReadsForm form.Null octets result = ReadsTyped (typed (simple_der (λ m. m) null_content) (λ null. parameters.Null)) octets result
+ReadsForm form.NamedCurve octets result = ReadsTyped (typed (simple_der identifier_of identifier_basic) parameters.NamedCurve) octets result
+ReadsForm form.Absent octets result = result ≡ all_taken parameters.Absent octets
+ReadsForm form.NullOrAbsent octets result = ReadsTyped (typed (option_der (simple_der (λ m. m) null_content)) null_or_absent) octets result
+
+-- The encoding of the element, or no octets where there is none.
+abbrev pub parameter_octets : Option Tlv → List ℕ
+parameter_octets (Some element) = full_octets element
+parameter_octets None = []
+
+-- What reading the parameters of a known algorithm returns; those of every other stay as they are.
+abbrev pub ReadsParameters : Option KnownAlgorithm → Option Tlv → Result AlgorithmParameters Fault → Type 0
+ReadsParameters (Some algorithm) element result = ReadsForm (form_of algorithm) (parameter_octets element) result
+ReadsParameters None element result = result ≡ Ok (parameters.Other element)

@@ -1,0 +1,218 @@
+//! Parameters of algorithms, which their identifiers define (RFC 3279, 3370, 4055, 5480, 5754, 5758, 8410).
+
+ghost use Rattle.std.specs.Prelude.{◌≡◌, Ok};
+ghost use Rattle.std.specs.Str.{bytes_eq};
+ghost use Rattle.asn1.specs.Identifier.{read_identifier};
+ghost use Rattle.asn1.specs.IdentifierValues.{identifier_of};
+ghost use Rattle.pkix.specs.Algorithms.{algorithm_numbers, algorithm_with, form_of, ReadsForm};
+
+use crate::identifiers;
+use asn1::laws::identifiers_compare;
+use asn1::{ObjectIdentifier, ParseError, ParseErrorKind, ParseResult, Tlv, parse_single};
+use std::alloc::Global;
+
+/// An algorithm whose parameters have a type here.
+#[derive(Debug, Clone, Copy, PartialEq, Eq)]
+pub enum KnownAlgorithm {
+    /// rsaEncryption (RFC 3279, 2.3.1).
+    RsaEncryption,
+    /// sha-1WithRSAEncryption (RFC 3279, 2.2.1).
+    Sha1WithRsaEncryption,
+    /// sha224WithRSAEncryption (RFC 4055, 5).
+    Sha224WithRsaEncryption,
+    /// sha256WithRSAEncryption (RFC 4055, 5).
+    Sha256WithRsaEncryption,
+    /// sha384WithRSAEncryption (RFC 4055, 5).
+    Sha384WithRsaEncryption,
+    /// sha512WithRSAEncryption (RFC 4055, 5).
+    Sha512WithRsaEncryption,
+    /// id-ecPublicKey (RFC 5480, 2.1.1).
+    EcPublicKey,
+    /// ecdsa-with-SHA1 (RFC 3279, 2.2.3).
+    EcdsaWithSha1,
+    /// ecdsa-with-SHA224 (RFC 5758, 3.2).
+    EcdsaWithSha224,
+    /// ecdsa-with-SHA256 (RFC 5758, 3.2).
+    EcdsaWithSha256,
+    /// ecdsa-with-SHA384 (RFC 5758, 3.2).
+    EcdsaWithSha384,
+    /// ecdsa-with-SHA512 (RFC 5758, 3.2).
+    EcdsaWithSha512,
+    /// id-Ed25519 (RFC 8410, 3).
+    Ed25519,
+    /// id-Ed448 (RFC 8410, 3).
+    Ed448,
+    /// id-sha1 (RFC 3370, 2.1).
+    Sha1,
+    /// id-sha224 (RFC 5754, 2.1).
+    Sha224,
+    /// id-sha256 (RFC 5754, 2.2).
+    Sha256,
+    /// id-sha384 (RFC 5754, 2.3).
+    Sha384,
+    /// id-sha512 (RFC 5754, 2.4).
+    Sha512,
+}
+
+/// What the parameters of an algorithm are.
+#[derive(Clone, Copy)]
+pub(crate) enum ParametersForm {
+    /// NULL, which has to be there.
+    Null,
+    /// The identifier of a curve.
+    NamedCurve,
+    /// None.
+    Absent,
+    /// NULL, or none.
+    NullOrAbsent,
+}
+
+impl KnownAlgorithm {
+    /// Each of them once.
+    pub const ALL: &'static [KnownAlgorithm] = &[
+        KnownAlgorithm::RsaEncryption,
+        KnownAlgorithm::Sha1WithRsaEncryption,
+        KnownAlgorithm::Sha224WithRsaEncryption,
+        KnownAlgorithm::Sha256WithRsaEncryption,
+        KnownAlgorithm::Sha384WithRsaEncryption,
+        KnownAlgorithm::Sha512WithRsaEncryption,
+        KnownAlgorithm::EcPublicKey,
+        KnownAlgorithm::EcdsaWithSha1,
+        KnownAlgorithm::EcdsaWithSha224,
+        KnownAlgorithm::EcdsaWithSha256,
+        KnownAlgorithm::EcdsaWithSha384,
+        KnownAlgorithm::EcdsaWithSha512,
+        KnownAlgorithm::Ed25519,
+        KnownAlgorithm::Ed448,
+        KnownAlgorithm::Sha1,
+        KnownAlgorithm::Sha224,
+        KnownAlgorithm::Sha256,
+        KnownAlgorithm::Sha384,
+        KnownAlgorithm::Sha512,
+    ];
+
+    /// The contents octets of its identifier.
+    fn contents(self) -> &'static [u8]
+        ensures { read_identifier result.now ≡ Ok (algorithm_numbers self) }
+    {
+        match self {
+            KnownAlgorithm::RsaEncryption => b"\x2a\x86\x48\x86\xf7\x0d\x01\x01\x01",
+            KnownAlgorithm::Sha1WithRsaEncryption => b"\x2a\x86\x48\x86\xf7\x0d\x01\x01\x05",
+            KnownAlgorithm::Sha224WithRsaEncryption => b"\x2a\x86\x48\x86\xf7\x0d\x01\x01\x0e",
+            KnownAlgorithm::Sha256WithRsaEncryption => b"\x2a\x86\x48\x86\xf7\x0d\x01\x01\x0b",
+            KnownAlgorithm::Sha384WithRsaEncryption => b"\x2a\x86\x48\x86\xf7\x0d\x01\x01\x0c",
+            KnownAlgorithm::Sha512WithRsaEncryption => b"\x2a\x86\x48\x86\xf7\x0d\x01\x01\x0d",
+            KnownAlgorithm::EcPublicKey => b"\x2a\x86\x48\xce\x3d\x02\x01",
+            KnownAlgorithm::EcdsaWithSha1 => b"\x2a\x86\x48\xce\x3d\x04\x01",
+            KnownAlgorithm::EcdsaWithSha224 => b"\x2a\x86\x48\xce\x3d\x04\x03\x01",
+            KnownAlgorithm::EcdsaWithSha256 => b"\x2a\x86\x48\xce\x3d\x04\x03\x02",
+            KnownAlgorithm::EcdsaWithSha384 => b"\x2a\x86\x48\xce\x3d\x04\x03\x03",
+            KnownAlgorithm::EcdsaWithSha512 => b"\x2a\x86\x48\xce\x3d\x04\x03\x04",
+            KnownAlgorithm::Ed25519 => b"\x2b\x65\x70",
+            KnownAlgorithm::Ed448 => b"\x2b\x65\x71",
+            KnownAlgorithm::Sha1 => b"\x2b\x0e\x03\x02\x1a",
+            KnownAlgorithm::Sha224 => b"\x60\x86\x48\x01\x65\x03\x04\x02\x04",
+            KnownAlgorithm::Sha256 => b"\x60\x86\x48\x01\x65\x03\x04\x02\x01",
+            KnownAlgorithm::Sha384 => b"\x60\x86\x48\x01\x65\x03\x04\x02\x02",
+            KnownAlgorithm::Sha512 => b"\x60\x86\x48\x01\x65\x03\x04\x02\x03",
+        }
+    }
+
+    /// Its identifier.
+    pub fn identifier(self) -> ObjectIdentifier
+        ensures { identifier_of result ≡ algorithm_numbers self }
+    {
+        identifiers::with_contents(self.contents())
+    }
+
+    /// Whether it has this identifier.
+    fn has_identifier(self, identifier: &ObjectIdentifier) -> bool
+        ensures { result ≡ bytes_eq (algorithm_numbers self) (identifier_of identifier.now) }
+    {
+        // Says that identifiers are equal exactly where their numbers are.
+        identifiers_compare();
+        self.identifier() == *identifier
+    }
+
+    /// The one with this identifier.
+    pub fn with_identifier(identifier: &ObjectIdentifier) -> Option<KnownAlgorithm>
+        ensures { result ≡ algorithm_with (identifier_of identifier.now) }
+    {
+        KnownAlgorithm::ALL
+            .iter()
+            .copied()
+            .find(|algorithm| algorithm.has_identifier(identifier))
+    }
+
+    /// What its parameters are.
+    pub(crate) fn form(self) -> ParametersForm
+        ensures { result ≡ form_of self }
+    {
+        match self {
+            KnownAlgorithm::RsaEncryption
+            | KnownAlgorithm::Sha1WithRsaEncryption
+            | KnownAlgorithm::Sha224WithRsaEncryption
+            | KnownAlgorithm::Sha256WithRsaEncryption
+            | KnownAlgorithm::Sha384WithRsaEncryption
+            | KnownAlgorithm::Sha512WithRsaEncryption => ParametersForm::Null,
+            KnownAlgorithm::EcPublicKey => ParametersForm::NamedCurve,
+            KnownAlgorithm::EcdsaWithSha1
+            | KnownAlgorithm::EcdsaWithSha224
+            | KnownAlgorithm::EcdsaWithSha256
+            | KnownAlgorithm::EcdsaWithSha384
+            | KnownAlgorithm::EcdsaWithSha512
+            | KnownAlgorithm::Ed25519
+            | KnownAlgorithm::Ed448 => ParametersForm::Absent,
+            KnownAlgorithm::Sha1
+            | KnownAlgorithm::Sha224
+            | KnownAlgorithm::Sha256
+            | KnownAlgorithm::Sha384
+            | KnownAlgorithm::Sha512 => ParametersForm::NullOrAbsent,
+        }
+    }
+}
+
+impl ParametersForm {
+    /// Reads all of these octets as parameters of this form.
+    pub(crate) fn read<'a>(
+        self,
+        alloc: Global,
+        octets: &'a [u8],
+    ) -> ParseResult<AlgorithmParameters<'a>>
+        ensures { ReadsForm self octets.entry.now result }
+    {
+        match self {
+            ParametersForm::Null => {
+                parse_single::<()>(alloc, octets)?;
+                Ok(AlgorithmParameters::Null)
+            }
+            ParametersForm::NamedCurve => {
+                Ok(AlgorithmParameters::NamedCurve(parse_single(alloc, octets)?))
+            }
+            ParametersForm::Absent => {
+                if octets.is_empty() {
+                    Ok(AlgorithmParameters::Absent)
+                } else {
+                    Err(ParseError::new(ParseErrorKind::ExtraData))
+                }
+            }
+            ParametersForm::NullOrAbsent => match parse_single::<Option<()>>(alloc, octets)? {
+                Some(()) => Ok(AlgorithmParameters::Null),
+                None => Ok(AlgorithmParameters::Absent),
+            },
+        }
+    }
+}
+
+/// The parameters of an algorithm, read as what its identifier says that they are.
+#[derive(Debug, PartialEq, Eq, Drop)]
+pub enum AlgorithmParameters<'a> {
+    /// NULL.
+    Null,
+    /// None, of a known algorithm that may have none.
+    Absent,
+    /// Of id-ecPublicKey: the identifier of the curve (RFC 5480, 2.1.1).
+    NamedCurve(ObjectIdentifier),
+    /// The parameters of every other algorithm, as they are.
+    Other(Option<Tlv<'a>>),
+}

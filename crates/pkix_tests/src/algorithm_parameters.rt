@@ -1,0 +1,262 @@
+//! Parameters of algorithms, read by their identifiers (RFC 3279, 3370, 4055, 5480, 5754, 5758, 8410).
+
+use crate::objects::{CURVE, DIGEST, EC_PKCS8, ED_PKCS8, RSA, RSA_PKCS8};
+use asn1::{ObjectIdentifier, ParseErrorKind, ParseResult, Tag, Tlv, parse_single};
+use pkix::algorithm_parameters::{AlgorithmParameters, KnownAlgorithm};
+use pkix::certificate::Certificate;
+use pkix::common::AlgorithmIdentifier;
+use pkix::keys::OneAsymmetricKey;
+use pkix::signatures::DigestInfo;
+use std::alloc::Global;
+use std::test::Fail;
+use testing::{all_same, kind_of, same, same_at};
+
+/// Each known algorithm with its identifier.
+const IDENTIFIERS: [(KnownAlgorithm, &str); 19] = [
+    (KnownAlgorithm::RsaEncryption, "1.2.840.113549.1.1.1"),
+    (
+        KnownAlgorithm::Sha1WithRsaEncryption,
+        "1.2.840.113549.1.1.5",
+    ),
+    (
+        KnownAlgorithm::Sha224WithRsaEncryption,
+        "1.2.840.113549.1.1.14",
+    ),
+    (
+        KnownAlgorithm::Sha256WithRsaEncryption,
+        "1.2.840.113549.1.1.11",
+    ),
+    (
+        KnownAlgorithm::Sha384WithRsaEncryption,
+        "1.2.840.113549.1.1.12",
+    ),
+    (
+        KnownAlgorithm::Sha512WithRsaEncryption,
+        "1.2.840.113549.1.1.13",
+    ),
+    (KnownAlgorithm::EcPublicKey, "1.2.840.10045.2.1"),
+    (KnownAlgorithm::EcdsaWithSha1, "1.2.840.10045.4.1"),
+    (KnownAlgorithm::EcdsaWithSha224, "1.2.840.10045.4.3.1"),
+    (KnownAlgorithm::EcdsaWithSha256, "1.2.840.10045.4.3.2"),
+    (KnownAlgorithm::EcdsaWithSha384, "1.2.840.10045.4.3.3"),
+    (KnownAlgorithm::EcdsaWithSha512, "1.2.840.10045.4.3.4"),
+    (KnownAlgorithm::Ed25519, "1.3.101.112"),
+    (KnownAlgorithm::Ed448, "1.3.101.113"),
+    (KnownAlgorithm::Sha1, "1.3.14.3.2.26"),
+    (KnownAlgorithm::Sha224, "2.16.840.1.101.3.4.2.4"),
+    (KnownAlgorithm::Sha256, "2.16.840.1.101.3.4.2.1"),
+    (KnownAlgorithm::Sha384, "2.16.840.1.101.3.4.2.2"),
+    (KnownAlgorithm::Sha512, "2.16.840.1.101.3.4.2.3"),
+];
+
+#[test]
+fn identifiers_of_algorithms(rt: HostRuntime) -> Result<(), Fail> {
+    let alloc = rt.alloc();
+    for (algorithm, dotted) in IDENTIFIERS {
+        let identifier = algorithm.identifier();
+        same(
+            KnownAlgorithm::with_identifier(&identifier),
+            Some(algorithm),
+        )?;
+        same(format!(in alloc; "{identifier}")?.as_str(), dotted)?;
+    }
+    Ok(())
+}
+
+/// The identifier of the curve P-256 (RFC 5480, 2.1.1.1).
+fn p256() -> Result<ObjectIdentifier, Fail> {
+    match ObjectIdentifier::from_string("1.2.840.10045.3.1.7") {
+        Some(identifier) => Ok(identifier),
+        None => Err(Fail::new(format_args!("no identifier"))),
+    }
+}
+
+#[test]
+fn parameters_in_certificates(rt: HostRuntime) -> Result<(), Fail> {
+    let alloc = rt.alloc();
+    let (rsa, curve) = (hex::decode(alloc, RSA)?, hex::decode(alloc, CURVE)?);
+    let rsa = parse_single::<Certificate<'_>>(alloc, rsa.as_slice())?;
+    let curve = parse_single::<Certificate<'_>>(alloc, curve.as_slice())?;
+    let rsa_key = rsa.tbs_certificate().subject_public_key_info();
+    let curve_key = curve.tbs_certificate().subject_public_key_info();
+    all_same(&[
+        (
+            rsa.signature_algorithm().read_parameters(alloc)?,
+            AlgorithmParameters::Null,
+        ),
+        (
+            rsa_key.algorithm().read_parameters(alloc)?,
+            AlgorithmParameters::Null,
+        ),
+        (
+            curve.signature_algorithm().read_parameters(alloc)?,
+            AlgorithmParameters::Absent,
+        ),
+        (
+            curve_key.algorithm().read_parameters(alloc)?,
+            AlgorithmParameters::NamedCurve(p256()?),
+        ),
+    ])
+}
+
+#[test]
+fn parameters_in_keys(rt: HostRuntime) -> Result<(), Fail> {
+    let alloc = rt.alloc();
+    let wanted = [
+        (EC_PKCS8, AlgorithmParameters::NamedCurve(p256()?)),
+        (ED_PKCS8, AlgorithmParameters::Absent),
+        (RSA_PKCS8, AlgorithmParameters::Null),
+    ];
+    for (object, wanted) in &wanted {
+        let octets = hex::decode(alloc, object)?;
+        let key = parse_single::<OneAsymmetricKey<'_>>(alloc, octets.as_slice())?;
+        let found = key.private_key_algorithm().read_parameters(alloc)?;
+        same(found == *wanted, true)?;
+    }
+    Ok(())
+}
+
+/// With NULL, as OpenSSL writes it.
+#[test]
+fn parameters_of_digests(rt: HostRuntime) -> Result<(), Fail> {
+    let alloc = rt.alloc();
+    let octets = hex::decode(alloc, DIGEST)?;
+    let digest = parse_single::<DigestInfo<'_>>(alloc, octets.as_slice())?;
+    let found = digest.digest_algorithm().read_parameters(alloc)?;
+    same(found == AlgorithmParameters::Null, true)
+}
+
+/// What reading these parameters of an algorithm returns, or none where there are no octets.
+fn read<'a>(
+    alloc: Global,
+    algorithm: ObjectIdentifier,
+    octets: &'a [u8],
+) -> ParseResult<AlgorithmParameters<'a>> {
+    let parameters = parse_single::<Option<Tlv<'a>>>(alloc, octets)?;
+    AlgorithmIdentifier::new(algorithm, parameters).read_parameters(alloc)
+}
+
+/// For each of these algorithms the parameters of each row are rejected by its kind, or aren't.
+fn are_answered(
+    alloc: Global,
+    algorithms: &[KnownAlgorithm],
+    rows: &[(&[u8], Option<ParseErrorKind>)],
+) -> Result<(), Fail> {
+    for algorithm in algorithms {
+        for (octets, kind) in rows {
+            let found = kind_of(read(alloc, algorithm.identifier(), octets));
+            same_at((*algorithm, *octets), found, *kind)?;
+        }
+    }
+    Ok(())
+}
+
+/// No parameters, NULL, the identifier 1.2.3, and elements with these tags and other contents octets.
+const NONE: &[u8] = b"";
+
+const NULL: &[u8] = b"\x05\x00";
+
+const IDENTIFIER: &[u8] = b"\x06\x02\x2a\x03";
+
+const LONG_NULL: &[u8] = b"\x05\x01\x00";
+
+const EMPTY_IDENTIFIER: &[u8] = b"\x06\x00";
+
+#[test]
+fn parameters_that_are_null(rt: HostRuntime) -> Result<(), Fail> {
+    let identifier = Tag::primitive(0x06);
+    are_answered(
+        rt.alloc(),
+        &[
+            KnownAlgorithm::RsaEncryption,
+            KnownAlgorithm::Sha1WithRsaEncryption,
+            KnownAlgorithm::Sha224WithRsaEncryption,
+            KnownAlgorithm::Sha256WithRsaEncryption,
+            KnownAlgorithm::Sha384WithRsaEncryption,
+            KnownAlgorithm::Sha512WithRsaEncryption,
+        ],
+        &[
+            (NONE, Some(ParseErrorKind::ShortData { needed: 1 })),
+            (NULL, None),
+            (
+                IDENTIFIER,
+                Some(ParseErrorKind::UnexpectedTag { actual: identifier }),
+            ),
+            (LONG_NULL, Some(ParseErrorKind::InvalidValue)),
+        ],
+    )
+}
+
+#[test]
+fn parameters_that_are_a_curve(rt: HostRuntime) -> Result<(), Fail> {
+    let null = Tag::primitive(0x05);
+    are_answered(
+        rt.alloc(),
+        &[KnownAlgorithm::EcPublicKey],
+        &[
+            (NONE, Some(ParseErrorKind::ShortData { needed: 1 })),
+            (NULL, Some(ParseErrorKind::UnexpectedTag { actual: null })),
+            (IDENTIFIER, None),
+            (EMPTY_IDENTIFIER, Some(ParseErrorKind::InvalidValue)),
+        ],
+    )
+}
+
+#[test]
+fn parameters_that_are_absent(rt: HostRuntime) -> Result<(), Fail> {
+    are_answered(
+        rt.alloc(),
+        &[
+            KnownAlgorithm::EcdsaWithSha1,
+            KnownAlgorithm::EcdsaWithSha224,
+            KnownAlgorithm::EcdsaWithSha256,
+            KnownAlgorithm::EcdsaWithSha384,
+            KnownAlgorithm::EcdsaWithSha512,
+            KnownAlgorithm::Ed25519,
+            KnownAlgorithm::Ed448,
+        ],
+        &[
+            (NONE, None),
+            (NULL, Some(ParseErrorKind::ExtraData)),
+            (IDENTIFIER, Some(ParseErrorKind::ExtraData)),
+        ],
+    )
+}
+
+#[test]
+fn parameters_that_may_be_absent(rt: HostRuntime) -> Result<(), Fail> {
+    are_answered(
+        rt.alloc(),
+        &[
+            KnownAlgorithm::Sha1,
+            KnownAlgorithm::Sha224,
+            KnownAlgorithm::Sha256,
+            KnownAlgorithm::Sha384,
+            KnownAlgorithm::Sha512,
+        ],
+        &[
+            (NONE, None),
+            (NULL, None),
+            (IDENTIFIER, Some(ParseErrorKind::ExtraData)),
+            (LONG_NULL, Some(ParseErrorKind::InvalidValue)),
+        ],
+    )
+}
+
+/// Digests without parameters, and an algorithm that isn't known: id-X25519 (RFC 8410, 3).
+#[test]
+fn other_parameters(rt: HostRuntime) -> Result<(), Fail> {
+    let alloc = rt.alloc();
+    let digest = read(alloc, KnownAlgorithm::Sha256.identifier(), NONE)?;
+    let Some(other) = ObjectIdentifier::from_string("1.3.101.110") else {
+        return Err(Fail::new(format_args!("no identifier")));
+    };
+    let none = read(alloc, other.clone()?, NONE)?;
+    let null = read(alloc, other, NULL)?;
+    let element = parse_single::<Tlv<'_>>(alloc, NULL)?;
+    all_same(&[
+        (digest, AlgorithmParameters::Absent),
+        (none, AlgorithmParameters::Other(None)),
+        (null, AlgorithmParameters::Other(Some(element))),
+    ])
+}
