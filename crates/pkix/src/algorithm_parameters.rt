@@ -207,11 +207,11 @@ impl ParametersForm {
 /// The parameters of an algorithm, read as what its identifier says that they are.
 #[derive(Debug, PartialEq, Eq, Drop)]
 pub enum AlgorithmParameters<'a> {
-    /// NULL.
+    /// NULL, which keys and signatures of RSA have to have, and digests may have.
     Null,
-    /// None, of a known algorithm that may have none.
+    /// None: of signatures by ECDSA, of Ed25519 and Ed448, which may have none, and of digests.
     Absent,
-    /// Of id-ecPublicKey: the identifier of the curve (RFC 5480, 2.1.1).
+    /// The identifier of a curve, which id-ecPublicKey has to have (RFC 5480, 2.1.1).
     NamedCurve(ObjectIdentifier),
     /// The parameters of every other algorithm, as they are.
     Other(Option<Tlv<'a>>),

@@ -107,11 +107,11 @@ fn parameters_in_keys(rt: HostRuntime) -> Result<(), Fail> {
         (ED_PKCS8, AlgorithmParameters::Absent),
         (RSA_PKCS8, AlgorithmParameters::Null),
     ];
-    for (object, wanted) in &wanted {
+    for (object, wanted) in wanted {
         let octets = hex::decode(alloc, object)?;
         let key = parse_single::<OneAsymmetricKey<'_>>(alloc, octets.as_slice())?;
         let found = key.private_key_algorithm().read_parameters(alloc)?;
-        same(found == *wanted, true)?;
+        all_same(&[(found, wanted)])?;
     }
     Ok(())
 }
@@ -123,7 +123,7 @@ fn parameters_of_digests(rt: HostRuntime) -> Result<(), Fail> {
     let octets = hex::decode(alloc, DIGEST)?;
     let digest = parse_single::<DigestInfo<'_>>(alloc, octets.as_slice())?;
     let found = digest.digest_algorithm().read_parameters(alloc)?;
-    same(found == AlgorithmParameters::Null, true)
+    all_same(&[(found, AlgorithmParameters::Null)])
 }
 
 /// What reading these parameters of an algorithm returns, or none where there are no octets.
