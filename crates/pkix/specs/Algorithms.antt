@@ -51,10 +51,10 @@ algorithm_with numbers = find (λ algorithm. bytes_eq (algorithm_numbers algorit
 abbrev pub form_of : KnownAlgorithm → ParametersForm
 form_of known.RsaEncryption = form.Null  -- RFC 3279, 2.3.1
 form_of known.Sha1WithRsaEncryption = form.Null  -- RFC 3279, 2.2.1
-form_of known.Sha224WithRsaEncryption = form.Null  -- RFC 4055, 5
-form_of known.Sha256WithRsaEncryption = form.Null  -- RFC 4055, 5
-form_of known.Sha384WithRsaEncryption = form.Null  -- RFC 4055, 5
-form_of known.Sha512WithRsaEncryption = form.Null  -- RFC 4055, 5
+form_of known.Sha224WithRsaEncryption = form.NullOrAbsent  -- RFC 4055, 5
+form_of known.Sha256WithRsaEncryption = form.NullOrAbsent  -- RFC 4055, 5
+form_of known.Sha384WithRsaEncryption = form.NullOrAbsent  -- RFC 4055, 5
+form_of known.Sha512WithRsaEncryption = form.NullOrAbsent  -- RFC 4055, 5
 form_of known.EcPublicKey = form.NamedCurve  -- RFC 5480, 2.1.1
 form_of known.EcdsaWithSha1 = form.Absent  -- RFC 3279, 2.2.3
 form_of known.EcdsaWithSha224 = form.Absent  -- RFC 5758, 3.2

@@ -149,12 +149,9 @@ impl KnownAlgorithm {
         ensures { result ≡ form_of self }
     {
         match self {
-            KnownAlgorithm::RsaEncryption
-            | KnownAlgorithm::Sha1WithRsaEncryption
-            | KnownAlgorithm::Sha224WithRsaEncryption
-            | KnownAlgorithm::Sha256WithRsaEncryption
-            | KnownAlgorithm::Sha384WithRsaEncryption
-            | KnownAlgorithm::Sha512WithRsaEncryption => ParametersForm::Null,
+            KnownAlgorithm::RsaEncryption | KnownAlgorithm::Sha1WithRsaEncryption => {
+                ParametersForm::Null
+            }
             KnownAlgorithm::EcPublicKey => ParametersForm::NamedCurve,
             KnownAlgorithm::EcdsaWithSha1
             | KnownAlgorithm::EcdsaWithSha224
@@ -163,7 +160,11 @@ impl KnownAlgorithm {
             | KnownAlgorithm::EcdsaWithSha512
             | KnownAlgorithm::Ed25519
             | KnownAlgorithm::Ed448 => ParametersForm::Absent,
-            KnownAlgorithm::Sha1
+            KnownAlgorithm::Sha224WithRsaEncryption
+            | KnownAlgorithm::Sha256WithRsaEncryption
+            | KnownAlgorithm::Sha384WithRsaEncryption
+            | KnownAlgorithm::Sha512WithRsaEncryption
+            | KnownAlgorithm::Sha1
             | KnownAlgorithm::Sha224
             | KnownAlgorithm::Sha256
             | KnownAlgorithm::Sha384
@@ -207,9 +208,10 @@ impl ParametersForm {
 /// The parameters of an algorithm, read as what its identifier says that they are.
 #[derive(Debug, PartialEq, Eq, Drop)]
 pub enum AlgorithmParameters<'a> {
-    /// NULL, which keys and signatures of RSA have to have, and digests may have.
+    /// NULL: of RSA, which has to have it, but for signatures with SHA-2, and of digests, which may have it.
     Null,
-    /// None: of signatures by ECDSA, of Ed25519 and Ed448, which may have none, and of digests.
+    /// None: of ECDSA, Ed25519 and Ed448, which may have none, of digests, and of signatures by RSA with SHA-2, which
+    /// are written with NULL and have to be read without it too (RFC 4055, 5).
     Absent,
     /// The identifier of a curve, which id-ecPublicKey has to have (RFC 5480, 2.1.1).
     NamedCurve(ObjectIdentifier),

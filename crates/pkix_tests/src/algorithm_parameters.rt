@@ -170,10 +170,6 @@ fn parameters_that_are_null(rt: HostRuntime) -> Result<(), Fail> {
         &[
             KnownAlgorithm::RsaEncryption,
             KnownAlgorithm::Sha1WithRsaEncryption,
-            KnownAlgorithm::Sha224WithRsaEncryption,
-            KnownAlgorithm::Sha256WithRsaEncryption,
-            KnownAlgorithm::Sha384WithRsaEncryption,
-            KnownAlgorithm::Sha512WithRsaEncryption,
         ],
         &[
             (NONE, Some(ParseErrorKind::ShortData { needed: 1 })),
@@ -228,6 +224,10 @@ fn parameters_that_may_be_absent(rt: HostRuntime) -> Result<(), Fail> {
     are_answered(
         rt.alloc(),
         &[
+            KnownAlgorithm::Sha224WithRsaEncryption,
+            KnownAlgorithm::Sha256WithRsaEncryption,
+            KnownAlgorithm::Sha384WithRsaEncryption,
+            KnownAlgorithm::Sha512WithRsaEncryption,
             KnownAlgorithm::Sha1,
             KnownAlgorithm::Sha224,
             KnownAlgorithm::Sha256,

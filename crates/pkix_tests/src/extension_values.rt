@@ -5,7 +5,6 @@ use asn1::{ObjectIdentifier, ParseError, ParseErrorKind, ParseLocation, parse_si
 use pkix::certificate::Certificate;
 use pkix::common::{Extension, Extensions};
 use pkix::extension_values::{ExtensionValue, KnownExtension};
-use pkix::identifiers;
 use pkix::revocation::CertificateList;
 use std::alloc::Global;
 use std::test::Fail;
@@ -152,7 +151,9 @@ fn extensions_of_revocation_lists(rt: HostRuntime) -> Result<(), Fail> {
 fn other_extensions(rt: HostRuntime) -> Result<(), Fail> {
     let alloc = rt.alloc();
     let names: &[u8] = b"\x30\x03\x82\x01a";
-    let value = Extension::new(identifiers::issuer_alt_name(), false, names).value(alloc)?;
+    let value = Extension::new(KnownExtension::IssuerAltName.identifier(), false, names).value(
+        alloc,
+    )?;
     same(extension_of(&value), Some(KnownExtension::IssuerAltName))?;
     let Some(identifier) = ObjectIdentifier::from_string("2.5.29.99") else {
         return Err(Fail::new(format_args!("no identifier")));
@@ -168,12 +169,20 @@ fn other_extensions(rt: HostRuntime) -> Result<(), Fail> {
 fn values_that_are_rejected(rt: HostRuntime) -> Result<(), Fail> {
     let alloc = rt.alloc();
     let ca = Extension::new(
-        identifiers::basic_constraints(),
+        KnownExtension::BasicConstraints.identifier(),
         true,
         b"\x30\x03\x01\x01\x00",
     );
-    let number = Extension::new(identifiers::crl_number(), false, b"\x02\x01\x1f\x00");
-    let key = Extension::new(identifiers::subject_key_identifier(), false, b"");
+    let number = Extension::new(
+        KnownExtension::CrlNumber.identifier(),
+        false,
+        b"\x02\x01\x1f\x00",
+    );
+    let key = Extension::new(
+        KnownExtension::SubjectKeyIdentifier.identifier(),
+        false,
+        b"",
+    );
     let at_ca = ParseError::new(ParseErrorKind::EncodedDefault).add_location(ParseLocation::Field(
         "BasicConstraints::ca",
     ));

@@ -80,8 +80,7 @@ impl<'a> AlgorithmIdentifier<'a> {
     ///
     /// Returns the first error of the element's octets, or of no octets where there is no element: `ShortData` where
     /// there have to be parameters and are none, `UnexpectedTag` or `InvalidValue` where they aren't of that type, and
-    /// `ExtraData` where there may be none, and they are there, or aren't NULL where that may be there. NULL has to be
-    /// there of signatures by RSA with SHA-2 too, of which RFC 4055 (5) has readers accept none as well.
+    /// `ExtraData` where there may be none, and they are there, or aren't NULL where that may be there.
     pub fn read_parameters(&self, alloc: Global) -> ParseResult<AlgorithmParameters<'a>>
         ensures { ReadsParameters (algorithm_with (identifier_of self.now.0.fields.value))
             self.now.0.fields.rest.value result }
