@@ -1,39 +1,50 @@
 use asn1_core::parser::{
-    ParseError, ParseErrorKind, ParseLocation, Parser, parse_single, strip_tlv,
+    ParseError, ParseErrorKind, ParseLocation, ParseResult, Parser, parse_single, strip_tlv,
 };
 use asn1_core::tag::{Tag, TagClass, implicit_tag};
 use asn1_core::types::Tlv;
-use asn1_core::writer::{WriteError, Writer, write};
+use asn1_core::writer::{WriteError, Writer};
 use std::alloc::Global;
 use std::test::Fail;
-use testing::{all_same, are_refused, error_of, is_written, kind_of, same, same_at};
+use testing::{
+    all_same, are_refused, closure_writes, is_displayed, is_refusal, is_written, kind_of, same,
+    same_at, same_owned,
+};
 
 fn short(needed: usize) -> Option<ParseErrorKind> {
     Some(ParseErrorKind::ShortData { needed })
 }
 
+/// An octet string of three letters is in front, and this remains.
+fn compare_abc(octets: &[u8], remaining: &[u8]) -> Result<(), Fail> {
+    let (tlv, rest) = strip_tlv(octets)?;
+    same(tlv.tag(), Tag::primitive(4))?;
+    all_same(&[
+        (tlv.tag_bytes(), &[0x04]),
+        (tlv.data(), &[0x61, 0x62, 0x63]),
+        (tlv.full_data(), &[0x04, 0x03, 0x61, 0x62, 0x63]),
+        (rest, remaining),
+    ])
+}
+
 #[test]
 fn elements_in_front() -> Result<(), Fail> {
     let octets = [0x04, 0x03, 0x61, 0x62, 0x63, 0x00, 0x00, 0x00];
-    for end in [6, 8usize] {
-        let (tlv, rest) = strip_tlv(&octets[..end])?;
-        same(tlv.tag(), Tag::primitive(4))?;
-        all_same(&[
-            (tlv.tag_bytes(), &[0x04]),
-            (tlv.data(), &[0x61, 0x62, 0x63]),
-            (tlv.full_data(), &[0x04, 0x03, 0x61, 0x62, 0x63]),
-            (rest, &octets[5..end]),
-        ])?;
-    }
-    Ok(())
+    compare_abc(&octets[..6], &octets[5..6])?;
+    compare_abc(&octets, &octets[5..])
+}
+
+/// The element in front.
+fn front(octets: &[u8]) -> ParseResult<Tlv<'_>> {
+    let (tlv, _rest) = strip_tlv(octets)?;
+    Ok(tlv)
 }
 
 #[test]
 fn an_element_alone() -> Result<(), Fail> {
     let octets = [0x04, 0x03, 0x61, 0x62, 0x63, 0x00, 0x00, 0x00];
-    let (tlv, _rest) = strip_tlv(&octets)?;
     let (alone, rest) = strip_tlv(&octets[..5])?;
-    same(&alone, &tlv)?;
+    same_owned(alone, front(&octets)?)?;
     same(rest, &[])
 }
 
@@ -86,21 +97,27 @@ fn what_fronts_need() -> Result<(), Fail> {
     compare_fronts(&[0x1f, 0x81, 0x80, 0x01, 0x00], &[1, 1, 1, 1, 1])
 }
 
-/// So many letters are the contents octets after the header, and one more octet remains.
-fn compare_long(alloc: Global, header: &[u8], count: usize) -> Result<(), Fail> {
-    let content = vec![in alloc; b'a'; count]?;
-    let mut octets = Vec::from_slice(alloc, header)?;
-    octets.extend_from_slice(content.as_slice())?;
-    octets.push(0x61)?;
-    let (tlv, rest) = strip_tlv(octets.as_slice())?;
+/// An octet string in front has these contents octets, and one more octet remains.
+fn compare_front(octets: &[u8], content: &[u8]) -> Result<(), Fail> {
+    let count = content.len();
+    let (tlv, rest) = strip_tlv(octets)?;
     same_at(count, tlv.tag(), Tag::primitive(4))?;
-    same_at(count, tlv.data() == content.as_slice(), true)?;
+    same_at(count, tlv.data() == content, true)?;
     same_at(
         count,
         octets.len().checked_sub(1),
         Some(tlv.full_data().len()),
     )?;
     same_at(count, rest, &[0x61])
+}
+
+/// So many letters are the contents octets after the header, and one more octet remains.
+fn compare_long(alloc: Global, header: &[u8], count: usize) -> Result<(), Fail> {
+    let content = vec![in alloc; b'a'; count]?;
+    let mut octets = Vec::from_slice(alloc, header)?;
+    octets.extend_from_slice(content.as_slice())?;
+    octets.push(0x61)?;
+    compare_front(octets.as_slice(), content.as_slice())
 }
 
 #[test]
@@ -148,6 +165,13 @@ fn compare_written(alloc: Global, octets: &[u8]) -> Result<(), Fail> {
     is_written(alloc, &&tlv, octets)
 }
 
+/// The element is primitive, with this class and number.
+fn compare_tag(octets: &[u8], tag: Tag, class: TagClass, number: u32) -> Result<(), Fail> {
+    same_at(octets, tag.class(), class)?;
+    same_at(octets, tag.value(), number)?;
+    same_at(octets, tag.is_constructed(), false)
+}
+
 #[test]
 fn any_element_is_read_and_written(rt: HostRuntime) -> Result<(), Fail> {
     let elements: [(&[u8], TagClass, u32, &[u8]); 6] = [
@@ -170,10 +194,7 @@ fn any_element_is_read_and_written(rt: HostRuntime) -> Result<(), Fail> {
     ];
     for (octets, class, number, content) in elements {
         let tlv = parse_single::<Tlv<'_>>(rt.alloc(), octets)?;
-        let tag = tlv.tag();
-        same_at(octets, tag.class(), class)?;
-        same_at(octets, tag.value(), number)?;
-        same_at(octets, tag.is_constructed(), false)?;
+        compare_tag(octets, tlv.tag(), class, number)?;
         same(tlv.data(), content)?;
         compare_written(rt.alloc(), octets)?;
     }
@@ -202,32 +223,30 @@ fn faults_of_any_element(rt: HostRuntime) -> Result<(), Fail> {
 
 #[test]
 fn an_element_is_read_as_a_value(rt: HostRuntime) -> Result<(), Fail> {
-    let octets = [0x02, 0x01, 0x03];
-    let (tlv, _rest) = strip_tlv(&octets)?;
-    same(tlv.parse::<u64>(rt.alloc())?, 3)?;
-    let octets = [0x01, 0x01, 0xff];
-    let (tlv, _rest) = strip_tlv(&octets)?;
-    same(tlv.parse::<bool>(rt.alloc())?, true)
+    let number = front(&[0x02, 0x01, 0x03])?;
+    same(number.parse::<u64>(rt.alloc())?, 3)?;
+    let truth = front(&[0x01, 0x01, 0xff])?;
+    same(truth.parse::<bool>(rt.alloc())?, true)
 }
 
 #[test]
 fn an_element_is_no_value_of_another_type(rt: HostRuntime) -> Result<(), Fail> {
-    let octets = [0x02, 0x01, 0x03];
-    let (tlv, _rest) = strip_tlv(&octets)?;
+    let number = front(&[0x02, 0x01, 0x03])?;
     let unexpected = ParseErrorKind::UnexpectedTag {
         actual: Tag::primitive(2),
     };
-    let error = error_of(tlv.parse::<&[u8]>(rt.alloc()));
-    same(&error, &Some(ParseError::new(unexpected)))
+    is_refusal(number.parse::<&[u8]>(rt.alloc()), unexpected)
 }
 
 #[test]
 fn implicit_tags_known_at_run_time(rt: HostRuntime) -> Result<(), Fail> {
-    let implicit = write(rt.alloc(), |writer: &mut Writer<'_>| {
-        writer.write_implicit_element(&true, 2)
-    })?;
-    same(implicit.as_slice(), &[0x82, 0x01, 0xff])?;
-    let mut parser = Parser::new(rt.alloc(), implicit.as_slice());
+    let implicit = [0x82, 0x01, 0xff];
+    closure_writes(
+        rt.alloc(),
+        |writer: &mut Writer<'_>| writer.write_implicit_element(&true, 2),
+        &implicit,
+    )?;
+    let mut parser = Parser::new(rt.alloc(), &implicit);
     same(parser.read_implicit_element::<bool>(2)?, true)?;
     same(parser.is_empty(), true)
 }
@@ -240,11 +259,13 @@ fn implicit_tags_keep_the_form() -> Result<(), Fail> {
 
 #[test]
 fn explicit_tags_known_at_run_time(rt: HostRuntime) -> Result<(), Fail> {
-    let explicit = write(rt.alloc(), |writer: &mut Writer<'_>| {
-        writer.write_explicit_element(&true, 2)
-    })?;
-    same(explicit.as_slice(), &[0xa2, 0x03, 0x01, 0x01, 0xff])?;
-    let mut parser = Parser::new(rt.alloc(), explicit.as_slice());
+    let explicit = [0xa2, 0x03, 0x01, 0x01, 0xff];
+    closure_writes(
+        rt.alloc(),
+        |writer: &mut Writer<'_>| writer.write_explicit_element(&true, 2),
+        &explicit,
+    )?;
+    let mut parser = Parser::new(rt.alloc(), &explicit);
     same(parser.read_explicit_element::<bool>(2)?, true)?;
     same(parser.is_empty(), true)
 }
@@ -255,11 +276,8 @@ fn another_tag_is_passed_over(rt: HostRuntime) -> Result<(), Fail> {
     let actual = implicit_tag(1, Tag::primitive(1));
     let unexpected = ParseErrorKind::UnexpectedTag { actual };
     let mut parser = Parser::new(rt.alloc(), &octets);
-    same(
-        &parser.read_implicit_element::<bool>(2),
-        &Err(ParseError::new(unexpected)),
-    )?;
-    same(&parser.peek_tag(), &Some(Tag::primitive(5)))?;
+    is_refusal(parser.read_implicit_element::<bool>(2), unexpected)?;
+    same(parser.peek_tag(), Some(Tag::primitive(5)))?;
     same(parser.rest(), &octets[3..])
 }
 
@@ -272,7 +290,7 @@ fn no_tag_is_seen(rt: HostRuntime) -> Result<(), Fail> {
 /// The error is displayed so.
 fn compare_displayed(alloc: Global, error: &ParseError, text: &str) -> Result<(), Fail> {
     let wanted = format!(in alloc; "ASN.1 parsing error: {text}")?;
-    same(format!(in alloc; "{error}")?.as_str(), wanted.as_str())
+    is_displayed(alloc, error, wanted.as_str())
 }
 
 /// An error with no location, with a field, or with an index and then a field.

@@ -4,7 +4,7 @@ use asn1_core::parser::{
 use asn1_core::tag::Tag;
 use std::alloc::Global;
 use std::test::Fail;
-use testing::{all_same, are_refused, different, is_shown, same};
+use testing::{all_same, are_refused, different, is_refusal, is_shown, same, same_owned};
 
 #[test]
 fn truth_values(rt: HostRuntime) -> Result<(), Fail> {
@@ -42,7 +42,7 @@ fn what_is_left_is_extra(rt: HostRuntime) -> Result<(), Fail> {
         &[0x00],
         |_parser: &mut Parser<'_>| -> ParseResult<()> { Ok(()) },
     );
-    same(&read, &Err(ParseError::new(ParseErrorKind::ExtraData)))
+    is_refusal(read, ParseErrorKind::ExtraData)
 }
 
 /// An error of a caller's own.
@@ -97,7 +97,7 @@ fn the_next_tag_is_seen_and_then_read(rt: HostRuntime) -> Result<(), Fail> {
             Ok((tag, number))
         },
     );
-    same(&read, &Ok((Some(Tag::primitive(2)), 127)))
+    same_owned(read, Ok((Some(Tag::primitive(2)), 127)))
 }
 
 /// Reads a Boolean after an element that is rejected as one.
@@ -129,9 +129,9 @@ fn a_refusal_that_is_ignored(rt: HostRuntime) -> Result<(), Fail> {
     let octets = [0x02, 0x01, 0x05, 0x01, 0x01, 0xff];
     let mut parser = Parser::new(rt.alloc(), &octets);
     let actual = Tag::primitive(2);
-    same(
-        &parser.read_element::<bool>(),
-        &Err(ParseError::new(ParseErrorKind::UnexpectedTag { actual })),
+    is_refusal(
+        parser.read_element::<bool>(),
+        ParseErrorKind::UnexpectedTag { actual },
     )?;
     same(parser.rest(), &octets[3..])?;
     same(parser.read_element::<bool>()?, true)?;

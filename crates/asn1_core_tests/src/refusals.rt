@@ -3,25 +3,26 @@
 ghost use Rattle.std.specs.Prelude.{◌≡◌};
 
 use asn1_core::{
-    ParseError, ParseErrorKind, Parser, SetElementWriter, SetOfWriter, SetWriter, Tlv, WriteError,
-    WriteResult, Writer, strip_tlv, write, write_single,
+    ParseErrorKind, Parser, SetElementWriter, SetOfWriter, SetWriter, Tlv, WriteError, WriteResult,
+    Writer, strip_tlv,
 };
 use std::test::Fail;
+use testing::{closure_writes, closure_writes_set, is_refusal, is_written, same};
 
 #[test]
-fn a_rest_inside_an_explicit_tag_is_refused(rt: HostRuntime) {
+fn a_rest_inside_an_explicit_tag_is_refused(rt: HostRuntime) -> Result<(), Fail> {
     let octets = [0xa2, 0x05, 0x01, 0x01, 0xff, 0x05, 0x00];
     let answer = Parser::new(rt.alloc(), &octets).read_explicit_element::<bool>(2);
-    assert!(rt; answer == Err(ParseError::new(ParseErrorKind::ExtraData)));
+    is_refusal(answer, ParseErrorKind::ExtraData)
 }
 
 #[test]
-fn a_parser_stays_in_front_of_an_unfinished_element(rt: HostRuntime) {
+fn a_parser_stays_in_front_of_an_unfinished_element(rt: HostRuntime) -> Result<(), Fail> {
     let octets = [0x04, 0x02, 0x00];
     let mut parser = Parser::new(rt.alloc(), &octets);
     let short = ParseErrorKind::ShortData { needed: 1 };
-    assert!(rt; parser.read_element::<Tlv<'_>>() == Err(ParseError::new(short)));
-    assert!(rt; parser.rest() == octets.as_slice());
+    is_refusal(parser.read_element::<Tlv<'_>>(), short)?;
+    same(parser.rest(), &octets)
 }
 
 #[test]
@@ -39,9 +40,7 @@ fn an_order_is_kept_over_a_refusal(rt: HostRuntime) -> Result<(), Fail> {
             answer => answer,
         }
     };
-    let octets = write_single(rt.alloc(), &SetWriter::new(&twice))?;
-    assert!(rt; octets.as_slice() == [0x31, 0x03, 0x02, 0x01, 0x01].as_slice());
-    Ok(())
+    closure_writes_set(rt.alloc(), &twice, &[0x31, 0x03, 0x02, 0x01, 0x01])
 }
 
 #[test]
@@ -52,14 +51,14 @@ fn a_refused_value_leaves_no_octets(rt: HostRuntime) -> Result<(), Fail> {
         set.write_element(&1i64)?;
         set.write_element(&true)
     };
-    let octets = write(rt.alloc(), |writer: &mut Writer<'_>| {
-        match writer.write_element(&SetWriter::new(&refuses)) {
+    closure_writes(
+        rt.alloc(),
+        |writer: &mut Writer<'_>| match writer.write_element(&SetWriter::new(&refuses)) {
             Err(WriteError::InvalidSetOrdering) => writer.write_element(&true),
             answer => answer,
-        }
-    })?;
-    assert!(rt; octets.as_slice() == [0x01, 0x01, 0xff].as_slice());
-    Ok(())
+        },
+        &[0x01, 0x01, 0xff],
+    )
 }
 
 #[test]
@@ -67,8 +66,9 @@ fn elements_of_several_tags_in_order(rt: HostRuntime) -> Result<(), Fail> {
     let (octets, number) = ([0x04, 0x01, 0x00], [0x02, 0x02, 0x01, 0x00]);
     let (octets, _rest) = strip_tlv(&octets)?;
     let (number, _rest) = strip_tlv(&number)?;
-    let written = write_single(rt.alloc(), &SetOfWriter::new(&[octets, number]))?;
-    let wanted = [0x31, 0x07, 0x02, 0x02, 0x01, 0x00, 0x04, 0x01, 0x00];
-    assert!(rt; written.as_slice() == wanted.as_slice());
-    Ok(())
+    is_written(
+        rt.alloc(),
+        &SetOfWriter::new(&[octets, number]),
+        &[0x31, 0x07, 0x02, 0x02, 0x01, 0x00, 0x04, 0x01, 0x00],
+    )
 }

@@ -10,11 +10,11 @@ use asn1_core::parser::strip_tlv;
 use asn1_core::tag::Tag;
 use asn1_core::types::{Asn1Type, Asn1Writable, SimpleAsn1Writable};
 use asn1_core::writer::{
-    SetElementWriter, SetOfWriter, SetWriter, WriteBuf, WriteError, WriteResult, write_single,
+    SetElementWriter, SetOfWriter, WriteBuf, WriteError, WriteResult, write_single,
 };
 use std::alloc::Global;
 use std::test::Fail;
-use testing::{is_written, same};
+use testing::{closure_writes_set, is_written, same, written_set};
 
 #[test]
 fn sets_of_a_slice(rt: HostRuntime) -> Result<(), Fail> {
@@ -64,52 +64,51 @@ fn sets_of_a_slice_are_copied(rt: HostRuntime) -> Result<(), Fail> {
 fn sets_of_a_closure(rt: HostRuntime) -> Result<(), Fail> {
     let alloc = rt.alloc();
     let null = |set: &mut SetElementWriter<'_>| -> WriteResult<()> { set.write_element(&()) };
-    is_written(alloc, &SetWriter::new(&null), &[0x31, 2, 5, 0])?;
+    closure_writes_set(alloc, &null, &[0x31, 2, 5, 0])?;
     let truth = |set: &mut SetElementWriter<'_>| -> WriteResult<()> { set.write_element(&true) };
-    is_written(alloc, &SetWriter::new(&truth), &[0x31, 3, 1, 1, 0xff])
+    closure_writes_set(alloc, &truth, &[0x31, 3, 1, 1, 0xff])
 }
 
 #[test]
 fn long_sets_of_a_closure(rt: HostRuntime) -> Result<(), Fail> {
     let letters: &[u8] = &[0x61; 129];
     let long = |set: &mut SetElementWriter<'_>| -> WriteResult<()> { set.write_element(&letters) };
-    let octets = write_single(rt.alloc(), &SetWriter::new(&long))?;
+    let octets = written_set(rt.alloc(), &long)?;
     let (tlv, rest) = strip_tlv(octets.as_slice())?;
     assert!(rt; rest.is_empty() && octets.as_slice().starts_with(&[0x31, 0x81, 0x84]));
     assert!(rt; tlv.data().starts_with(&[4, 0x81, 0x81, 0x61]) && tlv.data().ends_with(letters));
     Ok(())
 }
 
+/// A set of true and then of the value is written as these octets.
+fn compare_behind_true<T: Asn1Writable<Error = WriteError>>(
+    alloc: Global,
+    value: &T,
+    octets: &[u8],
+) -> Result<(), Fail>
+    requires { T.der.plain }
+{
+    let both = |set: &mut SetElementWriter<'_>| -> WriteResult<()>
+        requires { T.der.plain }
+        ensures { set.new.front ≡ set.old.front }
+    {
+        set.write_element(&true)?;
+        set.write_element(value)
+    };
+    closure_writes_set(alloc, &both, octets)
+}
+
 #[test]
 fn elements_of_a_set_in_order(rt: HostRuntime) -> Result<(), Fail> {
     let alloc = rt.alloc();
-    let some = |set: &mut SetElementWriter<'_>| -> WriteResult<()>
-        ensures { set.new.front ≡ set.old.front }
-    {
-        set.write_element(&true)?;
-        set.write_element(&Some(1i64))
-    };
     let both: &[u8] = &[0x31, 6, 1, 1, 0xff, 2, 1, 1];
-    is_written(alloc, &SetWriter::new(&some), both)?;
-    let number = |set: &mut SetElementWriter<'_>| -> WriteResult<()>
-        ensures { set.new.front ≡ set.old.front }
-    {
-        set.write_element(&true)?;
-        set.write_element(&1i64)
-    };
-    is_written(alloc, &SetWriter::new(&number), both)?;
-    let none = |set: &mut SetElementWriter<'_>| -> WriteResult<()>
-        ensures { set.new.front ≡ set.old.front }
-    {
-        set.write_element(&true)?;
-        set.write_element(&Option::<i64>::None)
-    };
-    is_written(alloc, &SetWriter::new(&none), &[0x31, 3, 1, 1, 0xff])
+    compare_behind_true(alloc, &Some(1i64), both)?;
+    compare_behind_true(alloc, &1i64, both)?;
+    compare_behind_true(alloc, &Option::<i64>::None, &[0x31, 3, 1, 1, 0xff])
 }
 
 #[test]
 fn elements_of_a_set_out_of_order(rt: HostRuntime) -> Result<(), Fail> {
-    let alloc = rt.alloc();
     let goes_on = |set: &mut SetElementWriter<'_>| -> WriteResult<()>
         ensures { set.new.front ≡ set.old.front }
     {
@@ -119,18 +118,18 @@ fn elements_of_a_set_out_of_order(rt: HostRuntime) -> Result<(), Fail> {
             answer => answer,
         }
     };
-    is_written(
-        alloc,
-        &SetWriter::new(&goes_on),
-        &[0x31, 6, 2, 1, 1, 2, 1, 2],
-    )?;
+    closure_writes_set(rt.alloc(), &goes_on, &[0x31, 6, 2, 1, 1, 2, 1, 2])
+}
+
+#[test]
+fn an_error_of_order_is_handed_on(rt: HostRuntime) -> Result<(), Fail> {
     let hands_on = |set: &mut SetElementWriter<'_>| -> WriteResult<()>
         ensures { set.new.front ≡ set.old.front }
     {
         set.write_element(&1i64)?;
         set.write_element(&true)
     };
-    match write_single(alloc, &SetWriter::new(&hands_on)) {
+    match written_set(rt.alloc(), &hands_on) {
         Err(WriteError::AllocationError) => Err(WriteError::AllocationError)?,
         answer => assert!(rt; matches!(answer, Err(WriteError::InvalidSetOrdering))),
     }
@@ -145,11 +144,7 @@ fn equal_tags_in_any_order(rt: HostRuntime) -> Result<(), Fail> {
         set.write_element(&7u8)?;
         set.write_element(&5u8)
     };
-    is_written(
-        rt.alloc(),
-        &SetWriter::new(&numbers),
-        &[0x31, 6, 2, 1, 7, 2, 1, 5],
-    )
+    closure_writes_set(rt.alloc(), &numbers, &[0x31, 6, 2, 1, 7, 2, 1, 5])
 }
 
 /// Why a digit was rejected.

@@ -82,10 +82,20 @@ fn compare_each(alloc: Global, content: &[u8]) -> Result<(), Fail> {
         octets[2 + place] = *octet;
     }
     let text = &octets[..n + 2];
+    compare_signed(alloc, text)?;
+    compare_unsigned(alloc, text)
+}
+
+/// Both ways as each type of signed numbers.
+fn compare_signed(alloc: Global, text: &[u8]) -> Result<(), Fail> {
     compare::<i8>(alloc, text, -0x80, 0x7f)?;
     compare::<i16>(alloc, text, -0x8000, 0x7fff)?;
     compare::<i32>(alloc, text, -0x8000_0000, 0x7fff_ffff)?;
-    compare::<i64>(alloc, text, -0x8000_0000_0000_0000, 0x7fff_ffff_ffff_ffff)?;
+    compare::<i64>(alloc, text, -0x8000_0000_0000_0000, 0x7fff_ffff_ffff_ffff)
+}
+
+/// Both ways as each type of unsigned numbers.
+fn compare_unsigned(alloc: Global, text: &[u8]) -> Result<(), Fail> {
     compare::<u8>(alloc, text, 0, 0xff)?;
     compare::<u16>(alloc, text, 0, 0xffff)?;
     compare::<u32>(alloc, text, 0, 0xffff_ffff)?;

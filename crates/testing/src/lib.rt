@@ -3,18 +3,31 @@
 //! A library ends no process, so each answers a result: a failure that shows what is wrong. A test hands it on by `?`.
 #![tactic(auto)]
 
+ghost use Rattle.asn1_core.specs.Closures.{IsWriter};
+ghost use Rattle.asn1_core.specs.SetWriting.{IsSetWriter};
+
 pub mod changed;
 
 use asn1_core::parser::{ParseError, ParseErrorKind, ParseResult, parse_single};
 use asn1_core::types::{Asn1Readable, Asn1Writable};
-use asn1_core::writer::{WriteError, write_single};
+use asn1_core::writer::{
+    SetElementWriter, SetWriter, WriteError, WriteResult, Writer, write, write_single,
+};
 use std::alloc::Global;
-use std::fmt::Debug;
+use std::fmt::{Debug, Display};
 use std::hash::{DefaultHasher, Hash, Hasher};
 use std::test::Fail;
 
 /// Both values are equal, or the failure shows both.
 pub fn same<T: PartialEq + Debug + Copy>(left: T, right: T) -> Result<(), Fail> {
+    if left == right {
+        return Ok(());
+    }
+    Err(Fail::new(format_args!("{left:?} isn't {right:?}")))
+}
+
+/// The same of values that own something, as answers that may hold an error do.
+pub fn same_owned<T: PartialEq + Debug + Drop>(left: T, right: T) -> Result<(), Fail> {
     if left == right {
         return Ok(());
     }
@@ -57,6 +70,14 @@ pub fn all_different<T: PartialEq + Debug>(rows: &[(T, T)]) -> Result<(), Fail> 
         different(left, right)?;
     }
     Ok(())
+}
+
+/// The answer is the error of this kind, with no place.
+pub fn is_refusal<T: PartialEq + Debug + Drop>(
+    answer: ParseResult<T>,
+    kind: ParseErrorKind,
+) -> Result<(), Fail> {
+    same_owned(answer, Err(ParseError::new(kind)))
 }
 
 /// The error of a refusal.
@@ -128,6 +149,38 @@ pub fn is_written<T: Asn1Writable<Error = WriteError>>(
     requires { T.der.closures (T.der.meaning value.now) }
 {
     same(write_single(alloc, value)?.as_slice(), octets)
+}
+
+/// The closure writes these octets.
+pub fn closure_writes<F: Fn(&mut Writer<'_>) -> WriteResult<()> + Drop>(
+    alloc: Global,
+    closure: F,
+    octets: &[u8],
+) -> Result<(), Fail>
+    requires { IsWriter F.FnOnce closure }
+{
+    same(write(alloc, closure)?.as_slice(), octets)
+}
+
+/// The set whose elements the closure writes.
+pub fn written_set<F: Fn(&mut SetElementWriter<'_>) -> WriteResult<()>>(
+    alloc: Global,
+    closure: &F,
+) -> WriteResult<Vec<u8>>
+    requires { IsSetWriter F.FnOnce closure.now }
+{
+    write_single(alloc, &SetWriter::new(closure))
+}
+
+/// The set whose elements the closure writes has these octets.
+pub fn closure_writes_set<F: Fn(&mut SetElementWriter<'_>) -> WriteResult<()>>(
+    alloc: Global,
+    closure: &F,
+    octets: &[u8],
+) -> Result<(), Fail>
+    requires { IsSetWriter F.FnOnce closure.now }
+{
+    same(written_set(alloc, closure)?.as_slice(), octets)
 }
 
 /// The failure of a read: the error itself where memory ran out, and else the error with the octets.
@@ -240,6 +293,11 @@ pub fn are_shown<T: Debug>(alloc: Global, rows: &[(T, &str)]) -> Result<(), Fail
 /// `Debug` shows the value so, laid out in lines.
 pub fn is_laid_out<T: Debug>(alloc: Global, value: &T, text: &str) -> Result<(), Fail> {
     same(format!(in alloc; "{value:#?}")?.as_str(), text)
+}
+
+/// `Display` shows the value so.
+pub fn is_displayed<T: Display>(alloc: Global, value: &T, text: &str) -> Result<(), Fail> {
+    same(format!(in alloc; "{value}")?.as_str(), text)
 }
 
 /// What a hasher answers for a value.
