@@ -1,6 +1,8 @@
 -- That the equality of a type tells its values by their texts: what is said once for each kind of type.
-use Rattle.std.proofs.Common.{◌≡◌, ℕ, ℤ, pos, Bool, true, false, List, ◌∷◌, ◌++◌, length, drop, refl, sym, ap, ◌∙◌, inl, inr, arith}
+use Rattle.std.proofs.Common.{◌≡◌, ℕ, ℤ, pos, Bool, true, false, List, [], ◌∷◌, ◌++◌, length, drop, Option, Some, None, Result, Ok, refl, sym, ap, ◌∙◌, inl, inr, arith}
 use Rattle.std.specs.Prelude.{nat_eq, ◌&&◌}
+use Rattle.std.specs.Option.{option_eq}
+use Rattle.std.specs.Cmp.Lexicographic.{pointwise}
 use Rattle.std.specs.Ordering.{int_eq}
 use Rattle.std.specs.Bool.{Decides}
 use Rattle.std.specs.Str.{bytes_eq}
@@ -17,10 +19,25 @@ use Rattle.asn1_core.specs.Length.{length_text}
 use Rattle.asn1_core.specs.Element.{element, element_text}
 use Rattle.asn1_core.specs.Integer.{integer_content}
 use Rattle.asn1_core.specs.Boolean.{bool_content_text}
+use Rattle.asn1_core.specs.Fault.{Fault}
+use Rattle.asn1_core.specs.Lemmas.Results.{ok_is}
 use Rattle.asn1_core.specs.Lemmas.Lengths.{length_text_low, length_text_high}
 use Rattle.asn1_core.specs.Lemmas.Integers.{content_value}
 use Rattle.asn1_values.specs.Big.{IsSignedForm}
 use Rattle.asn1_values.specs.Bits.{Bits, bits, bits_text}
+use Rattle.asn1_values.specs.declared.object_identifier.ObjectIdentifier.{ObjectIdentifier}
+use Rattle.asn1_values.specs.declared.values.times.UtcTime.{UtcTime}
+use Rattle.asn1_values.specs.declared.values.times.X509GeneralizedTime.{X509GeneralizedTime}
+use Rattle.asn1_values.specs.declared.values.generalized_time.GeneralizedTime.{GeneralizedTime}
+use Rattle.asn1_values.specs.Identifier.{identifier_content, read_identifier}
+use Rattle.asn1_values.specs.IdentifierValues.{identifier_of}
+use Rattle.asn1_values.specs.Times.{Moment, Instant, instant, utc_text, general_text, instant_text, read_utc, read_x509, read_instant}
+use Rattle.asn1_values.specs.TimeValues.{utc_moment, x509_moment}
+use Rattle.asn1_values.specs.GeneralizedTimes.{instant_of}
+use Rattle.asn1_values.specs.Lemmas.Identifier.{identifier_again, form_in_hand}
+use Rattle.asn1_values.specs.Lemmas.SameIdentifiers.{equal_identifiers}
+use Rattle.asn1_values.specs.Lemmas.Times.{utc_again, x509_again}
+use Rattle.asn1_values.specs.Lemmas.Fractions.{instant_again}
 use Rattle.asn1_values.specs.Lemmas.Big.{content_of_signed, signed_form}
 use Rattle.asn1.specs.Defaulted.{EqualityTells, ContentTells}
 
@@ -135,6 +152,110 @@ module _ {V : Type 0} (octets : V → List ℕ) (padding : V → ℕ) (same : V 
 
   pub bits_tell : EqualityTells (λ v. bits (octets v) (padding v)) (λ s. element_text (element (universal 3) (bits_text s))) same a b
   bits_tell = simple_tells (λ v. bits (octets v) (padding v)) (universal 3) bits_text same a b decides.0 bits_content_tells
+
+-- ---- types whose contents octets are read back
+
+module _ {V M : Type 0} (view : V → M) (text : M → List ℕ) (read : List ℕ → Result M Fault) (same : V → V → Bool) (back : (v : V) → read (text (view v)) ≡ Ok (view v)) (decides : (a b : V) → Decides (same a b) (view a ≡ view b)) where
+  pub read_back_content_tells : (a b : V) → ContentTells view text same a b
+  read_back_content_tells a b e = (decides a b).1 (ok_is (view a) (view b) (sym (back a) ∙ (ap read e ∙ back b)))
+
+  pub read_back_tells : (tag : Tag) (a b : V) → EqualityTells view (λ m. element_text (element tag (text m))) same a b
+  read_back_tells tag a b = simple_tells view tag text same a b (decides a b).0 (read_back_content_tells a b)
+
+-- object identifiers, by their numbers
+identifier_back : (o : ObjectIdentifier) → read_identifier (identifier_content (identifier_of o)) ≡ Ok (identifier_of o)
+identifier_back o = identifier_again (identifier_of o) (form_in_hand o.octets o.count o.is_content).value
+
+abbrev same_identifiers : ObjectIdentifier → ObjectIdentifier → Bool
+same_identifiers a b = pointwise nat_eq a.octets b.octets && nat_eq a.count b.count
+
+pub identifiers_content_tells : (a b : ObjectIdentifier) → ContentTells identifier_of identifier_content same_identifiers a b
+identifiers_content_tells = read_back_content_tells identifier_of identifier_content read_identifier same_identifiers identifier_back equal_identifiers
+
+pub identifiers_tell : (a b : ObjectIdentifier) → EqualityTells identifier_of (λ m. element_text (element (universal 6) (identifier_content m))) same_identifiers a b
+identifiers_tell = read_back_tells identifier_of identifier_content read_identifier same_identifiers identifier_back equal_identifiers (universal 6)
+
+-- times, by their numbers
+abbrev same_moments : Moment → Moment → Bool
+same_moments m n = nat_eq m.year n.year && (nat_eq m.month n.month && (nat_eq m.day n.day && (nat_eq m.hour n.hour && (nat_eq m.minute n.minute && nat_eq m.second n.second))))
+
+abbrev moment_with : ℕ → ℕ → ℕ → ℕ → ℕ → ℕ → Moment
+moment_with year month day hour minute second = record { year = year; month = month; day = day; hour = hour; minute = minute; second = second }
+
+abbrev AreNumbersOf : Moment → Moment → Type 0
+AreNumbersOf m n = (m.year ≡ n.year) × ((m.month ≡ n.month) × ((m.day ≡ n.day) × ((m.hour ≡ n.hour) × ((m.minute ≡ n.minute) × (m.second ≡ n.second)))))
+
+numbers_decide : {P : Type 0} {b : Bool} (x y : ℕ) → Decides b P → Decides (nat_eq x y && b) ((x ≡ y) × P)
+numbers_decide {P} {b} x y others = Decides-and (nat_eq x y) b (Decides-eqb x y) others
+
+moment_of : (m n : Moment) → AreNumbersOf m n → m ≡ n
+moment_of m n h =
+    let same : moment_with m.year m.month m.day m.hour m.minute m.second ≡ moment_with n.year n.month n.day n.hour n.minute n.second = rw (h.0, h.1.0, h.1.1.0, h.1.1.1.0, h.1.1.1.1.0, h.1.1.1.1.1) refl in
+    same
+
+moment_numbers : (m n : Moment) → m ≡ n → AreNumbersOf m n
+moment_numbers m n e = (ap (λ (x : Moment). x.year) e, (ap (λ (x : Moment). x.month) e, (ap (λ (x : Moment). x.day) e, (ap (λ (x : Moment). x.hour) e, (ap (λ (x : Moment). x.minute) e, ap (λ (x : Moment). x.second) e)))))
+
+moments_decide : (m n : Moment) → Decides (same_moments m n) (m ≡ n)
+moments_decide m n =
+    Decides-like (same_moments m n) (moment_of m n) (moment_numbers m n)
+    (numbers_decide m.year n.year (numbers_decide m.month n.month (numbers_decide m.day n.day (numbers_decide m.hour n.hour (numbers_decide m.minute n.minute (Decides-eqb m.second n.second))))))
+
+utc_back : (t : UtcTime) → read_utc (utc_text (utc_moment t)) ≡ Ok (utc_moment t)
+utc_back t = utc_again (utc_moment t) (t.datetime.is_date, t.in_range.0, t.in_range.1)
+
+abbrev same_utc_times : UtcTime → UtcTime → Bool
+same_utc_times a b = same_moments (utc_moment a) (utc_moment b)
+
+pub utc_times_content_tells : (a b : UtcTime) → ContentTells utc_moment utc_text same_utc_times a b
+utc_times_content_tells = read_back_content_tells utc_moment utc_text read_utc same_utc_times utc_back (λ a b. moments_decide (utc_moment a) (utc_moment b))
+
+pub utc_times_tell : (a b : UtcTime) → EqualityTells utc_moment (λ m. element_text (element (universal 23) (utc_text m))) same_utc_times a b
+utc_times_tell = read_back_tells utc_moment utc_text read_utc same_utc_times utc_back (λ a b. moments_decide (utc_moment a) (utc_moment b)) (universal 23)
+
+abbrev x509_text : Moment → List ℕ
+x509_text m = general_text m (0x5a ∷ [])
+
+x509_back : (t : X509GeneralizedTime) → read_x509 (x509_text (x509_moment t)) ≡ Ok (x509_moment t)
+x509_back t = x509_again (x509_moment t) (t.datetime.is_date, t.in_range)
+
+abbrev same_x509_times : X509GeneralizedTime → X509GeneralizedTime → Bool
+same_x509_times a b = same_moments (x509_moment a) (x509_moment b)
+
+pub x509_times_content_tells : (a b : X509GeneralizedTime) → ContentTells x509_moment x509_text same_x509_times a b
+x509_times_content_tells = read_back_content_tells x509_moment x509_text read_x509 same_x509_times x509_back (λ a b. moments_decide (x509_moment a) (x509_moment b))
+
+pub x509_times_tell : (a b : X509GeneralizedTime) → EqualityTells x509_moment (λ m. element_text (element (universal 24) (x509_text m))) same_x509_times a b
+x509_times_tell = read_back_tells x509_moment x509_text read_x509 same_x509_times x509_back (λ a b. moments_decide (x509_moment a) (x509_moment b)) (universal 24)
+
+abbrev same_instants : Instant → Instant → Bool
+same_instants i j = same_moments i.moment j.moment && option_eq nat_eq i.nanoseconds j.nanoseconds
+
+some_of : (m n : ℕ) → ◌≡◌ {A = Option ℕ} (Some m) (Some n) → m ≡ n
+some_of m n e = cc
+
+nanoseconds_decide : (m n : Option ℕ) → Decides (option_eq nat_eq m n) (m ≡ n)
+nanoseconds_decide None None = (λ e. refl, λ e. refl)
+nanoseconds_decide None (Some n) = (λ e. absurd cc, λ e. absurd cc)
+nanoseconds_decide (Some m) None = (λ e. absurd cc, λ e. absurd cc)
+nanoseconds_decide (Some m) (Some n) = Decides-like (nat_eq m n) (ap (λ (x : ℕ). Some x)) (some_of m n) (Decides-eqb m n)
+
+instants_decide : (i j : Instant) → Decides (same_instants i j) (i ≡ j)
+instants_decide i j =
+    Decides-like (same_instants i j) (λ h. ap (λ (m : Moment). instant m i.nanoseconds) h.0 ∙ ap (λ (n : Option ℕ). instant j.moment n) h.1) (λ e. (ap (λ (x : Instant). x.moment) e, ap (λ (x : Instant). x.nanoseconds) e))
+    (Decides-and (same_moments i.moment j.moment) (option_eq nat_eq i.nanoseconds j.nanoseconds) (moments_decide i.moment j.moment) (nanoseconds_decide i.nanoseconds j.nanoseconds))
+
+instant_back : (t : GeneralizedTime) → read_instant (instant_text (instant_of t)) ≡ Ok (instant_of t)
+instant_back t = instant_again (instant_of t) ((t.datetime.is_date, t.in_range), t.in_second)
+
+abbrev same_generalized_times : GeneralizedTime → GeneralizedTime → Bool
+same_generalized_times a b = same_instants (instant_of a) (instant_of b)
+
+pub generalized_times_content_tells : (a b : GeneralizedTime) → ContentTells instant_of instant_text same_generalized_times a b
+generalized_times_content_tells = read_back_content_tells instant_of instant_text read_instant same_generalized_times instant_back (λ a b. instants_decide (instant_of a) (instant_of b))
+
+pub generalized_times_tell : (a b : GeneralizedTime) → EqualityTells instant_of (λ m. element_text (element (universal 24) (instant_text m))) same_generalized_times a b
+generalized_times_tell = read_back_tells instant_of instant_text read_instant same_generalized_times instant_back (λ a b. instants_decide (instant_of a) (instant_of b)) (universal 24)
 
 -- ---- wrappers
 

@@ -1,14 +1,16 @@
 //! Fields with a default, of several types.
 
-ghost use Rattle.std.specs.Prelude.{◌∷◌, [], negsuc, pos};
+ghost use Rattle.std.specs.Prelude.{◌≡◌, ◌∷◌, [], negsuc, pos};
 ghost use Rattle.asn1.specs.Der.{seen};
 ghost use Rattle.asn1.specs.Equalities.{naturals_tell, number_text, seen_tells};
+ghost use Rattle.asn1.specs.IdentifierValues.{identifier_of};
 ghost use Rattle.asn1.specs.Tag.{universal};
+ghost use Rattle.asn1_tests.specs.Identifiers.{some_identifier};
 
 use asn1::{
-    Asn1Readable, Asn1Type, Asn1Writable, DefaultValue, Defaulted, Implicit, MeaningEq, ParseError,
-    ParseErrorKind, ParseResult, SimpleAsn1Readable, SimpleAsn1Writable, Tag, WriteBuf, WriteError,
-    WriteResult, parse_single,
+    Asn1Readable, Asn1Type, Asn1Writable, DefaultValue, Defaulted, Implicit, MeaningEq,
+    ObjectIdentifier, ParseError, ParseErrorKind, ParseResult, SimpleAsn1Readable,
+    SimpleAsn1Writable, Tag, WriteBuf, WriteError, WriteResult, parse_single,
 };
 use std::alloc::Global;
 use std::process::Abort;
@@ -84,6 +86,24 @@ impl DefaultValue<Implicit<i64, 0>> for Defaults {
     }
 }
 
+/// The identifier 1.2.3.
+fn one_two_three() -> ObjectIdentifier
+    ensures { identifier_of result ≡ identifier_of some_identifier }
+{
+    let mut octets = [0; 63];
+    octets[0] = 0x2a;
+    octets[1] = 0x03;
+    ObjectIdentifier::from_der_unchecked(octets, 2)
+}
+
+impl DefaultValue<ObjectIdentifier> for Defaults {
+    ghost default = { some_identifier };
+
+    fn value() -> ObjectIdentifier {
+        one_two_three()
+    }
+}
+
 impl DefaultValue<[u8; 2]> for Defaults {
     ghost default = { 0 ∷ 0 ∷ [] };
 
@@ -123,5 +143,9 @@ fn types_with_a_default(rt: HostRuntime) -> Result<(), Fail> {
     has_a_default::<_, Port, Defaults>(&rt, alloc, Port { number: 80 }, &[2, 1, 80], encoded)?;
     let two: Implicit<i64, 0> = Implicit::new(2);
     has_a_default::<_, _, Defaults>(&rt, alloc, two, &[0x80, 1, 2], &[0x80, 1, 0xff])?;
-    has_a_default::<_, [u8; 2], Defaults>(&rt, alloc, [0, 1], &[4, 2, 0, 1], &[4, 2, 0, 0])
+    has_a_default::<_, [u8; 2], Defaults>(&rt, alloc, [0, 1], &[4, 2, 0, 1], &[4, 2, 0, 0])?;
+    let other = ObjectIdentifier::from_der(&[0x2a, 4])?;
+    has_a_default::<_, ObjectIdentifier, Defaults>(&rt, alloc, other, &[6, 2, 0x2a, 4], &[
+        6, 2, 0x2a, 3,
+    ])
 }

@@ -1,5 +1,3 @@
 mod Bits
 mod PlainTexts
 mod FractionDigits
-mod SameIdentifiers
-mod SameNumbers

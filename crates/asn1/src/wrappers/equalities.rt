@@ -34,6 +34,10 @@ ghost use Rattle.asn1.specs.Equalities.{
   bits_tell,
   bools_content_tells,
   bools_tell,
+  generalized_times_content_tells,
+  generalized_times_tell,
+  identifiers_content_tells,
+  identifiers_tell,
   inside_tells,
   integers_content_tells,
   integers_tell,
@@ -43,13 +47,18 @@ ghost use Rattle.asn1.specs.Equalities.{
   octets_tell,
   retagged_tells,
   seen_tells,
+  utc_times_content_tells,
+  utc_times_tell,
+  x509_times_content_tells,
+  x509_times_tell,
 };
 
 use crate::lists::{Sequence, Set};
 use crate::wrappers::{Explicit, Implicit, MeaningEq, OctetStringEncoded, SimpleMeaningEq};
 use asn1_values::{
-    BMPString, BigInt, BigUint, BitString, Enumerated, IA5String, OwnedBigInt, OwnedBigUint,
-    OwnedBitString, PrintableString, UniversalString, Utf8String, VisibleString,
+    BMPString, BigInt, BigUint, BitString, Enumerated, GeneralizedTime, IA5String,
+    ObjectIdentifier, OwnedBigInt, OwnedBigUint, OwnedBitString, PrintableString, UniversalString,
+    UtcTime, Utf8String, VisibleString, X509GeneralizedTime,
 };
 
 impl MeaningEq for bool {
@@ -160,6 +169,14 @@ impl<const N: usize> SimpleMeaningEq for [u8; N] {
     ghost content_tells = { λ a b. (bytes_eq-Decides a b).1 };
 }
 
+impl MeaningEq for ObjectIdentifier {
+    ghost tells = { identifiers_tell };
+}
+
+impl SimpleMeaningEq for ObjectIdentifier {
+    ghost content_tells = { identifiers_content_tells };
+}
+
 impl<'a> MeaningEq for PrintableString<'a> {
     ghost tells = { λ a b. octets_tell printable_octets (universal 19) _ a b (bytes_eq-Decides
         (printable_octets a) (printable_octets b)) };
@@ -212,6 +229,30 @@ impl<'a> MeaningEq for UniversalString<'a> {
 
 impl<'a> SimpleMeaningEq for UniversalString<'a> {
     ghost content_tells = { λ a b. (bytes_eq-Decides (universal_octets a) (universal_octets b)).1 };
+}
+
+impl MeaningEq for UtcTime {
+    ghost tells = { utc_times_tell };
+}
+
+impl SimpleMeaningEq for UtcTime {
+    ghost content_tells = { utc_times_content_tells };
+}
+
+impl MeaningEq for X509GeneralizedTime {
+    ghost tells = { x509_times_tell };
+}
+
+impl SimpleMeaningEq for X509GeneralizedTime {
+    ghost content_tells = { x509_times_content_tells };
+}
+
+impl MeaningEq for GeneralizedTime {
+    ghost tells = { generalized_times_tell };
+}
+
+impl SimpleMeaningEq for GeneralizedTime {
+    ghost content_tells = { generalized_times_content_tells };
 }
 
 impl<'a> MeaningEq for Sequence<'a> {

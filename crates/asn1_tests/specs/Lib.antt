@@ -1,0 +1,2 @@
+-- Values that tests name in contracts.
+pub mod Identifiers
