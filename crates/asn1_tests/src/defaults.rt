@@ -145,7 +145,11 @@ fn types_with_a_default(rt: HostRuntime) -> Result<(), Fail> {
     has_a_default::<_, _, Defaults>(&rt, alloc, two, &[0x80, 1, 2], &[0x80, 1, 0xff])?;
     has_a_default::<_, [u8; 2], Defaults>(&rt, alloc, [0, 1], &[4, 2, 0, 1], &[4, 2, 0, 0])?;
     let other = ObjectIdentifier::from_der(&[0x2a, 4])?;
-    has_a_default::<_, ObjectIdentifier, Defaults>(&rt, alloc, other, &[6, 2, 0x2a, 4], &[
-        6, 2, 0x2a, 3,
-    ])
+    has_a_default::<_, ObjectIdentifier, Defaults>(
+        &rt,
+        alloc,
+        other,
+        &[6, 2, 0x2a, 4],
+        &[6, 2, 0x2a, 3],
+    )
 }
