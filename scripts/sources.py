@@ -26,13 +26,19 @@ def is_library_of_the_port(name):
     return not name.endswith(("_tests", "_cli")) and name not in ("testing", "derived")
 
 
-def clauses(text):
-    """Each clause and ghost member: its name, 'unnamed' where it has none and nothing for `requires`; and its text."""
+def spans_of_clauses(text):
+    """Each clause and ghost member: its name, 'unnamed' where it has none and nothing for `requires`; where it begins,
+    and where its text in braces begins and ends."""
     for found in CLAUSE.finditer(text):
         depth, end = 1, found.end()
         while depth:
             depth, end = depth + {"{": 1, "}": -1}.get(text[end], 0), end + 1
-        yield (found[2] or "unnamed") if found[1] else found[3], text[found.end() : end - 1]
+        yield (found[2] or "unnamed") if found[1] else found[3], found.start(), found.end(), end - 1
+
+
+def clauses(text):
+    """The name of each clause and ghost member, and its text."""
+    return [(name, text[start:end]) for name, _, start, end in spans_of_clauses(text)]
 
 
 def parts(text):
