@@ -35,7 +35,7 @@ pub enum Header {
 fn header_parts(octets: &[u8]) -> Option<(usize, usize)>
     ensures { MatchOption result
         ((tag : Tag) → (after : List ℕ) → tag_front octets.now ≡ Ok (tag, after)
-            → ¬ HoldsLength after)
+        → ¬ HoldsLength after)
         (λ counts. IsSplit octets.now counts.0 counts.1) }
 {
     let Ok((_, after)) = Tag::from_bytes(octets) else {
