@@ -11,7 +11,8 @@ CRATES = TOP / "crates"
 # Of a function: its name, its file in the crate, whether it is public, its trait, the names of its `ensures` clauses, and
 # where its body begins and ends in the file, with the body's indentation.
 Function = namedtuple("Function", "name file is_public trait clauses start end indent")
-FUNCTION = re.compile(r"( *)(pub )?(?:pub\(\w+\) )?(?:const |unsafe )*fn (\w+)")
+KINDS = "fn|struct|enum|trait|impl|mod|type|const|static|ghost|use"
+START = rf"(pub )?(?:pub\(\w+\) )?(?:const |unsafe )*({KINDS})\b ?(\w*)"
 CLAUSE = re.compile(r"\b(?:requires|(ensures))(?:\s+(\w+))?\s+\{|\bghost (\w+)(?: =|:)\s+\{")
 
 
@@ -83,71 +84,49 @@ def impl_name(header):
     return name, re.match(r"(?:\w+::)*(\w*)", trait)[1]
 
 
-def opening(lines, head, indent):
-    """The line that opens the body of a function, whose head is at this line; None where it has no body.
-
-    Clauses may hold braces and ends of lines such as `= year;`, and behind them the brace of a body stands alone."""
-    has_clauses = False
-    for place in range(head, len(lines)):
-        line = lines[place]
-        has_clauses = has_clauses or re.match(r" *(ensures|requires|ghost)\b", line) is not None
-        if line == f"{indent}{{\n" or not has_clauses and line.endswith(("{\n", "{}\n")):
-            return place
-        if line == f"{indent}{{}}\n":
-            return place
-        if line.endswith("};\n" if has_clauses else ";\n"):
-            return None
-    return None
+def items(text, indent=""):
+    """Of each item of a file, or of an impl or trait: whether it is public, its kind, its name and its text."""
+    starts = [*re.finditer(f"^{indent}{START}", text, re.MULTILINE)]
+    ends = [start.start() for start in starts[1:]] + [len(text)]
+    for start, end in zip(starts, ends):
+        yield bool(start[1]), start[2], start[3], text[start.start() : end], start.start()
 
 
-def declaration_end(lines, head):
-    """The last line of a function without a body, whose clauses may end in a semicolon of their own."""
-    place = head
-    while not lines[place].endswith(";\n") or "".join(lines[head : place + 1]).count("{") > "".join(
-        lines[head : place + 1]
-    ).count("}"):
-        place += 1
-    return place
-
-
-def blocks(lines):
-    """Each impl and trait of a file: its first line, its header without `impl` or `trait`, and its kind."""
-    for place, line in enumerate(lines):
-        found = re.match(r"(?:pub )?(?:unsafe )?(impl|trait)\b", line)
-        if found:
-            ends = next(end for end in range(place, len(lines)) if re.search(r"\{\}?$", lines[end]))
-            header = " ".join(part.strip() for part in lines[place : ends + 1]).partition(found[1])[2]
-            yield place, re.sub(r"\{\}?$", "", header), found[1]
+def contract(function, indent=""):
+    """A function's header and clauses, without its body."""
+    has_clauses = re.search(r"\b(requires|ensures)\b|\{\}?$", function, re.MULTILINE)
+    opens = rf"^{indent}\{{" if has_clauses and has_clauses[1] else r"\{\}?$"
+    body = re.search(opens, function, re.MULTILINE)
+    return function[: body.start()] if body else function
 
 
 def functions_in(text, path):
     """The functions of a file, whose path of modules is given, those without a body too."""
-    lines = text.splitlines(keepends=True)
-    starts = [0]
-    for line in lines:
-        starts.append(starts[-1] + len(line))
-    within = {place: (header, kind) for place, header, kind in blocks(lines)}
-    block, trait, is_public_trait = None, "", False
-    for place, line in enumerate(lines):
-        if line.startswith("}"):
-            block, trait = None, ""
-        if place in within and not line.endswith("{}\n"):
-            header, kind = within[place]
-            name = re.match(r"\s*(\w+)", header)[1] if kind == "trait" else ""
-            block, trait = impl_name(header) if kind == "impl" else (name, name)
-            is_public_trait = kind == "trait" and line.startswith("pub ")
-        head = FUNCTION.match(line)
-        if not head or head[1] != ("    " if block else ""):
+    text = re.sub(r"//.*", lambda comment: " " * len(comment[0]), text)
+    for is_public, kind, name, item, start in items(text):
+        if kind == "fn":
+            yield function_in(item, start, [*path, name], is_public)
+        if kind not in ("impl", "trait"):
             continue
-        opens = opening(lines, place, head[1])
-        is_empty = opens is None or lines[opens].endswith("{}\n")
-        closes = opens if is_empty else lines.index(head[1] + "}\n", opens)
-        contract = "".join(lines[place : opens if opens is not None else declaration_end(lines, place) + 1])
-        named = [name for name, _ in clauses(contract) if name is not None]
-        is_public = bool(head[2]) or (bool(trait) if block != trait else is_public_trait and opens is not None)
-        name = "::".join([*path, *([block] if block else []), head[3]])
-        span = (None, None) if opens is None else (starts[opens + (not is_empty)], starts[closes])
-        yield Function(name, None, is_public, trait, named, *span, head[1] + "    ")
+        header = re.split(rf"\{{\}}?$|\bwhere\b", item, flags=re.MULTILINE)[0].partition(kind)[2]
+        block, trait = impl_name(header) if kind == "impl" else (name, name)
+        for says_pub, inner, member, function, place in items(item, "    "):
+            seen = says_pub or (kind == "impl" and trait != "") or (kind == "trait" and is_public)
+            if inner == "fn":
+                yield function_in(function, start + place, [*path, block, member], seen, trait, "    ")
+
+
+def function_in(item, start, path, is_public, trait="", indent=""):
+    """A function whose text, from its header on, begins at this place of the file."""
+    head = contract(item, indent)
+    named = [name for name, _ in clauses(head) if name is not None]
+    if len(head) == len(item):
+        return Function("::".join(path), None, is_public, trait, named, None, None, indent + "    ")
+    opens = item.index("{", len(head)) + 1
+    is_empty = item[opens] == "}"
+    opens += not is_empty
+    closes = opens if is_empty else item.index(f"\n{indent}}}\n", len(head)) + 1
+    return Function("::".join(path), None, is_public, trait, named, start + opens, start + closes, indent + "    ")
 
 
 def functions(crate):
