@@ -22,11 +22,6 @@ def uses():
     return {name: used.split() for name, _, used in lines}
 
 
-def is_library_of_the_port(name):
-    """Whether a crate is one whose functions others call: no tests, no program, and no types that a script prints."""
-    return not name.endswith(("_tests", "_cli")) and name not in ("testing", "derived")
-
-
 def spans_of_clauses(text):
     """Each clause and ghost member: its name, 'unnamed' where it has none and nothing for `requires`; where it begins,
     and where its text in braces begins and ends."""
