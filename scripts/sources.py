@@ -22,6 +22,11 @@ def uses():
     return {name: used.split() for name, _, used in lines}
 
 
+def libraries(*others):
+    """The crates that are no tests and no programs, without these others."""
+    return [name for name in uses() if not name.endswith(("_tests", "_cli")) and name not in others]
+
+
 def spans_of_clauses(text):
     """Each clause and ghost member: its name, 'unnamed' where it has none and nothing for `requires`; where it begins,
     and where its text in braces begins and ends."""
