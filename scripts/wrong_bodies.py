@@ -11,7 +11,8 @@ first: TEXT         what stands in front of its body; or
 file: src/NAME.rt   a file, and pairs of
 old: TEXT           a text that stands in the file once, and
 new: TEXT           what stands in its place
-clause: NAMES       what the body breaks: clauses of the function, 'the only one' where it has one, or a goal by its name
+clause: NAMES       what the body breaks: clauses of the function, 'the only one' where it has one, or a goal by its name,
+                    as that of a struct's ghost field
 test: CRATE::PATH   the test that fails with it: where the function has a proof written by hand, or where the prover
                     finds a step without a proof and not a clause; or
 no test: REASON     why none can
