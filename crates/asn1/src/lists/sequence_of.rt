@@ -70,7 +70,8 @@ impl<'a, T: Asn1Readable<'a>, const MINIMUM_LEN: usize, const MAXIMUM_LEN: usize
     /// Whether no item remains.
     pub fn is_empty(&self) -> bool
         ensures { result ≡ (length
-            (⟦<SequenceOf<'a, T, MINIMUM_LEN, MAXIMUM_LEN> as Asn1Type>⟧.der.meaning self.now) == 0) }
+            (⟦<SequenceOf<'a, T, MINIMUM_LEN, MAXIMUM_LEN> as Asn1Type>⟧.der.meaning self.now)
+            == 0) }
     {
         self.count == 0
     }
