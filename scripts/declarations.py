@@ -8,6 +8,14 @@ TOKEN = re.compile(
     r"|(?P<number>\d\w*)|(?P<string>\"(?:\\.|[^\"\\])*\")|(?P<mark>::|->|.)",
     re.S,
 )
+# Words of Rust and of Rattle, which no item, field or variant may have as its name.
+WORDS = frozenset(
+    "Self abstract as async await become box break const continue crate do dyn else ensures enum extern false final fn "
+    "for gen ghost if impl in let loop macro match mod move mut override priv pub ref requires return self static struct "
+    "super trait true try type typeof unsafe unsized use virtual where while yield".split()
+)
+ATTRIBUTES = ("derive", "implicit", "explicit", "default", "defined_by")
+ORIGINAL = ("asn1", "std", "core", "alloc")
 
 
 class Rejected(Exception):
@@ -27,23 +35,23 @@ class Type:
     line: int = 0
 
     def __str__(self):
+        args = [*map(str, self.args)]
         if self.name == "&":
-            return f"&{self.args[0]} {self.args[1]}"
+            return " ".join(["&" + args[0], args[1]])
         if self.name == "[u8; N]":
-            return f"[u8; {self.args[0]}]"
+            return f"[u8; {args[0]}]"
         if self.name == "SequenceOf":
-            bounds = self.args[2:] + ["0", "{ usize::MAX }"][len(self.args) - 2 :]
-            return f"SequenceOf<{', '.join(map(str, [*self.args[:2], *bounds]))}>"
-        return self.name + (f"<{', '.join(map(str, self.args))}>" if self.args else "")
+            args += ["0", "{ usize::MAX }"][len(args) - 2 :]
+        return self.name + (f"<{', '.join(args)}>" if args else "")
 
     @property
     def inner(self):
         return [arg for arg in self.args if isinstance(arg, Type)]
 
-    def life(self):
-        """The lifetime that the type names, where it names one."""
+    def lives(self):
+        """The lifetimes that the type names."""
         own = [arg for arg in self.args if isinstance(arg, str) and arg.startswith("'")]
-        return next(iter(own + [life for arg in self.inner if (life := arg.life())]), "")
+        return own + [life for arg in self.inner for life in arg.lives()]
 
 
 @dataclass
@@ -63,7 +71,8 @@ class Item:
     @property
     def wanted(self):
         """The derives that the declaration asks for."""
-        return [word for word in self.attributes.get("derive", []) if word not in (",", "asn1", "::")]
+        lists = " ".join(self.attributes.get("derive", [])).split(",")
+        return [name.split()[-1] for name in lists if name.split()]
 
     @property
     def is_defined(self):
@@ -80,7 +89,7 @@ class Reader:
             if match.lastgroup != "skip":
                 self.tokens.append((match.lastgroup, match.group(), line))
             line += match.group().count("\n")
-        self.tokens.append(("end", "", line))
+        self.tokens.append(("end", "the end of the file", line))
         self.at = 0
 
     @property
@@ -91,29 +100,42 @@ class Reader:
         self.at += 1
         return self.tokens[self.at - 1][1]
 
+    def stands(self, text):
+        return self.tokens[self.at][1] == text
+
     def takes(self, text):
-        found = self.tokens[self.at][1] == text
+        found = self.stands(text)
         self.at += found
         return found
 
+    def expected(self, what):
+        return Rejected(self.line, f"{what} was expected, and `{self.tokens[self.at][1]}` stands here")
+
     def expect(self, text):
         if not self.takes(text):
-            raise Rejected(self.line, f"`{text}` was expected, and `{self.tokens[self.at][1]}` stands here")
+            raise self.expected(f"`{text}`")
 
     def kind_is(self, kind):
         return self.tokens[self.at][0] == kind
 
     def word(self, what):
         if not self.kind_is("word"):
-            raise Rejected(self.line, f"{what} was expected, and `{self.tokens[self.at][1]}` stands here")
+            raise self.expected(what)
         return self.next()
+
+    def name(self, what):
+        """A name that is declared."""
+        line, name = self.line, self.word(what)
+        if name in WORDS:
+            raise Rejected(line, f"`{name}` is a word of Rust or Rattle: name it otherwise")
+        return name
 
     def until(self, end):
         """The tokens up to this one, which is left out; brackets are passed over as a whole."""
         words, depth = [], 0
-        while depth or self.tokens[self.at][1] != end:
+        while depth or not self.stands(end):
             if self.kind_is("end"):
-                raise Rejected(self.line, f"`{end}` was expected before the end of the file")
+                raise self.expected(f"`{end}`")
             depth += {"(": 1, "[": 1, "{": 1, ")": -1, "]": -1, "}": -1}.get(self.tokens[self.at][1], 0)
             words.append(self.next())
         self.expect(end)
@@ -128,14 +150,15 @@ class Reader:
                 continue
             line = self.line
             self.expect("[")
-            name = self.word("an attribute")
-            values = self.until(")") if self.takes("(") else []
-            self.expect("]")
-            if name not in ("derive", "implicit", "explicit", "default", "defined_by"):
+            name, words = self.word("an attribute"), self.until("]")
+            if name == "doc" and words[:1] == ["="]:
+                doc.append("///" + words[1][1:-1])
+            elif name in ATTRIBUTES:
+                if name in attributes and name != "derive":
+                    raise Rejected(line, f"the attribute `{name}` stands here twice")
+                attributes[name] = attributes.get(name, []) + [*words[1:-1], ","]
+            elif name != "allow":
                 raise Rejected(line, f"the attribute `{name}` isn't known")
-            if name in attributes and name != "derive":
-                raise Rejected(line, f"the attribute `{name}` stands here twice")
-            attributes[name] = attributes.get(name, []) + [*values, ","]
         if self.takes("pub") and self.takes("("):
             self.until(")")
         return doc, attributes
@@ -145,7 +168,7 @@ class Reader:
         names = [self.word("a type")]
         while self.takes("::"):
             names.append(self.word("a name"))
-        return names[-1] if names[0] in ("asn1", "std", "core", "alloc") else "::".join(names)
+        return names[-1] if names[0] in ORIGINAL else "::".join(names)
 
     def type(self):
         line = self.line
@@ -164,11 +187,7 @@ class Reader:
             return Type("()", [], line)
         found = Type(self.path(), [], line)
         if self.takes("<"):
-            while not self.takes(">"):
-                found.args.append(self.argument())
-                if not self.takes(","):
-                    self.expect(">")
-                    break
+            found.args = self.parts(self.argument, ">")
         return found
 
     def argument(self):
@@ -190,57 +209,51 @@ class Reader:
         return found
 
     def field(self):
-        line = self.line
         doc, attributes = self.head()
-        line = self.line
-        name = self.word("a field's name")
+        line, name = self.line, self.name("a field's name")
         self.expect(":")
         return Item("field", name, line, doc, attributes, self.type())
 
     def variant(self):
         doc, attributes = self.head()
-        line = self.line
-        name = self.word("a variant's name")
-        if not self.takes("("):
+        line, name = self.line, self.name("a variant's name")
+        types = self.parts(self.type, ")") if self.takes("(") else []
+        if not types:
             raise Rejected(line, f"`{name}` has no unnamed field: a variant has exactly one")
-        types = [self.type()]
-        while not self.takes(")"):
-            self.expect(",")
-            types += [] if self.tokens[self.at][1] == ")" else [self.type()]
         if len(types) > 1 and "default" not in attributes:
             raise Rejected(line, f"`{name}` has more than one field: a variant has exactly one")
         return Item("variant", name, line, doc, attributes, types[-1], parts=types)
 
-    def parts(self, read):
+    def parts(self, read, end):
+        """What stands between brackets, with commas between."""
         found = []
-        while not self.takes("}"):
+        while not self.takes(end):
             found.append(read())
             if not self.takes(","):
-                self.expect("}")
+                self.expect(end)
                 break
         return found
 
     def declaration(self):
         doc, attributes = self.head()
-        line = self.line
-        kind = self.word("a declaration")
+        line, kind = self.line, self.word("a declaration")
         if kind == "const":
             return self.constant(line, doc)
         if kind not in ("struct", "enum", "type"):
             raise Rejected(line, f"`{kind}` isn't a struct, an enum, an alias or an identifier's constant")
-        found = Item(kind, self.word("a name"), line, doc, attributes, life=self.life())
+        found = Item(kind, self.name("a name"), line, doc, attributes, life=self.life())
         if kind == "type":
             self.expect("=")
             found.type = self.type()
             self.expect(";")
         elif self.takes("{"):
-            found.parts = self.parts(self.field if kind == "struct" else self.variant)
+            found.parts = self.parts(self.field if kind == "struct" else self.variant, "}")
         else:
             raise Rejected(line, f"`{found.name}` has no named fields")
         return found
 
     def constant(self, line, doc):
-        found = Item("const", self.word("a name"), line, doc, {})
+        found = Item("const", self.name("a name"), line, doc, {})
         self.expect(":")
         if self.type().name != "ObjectIdentifier":
             raise Rejected(line, f"`{found.name}` isn't an object identifier")
@@ -255,12 +268,15 @@ class Reader:
         return found
 
     def file(self):
-        """The file's own comment, its imports other than those of the original, and its declarations."""
+        """The file's imports other than those of the original, and its declarations."""
         uses, found = [], []
         while not self.kind_is("end"):
             if self.takes("use"):
                 words = self.until(";")
-                uses += [] if words[0] in ("asn1", "std", "core", "alloc") else ["use " + " ".join(words) + ";"]
+                uses += [] if words[0] in ORIGINAL else ["use " + " ".join(words) + ";"]
+            elif [token[1] for token in self.tokens[self.at : self.at + 3]] == ["#", "!", "["]:
+                self.at += 3
+                self.until("]")
             else:
                 found.append(self.declaration())
         return uses, found

@@ -1,7 +1,7 @@
 """The forms of docs/OWN_TYPES.md for a value that an item defines, filled in with an enum."""
 
 from declarations import Rejected
-from derived_forms import angle, clauses, comment, der, length_arm, octets_of, side, terms, variants_of, write_arm
+from derived_forms import angle, clauses, der, length_arm, octets_of, side, stated, variants_of, write_arm
 
 ITEM = "ObjectIdentifier"
 
@@ -44,20 +44,12 @@ def defined(module, item, specs):
     item.known = [part for part in item.parts if "defined_by" in part.attributes]
     item.other = next((part for part in item.parts if "default" in part.attributes), None)
     check(module, item)
-    own = item.name + angle(item.life)
-    text = other_struct(item) if item.other else ""
     types = [part.base for part in item.known] + ([other_type(item)] if item.other else [])
-    fields = zip(item.parts, types)
-    stated = "\n".join(f"    {comment(part, 'This alternative.')}\n    {part.name}({type})," for part, type in fields)
-    text += f"""
-{comment(item, f"`{item.name}`.")}
-#[derive({', '.join([*item.derives, 'Drop'])})]
-pub enum {own} {{
-{stated}
-}}
-{meaning(item, own, specs)}"""
-    text += readable(item, own) if item.reads else ""
-    return text + (writable(item, own) if item.writes else "")
+    text = other_struct(item) if item.other else ""
+    text += stated(item, "This alternative.", [f"{part.name}({type})" for part, type in zip(item.parts, types)])
+    text += meaning(item, item.name + angle(item.life), specs)
+    text += readable(item, item.name + angle(item.life)) if item.reads else ""
+    return text + (writable(item, item.name + angle(item.life)) if item.writes else "")
 
 
 def check(module, item):
@@ -68,7 +60,7 @@ def check(module, item):
         part.identifier = module.items.get(name)
         if not part.identifier or part.identifier.kind != "const":
             raise Rejected(part.line, f"`{name}` is no identifier that is declared here")
-        first = numbers.setdefault(terms(octets_of(part.identifier)[0]), part)
+        first = numbers.setdefault(tuple(octets_of(part.identifier)[0]), part)
         if first is not part:
             raise Rejected(part.line, f"`{part.name}` has the identifier of `{first.name}`")
     if not item.known:
@@ -89,11 +81,11 @@ def call(part):
 
 
 def numbers_of(part):
-    return terms(octets_of(part.identifier)[0])
+    return f"{part.identifier.name}_NUMBERS"
 
 
 def is_known(part, value):
-    return f"bytes_eq (identifier_of item) ({numbers_of(part)}) ≡ {value}"
+    return f"bytes_eq (identifier_of item) {numbers_of(part)} ≡ {value}"
 
 
 def arms(item, known, other, name="x"):
@@ -110,52 +102,44 @@ def other_struct(item):
     """What the default keeps: an identifier that no other variant is for, and the value."""
     type, tlv, name = other_type(item), f"Tlv{angle(item.life)}", item.name + item.other.name
     facts = [f"    pub ghost is_not_{call(part)[:-2]}: {{ {is_known(part, 'false')} }}," for part in item.known]
-    derives = [each for each in item.derives if each != "Clone"]
+    *first, served = [f"({is_known(part, 'true')})" for part in item.known]
+    for fact in reversed(first):
+        served = f"({fact} ⊎ {served})"
+    kept = f"ensures {{ MatchOption result {served} (λ v. (v.item ≡ item) × (v.value ≡ value.entry)) }}"
+    tests = " || ".join(f"is_identifier(&item, {call(part)})" for part in item.known)
     text = f"""
 /// An identifier that no other variant of `{item.name}` is for, and the value.
-#[derive({', '.join([*derives, 'Drop'])})]
+#[derive({', '.join([*[each for each in item.derives if each != "Clone"], 'Drop'])})]
 pub struct {type} {{
     item: {ITEM},
     value: {tlv},
 {chr(10).join(facts)}
 }}
 
-impl{angle(item.life)} {type} {{{other_new(item, type, name, tlv)}
-    /// The identifier.
-    pub fn item(&self) -> &{ITEM}{clauses("ensures { result.now ≡ self.now.item }")} {{
-        &self.item
-    }}
-
-    /// The value.
-    pub fn value(&self) -> {tlv}{clauses("ensures { result ≡ self.now.value }")} {{
-        self.value
-    }}
-}}
-"""
-    return text + (other_clone(item, type, name) if "Clone" in item.derives else "")
-
-
-def other_new(item, type, name, tlv):
-    """Its `new`, which tests the identifier."""
-    *first, served = [f"({is_known(part, 'true')})" for part in item.known]
-    for fact in reversed(first):
-        served = f"({fact} ⊎ {served})"
-    kept = clauses(f"ensures {{ MatchOption result {served} (λ v. (v.item ≡ item) × (v.value ≡ value.entry)) }}")
-    tests = " || ".join(f"is_identifier(&item, {call(part)})" for part in item.known)
-    return f"""
+impl{angle(item.life)} {type} {{
     /// Of this identifier and this value; `None` where another variant is for the identifier.
-    pub fn new(item: {ITEM}, value: {tlv}) -> Option<{type}>{kept} {{
+    pub fn new(item: {ITEM}, value: {tlv}) -> Option<{type}>{clauses(True, kept)} {{
         if {tests} {{
             return None;
         }}
         Some({name} {{ item, value }})
     }}
+
+    /// The identifier.
+    pub fn item(&self) -> &{ITEM}{clauses(True, "ensures { result.now ≡ self.now.item }")} {{
+        &self.item
+    }}
+
+    /// The value.
+    pub fn value(&self) -> {tlv}{clauses(True, "ensures { result ≡ self.now.value }")} {{
+        self.value
+    }}
+}}
 """
-
-
-def other_clone(item, type, name):
-    """Its clone, which isn't derived where a ghost field stands."""
-    return f"""
+    if "Clone" not in item.derives:
+        return text
+    # It isn't derived where a ghost field stands.
+    return f"""{text}
 impl{angle(item.life)} Clone for {type} {{
     ghost is_clone = {{ λ x y. (identifier_of y.item ≡ identifier_of x.item) × (y.value ≡ x.value) }};
 
@@ -197,21 +181,17 @@ def alternatives(item):
     """The record of the variants, from the last one on; the first one says what all values mean."""
     values = [f"({der(part.base)}.meaning x)" for part in item.known]
     values += [f"({der(ITEM)}.meaning x.item, {der(item.other.base)}.meaning x.value)"] if item.other else []
-    cases = [f"{part.name} x ↦ {side(at, len(values), values[at])}" for at, part in enumerate(item.parts)]
+    places = [side(at, len(values)).format(value)[1:-1] for at, value in enumerate(values)]
+    cases = [f"{part.name} x ↦ {place}" for part, place in zip(item.parts, places)]
     first, view = f"(elim [ {' | '.join(cases)} ])", "(λ m. m)"
     text = f"(any_variant {der(item.other.base)} {view}) " if item.other else ""
     for part in reversed(item.known):
-        word = "or_variant" if text else "variant"
+        numbers = numbers_of(part)
+        alone = f"λ n e. sym ((bytes_eq-Decides n {numbers}).0 e)"
+        known = f"(record {{ item = {numbers}; is = λ n. bytes_eq n {numbers}; itself = refl; alone = {alone} }})"
         view = first if part is item.known[0] else view
-        text = f"({word} {known_record(part)} {der(part.form)} {text}{view}) "
+        text = f"({'or_variant' if text else 'variant'} {known} {der(part.form)} {text}{view}) "
     return text[1:-2]
-
-
-def known_record(part):
-    """The variant's identifier, and the test for it."""
-    numbers = numbers_of(part)
-    alone = f"λ n e. sym ((bytes_eq-Decides n ({numbers})).0 e)"
-    return f"(record {{ item = {numbers}; is = λ n. bytes_eq n ({numbers}); itself = refl; alone = {alone} }})"
 
 
 def readable(item, own):
@@ -224,19 +204,19 @@ def readable(item, own):
         value = f"parser.read_element::<Tlv<{life}>>()?"
         last = f"Ok({item.name}::{item.other.name}({item.name}{item.other.name} {{ item, value: {value} }}))"
     answers = clauses(
+        item.life,
         f"ensures answers {{ ReadsDefined {by(own)} item parser.old parser.new result }}",
         "ensures rest { EndsWith parser.old parser.new }",
         f"ensures stops {{ OnErr result ({by(own)}.means.stops ({by(own)}.seen item) parser.old parser.new) }}",
     )
-    plain = clauses(f"ensures {{ {by(own)}.means.plain }}")
     return f"""
 impl<{life}> Asn1DefinedByReadable<{life}, {ITEM}> for {own} {{
-    fn parse(item: {ITEM}, parser: &mut Parser<{life}>) -> ParseResult<{own}>{answers if item.life else ""} {{
+    fn parse(item: {ITEM}, parser: &mut Parser<{life}>) -> ParseResult<{own}>{answers} {{
         {' '.join(tests)}
         {last}
     }}
 
-    fn one_text(){plain if item.life else ""} {{}}
+    fn one_text(){clauses(item.life, f"ensures {{ {by(own)}.means.plain }}")} {{}}
 }}
 """
 
