@@ -102,7 +102,7 @@ class Module:
             for at, other in enumerate(names):
                 if other.name in [before.name for before in names[:at]]:
                     raise Rejected(other.line, f"`{other.name}` is declared twice")
-        if item.name in LIBRARY or item.name in SHAPES or item.name in self.imported:
+        if item.name in SHAPES or item.name in self.imported:
             raise Rejected(item.line, f"`{item.name}` is imported, or a type of the library: name it otherwise")
         if item.kind == "struct" and len(item.parts) > MOST_FIELDS:
             raise Rejected(item.line, f"`{item.name}` has more than {MOST_FIELDS} fields")
@@ -122,7 +122,7 @@ class Module:
             raise Rejected(type.line, f"`{name}` is no type of the library, and neither declared nor imported here")
         kinds = "".join("T" if isinstance(arg, Type) else "'" if arg.startswith("'") else "n" for arg in type.args)
         if shape is not None and not re.fullmatch(shape, kinds):
-            raise Rejected(type.line, f"`{name}` has not what is its own in angle brackets")
+            raise Rejected(type.line, f"`{name}` lacks its lifetime, its type or its number, or has another")
         if item:
             return self.known_declared(item)
         return found or self.known_around(type, *map(self.known, type.inner))
@@ -156,7 +156,7 @@ class Module:
             return Known(tagged(4), derives, fails=inside.fails)
         if type.name in ("Option", "Defaulted"):
             if inside.is_missing:
-                raise Rejected(type.line, "an option, or a default, of what may be missing itself")
+                raise Rejected(type.line, "an option or a default of what may be missing itself")
             return Known(tags, derives, True, False, inside.fails)
         if type.name in ("Box", "DefinedByMarker"):
             return Known(tags, derives - {"Copy"}, inside.is_missing, inside.is_simple, inside.fails)
@@ -204,9 +204,11 @@ class Module:
             raise Rejected(part.line, f"`{part.name}` is defined by an item: it is there, with an explicit tag or none")
         if by and not is_value and (declared or part.base.name in LIBRARY or part.base.name in SHAPES):
             raise Rejected(part.line, f"`{part.name}` is defined by an item, and its type is not")
-        part.fails = self.known(part.form).fails
+        known = self.known(part.form)
+        # The trait whose impl says which errors a write returns, where these are not none.
+        part.fails = known.fails and ("SimpleAsn1Writable" if known.is_simple else "Asn1Writable")
         if part.fails and (item.reads or item.kind == "enum"):
-            raise Rejected(part.line, f"`{part.name}` is a list that is written and not read")
+            raise Rejected(part.line, f"`{part.name}` is a list made in code: it stands only in a struct that isn't read")
 
     def check_tags(self, item, part, others):
         """A field that may be missing is told from what may follow it, and a variant from the others."""
@@ -273,9 +275,8 @@ def literal(part):
     value = re.sub(r"_|[ui]\d+$", "", value)
     bits = BITS.get(type, 0)
     least, most = (0, 2**bits) if type[0] == "u" else (-(2**bits) // 2, 2**bits // 2)
-    if value in ("true", "false") if type != "bool" else value not in ("true", "false"):
-        raise Rejected(part.line, f"`{value}` is no value of `{type}`")
-    if type != "bool" and not (bits and least <= int(value) < most):
+    is_boolean = value in ("true", "false")
+    if not (is_boolean if type == "bool" else bits and not is_boolean and least <= int(value) < most):
         raise Rejected(part.line, f"`{value}` is no value of `{type}`: a default is of a Boolean or an integer type")
     return value
 

@@ -110,13 +110,15 @@ def field_value(part):
     return f"defaulted {group(value)}" if part.default is not None else value
 
 
-def view_of(parts, is_inside=False):
+def view_of(parts, is_inside=False, indent=" " * 6):
     """A struct's values as values of the row."""
     if not is_inside and not any(part.value for part in parts):
         return " ".join([f"fields{len(parts)}", *(group(field_value(part)) for part in parts)])
-    first, rest = parts[0], parts[1:]
-    behind = f"; rest = {view_of(rest, not first.item and (is_inside or bool(first.value)))}" if rest else ""
-    return f"record {{ value = {field_value(first)}{behind} }}"
+    first, rest, lines = parts[0], parts[1:], ["record {", f"{indent}value = {field_value(parts[0])};"]
+    if rest:
+        is_inside = not first.item and (is_inside or bool(first.value))
+        lines.append(f"{indent}rest = {view_of(rest, is_inside, indent + '  ')};")
+    return "\n".join([*lines, indent[2:] + "}"])
 
 
 def entries(item):
@@ -186,12 +188,11 @@ impl{angle(item.life)} SimpleAsn1Writable for {own} {{
 
 def errors(item):
     """Which errors a write may return: those of lists that are made in code."""
-    found = [
-        f"{quoted(part.form, 'Asn1Writable')}.write_errors {group(field_value(part))} e"
-        for part in item.parts
-        if part.fails
-    ]
-    return f"λ v e. {' ⊎ '.join(found)}" if found else "λ _ _. ⊥"
+    failing = [part for part in item.parts if part.fails]
+    found = [f"{quoted(part.form, part.fails)}.write_errors {group(field_value(part))}" for part in failing]
+    if len(found) < 2:
+        return f"λ v. {found[0]}" if found else "λ _ _. ⊥"
+    return f"λ v e. {' ⊎ '.join(f'{errors} e' for errors in found)}"
 
 
 def default(item, part):
