@@ -22,7 +22,7 @@ SHAPES = {
     "SequenceOf": "'Tn?n?",
 }
 BITS = {sign + size: int(size) for sign in "ui" for size in ("8", "16", "32", "64")}
-MOST_FIELDS, MOST_VARIANTS = 16, 54
+MOST_FIELDS, MOST_VARIANTS = 16, 36
 
 
 @dataclass(frozen=True)
@@ -108,9 +108,12 @@ class Module:
             raise Rejected(item.line, f"`{item.name}` has more than {MOST_FIELDS} fields")
         if item.kind == "enum" and not 0 < len(item.parts) <= MOST_VARIANTS:
             raise Rejected(item.line, f"`{item.name}` has no variant, or more than {MOST_VARIANTS}")
-        for type in [item.type] if item.type else [type for part in item.parts for type in part.parts or [part.type]]:
+        types = [item.type] if item.type else [type for part in item.parts for type in part.parts or [part.type]]
+        for type in types:
             if set(type.lives()) - {item.life}:
                 raise Rejected(type.line, f"a lifetime that `{item.name}` doesn't declare")
+        if item.life and not any(type.lives() for type in types):
+            raise Rejected(item.line, f"`{item.name}` declares a lifetime, and nothing in it has one")
 
     def known(self, type):
         """What is known of a type; nothing where it is declared elsewhere."""
@@ -184,11 +187,12 @@ class Module:
 
     def set_derives(self, item, parts):
         """The derives that all parts have; and what is said of the others."""
-        lacks = {name: next((part for part, known in parts if name not in known.derives), "") for name in KEPT}
+        lacks, left = {name: next((part for part, known in parts if name not in known.derives), "") for name in KEPT}, {}
         item.derives = [name for name in KEPT if name in item.wanted and not lacks[name]]
-        left = [name for name in item.wanted if name not in (*item.derives, *ASN1)]
-        reasons = [f"`{name}`, which " + (f"`{lacks[name]}` hasn't" if name in KEPT else "isn't kept") for name in left]
-        item.note = f"`{item.name}` is printed without {', '.join(reasons)}" if left else ""
+        for name in [name for name in item.wanted if name not in (*item.derives, *ASN1)]:
+            left.setdefault(f"which `{lacks[name]}` lacks" if name in KEPT else "which isn't kept", []).append(f"`{name}`")
+        said = "; ".join(f"{', '.join(names)}, {why}" for why, names in left.items())
+        item.note = f"`{item.name}` is printed without {said}" if left else ""
         return frozenset(item.derives)
 
     def check_part(self, item, part):

@@ -389,7 +389,12 @@ struct Seventeen { //~ `Seventeen` has more than 16 fields
 }
 
 #[derive(asn1::Asn1Read)]
-enum NoVariant {} //~ `NoVariant` has no variant, or more than 54
+enum NoVariant {} //~ `NoVariant` has no variant, or more than 36
+
+#[derive(asn1::Asn1Read)]
+struct LifeOfNothing<'a> { //~ `LifeOfNothing` declares a lifetime, and nothing in it has one
+    value: bool,
+}
 
 #[derive(asn1::Asn1Read)]
 enum OptionalVariant {
