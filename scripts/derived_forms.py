@@ -2,15 +2,20 @@
 
 import textwrap
 
-from declarations import Rejected
+from declarations import reject
 from declared_types import camel, snake
 
 WIDTH = 100
-BY_TAGS = "auto, using(asn1::specs::Lemmas::Fields::tags_differ)"
+BY_TAGS = "#[tactic(auto, using(asn1::specs::Lemmas::Fields::tags_differ))]\n"
+ERROR = "    type Error = WriteError;"
 
 
 def angle(life):
     return f"<{life}>" if life else ""
+
+
+def own(item):
+    return item.name + angle(item.life)
 
 
 def quoted(type, trait="Asn1Type"):
@@ -23,11 +28,6 @@ def der(type):
     return quoted(type) + ".der"
 
 
-def clauses(is_needed, *lines):
-    """Clauses before a body, where they are needed: a type with a lifetime doesn't have them of the trait."""
-    return "".join(f"\n        {line}" for line in lines) + "\n   " if is_needed else ""
-
-
 def comment(item, default):
     return "\n".join(item.doc or [f"/// {default}"])
 
@@ -36,27 +36,45 @@ def group(words):
     return f"({words})" if " " in words else words
 
 
-def call(head, entries, tail):
-    """A call of a macro, whose list is broken where it is too long for a line: the formatter leaves it as it stands."""
-    line = f"        {head}{', '.join(entries)}{tail}"
-    if len(line) <= WIDTH or not entries:
-        return line.replace("; )", ";)").replace("{  }", "{}")
-    text = ", ".join(entry.replace(" ", "\0") for entry in entries)
-    lines = textwrap.wrap(text, WIDTH - 12, break_long_words=False)
-    lines = "".join(f"\n            {each}" for each in lines).replace("\0", " ")
-    return f"        {head.rstrip()}{lines}" + ("\n        " + tail.strip() if tail[0] == " " else tail)
+def lines_of(texts):
+    return "\n".join(texts)
+
+
+def function(head, body, *clauses):
+    said = "".join(f"\n        ensures {clause}" for clause in clauses)
+    return f"    {head}{said}\n    {{\n        {body}\n    }}"
+
+
+def method(item, head, body, *clauses):
+    """A method of an impl. Its clauses are written where the type has a lifetime: else they are the trait's."""
+    return function(head, body, *(clauses if item.life else ()))
+
+
+def ghost(name, term):
+    return f"    ghost {name} = {{ {term} }};"
+
+
+def impl(item, trait, *members, life=""):
+    """An impl of a trait, which may name a lifetime where the type has none."""
+    return f"\nimpl{angle(item.life or life)} {trait}for {own(item)} {{\n" + "\n\n".join(members) + "\n}\n"
 
 
 def stated(item, default, fields):
     """The struct or the enum, with its comments and its derives."""
     derives = item.derives + ([] if "Copy" in item.derives else ["Drop"])
-    return f"""
-{comment(item, f"`{item.name}`.")}
-#[derive({', '.join(derives)})]
-pub {item.kind} {item.name}{angle(item.life)} {{
-{chr(10).join(f"    {comment(part, default)}{chr(10)}    {field}," for part, field in zip(item.parts, fields))}
-}}
-"""
+    parts = lines_of(f"    {comment(part, default)}\n    {field}," for part, field in zip(item.parts, fields))
+    text = f"\n{comment(item, f'`{item.name}`.')}\n#[derive({', '.join(derives)})]\n"
+    return f"{text}pub {item.kind} {own(item)} {{\n{parts}\n}}\n"
+
+
+def call(head, entries, tail):
+    """A call of a macro, whose list is broken where it is too long for a line: the formatter leaves it as it stands."""
+    line = f"{head}{', '.join(entries)}{tail}"
+    if len(line) <= WIDTH - 8 or not entries:
+        return line.replace("; )", ";)").replace("{  }", "{}")
+    text = ", ".join(entry.replace(" ", "\0") for entry in entries)
+    lines = "".join(f"\n            {each}" for each in textwrap.wrap(text, WIDTH - 12, break_long_words=False))
+    return head.rstrip() + lines.replace("\0", " ") + ("\n        " + tail.strip() if tail[0] == " " else tail)
 
 
 # ---- structures
@@ -66,40 +84,27 @@ def pair_items(item):
     """Gives each marker the value that its item defines, and each such value the item's type."""
     marker = None
     for part in item.parts:
-        part.value = part.item = None
-        if part.type.name == "DefinedByMarker" and not marker:
-            marker = part
-        elif part.attributes.get("defined_by", "") == (marker and [marker.name, ","]):
+        part.value, part.item, by = None, None, part.attributes.get("defined_by")
+        if by:
+            reject(not marker or by != [marker.name, ","], part.line, f"`{part.name}` doesn't stand after the marker of its item")
             marker.value, part.item, marker = part, marker.type.inner[0], None
-        elif "defined_by" in part.attributes:
-            raise Rejected(part.line, f"`{part.name}` doesn't stand after the marker of its item")
         elif part.type.name == "DefinedByMarker":
-            break
-    if marker:
-        why = f"`#[defined_by({marker.name})]` has to follow, with no other marker between"
-        raise Rejected(marker.line, f"`{marker.name}` marks an item: {why}")
+            check_marker(marker)
+            marker = part
+    check_marker(marker)
+
+
+def check_marker(marker):
+    """There is no marker before whose value no other stands."""
+    name = marker and marker.name
+    why = f"`{name}` marks an item: `#[defined_by({name})]` has to follow, with no other marker between"
+    reject(marker, marker and marker.line, why)
 
 
 def field_type(item, part):
     """The field's type in the row: the private alias of one with a tag or a default."""
-    if not part.is_wrapped:
-        return str(part.form)
-    return f"{item.name}{camel(part.name)}Field{angle(''.join(part.form.lives()[:1]))}"
-
-
-def row_of(item, parts, is_inside=False):
-    """The row's type: of the fields in order."""
-    if not is_inside and not any(part.value for part in parts):
-        types = [field_type(item, part) for part in parts]
-        name = "Last" if len(types) == 1 else f"Fields{len(types)}"
-        return f"{name}<{', '.join(types)}>" if types else "NoFields"
-    first, rest = parts[0], parts[1:]
-    if first.item:
-        form = field_type(item, first)
-        return f"Value<{form}, {row_of(item, rest)}>" if rest else f"LastValue<{form}>"
-    if first.value:
-        return f"Item<{first.type.inner[0]}, {row_of(item, rest, True)}>"
-    return f"{'Before' if is_inside else 'Field'}<{field_type(item, first)}, {row_of(item, rest, is_inside)}>"
+    alias = f"{item.name}{camel(part.name)}Field{angle(''.join(part.form.lives()[:1]))}"
+    return alias if part.is_wrapped else str(part.form)
 
 
 def field_value(part):
@@ -110,79 +115,74 @@ def field_value(part):
     return f"defaulted {group(value)}" if part.default is not None else value
 
 
+def is_plain(parts, is_inside):
+    """Whether no field stands between an item and the value that it defines, or is such."""
+    return not is_inside and not any(part.value for part in parts)
+
+
+def row_of(item, parts, is_inside=False):
+    """The row's type: of the fields in order."""
+    if is_plain(parts, is_inside):
+        types = [field_type(item, part) for part in parts]
+        name = "Last" if len(types) == 1 else f"Fields{len(types)}"
+        return f"{name}<{', '.join(types)}>" if types else "NoFields"
+    first, rest, form = parts[0], parts[1:], field_type(item, parts[0])
+    if first.item:
+        return f"Value<{form}, {row_of(item, rest)}>" if rest else f"LastValue<{form}>"
+    if first.value:
+        return f"Item<{first.type.inner[0]}, {row_of(item, rest, True)}>"
+    return f"{'Before' if is_inside else 'Field'}<{form}, {row_of(item, rest, is_inside)}>"
+
+
 def view_of(parts, is_inside=False, indent=" " * 6):
     """A struct's values as values of the row."""
-    if not is_inside and not any(part.value for part in parts):
+    if is_plain(parts, is_inside):
         return " ".join([f"fields{len(parts)}", *(group(field_value(part)) for part in parts)])
     first, rest, lines = parts[0], parts[1:], ["record {", f"{indent}value = {field_value(parts[0])};"]
-    if rest:
-        is_inside = not first.item and (is_inside or bool(first.value))
-        lines.append(f"{indent}rest = {view_of(rest, is_inside, indent + '  ')};")
-    return "\n".join([*lines, indent[2:] + "}"])
+    is_inside = not first.item and (is_inside or bool(first.value))
+    lines += [f"{indent}rest = {view_of(rest, is_inside, indent + '  ')};"] if rest else []
+    return lines_of([*lines, indent[2:] + "}"])
 
 
-def entries(item):
-    """The fields as the macros of bodies take them."""
-    found = []
-    for part in item.parts:
-        said = f": {field_type(item, part)}" if part.is_wrapped else f" by {part.item}" if part.item else ""
-        found.append(f"{part.name} of {part.value.name}: {part.type.inner[0]}" if part.value else part.name + said)
-    return found
+def entry(item, part):
+    """A field as the macros of bodies take it."""
+    if part.value:
+        return f"{part.name} of {part.value.name}: {part.type.inner[0]}"
+    said = f": {field_type(item, part)}" if part.is_wrapped else f" by {part.item}" if part.item else ""
+    return part.name + said
 
 
 def structure(item):
     """A struct with its fields as they were declared, and its impls, which go by a row of them."""
     pair_items(item)
-    own, row, life = item.name + angle(item.life), f"{item.name}Fields{angle(item.life)}", item.life or "'a"
+    row, life, means = f"{item.name}Fields{angle(item.life)}", item.life or "'a", der(own(item))
     types = [part.form if part.item else part.type for part in item.parts]
     text = stated(item, "The field.", [f"pub {part.name}: {type}" for part, type in zip(item.parts, types)])
     text += "".join(default(item, part) for part in item.parts if part.default is not None)
     wrapped = [part for part in item.parts if part.is_wrapped]
     text += "".join(f"\ntype {field_type(item, part)} = {part.form};\n" for part in wrapped)
+    text += f"\ntype {row} = {row_of(item, item.parts)};\n"
     names = " ∷ ".join([*(f'codes "{item.name}::{part.name}"' for part in item.parts), "[]"])
-    text += f"""
-type {row} = {row_of(item, item.parts)};
-
-impl{angle(item.life)} Asn1Type for {own} {{
-    ghost der = {{ structure (λ v. {view_of(item.parts)}) {quoted(row, "Row")}.list ({names}) }};
-
-    fn known(&self) {{
-{call("known_fields!(self; ", entries(item), ")")}
-    }}
-}}
-"""
-    value, simple = f"ensures value {{ result ≡ {der(own)}.content.tag }}", f"ensures simple {{ {der(own)}.is_simple }}"
-    tag = "{\n        Tag::constructed(0x10)\n    }"
-    read = [part.name if part.value or part.item else entry for part, entry in zip(item.parts, entries(item))]
+    view = f"structure (λ v. {view_of(item.parts)}) {quoted(row, 'Row')}.list ({names})"
+    fields = [entry(item, part) for part in item.parts]
+    known = call("known_fields!(self; ", fields, ")")
+    text += impl(item, "Asn1Type ", ghost("der", view), method(item, "fn known(&self)", known))
+    value, simple = f"value {{ result ≡ {means}.content.tag }}", f"simple {{ {means}.is_simple }}"
+    tag = ("fn tag() -> Tag", "Tag::constructed(0x10)", value, simple)
     if item.reads:
-        text += f"""
-impl<{life}> SimpleAsn1Readable<{life}> for {own} {{
-    fn tag() -> Tag{clauses(item.life, value, simple, f"ensures plain {{ {der(own)}.plain }}")} {tag}
-
-    fn parse_data(alloc: Global, data: &{life} [u8]) -> ParseResult<{own}>{clauses(
-        item.life, f"ensures {{ ReadsContents {der(own)} «data».entry.now result }}")} {{
-{call(f"read_fields!({row}, alloc, data => {item.name} {{ ", read, " })")}
-    }}
-}}
-"""
+        read = [part.name if part.value or part.item else field for part, field in zip(item.parts, fields)]
+        head = f"fn parse_data(alloc: Global, data: &{life} [u8]) -> ParseResult<{own(item)}>"
+        body = call(f"read_fields!({row}, alloc, data => {item.name} {{ ", read, " })")
+        parse = method(item, head, body, f"{{ ReadsContents {means} «data».entry.now result }}")
+        plain = f"plain {{ {means}.plain }}"
+        text += impl(item, f"SimpleAsn1Readable<{life}> ", method(item, *tag, plain), parse, life=life)
     if item.writes:
-        text += f"""
-impl{angle(item.life)} SimpleAsn1Writable for {own} {{
-    type Error = WriteError;
-
-    ghost write_errors = {{ {errors(item)} }};
-
-    fn tag() -> Tag{clauses(item.life, value, simple)} {tag}
-
-    fn write_data(&self, dest: &mut WriteBuf) -> WriteResult<()> {{
-{call("write_fields!(self, dest; ", entries(item), ")")}
-    }}
-
-    fn data_length(&self) -> Option<usize> {{
-{call("fields_length!(self; ", entries(item), ")")}
-    }}
-}}
-"""
+        body = call("write_fields!(self, dest; ", fields, ")")
+        write = method(item, "fn write_data(&self, dest: &mut WriteBuf) -> WriteResult<()>", body)
+        body = call("fields_length!(self; ", fields, ")")
+        length = method(item, "fn data_length(&self) -> Option<usize>", body)
+        fails = ghost("write_errors", errors(item))
+        text += impl(item, "SimpleAsn1Writable ", ERROR, fails, method(item, *tag), write, length)
     return text
 
 
@@ -198,26 +198,25 @@ def errors(item):
 def default(item, part):
     """The type that says a field's default."""
     name, inner, value = item.name + camel(part.name), part.form.inner[0], part.default
-    ghost = value
+    term = value
     if str(part.base).startswith("i"):
-        ghost = f"negsuc {-int(value) - 1}" if value.startswith("-") else f"pos {value}"
+        term = f"negsuc {-int(value) - 1}" if value.startswith("-") else f"pos {value}"
+    term, made = (f"record {{ inner = {term} }}", f"{part.tag.capitalize()}::new({value})") if part.tag else (term, value)
     return f"""
 /// What `{part.name}` is where it is left out.
 #[derive(Debug, PartialEq, Eq, Drop)]
 pub struct {name};
 
 impl DefaultValue<{inner}> for {name} {{
-    ghost default = {{ {f"record {{ inner = {ghost} }}" if part.tag else ghost} }};
+{ghost("default", term)}
 
-    fn value() -> {inner} {{
-        {f"{part.tag.capitalize()}::new({value})" if part.tag else value}
-    }}
+{function(f"fn value() -> {inner}", made)}
 }}
 """
 
 
 def list_alias(item):
-    return f"\n{comment(item, 'A list.')}\npub type {item.name}{angle(item.life)} = {item.type};\n"
+    return f"\n{comment(item, 'A list.')}\npub type {own(item)} = {item.type};\n"
 
 
 # ---- choices
@@ -238,13 +237,13 @@ def choices_of(item, tree, life, name="Choice"):
     """The library's choices of the variants, the whole one first: the name of each, and its alternatives."""
     found, types = [], []
     for branch in tree:
-        inner = branch
-        while isinstance(inner, list):
-            inner = inner[0]
-        at = item.parts.index(inner) + 1
-        types.append(f"{item.name}From{at}{angle(life)}" if branch is not inner else inner.form)
-        found += choices_of(item, branch, life, f"From{at}") if branch is not inner else []
-    return [(f"{item.name}{name}{angle(life)}", types), *found]
+        first = branch
+        while isinstance(first, list):
+            first = first[0]
+        at = f"From{item.parts.index(first) + 1}"
+        types.append(first.form if branch is first else item.name + at + angle(life))
+        found += [] if branch is first else choices_of(item, branch, life, at)
+    return [(item.name + name + angle(life), types), *found]
 
 
 def side(at, count):
@@ -263,7 +262,7 @@ def places_of(tree, pattern="{}", place="{}"):
             yield inner, within
 
 
-def alternatives(forms):
+def sum_of(forms):
     """The record of the alternatives, as the library's choice has it."""
     text = f"only {der(forms[-1])}"
     for form in reversed(forms[:-1]):
@@ -273,83 +272,67 @@ def alternatives(forms):
 
 def variants_of(item, specs):
     """The import of the variants, which stands in the impl: there no other enum's variants have these names."""
-    return f"ghost use {specs}{item.name}.TheVariants.{{{', '.join(part.name for part in item.parts)}}};"
+    return f"    ghost use {specs}{item.name}.TheVariants.{{{', '.join(part.name for part in item.parts)}}};"
 
 
-def each_variant(item, body):
-    return "\n".join(f"{item.name}::{part.name}(x) => {body(part)}," for part in item.parts)
+def match(item, body, other="", name="x"):
+    """A match with an arm for each variant, of which the default may be another."""
+    found = [f"{item.name}::{part.name}({name}) => {body(part)}," for part in item.parts if "default" not in part.attributes]
+    found += [f"{item.name}::{item.parts[-1].name}(x) => {other},"] if other else []
+    return f"match self {{ {lines_of(found)} }}"
+
+
+def writes(item, other=""):
+    """The methods that write a variant's value, and tell its length."""
+    length = f"{other}.encoded_length()" if other else ""
+    return (
+        function(
+            "fn write(&self, dest: &mut Writer<'_>) -> WriteResult<()>",
+            match(item, write_arm, f"dest.write_element(&{other})" if other else ""),
+        ),
+        function("fn encoded_length(&self) -> Option<usize>", match(item, length_arm, length)),
+    )
+
+
+def write_arm(part):
+    return f"dest.write_{part.tag}_element(x, {part.form.args[1]})" if part.tag else "dest.write_element(x)"
+
+
+def length_arm(part):
+    value = f"{part.tag.capitalize()}::<&{part.base}, {part.form.args[1]}>::new(x)" if part.tag else "x"
+    return f"{value}.encoded_length()"
 
 
 def choice(item, specs):
     """An enum whose variants are told by their tags."""
-    own, life, tree = item.name + angle(item.life), item.life or "'a", tree_of(item.parts)
+    life, tree, means = item.life or "'a", tree_of(item.parts), der(own(item))
     choices, places = choices_of(item, tree, item.life), [*places_of(tree)]
     alias, forms = choices[0]
-    meanings = [f"({der(part.base)}.meaning x)" for part in item.parts]
-    cases = [f"{part.name} x ↦ {place.format(term)[1:-1]}" for part, term, (_, place) in zip(item.parts, meanings, places)]
     text = "".join(f"\ntype {name} = Choice{len(forms)}<{', '.join(map(str, forms))}>;\n" for name, forms in choices)
     text += stated(item, "This alternative.", [f"{part.name}({part.base})" for part in item.parts])
-    text += f"""
-impl{angle(item.life)} Asn1Type for {own} {{
-    {variants_of(item, specs)}
-
-    ghost der = {{ choice_der (elim [ {' | '.join(cases)} ]) ({alternatives(forms)}) }};
-
-    fn known(&self) {{
-        match self {{ {each_variant(item, lambda part: "x.known()")} }}
-    }}
-}}
-"""
-    arms = [
-        f"{pattern.format('x')} => Ok({item.name}::{part.name}({'x.into_inner()' if part.tag else 'x'})),"
-        for part, (pattern, _) in zip(item.parts, places)
-    ]
+    cases, arms = [], []
+    for part, (pattern, place) in zip(item.parts, places):
+        cases.append(f"{part.name} x ↦ {place.format(f'({der(part.base)}.meaning x)')[1:-1]}")
+        arms.append(f"{pattern.format('x')} => Ok({item.name}::{part.name}({'x.into_inner()' if part.tag else 'x'})),")
+    view = ghost("der", f"choice_der (elim [ {' | '.join(cases)} ]) ({sum_of(forms)})")
+    known = function("fn known(&self)", match(item, lambda part: "x.known()"))
+    text += impl(item, "Asn1Type ", variants_of(item, specs), view, known)
     if item.reads:
-        text += f"""
-impl<{life}> Asn1Readable<{life}> for {own} {{
-    fn parse(parser: &mut Parser<{life}>) -> ParseResult<{own}>{clauses(
-        item.life,
-        f"ensures answers {{ ReadsPrefix {der(own)} parser.old parser.new result }}",
-        "ensures rest { EndsWith parser.old parser.new }",
-        f"ensures stops {{ OnErr result ({der(own)}.stops parser.old parser.new) }}")} {{
-        match parser.read_element::<{alias}>()? {{ {' '.join(arms)} }}
-    }}
-
-    fn can_parse(tag: Tag) -> bool{clauses(
-        item.life, f"ensures value {{ result ≡ {der(own)}.accepts tag }}", f"ensures plain {{ {der(own)}.plain }}")} {{
-        <{alias} as Asn1Readable<{item.life or "'_"}>>::can_parse(tag)
-    }}
-}}
-"""
+        parse = method(
+            item,
+            f"fn parse(parser: &mut Parser<{life}>) -> ParseResult<{own(item)}>",
+            f"match parser.read_element::<{alias}>()? {{ {' '.join(arms)} }}",
+            f"answers {{ ReadsPrefix {means} parser.old parser.new result }}",
+            "rest { EndsWith parser.old parser.new }",
+            f"stops {{ OnErr result ({means}.stops parser.old parser.new) }}",
+        )
+        body = f"<{alias} as Asn1Readable<{item.life or chr(39) + '_'}>>::can_parse(tag)"
+        clauses = f"value {{ result ≡ {means}.accepts tag }}", f"plain {{ {means}.plain }}"
+        can_parse = method(item, "fn can_parse(tag: Tag) -> bool", body, *clauses)
+        text += impl(item, f"Asn1Readable<{life}> ", parse, can_parse, life=life)
     if item.writes:
-        text += f"""
-impl{angle(item.life)} Asn1Writable for {own} {{
-    type Error = WriteError;
-
-    ghost write_errors = {{ λ _ _. ⊥ }};
-
-    fn write(&self, dest: &mut Writer<'_>) -> WriteResult<()> {{
-        match self {{ {each_variant(item, write_arm)} }}
-    }}
-
-    fn encoded_length(&self) -> Option<usize> {{
-        match self {{ {each_variant(item, length_arm)} }}
-    }}
-}}
-"""
+        text += impl(item, "Asn1Writable ", ERROR, ghost("write_errors", "λ _ _. ⊥"), *writes(item))
     return text
-
-
-def write_arm(part):
-    if part.tag:
-        return f"dest.write_{part.tag}_element(x, {part.form.args[1]})"
-    return "dest.write_element(x)"
-
-
-def length_arm(part):
-    if part.tag:
-        return f"{part.tag.capitalize()}::<&{part.base}, {part.form.args[1]}>::new(x).encoded_length()"
-    return "x.encoded_length()"
 
 
 # ---- laws
@@ -359,26 +342,23 @@ def lawful(module, item):
     """The functions that say that each value of the type has one encoding: first those of the choices in a choice."""
     if item.kind == "const" or item.is_defined or item.kind != "type" and not item.reads:
         return ""
-    type, life, text = item.name + angle(item.life and "'static"), item.life and "'static", ""
+    life = item.life and "'static"
     if item.kind != "enum":
-        return law(module, type, [item.type] if item.type else [part.form for part in item.parts])
-    whole, *inner = choices_of(item, tree_of(item.parts), life)
-    for name, types in reversed(inner):
-        text += law(module, name, types, "")
-    return text + law(module, type, whole[1])
+        return law(module, item.name, life, [item.type] if item.type else [part.form for part in item.parts])
+    (_, types), *inner = choices_of(item, tree_of(item.parts), life)
+    text = "".join(law(module, name.split("<")[0], life, types, "") for name, types in reversed(inner))
+    return text + law(module, item.name, life, types)
 
 
-def law(module, type, types, visible="pub "):
+def law(module, name, life, types, visible="pub "):
     """The law of a type of these types, whose laws it calls. Where one may be missing, or for a choice, tags differ."""
     names = dict.fromkeys(name for part in types for name in laws_of(module, part))
-    calls, name = "".join(f"{name}_is_lawful();" for name in names), type.split("<")[0]
     declared = module.items.get(name)
     is_choice = not declared or declared.kind == "enum"
-    by_tags = is_choice or any(module.known(part).is_missing for part in types[:-1])
-    return f"""
-/// Each value of `{name}` has one encoding, which is read back.{f"{chr(10)}#[tactic({BY_TAGS})]" if by_tags else ""}
-{visible}fn {snake(name)}_is_lawful(){clauses(True, f"ensures {{ HasOneEncoding {der(type)} }}")} {{ {calls} }}
-"""
+    by_tags = BY_TAGS if is_choice or any(module.known(part).is_missing for part in types[:-1]) else ""
+    head, calls = f"{visible}fn {snake(name)}_is_lawful()", " ".join(f"{name}_is_lawful();" for name in names)
+    says = f"{{ HasOneEncoding {der(name + angle(life))} }}"
+    return f"\n/// Each value of `{name}` has one encoding, which is read back.\n{by_tags}{function(head, calls, says).strip()}\n"
 
 
 def laws_of(module, type):
@@ -390,72 +370,3 @@ def laws_of(module, type):
         return [snake(type.name)]
     inner = [part.form for part in declared.parts] if declared else type.inner
     return [name for part in inner for name in laws_of(module, part)]
-
-
-# ---- identifiers
-
-
-def octets_of(item):
-    """The encoded numbers of an identifier (X.690 8.19.4), and its contents octets."""
-    first, second, *others = [int(arc.replace("_", "")) for arc in item.arcs]
-    if first > 2 or first < 2 and second > 39:
-        raise Rejected(item.line, f"`{item.name}` is no identifier: its second number is below 40 after 0 and 1")
-    numbers, octets = [40 * first + second, *others], []
-    for number in numbers:
-        digits = [number & 127]
-        while number := number >> 7:
-            digits.insert(0, number & 127 | 128)
-        octets += digits
-    if len(octets) > 63 or max(numbers) >= 2**128:
-        raise Rejected(item.line, f"`{item.name}` has more than 63 octets, or a number from 2^128 on")
-    return numbers, octets
-
-
-def terms(numbers):
-    return " ∷ ".join([*map(str, numbers), "[]"])
-
-
-def identifier(item):
-    """A function that returns an identifier: its clause has the numbers, of which the first stands for two."""
-    numbers, octets = octets_of(item)
-    lets = "".join(f"    octets[{at}] = {octet:#04x};\n" for at, octet in enumerate(octets))
-    return f"""
-/// The numbers of [`{item.name.lower()}`], as they are encoded: the first stands for two.
-pub const {item.name}_NUMBERS: [{"u64" if max(numbers) < 2**64 else "u128"}; {len(numbers)}] = {numbers};
-
-{comment(item, f"The identifier {'.'.join(item.arcs)}.")}
-pub fn {item.name.lower()}() -> ObjectIdentifier
-    ensures {{ identifier_of result ≡ {item.name}_NUMBERS }}
-{{
-    let mut octets = [0; 63];
-{lets}    ObjectIdentifier::from_der_unchecked(octets, {len(octets)})
-}}
-"""
-
-
-def identifier_answer(item, crate, path):
-    """The proofs that an identifier's function owes: it computes them."""
-    numbers, octets = octets_of(item)
-    small = "(lit< tt, " * len(octets) + "tt" + ")" * len(octets)
-    return f"""use Rattle.std.proofs.Common.{{◌≡◌, [], ◌∷◌, ◌∙◌, true, refl, lit<, lit≤}}
-use Rattle.std.specs.Prelude.{{is_some}}
-use Rattle.asn1.specs.Base128.{{number_front}}
-use Rattle.asn1.specs.Identifier.{{numbers_in, identifier_numbers}}
-use Rattle.asn1.specs.KnownIdentifiers.{{known_form}}
-use Rattle.{crate}.specs.declared.{path}TheConstants.{{{item.name}_NUMBERS}}
-use Rattle.{crate}.proofs.{path}{item.name.lower()}.Goals as goal
-
-are_numbers : is_some (numbers_in ({terms(octets)})) ≡ true
-unfolding numbers_in number_front
-are_numbers = refl
-
-numbers_are : identifier_numbers ({terms(octets)}) ≡ {item.name}_NUMBERS
-unfolding numbers_in number_front
-numbers_are = refl
-
-pub from_der_unchecked-requires : goal.from_der_unchecked-requires
-from_der_unchecked-requires c = known_form ({terms(octets)}) (lit< tt) (lit≤ tt) are_numbers {small}
-
-pub returns : goal.returns
-returns c = c.from_der_unchecked.ensures ∙ numbers_are
-"""
