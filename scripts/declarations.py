@@ -3,19 +3,26 @@
 import re
 from dataclasses import dataclass, field
 
-TOKEN = re.compile(
-    r"(?P<doc>///[^\n]*)|(?P<skip>\s+|//[^\n]*|/\*.*?\*/)|(?P<life>'[A-Za-z_]\w*(?!'))|(?P<word>[A-Za-z_]\w*)"
-    r"|(?P<number>\d\w*)|(?P<string>\"(?:\\.|[^\"\\])*\")|(?P<mark>::|->|.)",
-    re.S,
-)
+WORD, LIFE, NUMBER = r"[A-Za-z_]\w*", r"'[A-Za-z_]\w*", r"\d\w*"
+SKIP = r"\s+|//(?!/)[^\n]*|/\*.*?\*/"
+TOKEN = re.compile(rf"///[^\n]*|{SKIP}|{LIFE}(?!')|{WORD}|{NUMBER}|\"(?:\\.|[^\"\\])*\"|::|->|.", re.S)
+# Words of Rust and of Rattle, which no item, field or variant may have as its name.
+WORDS = (
+    "Self abstract as async await become box break const continue crate do dyn else ensures enum extern false final fn "
+    "for gen ghost if impl in let loop macro match mod move mut override priv pub ref requires return self static struct "
+    "super trait true try type typeof unsafe unsized use virtual where while yield"
+).split()
+ATTRIBUTES = ("derive", "implicit", "explicit", "default", "defined_by")
+ORIGINAL = ("asn1", "std", "core", "alloc")
 
 
 class Rejected(Exception):
     """Why a declaration has no form, and the line."""
 
-    def __init__(self, line, reason):
-        super().__init__(reason)
-        self.line = line
+
+def reject(wrong, line, reason):
+    if wrong:
+        raise Rejected(line, reason)
 
 
 @dataclass
@@ -27,23 +34,21 @@ class Type:
     line: int = 0
 
     def __str__(self):
-        if self.name == "&":
-            return f"&{self.args[0]} {self.args[1]}"
-        if self.name == "[u8; N]":
-            return f"[u8; {self.args[0]}]"
+        args = [*map(str, self.args)]
+        if self.name in ("&", "[u8; N]"):
+            return "&" + " ".join(args) if self.name == "&" else f"[u8; {args[0]}]"
         if self.name == "SequenceOf":
-            bounds = self.args[2:] + ["0", "{ usize::MAX }"][len(self.args) - 2 :]
-            return f"SequenceOf<{', '.join(map(str, [*self.args[:2], *bounds]))}>"
-        return self.name + (f"<{', '.join(map(str, self.args))}>" if self.args else "")
+            args += ["0", "{ usize::MAX }"][len(args) - 2 :]
+        return self.name + (f"<{', '.join(args)}>" if args else "")
 
     @property
     def inner(self):
         return [arg for arg in self.args if isinstance(arg, Type)]
 
-    def life(self):
-        """The lifetime that the type names, where it names one."""
+    def lives(self):
+        """The lifetimes that the type names."""
         own = [arg for arg in self.args if isinstance(arg, str) and arg.startswith("'")]
-        return next(iter(own + [life for arg in self.inner if (life := arg.life())]), "")
+        return own + [life for arg in self.inner for life in arg.lives()]
 
 
 @dataclass
@@ -63,204 +68,174 @@ class Item:
     @property
     def wanted(self):
         """The derives that the declaration asks for."""
-        return [word for word in self.attributes.get("derive", []) if word not in (",", "asn1", "::")]
+        lists = " ".join(self.attributes.get("derive", [])).split(",")
+        return [name.split()[-1] for name in lists if name.split()]
 
     @property
     def is_defined(self):
         """Whether an item defines the type's values."""
-        return "Asn1DefinedByRead" in self.wanted or "Asn1DefinedByWrite" in self.wanted
+        return self.kind == "enum" and any(name.startswith("Asn1DefinedBy") for name in self.wanted)
 
 
 class Reader:
     """Reads declarations from the tokens of a source."""
 
     def __init__(self, source):
-        self.tokens, line = [], 1
-        for match in TOKEN.finditer(source):
-            if match.lastgroup != "skip":
-                self.tokens.append((match.lastgroup, match.group(), line))
-            line += match.group().count("\n")
-        self.tokens.append(("end", "", line))
-        self.at = 0
+        self.tokens, self.at, line = [], 0, 1
+        for token in TOKEN.findall(source):
+            if not re.fullmatch(SKIP, token, re.S):
+                self.tokens.append((token, line))
+            line += token.count("\n")
+        self.tokens += [("the end of the file", line)] * 3
 
     @property
     def line(self):
-        return self.tokens[self.at][2]
+        return self.tokens[self.at][1]
 
-    def next(self):
-        self.at += 1
-        return self.tokens[self.at - 1][1]
+    def takes(self, *patterns):
+        """The next token, where these match it and those behind it; else nothing is taken."""
+        tokens = [token for token, _ in self.tokens[self.at : self.at + len(patterns)]]
+        found = all(map(re.fullmatch, patterns, tokens))
+        self.at += len(patterns) if found else 0
+        return tokens[0] if found else ""
 
-    def takes(self, text):
-        found = self.tokens[self.at][1] == text
-        self.at += found
+    def expect(self, pattern, what=""):
+        stands, found = self.tokens[self.at][0], self.takes(pattern)
+        what = what or f"`{pattern.replace(chr(92), '')}`"
+        reject(not found, self.line, f"{what} was expected, and `{stands}` stands here")
         return found
 
-    def expect(self, text):
-        if not self.takes(text):
-            raise Rejected(self.line, f"`{text}` was expected, and `{self.tokens[self.at][1]}` stands here")
-
-    def kind_is(self, kind):
-        return self.tokens[self.at][0] == kind
-
-    def word(self, what):
-        if not self.kind_is("word"):
-            raise Rejected(self.line, f"{what} was expected, and `{self.tokens[self.at][1]}` stands here")
-        return self.next()
+    def name(self, what):
+        """A name that is declared."""
+        line, name = self.line, self.expect(WORD, what)
+        reject(name in WORDS, line, f"`{name}` is a word of Rust or Rattle: name it otherwise")
+        return name
 
     def until(self, end):
         """The tokens up to this one, which is left out; brackets are passed over as a whole."""
         words, depth = [], 0
-        while depth or self.tokens[self.at][1] != end:
-            if self.kind_is("end"):
-                raise Rejected(self.line, f"`{end}` was expected before the end of the file")
-            depth += {"(": 1, "[": 1, "{": 1, ")": -1, "]": -1, "}": -1}.get(self.tokens[self.at][1], 0)
-            words.append(self.next())
-        self.expect(end)
+        while depth or not self.takes(end):
+            word = self.expect(r"(?!the end)[\s\S]*", f"`{end[-1]}`")
+            depth += {"(": 1, "[": 1, "{": 1, ")": -1, "]": -1, "}": -1}.get(word, 0)
+            words.append(word)
         return words
 
     def head(self):
         """The doc comment and the attributes in front of an item, and its visibility, which isn't kept."""
         doc, attributes = [], {}
-        while self.kind_is("doc") or self.takes("#"):
-            if self.kind_is("doc"):
-                doc.append(self.next())
+        while line := self.takes("///.*") or self.takes("#"):
+            if line != "#":
+                doc.append(line)
                 continue
             line = self.line
-            self.expect("[")
-            name = self.word("an attribute")
-            values = self.until(")") if self.takes("(") else []
-            self.expect("]")
-            if name not in ("derive", "implicit", "explicit", "default", "defined_by"):
-                raise Rejected(line, f"the attribute `{name}` isn't known")
-            if name in attributes and name != "derive":
-                raise Rejected(line, f"the attribute `{name}` stands here twice")
-            attributes[name] = attributes.get(name, []) + [*values, ","]
-        if self.takes("pub") and self.takes("("):
-            self.until(")")
+            self.expect(r"\[")
+            name, words = self.expect(WORD, "an attribute"), self.until("]")
+            if name == "doc" and words[:1] == ["="]:
+                doc.append("///" + words[1][1:-1])
+            elif name in ATTRIBUTES:
+                reject(name in attributes and name != "derive", line, f"the attribute `{name}` stands here twice")
+                attributes[name] = attributes.get(name, []) + [*words[1:-1], ","]
+            else:
+                reject(name != "allow", line, f"the attribute `{name}` isn't known")
+        if self.takes("pub", r"\("):
+            self.until(r"\)")
+        self.takes("pub")
         return doc, attributes
 
     def path(self):
         """A path's last name, with what stands in front of it unless this is the crate `asn1` or a part of std."""
-        names = [self.word("a type")]
+        names = [self.expect(WORD, "a type")]
         while self.takes("::"):
-            names.append(self.word("a name"))
-        return names[-1] if names[0] in ("asn1", "std", "core", "alloc") else "::".join(names)
+            names.append(self.expect(WORD, "a name"))
+        return names[-1] if names[0] in ORIGINAL else "::".join(names)
 
     def type(self):
         line = self.line
         if self.takes("&"):
-            if not self.kind_is("life"):
-                raise Rejected(line, "a reference without a lifetime")
-            return Type("&", [self.next(), self.type()], line)
-        if self.takes("["):
-            self.expect("u8")
-            if self.takes(";"):
-                return Type("[u8; N]", ["".join(self.until("]"))], line)
-            self.expect("]")
-            return Type("[u8]", [], line)
-        if self.takes("("):
-            self.expect(")")
-            return Type("()", [], line)
-        found = Type(self.path(), [], line)
-        if self.takes("<"):
-            while not self.takes(">"):
-                found.args.append(self.argument())
-                if not self.takes(","):
-                    self.expect(">")
-                    break
-        return found
+            return Type("&", [self.expect(LIFE, "a lifetime"), self.type()], line)
+        if self.takes(r"\[", "u8", ";"):
+            return Type("[u8; N]", ["".join(self.until("]"))], line)
+        if self.takes(r"\[", "u8", "]") or self.takes(r"\(", r"\)"):
+            return Type("[u8]" if self.tokens[self.at - 1][0] == "]" else "()", [], line)
+        return Type(self.path(), self.parts(self.argument, ">") if self.takes("<") else [], line)
 
     def argument(self):
-        if self.kind_is("life") or self.kind_is("number"):
-            return self.next()
         if self.takes("{"):
             return "{ " + "".join(self.until("}")) + " }"
-        return self.type()
+        return self.takes(LIFE) or self.takes(NUMBER) or self.type()
 
     def life(self):
         """The one lifetime of a declaration."""
         if not self.takes("<"):
             return ""
-        if not self.kind_is("life"):
-            raise Rejected(self.line, "type parameters have no form here: a declaration has one lifetime at most")
-        found = self.next()
-        if not self.takes(">"):
-            raise Rejected(self.line, "a declaration has one lifetime at most, and no bounds")
+        line, found = self.line, self.takes(LIFE)
+        reject(not found, line, "type parameters have no form here: a declaration has one lifetime at most")
+        reject(not self.takes(">"), line, "a declaration has one lifetime at most, and no bounds")
         return found
 
     def field(self):
-        line = self.line
         doc, attributes = self.head()
-        line = self.line
-        name = self.word("a field's name")
+        line, name = self.line, self.name("a field's name")
         self.expect(":")
         return Item("field", name, line, doc, attributes, self.type())
 
     def variant(self):
         doc, attributes = self.head()
-        line = self.line
-        name = self.word("a variant's name")
-        if not self.takes("("):
-            raise Rejected(line, f"`{name}` has no unnamed field: a variant has exactly one")
-        types = [self.type()]
-        while not self.takes(")"):
-            self.expect(",")
-            types += [] if self.tokens[self.at][1] == ")" else [self.type()]
-        if len(types) > 1 and "default" not in attributes:
-            raise Rejected(line, f"`{name}` has more than one field: a variant has exactly one")
+        line, name = self.line, self.name("a variant's name")
+        types = self.parts(self.type, r"\)") if self.takes(r"\(") else []
+        reject(not types, line, f"`{name}` has no unnamed field: a variant has exactly one")
+        is_one = len(types) == 1 or "default" in attributes
+        reject(not is_one, line, f"`{name}` has more than one field: a variant has exactly one")
         return Item("variant", name, line, doc, attributes, types[-1], parts=types)
 
-    def parts(self, read):
+    def parts(self, read, end):
+        """What stands between brackets, with commas between."""
         found = []
-        while not self.takes("}"):
+        while not self.takes(end):
             found.append(read())
             if not self.takes(","):
-                self.expect("}")
+                self.expect(end)
                 break
         return found
 
     def declaration(self):
         doc, attributes = self.head()
-        line = self.line
-        kind = self.word("a declaration")
+        line, kind = self.line, self.expect(WORD, "a declaration")
+        kinds = ("struct", "enum", "type", "const")
+        reject(kind not in kinds, line, f"`{kind}` isn't a struct, an enum, an alias or an identifier's constant")
+        found = Item(kind, self.name("a name"), line, doc, attributes)
         if kind == "const":
-            return self.constant(line, doc)
-        if kind not in ("struct", "enum", "type"):
-            raise Rejected(line, f"`{kind}` isn't a struct, an enum, an alias or an identifier's constant")
-        found = Item(kind, self.word("a name"), line, doc, attributes, life=self.life())
+            return self.constant(found)
+        found.life = self.life()
         if kind == "type":
             self.expect("=")
             found.type = self.type()
             self.expect(";")
-        elif self.takes("{"):
-            found.parts = self.parts(self.field if kind == "struct" else self.variant)
-        else:
-            raise Rejected(line, f"`{found.name}` has no named fields")
+            return found
+        reject(not self.takes("{"), line, f"`{found.name}` has no named fields")
+        found.parts = self.parts(self.field if kind == "struct" else self.variant, "}")
         return found
 
-    def constant(self, line, doc):
-        found = Item("const", self.word("a name"), line, doc, {})
+    def constant(self, found):
         self.expect(":")
-        if self.type().name != "ObjectIdentifier":
-            raise Rejected(line, f"`{found.name}` isn't an object identifier")
+        reject(self.type().name != "ObjectIdentifier", found.line, f"`{found.name}` isn't an object identifier")
         self.expect("=")
-        if self.path() != "oid" or not self.takes("!"):
-            raise Rejected(line, f"`{found.name}` isn't made by `oid!`")
-        self.expect("(")
-        found.arcs = [word for word in self.until(")") if word != ","]
-        if not all(re.fullmatch(r"\d[\d_]*", arc) for arc in found.arcs) or len(found.arcs) < 2:
-            raise Rejected(line, f"`{found.name}` isn't written as two or more numbers")
+        reject(self.path() != "oid" or not self.takes("!", r"\("), found.line, f"`{found.name}` isn't made by `oid!`")
+        found.arcs = [word for word in self.until(r"\)") if word != ","]
+        are_numbers = all(re.fullmatch(r"\d[\d_]*", arc) for arc in found.arcs) and len(found.arcs) > 1
+        reject(not are_numbers, found.line, f"`{found.name}` isn't written as two or more numbers")
         self.expect(";")
         return found
 
     def file(self):
-        """The file's own comment, its imports other than those of the original, and its declarations."""
+        """The file's imports other than those of the original, and its declarations."""
         uses, found = [], []
-        while not self.kind_is("end"):
+        while not self.takes("the end of the file"):
             if self.takes("use"):
                 words = self.until(";")
-                uses += [] if words[0] in ("asn1", "std", "core", "alloc") else ["use " + " ".join(words) + ";"]
+                uses += [] if words[0] in ORIGINAL else ["use " + " ".join(words) + ";"]
+            elif self.takes("#", "!", r"\["):
+                self.until("]")
             else:
                 found.append(self.declaration())
         return uses, found

@@ -6,266 +6,264 @@ What has no form is rejected here, but for what the reader of declarations doesn
 import re
 from dataclasses import dataclass
 
-from declarations import Rejected, Type
+from declarations import Type, reject
 
-KEPT = ("Debug", "Clone", "PartialEq", "Eq", "Hash")
-ALL = frozenset(KEPT)
+KEPT = ("Debug", "Clone", "Copy", "PartialEq", "Eq", "Hash")
+COPY = frozenset(KEPT)
+ALL = COPY - {"Copy"}
 ASN1 = ("Asn1Read", "Asn1Write", "Asn1DefinedByRead", "Asn1DefinedByWrite")
+LISTS = ("SequenceOf", "SetOf", "SequenceOfWriter", "SetOfWriter")
+# What stands in a type's brackets: a lifetime, a type, or a number.
+SHAPES = {
+    **dict.fromkeys(("Option", "Box", "OctetStringEncoded", "DefinedByMarker"), "T"),
+    **dict.fromkeys(("Implicit", "Explicit"), "Tn"),
+    **dict.fromkeys(LISTS, "'T"),
+    "SequenceOf": "'Tn?n?",
+}
+BITS = {sign + size: int(size) for sign in "ui" for size in ("8", "16", "32", "64")}
+MOST_FIELDS, MOST_VARIANTS, LARGEST_TAG = 16, 36, 2**32 - 1
 ANY = "any"
-
-
-def primitive(number):
-    return frozenset({("universal", number, False)})
-
-
-def constructed(number):
-    return frozenset({("universal", number, True)})
 
 
 @dataclass(frozen=True)
 class Known:
-    """What is known of a type of the library: its tags, whether it is Copy, and the derives that it has."""
+    """What is known of a type: its tags, its derives, whether a field of it may be missing, whether it has one tag of its
+    own, and whether its writes fail as those of a list that is made in code."""
 
-    tags: object
-    is_copy: bool = False
-    derives: frozenset = ALL
+    tags: object = None
+    derives: frozenset = COPY
+    is_missing: bool = False
+    is_simple: bool = True
+    fails: bool = False
 
 
-INTEGERS = [sign + size for sign in "ui" for size in ("8", "16", "32", "64")]
-LIST = ALL - {"Debug"}
+def tagged(number, is_constructed=False, kind="universal"):
+    return frozenset({(kind, number, is_constructed)})
+
+
+# Types by the number of their tag, their derives, and their names.
 LIBRARY = {
-    "bool": Known(primitive(1), True),
-    **{name: Known(primitive(2), True) for name in INTEGERS},
-    "BigInt": Known(primitive(2), True),
-    "BigUint": Known(primitive(2), True),
-    "OwnedBigInt": Known(primitive(2)),
-    "OwnedBigUint": Known(primitive(2)),
-    "BitString": Known(primitive(3)),
-    "OwnedBitString": Known(primitive(3)),
-    "[u8]": Known(primitive(4), True),
-    "[u8; N]": Known(primitive(4), True),
-    "OctetStringEncoded": Known(primitive(4)),
-    "()": Known(primitive(5), True),
-    "Null": Known(primitive(5), True),
-    "ObjectIdentifier": Known(primitive(6)),
-    "Enumerated": Known(primitive(10), False, frozenset({"Debug", "PartialEq", "Eq"})),
-    "Utf8String": Known(primitive(12)),
-    "Sequence": Known(constructed(16), True),
-    "SequenceOf": Known(constructed(16), False, LIST),
-    "SequenceOfWriter": Known(constructed(16), False, LIST),
-    "Set": Known(constructed(17)),
-    "SetOf": Known(constructed(17), False, LIST),
-    "SetOfWriter": Known(constructed(17), False, frozenset()),
-    "PrintableString": Known(primitive(19)),
-    "IA5String": Known(primitive(22), False, ALL - {"Hash"}),
-    "UtcTime": Known(primitive(23)),
-    "GeneralizedTime": Known(primitive(24)),
-    "X509GeneralizedTime": Known(primitive(24)),
-    "VisibleString": Known(primitive(26), False, ALL - {"Hash"}),
-    "UniversalString": Known(primitive(28)),
-    "BMPString": Known(primitive(30)),
-    "Tlv": Known(ANY, True),
+    name: (Known(tagged(number, number in (16, 17)), derives), shape)
+    for number, derives, shape, names in (
+        (1, COPY, "", "bool"),
+        (2, COPY, "", " ".join(BITS)),
+        (2, COPY, "'", "BigInt BigUint"),
+        (2, ALL, "", "OwnedBigInt OwnedBigUint"),
+        (3, ALL, "'", "BitString"),
+        (3, ALL, "", "OwnedBitString"),
+        (4, COPY, "", "[u8]"),
+        (5, COPY, "", "() Null"),
+        (6, ALL, "", "ObjectIdentifier"),
+        (10, frozenset({"Debug", "PartialEq", "Eq"}), "", "Enumerated"),
+        (12, ALL, "'", "Utf8String"),
+        (16, COPY, "'", "Sequence"),
+        (17, ALL, "'", "Set"),
+        (19, ALL, "'", "PrintableString"),
+        (22, ALL - {"Hash"}, "'", "IA5String"),
+        (23, ALL, "", "UtcTime"),
+        (24, ALL, "", "GeneralizedTime X509GeneralizedTime"),
+        (26, ALL - {"Hash"}, "'", "VisibleString"),
+        (28, ALL, "'", "UniversalString"),
+        (30, ALL, "'", "BMPString"),
+    )
+    for name in names.split()
 }
-
-
-GHOST = {
-    "std.specs.Prelude": "◌≡◌ ◌⊎◌ ◌∷◌ [] map true false ⊤ MatchOption OnErr",
-    "std.specs.Str": "bytes_eq",
-    "std.proofs.Common": "inl inr refl sym",
-    "std.proofs.lemmas.Slice.Eq": "bytes_eq-Decides",
-    "asn1.specs.Der": "seen",
-    "asn1.specs.Choices": "choice_der only or",
-    "asn1.specs.InHand": "defaulted_inner explicit_inner implicit_inner",
-    "asn1.specs.IdentifierValues": "identifier_of",
-    "asn1.specs.ItemsAndValues": "by_item word_for_word",
-    "asn1.specs.Options": "option_meaning",
-    "asn1.specs.Reading": "EndsWith",
-    "asn1.specs.Reads": "HasOneEncoding ReadsContents ReadsDefined ReadsPrefix",
-    "asn1.specs.Variants": "any_variant or_variant variant",
-}
-CODE = {
-    "asn1::fields": "Between BetweenLast Defined DefinedField DefinedLast Field FieldNames Fields2 Fields3 Fields4 "
-    "Fields5 Fields6 Fields7 Fields8 Fields9 Fields10 Fields11 Fields12 Last Names NoFields Structure",
-    "asn1::laws": "identifiers_compare",
-    "asn1": "Asn1DefinedBy Asn1DefinedByReadable Asn1DefinedByWritable Asn1Readable Asn1Type Asn1Writable BMPString "
-    "BigInt BigUint BitString Choice1 Choice2 Choice3 DefaultValue Defaulted Enumerated Explicit "
-    "GeneralizedTime IA5String Implicit Null ObjectIdentifier OctetStringEncoded OwnedBigInt OwnedBigUint "
-    "OwnedBitString ParseError ParseErrorKind ParseResult Parser PrintableString Sequence SequenceOf "
-    "SequenceOfWriter Set SetOf SetOfWriter SimpleAsn1Readable SimpleAsn1Writable Tag Tlv UniversalString "
-    "UtcTime Utf8String VisibleString WriteBuf WriteError WriteResult Writer X509GeneralizedTime",
-    "std::alloc": "AllocError Global",
-}
-
-
-def number_of(item, attribute):
-    """The number of an item's tag, and whether the field is there always."""
-    words = item.attributes[attribute]
-    if not words or not words[0].isdigit():
-        raise Rejected(item.line, f"`{attribute}` without a number")
-    if words[1:] == [",", "required", "=", "true", ","]:
-        return int(words[0]), True
-    if words[1:] not in ([","], [",", "required", "=", "false", ","]):
-        raise Rejected(item.line, f"`{attribute}` takes a number and `required = true`")
-    return int(words[0]), False
+LIBRARY |= {"[u8; N]": (Known(tagged(4)), "n"), "Tlv": (Known(ANY, is_simple=False), "'")}
 
 
 class Module:
     """The declarations of a file, and what is known of their types."""
 
     def __init__(self, items, imported):
-        self.items = {item.name: item for item in items}
-        self.imported = imported
-        self.seen = {}
-        for at, item in enumerate(items):
-            if item.name in [other.name for other in items[:at]]:
-                raise Rejected(item.line, f"`{item.name}` is declared twice")
-            if item.name in " ".join(CODE.values()).split():
-                raise Rejected(item.line, f"`{item.name}` is a type of the library, which this file uses: name it otherwise")
+        self.items, self.imported, self.seen = {item.name: item for item in items}, imported, {}
+        for names in (items, *(item.parts for item in items)):
+            for at, other in enumerate(names):
+                is_twice = other.name in [before.name for before in names[:at]]
+                reject(is_twice, other.line, f"`{other.name}` is declared twice")
+        for item in items:
+            self.check_item(item)
             for part in item.parts:
                 set_form(item, part)
         for item in items:
             if item.kind != "const":
-                self.known(Type(item.name, [], item.line))
+                self.known(Type(item.name, [item.life][: bool(item.life)], item.line))
         for item in items:
-            self.check_tags(item)
+            for at, part in enumerate(item.parts):
+                self.check_part(item, part)
+                self.check_tags(item, part, item.parts[at + 1 :])
+
+    def check_item(self, item):
+        """A declaration is none of a type of the library, of a size that has a form, and of one lifetime."""
+        is_other = item.name in SHAPES or item.name in self.imported
+        reject(is_other, item.line, f"`{item.name}` is imported, or a type of the library: name it otherwise")
+        is_large = item.kind == "struct" and len(item.parts) > MOST_FIELDS
+        reject(is_large, item.line, f"`{item.name}` has more than {MOST_FIELDS} fields")
+        has_no_form = item.kind == "enum" and not 0 < len(item.parts) <= MOST_VARIANTS
+        reject(has_no_form, item.line, f"`{item.name}` has no variant, or more than {MOST_VARIANTS}")
+        types = [item.type] if item.type else [type for part in item.parts for type in part.parts or [part.type]]
+        for type in types:
+            reject(set(type.lives()) - {item.life}, type.line, f"a lifetime that `{item.name}` doesn't declare")
+        is_unused = item.life and not any(type.lives() for type in types)
+        reject(is_unused, item.line, f"`{item.name}` declares a lifetime, and nothing in it has one")
 
     def known(self, type):
-        """What is known of a type; None where it is declared elsewhere."""
-        if type.name in ("Option", "&", "Box", "Defaulted", "Implicit", "Explicit", "DefinedByMarker"):
-            return self.known_around(type)
-        if type.name in LIBRARY:
-            for arg in type.inner:
-                self.known(arg)
-            return LIBRARY[type.name]
-        item = self.items.get(type.name)
-        if not item and type.name not in self.imported and "::" not in type.name:
-            raise Rejected(type.line, f"`{type.name}` is no type of the library, and neither declared nor imported here")
+        """What is known of a type; nothing where it is declared elsewhere."""
+        name, item = type.name, self.items.get(type.name)
+        found, shape = LIBRARY.get(name, (None, SHAPES.get(name)))
+        if item:
+            shape = "'" if item.life else ""
+        is_known = shape is not None or name in ("&", "Defaulted", *self.imported) or "::" in name
+        why = f"`{name}` is no type of the library, and neither declared nor imported here"
+        reject(not is_known, type.line, why)
+        kinds = "".join("T" if isinstance(arg, Type) else "'" if arg.startswith("'") else "n" for arg in type.args)
+        is_wrong = shape is not None and not re.fullmatch(shape, kinds)
+        reject(is_wrong, type.line, f"`{name}` lacks its lifetime, its type or its number, or has another")
         if not item:
-            return None
-        if type.name in self.seen and self.seen[type.name] is None:
-            raise Rejected(item.line, f"`{type.name}` is recursive: it has no form")
-        if type.name not in self.seen:
-            self.seen[type.name] = None
-            self.seen[type.name] = self.known_item(item)
-        return self.seen[type.name]
+            return found or self.known_around(type, *map(self.known, type.inner))
+        reject(self.seen.get(name, item) is None, item.line, f"`{name}` is recursive: it has no form")
+        if name not in self.seen:
+            self.seen[name] = None
+            self.seen[name] = self.known_item(item)
+        return self.seen[name]
 
-    def known_around(self, type):
-        inside = self.known(type.inner[0])
-        if type.name == "&" and type.inner[0].name != "[u8]":
-            raise Rejected(type.line, "a reference other than one to `[u8]` isn't read")
-        if type.name == "&":
+    def known_around(self, type, inside=Known(), *others):
+        """What is known of a type that is made of another."""
+        name, tags, derives, fails = type.name, inside.tags, inside.derives, inside.fails
+        if name == "&":
+            reject(type.inner[0].name != "[u8]", type.line, "a reference other than one to `[u8]` isn't read")
             return inside
-        tags, derives = (inside.tags, inside.derives) if inside else (None, ALL)
-        if type.name in ("Implicit", "Explicit"):
-            is_constructed = type.name == "Explicit" or bool(tags and tags != ANY and next(iter(tags))[2])
-            return Known(frozenset({("context", int(type.args[1]), is_constructed)}), False, derives)
-        if type.name == "Defaulted":
-            return Known(tags, False, derives)
-        return Known(tags, bool(inside and inside.is_copy and type.name == "Option"), derives)
+        if name in ("Implicit", "Explicit"):
+            is_large = not re.fullmatch(r"\d+", type.args[1]) or int(type.args[1]) > LARGEST_TAG
+            reject(is_large, type.line, f"a tag isn't a number from 0 to {LARGEST_TAG}")
+            has_no_tag = name == "Implicit" and not inside.is_simple
+            reject(has_no_tag, type.line, f"`{type.inner[0]}` is implicit, and has no tag of its own")
+            is_constructed = name == "Explicit" or bool(tags and next(iter(tags))[2])
+            return Known(tagged(int(type.args[1]), is_constructed, "context"), derives, fails=fails)
+        if name in LISTS:
+            is_made = name.endswith("Writer")
+            own = derives & ALL if is_made else ALL - ({"Debug"} - derives)
+            return Known(tagged(17 if name.startswith("Set") else 16, True), own, fails=is_made)
+        if name == "OctetStringEncoded":
+            return Known(tagged(4), derives, fails=fails)
+        if name in ("Option", "Defaulted"):
+            reject(inside.is_missing, type.line, "an option or a default of what may be missing itself")
+            return Known(tags, derives, True, False, fails)
+        return Known(tags, derives & ALL, inside.is_missing, inside.is_simple, fails)
 
     def known_item(self, item):
         """What is known of a declared type, by what it is made of."""
-        parts = [self.known(item.type)] if item.kind == "type" else [self.known(part.form) for part in item.parts]
-        derives = ALL.intersection(*[part.derives for part in parts if part])
         if item.kind == "type":
-            return parts[0] and Known(parts[0].tags, False, derives)
-        wanted, by = item.wanted, "DefinedBy" if item.is_defined else ""
-        item.reads, item.writes = f"Asn1{by}Read" in wanted, f"Asn1{by}Write" in wanted
-        if by and ("Asn1Read" in wanted or "Asn1Write" in wanted or item.kind == "struct"):
-            raise Rejected(item.line, f"`{item.name}` is defined by an item: an enum with no other derive of `asn1`")
-        item.derives = [name for name in KEPT if name in wanted and name in derives]
-        item.left_out = [name for name in wanted if name not in item.derives and name not in ASN1]
-        if not (item.reads or item.writes):
-            raise Rejected(item.line, f"`{item.name}` derives neither `Asn1Read` nor `Asn1Write`")
-        kept = frozenset(item.derives)
+            why = f"`{item.name}` is an alias of another type than a list: write that type"
+            reject(item.type.name not in LISTS, item.line, why)
+            return self.known(item.type)
+        by = "DefinedBy" if any("DefinedBy" in name for name in item.wanted) else ""
+        item.reads, item.writes = f"Asn1{by}Read" in item.wanted, f"Asn1{by}Write" in item.wanted
+        is_both = by and ("Asn1Read" in item.wanted or "Asn1Write" in item.wanted or item.kind == "struct")
+        reject(is_both, item.line, f"`{item.name}` is defined by an item: an enum with no other derive of `asn1`")
+        why = f"`{item.name}` derives neither `Asn1Read` nor `Asn1Write`"
+        reject(not (item.reads or item.writes), item.line, why)
+        parts = [(part.name, self.known(type)) for part in item.parts for type in [*part.parts[:-1], part.form]]
+        set_derives(item, parts)
+        tags = [known.tags for _, known in parts]
+        derives, fails = frozenset(item.derives), any(known.fails for _, known in parts)
         if item.kind == "struct":
-            return Known(constructed(16), False, kept)
-        tags = [part.tags if part else None for part in parts]
-        if by:
-            return Known(None, False, kept)
-        if None in tags or ANY in tags:
-            return Known(None if None in tags else ANY, False, kept)
-        return Known(frozenset().union(*tags), False, kept)
+            return Known(tagged(16, True), derives, fails=fails)
+        tags = None if None in tags else ANY if ANY in tags else frozenset().union(*tags)
+        return Known(tags, derives, any(known.is_missing for _, known in parts), False)
 
-    def check_tags(self, item):
-        """Each field that may be missing is told from what may follow it, and each variant from the others."""
-        for at, part in enumerate(item.parts):
-            self.check_choice(item, part)
-            self.check_item(item, part)
-            if item.kind == "enum" and not item.is_defined or part.is_missing:
-                for other in item.parts[at + 1 :]:
-                    self.check_pair(part, other)
-                    if item.kind == "struct" and not other.is_missing:
-                        break
-
-    def check_choice(self, item, part):
-        """A choice or an option has no tag of its own, which another could replace."""
-        declared = self.items.get(part.base.name)
-        is_choice = part.base.name == "Option" or bool(declared and declared.kind == "enum")
-        if part.tag == "implicit" and is_choice:
-            raise Rejected(part.line, f"`{part.name}` is implicit, and its type has no tag of its own")
-        if part.tag and item.kind == "enum" and is_choice:
-            raise Rejected(part.line, f"`{part.name}` is a choice or an option under a tag: put a struct around it")
-        if part.form.name == "Option" and part.form.inner[0].name == "Option":
-            raise Rejected(part.line, f"`{part.name}` is an option of an option")
-
-    def check_item(self, item, part):
+    def check_part(self, item, part):
         """A value that an item defines stands behind it, and under an explicit tag at most."""
+        type, known = self.known(part.type), self.known(part.form)
         declared = self.items.get((part.type.inner[0] if part.is_option else part.type).name)
         by, is_value = "defined_by" in part.attributes and item.kind == "struct", bool(declared and declared.is_defined)
-        if is_value and not by:
-            raise Rejected(part.line, f"`{part.name}` is defined by an item: it follows that, with `#[defined_by(..)]`")
-        if by and part.form.name in ("Option", "Implicit", "Defaulted"):
-            raise Rejected(part.line, f"`{part.name}` is defined by an item: it is there, with an explicit tag or none")
-        if by and not is_value and (declared or part.base.name in LIBRARY):
-            raise Rejected(part.line, f"`{part.name}` is defined by an item, and its type is not")
+        is_choice = item.kind == "enum" and part.tag and not type.is_simple and type.tags != ANY
+        reject(is_choice, part.line, f"`{part.name}` is a choice or an option under a tag: put a struct around it")
+        why = f"`{part.name}` is defined by an item: it follows that, with `#[defined_by(..)]`"
+        reject(is_value and not by, part.line, why)
+        why = f"`{part.name}` is defined by an item: it is there, with an explicit tag or none"
+        reject(by and part.form.name in ("Option", "Implicit", "Defaulted"), part.line, why)
+        is_other = by and not is_value and (declared or part.base.name in LIBRARY or part.base.name in SHAPES)
+        reject(is_other, part.line, f"`{part.name}` is defined by an item, and its type is not")
+        # The trait whose impl says which errors a write returns, where these are not none.
+        part.fails = known.fails and ("SimpleAsn1Writable" if known.is_simple else "Asn1Writable")
+        why = f"`{part.name}` is a list made in code: it stands only in a struct that isn't read"
+        reject(part.fails and (item.reads or item.kind == "enum"), part.line, why)
 
-    def check_pair(self, part, other):
-        one, two = self.known(part.form), self.known(other.form)
-        if not one or not two or one.tags is None or two.tags is None:
+    def check_tags(self, item, part, others):
+        """A field that may be missing is told from what may follow it, and a variant from the others."""
+        is_choice, one = item.kind == "enum" and not item.is_defined, self.known(part.form)
+        why = f"`{part.name}` may be missing, and is an alternative of a choice"
+        reject(is_choice and one.is_missing, part.line, why)
+        if not is_choice and (item.kind == "enum" or not one.is_missing):
             return
-        if ANY in (one.tags, two.tags) or one.tags & two.tags:
-            raise Rejected(other.line, f"a tag of `{other.name}` is one of `{part.name}` too, from which it is told by its tag")
+        for other in others:
+            two = self.known(other.form)
+            are_known = None not in (one.tags, two.tags)
+            why = f"a tag of `{other.name}` is one of `{part.name}` too, from which it is told by its tag"
+            reject(are_known and (ANY in (one.tags, two.tags) or one.tags & two.tags), other.line, why)
+            if not is_choice and not two.is_missing:
+                return
+
+
+def set_derives(item, parts):
+    """The derives that all parts have; and what is said of the others."""
+    lacks, left = {name: next((part for part, known in parts if name not in known.derives), "") for name in KEPT}, {}
+    item.derives = [name for name in KEPT if name in item.wanted and not lacks[name]]
+    for name in [name for name in item.wanted if name not in (*item.derives, *ASN1)]:
+        left.setdefault(f"which `{lacks[name]}` lacks" if name in KEPT else "which isn't kept", []).append(f"`{name}`")
+    said = "; ".join(f"{', '.join(names)}, {why}" for why, names in left.items())
+    item.note = f"`{item.name}` is printed without {said}" if left else ""
 
 
 def set_form(item, part):
     """Gives a field or a variant its type in the row, and what is said of it by its attributes."""
-    part.tag = next((name for name in ("implicit", "explicit") if name in part.attributes), "")
-    if "implicit" in part.attributes and "explicit" in part.attributes:
-        raise Rejected(part.line, f"`{part.name}` is both implicit and explicit")
-    others = set(part.attributes) - {part.tag}
-    if item.kind == "enum" and item.is_defined and others != {"defined_by"} and set(part.attributes) != {"default"}:
-        raise Rejected(part.line, f"`{part.name}` has neither `#[defined_by(..)]` nor `#[default]` alone")
-    if item.kind == "enum" and others and not item.is_defined:
-        raise Rejected(part.line, f"an attribute that `{part.name}` can't have")
-    number, required = number_of(part, part.tag) if part.tag else (0, False)
-    part.is_option = part.type.name == "Option"
-    part.default = None
-    if item.kind == "enum":
-        required = True
-    elif "default" in part.attributes:
-        part.default = literal(part)
-        if part.is_option or required:
-            raise Rejected(part.line, f"`{part.name}` has a default, so it is neither an option nor required")
-    elif part.tag and part.is_option == required:
-        raise Rejected(part.line, f"`{part.name}` has a tag: either it is an option, or the tag says `required = true`")
-    base = part.type.inner[0] if part.is_option and part.tag and item.kind == "struct" else part.type
-    part.base = base
-    part.form = Type(part.tag.capitalize(), [base, str(number)], part.line) if part.tag else base
-    if part.is_option and part.tag and item.kind == "struct":
-        part.form = Type("Option", [part.form], part.line)
-    if part.default is not None:
-        part.form = Type("Defaulted", [part.form, f"{item.name}{camel(part.name)}"], part.line)
-    part.is_missing = item.kind == "struct" and (part.form.name in ("Option", "Defaulted"))
+    in_struct, attributes, line = item.kind == "struct", part.attributes, part.line
+    tags = [name for name in ("implicit", "explicit") if name in attributes]
+    reject(len(tags) > 1, line, f"`{part.name}` is both implicit and explicit")
+    part.tag = tags[0] if tags else ""
+    others, is_option = set(attributes) - {part.tag}, part.type.name == "Option"
+    is_by = others == {"defined_by"} or set(attributes) == {"default"}
+    reject(item.is_defined and not is_by, line, f"`{part.name}` has neither `#[defined_by(..)]` nor `#[default]` alone")
+    is_wrong = not in_struct and not item.is_defined and others or "derive" in attributes
+    reject(is_wrong, line, f"an attribute that `{part.name}` can't have")
+    count, required = number_of(part) if part.tag else ("", False)
+    has_default = in_struct and "default" in attributes
+    why = f"`{part.name}` has a default, so it is neither an option nor required"
+    reject(has_default and (is_option or required), line, why)
+    is_either = not in_struct or has_default or not part.tag or is_option != required
+    reject(not is_either, line, f"`{part.name}` has a tag: either it is an option, or the tag says `required = true`")
+    is_around = is_option and part.tag and in_struct and part.type.inner
+    part.is_option, part.base = is_option, part.type.inner[0] if is_around else part.type
+    part.form = Type(part.tag.capitalize(), [part.base, count], line) if part.tag else part.base
+    part.form = Type("Option", [part.form], line) if is_around else part.form
+    part.default = literal(part) if has_default else None
+    part.form = Type("Defaulted", [part.form, item.name + camel(part.name)], line) if has_default else part.form
+    # Whether the type in the row is another than the field's.
+    part.is_wrapped = in_struct and part.form is not part.type and "defined_by" not in attributes
+
+
+def number_of(part):
+    """The number of an item's tag, and whether the field is there always."""
+    words = part.attributes[part.tag]
+    reject(not re.fullmatch(r"\d[\d_]*", words[0]), part.line, f"`{part.tag}` without a number")
+    said = "".join(words[1:]).strip(",")
+    is_known = said in ("", "required=true", "required=false")
+    reject(not is_known, part.line, f"`{part.tag}` takes a number and `required = true`")
+    return words[0].replace("_", ""), said == "required=true"
 
 
 def literal(part):
-    """A default: a Boolean or a number."""
-    words = [word for word in part.attributes["default"] if word != ","]
-    value = "".join(words)
-    if value not in ("true", "false") and not re.fullmatch(r"-?\d[\d_]*(?:[ui]\d+)?", value):
-        raise Rejected(part.line, f"the default of `{part.name}` isn't a literal: `true`, `false` or a number")
-    return re.sub(r"_|[ui]\d+$", "", value)
+    """A default, as in Rust: a Boolean, or a number that the field's type has."""
+    value, type = "".join(word for word in part.attributes["default"] if word != ","), str(part.base)
+    is_boolean = value in ("true", "false")
+    is_literal = is_boolean or re.fullmatch(r"-?\d[\d_]*(?:[ui]\d+)?", value)
+    reject(not is_literal, part.line, f"the default of `{part.name}` isn't a literal: `true`, `false` or a number")
+    value, bits = re.sub(r"_|[ui]\d+$", "", value), BITS.get(type, 0)
+    least, most = (0, 2**bits) if type[0] == "u" else (-(2**bits) // 2, 2**bits // 2)
+    fits = is_boolean if type == "bool" else bits and not is_boolean and least <= int(value) < most
+    why = f"`{value}` is no value of `{type}`: a default is of a Boolean or an integer type"
+    reject(not fits, part.line, why)
+    return value
 
 
 def camel(name):

@@ -1,7 +1,9 @@
-"""The forms of docs/OWN_TYPES.md for a value that an item defines, filled in with an enum."""
+"""The forms of docs/OWN_TYPES.md for identifiers, and for a value that an item defines, filled in with an enum."""
 
-from declarations import Rejected
-from derived_forms import angle, clauses, comment, der, length_arm, octets_of, side, terms, variants_of, write_arm
+from declarations import reject
+from derived_forms import (
+    ERROR, angle, comment, der, function, ghost, impl, lines_of, match, method, own, quoted, side, stated, variants_of, writes
+)
 
 ITEM = "ObjectIdentifier"
 
@@ -39,48 +41,117 @@ returns c =
 """
 
 
+# ---- identifiers
+
+
+def octets_of(item):
+    """The encoded numbers of an identifier (X.690 8.19.4), and its contents octets."""
+    first, second, *others = [int(arc.replace("_", "")) for arc in item.arcs]
+    is_wrong = first > 2 or first < 2 and second > 39
+    reject(is_wrong, item.line, f"`{item.name}` is no identifier: its second number is below 40 after 0 and 1")
+    numbers, octets = [40 * first + second, *others], []
+    for number in numbers:
+        digits = [number & 127]
+        while number := number >> 7:
+            digits.insert(0, number & 127 | 128)
+        octets += digits
+    is_large = len(octets) > 63 or max(numbers) >= 2**128
+    reject(is_large, item.line, f"`{item.name}` has more than 63 octets, or a number from 2^128 on")
+    return numbers, octets
+
+
+def identifier(item):
+    """A function that returns an identifier: its clause has the numbers, of which the first stands for two."""
+    numbers, octets = octets_of(item)
+    lets = "".join(f"    octets[{at}] = {octet:#04x};\n" for at, octet in enumerate(octets))
+    return f"""
+/// The numbers of [`{item.name.lower()}`], as they are encoded: the first stands for two.
+pub const {item.name}_NUMBERS: [{"u64" if max(numbers) < 2**64 else "u128"}; {len(numbers)}] = {numbers};
+
+{comment(item, f"The identifier {'.'.join(item.arcs)}.")}
+pub fn {item.name.lower()}() -> ObjectIdentifier
+    ensures {{ identifier_of result ≡ {item.name}_NUMBERS }}
+{{
+    let mut octets = [0; 63];
+{lets}    ObjectIdentifier::from_der_unchecked(octets, {len(octets)})
+}}
+"""
+
+
+def identifier_answer(item, crate, path):
+    """The proofs that an identifier's function owes: it computes them."""
+    octets = octets_of(item)[1]
+    text, small = " ∷ ".join([*map(str, octets), "[]"]), "(lit< tt, " * len(octets) + "tt" + ")" * len(octets)
+    return f"""use Rattle.std.proofs.Common.{{◌≡◌, [], ◌∷◌, ◌∙◌, true, refl, lit<, lit≤}}
+use Rattle.std.specs.Prelude.{{is_some}}
+use Rattle.asn1.specs.Base128.{{number_front}}
+use Rattle.asn1.specs.Identifier.{{numbers_in, identifier_numbers}}
+use Rattle.asn1.specs.KnownIdentifiers.{{known_form}}
+use Rattle.{crate}.specs.declared.{path}TheConstants.{{{item.name}_NUMBERS}}
+use Rattle.{crate}.proofs.{path}{item.name.lower()}.Goals as goal
+
+are_numbers : is_some (numbers_in ({text})) ≡ true
+unfolding numbers_in number_front
+are_numbers = refl
+
+numbers_are : identifier_numbers ({text}) ≡ {item.name}_NUMBERS
+unfolding numbers_in number_front
+numbers_are = refl
+
+pub from_der_unchecked-requires : goal.from_der_unchecked-requires
+from_der_unchecked-requires c = known_form ({text}) (lit< tt) (lit≤ tt) are_numbers {small}
+
+pub returns : goal.returns
+returns c = c.from_der_unchecked.ensures ∙ numbers_are
+"""
+
+
+# ---- values that an item defines
+
+
 def defined(module, item, specs):
     """An enum with a variant for each identifier that is known, where the last may serve every other."""
     item.known = [part for part in item.parts if "defined_by" in part.attributes]
     item.other = next((part for part in item.parts if "default" in part.attributes), None)
     check(module, item)
-    own = item.name + angle(item.life)
-    text = other_struct(item) if item.other else ""
     types = [part.base for part in item.known] + ([other_type(item)] if item.other else [])
-    fields = zip(item.parts, types)
-    stated = "\n".join(f"    {comment(part, 'This alternative.')}\n    {part.name}({type})," for part, type in fields)
-    text += f"""
-{comment(item, f"`{item.name}`.")}
-#[derive({', '.join([*item.derives, 'Drop'])})]
-pub enum {own} {{
-{stated}
-}}
-{meaning(item, own, specs)}"""
-    text += readable(item, own) if item.reads else ""
-    return text + (writable(item, own) if item.writes else "")
+    text = other_struct(item) if item.other else ""
+    text += stated(item, "This alternative.", [f"{part.name}({type})" for part, type in zip(item.parts, types)])
+    means = ghost("by", f"by_item (record {{ item = {der(ITEM)}; value = {alternatives(item)} }})")
+    known = function("fn known_by(&self)", match(item, lambda part: "x.known()", item.other and "x.value.known()"))
+    text += impl(item, f"Asn1DefinedBy<{ITEM}> ", variants_of(item, specs), means, known)
+    both = ghost("both", f"record {{ item = {der(ITEM)}; value = {by(item)}.means }}")
+    told = match(item, lambda part: f"{call(part)}.known()", item.other and "x.item.known()", "_")
+    agrees = ghost("agrees", "word_for_word _")
+    text += impl(item, f"DefinedField<{ITEM}> ", both, function("fn known_item(&self)", told), agrees)
+    text += readable(item) if item.reads else ""
+    if item.writes:
+        body = match(item, call, item.other and "x.item.clone().unwrap()", "_")
+        members = ghost("write_errors_by", "λ _ _. ⊥"), function(f"fn item(&self) -> {ITEM}", body)
+        text += impl(item, f"Asn1DefinedByWritable<{ITEM}> ", ERROR, *members, *writes(item, item.other and "x.value"))
+    return text
 
 
 def check(module, item):
     """Each identifier is declared, and told from the others; what serves every other is last, and keeps it."""
-    numbers = {}
+    numbers, other = {}, item.other
     for part in item.known:
         name = "".join(part.attributes["defined_by"][:-1])
         part.identifier = module.items.get(name)
-        if not part.identifier or part.identifier.kind != "const":
-            raise Rejected(part.line, f"`{name}` is no identifier that is declared here")
-        first = numbers.setdefault(terms(octets_of(part.identifier)[0]), part)
-        if first is not part:
-            raise Rejected(part.line, f"`{part.name}` has the identifier of `{first.name}`")
-    if not item.known:
-        raise Rejected(item.line, f"`{item.name}` has no variant of an identifier")
-    if item.other and item.other is not item.parts[-1]:
-        raise Rejected(item.other.line, f"`{item.other.name}` is the default, and not the last variant")
-    if item.other and [str(type) for type in item.other.parts] != [ITEM, f"Tlv<{item.life}>"]:
-        raise Rejected(item.other.line, f"`{item.other.name}` is the default, and not of an `{ITEM}` and a `Tlv`")
+        is_known = part.identifier and part.identifier.kind == "const"
+        reject(not is_known, part.line, f"`{name}` is no identifier that is declared here")
+        first = numbers.setdefault(tuple(octets_of(part.identifier)[0]), part)
+        reject(first is not part, part.line, f"`{part.name}` has the identifier of `{first.name}`")
+    reject(not item.known, item.line, f"`{item.name}` has no variant of an identifier")
+    if other:
+        why = f"`{other.name}` is the default, and not the last variant"
+        reject(other is not item.parts[-1], other.line, why)
+        why = f"`{other.name}` is the default, and not of an `{ITEM}` and a `Tlv`"
+        reject([str(type) for type in other.parts] != [ITEM, f"Tlv<{item.life}>"], other.line, why)
 
 
-def by(own):
-    return f"⟦<{own} as Asn1DefinedBy<{ITEM}>>⟧.by"
+def by(item):
+    return quoted(own(item), f"Asn1DefinedBy<{ITEM}>") + ".by"
 
 
 def call(part):
@@ -89,17 +160,11 @@ def call(part):
 
 
 def numbers_of(part):
-    return terms(octets_of(part.identifier)[0])
+    return f"{part.identifier.name}_NUMBERS"
 
 
 def is_known(part, value):
-    return f"bytes_eq (identifier_of item) ({numbers_of(part)}) ≡ {value}"
-
-
-def arms(item, known, other, name="x"):
-    """The arms of a match: one for each known identifier, and one for every other."""
-    lines = [f"{item.name}::{part.name}({name}) => {known(part)}," for part in item.known]
-    return "\n".join(lines + ([f"{item.name}::{item.other.name}(x) => {other},"] if item.other else []))
+    return f"bytes_eq (identifier_of item) {numbers_of(part)} ≡ {value}"
 
 
 def other_type(item):
@@ -109,86 +174,45 @@ def other_type(item):
 def other_struct(item):
     """What the default keeps: an identifier that no other variant is for, and the value."""
     type, tlv, name = other_type(item), f"Tlv{angle(item.life)}", item.name + item.other.name
-    facts = [f"    pub ghost is_not_{call(part)[:-2]}: {{ {is_known(part, 'false')} }}," for part in item.known]
-    derives = [each for each in item.derives if each != "Clone"]
-    text = f"""
-/// An identifier that no other variant of `{item.name}` is for, and the value.
-#[derive({', '.join([*derives, 'Drop'])})]
-pub struct {type} {{
-    item: {ITEM},
-    value: {tlv},
-{chr(10).join(facts)}
-}}
-
-impl{angle(item.life)} {type} {{{other_new(item, type, name, tlv)}
-    /// The identifier.
-    pub fn item(&self) -> &{ITEM}{clauses("ensures { result.now ≡ self.now.item }")} {{
-        &self.item
-    }}
-
-    /// The value.
-    pub fn value(&self) -> {tlv}{clauses("ensures { result ≡ self.now.value }")} {{
-        self.value
-    }}
-}}
-"""
-    return text + (other_clone(item, type, name) if "Clone" in item.derives else "")
-
-
-def other_new(item, type, name, tlv):
-    """Its `new`, which tests the identifier."""
+    facts = lines_of(f"    pub ghost is_not_{call(part)[:-2]}: {{ {is_known(part, 'false')} }}," for part in item.known)
     *first, served = [f"({is_known(part, 'true')})" for part in item.known]
     for fact in reversed(first):
         served = f"({fact} ⊎ {served})"
-    kept = clauses(f"ensures {{ MatchOption result {served} (λ v. (v.item ≡ item) × (v.value ≡ value.entry)) }}")
+    kept = f"{{ MatchOption result {served} (λ v. (v.item ≡ item) × (v.value ≡ value.entry)) }}"
     tests = " || ".join(f"is_identifier(&item, {call(part)})" for part in item.known)
-    return f"""
+    body = f"if {tests} {{ return None; }}\n        Some({name} {{ item, value }})"
+    text = f"""
+/// An identifier that no other variant of `{item.name}` is for, and the value.
+#[derive({', '.join([*[each for each in item.derives if each != "Clone"], 'Drop'])})]
+pub struct {type} {{
+    item: {ITEM},
+    value: {tlv},
+{facts}
+}}
+
+impl{angle(item.life)} {type} {{
     /// Of this identifier and this value; `None` where another variant is for the identifier.
-    pub fn new(item: {ITEM}, value: {tlv}) -> Option<{type}>{kept} {{
-        if {tests} {{
-            return None;
-        }}
-        Some({name} {{ item, value }})
-    }}
+{function(f"pub fn new(item: {ITEM}, value: {tlv}) -> Option<{type}>", body, kept)}
+
+    /// The identifier.
+{function(f"pub fn item(&self) -> &{ITEM}", "&self.item", "{ result.now ≡ self.now.item }")}
+
+    /// The value.
+{function(f"pub fn value(&self) -> {tlv}", "self.value", "{ result ≡ self.now.value }")}
+}}
 """
-
-
-def other_clone(item, type, name):
-    """Its clone, which isn't derived where a ghost field stands."""
-    return f"""
+    if "Clone" not in item.derives:
+        return text
+    # It isn't derived where a ghost field stands.
+    same = "λ x y. (identifier_of y.item ≡ identifier_of x.item) × (y.value ≡ x.value)"
+    body = f"Ok({name} {{ item: self.item.clone()?, value: self.value }})"
+    return f"""{text}
 impl{angle(item.life)} Clone for {type} {{
-    ghost is_clone = {{ λ x y. (identifier_of y.item ≡ identifier_of x.item) × (y.value ≡ x.value) }};
+{ghost("is_clone", same)}
 
-    ghost is_infallible = {{ λ _. ⊤ }};
+{ghost("is_infallible", "λ _. ⊤")}
 
-    fn clone(&self) -> Result<{type}, AllocError> {{
-        Ok({name} {{ item: self.item.clone()?, value: self.value }})
-    }}
-}}
-"""
-
-
-def meaning(item, own, specs):
-    """What the values mean, and that they and their identifiers are such of which the laws speak."""
-    return f"""
-impl{angle(item.life)} Asn1DefinedBy<{ITEM}> for {own} {{
-    {variants_of(item, specs)}
-
-    ghost by = {{ by_item (record {{ item = {der(ITEM)}; value = {alternatives(item)} }}) }};
-
-    fn known_by(&self) {{
-        match self {{ {arms(item, lambda part: "x.known()", "x.value.known()")} }}
-    }}
-}}
-
-impl{angle(item.life)} DefinedField<{ITEM}> for {own} {{
-    ghost both = {{ record {{ item = {der(ITEM)}; value = {by(own)}.means }} }};
-
-    fn known_item(&self) {{
-        match self {{ {arms(item, lambda part: f"{call(part)}.known()", "x.item.known()", "_")} }}
-    }}
-
-    ghost agrees = {{ word_for_word _ }};
+{function(f"fn clone(&self) -> Result<{type}, AllocError>", body)}
 }}
 """
 
@@ -197,67 +221,35 @@ def alternatives(item):
     """The record of the variants, from the last one on; the first one says what all values mean."""
     values = [f"({der(part.base)}.meaning x)" for part in item.known]
     values += [f"({der(ITEM)}.meaning x.item, {der(item.other.base)}.meaning x.value)"] if item.other else []
-    cases = [f"{part.name} x ↦ {side(at, len(values), values[at])}" for at, part in enumerate(item.parts)]
+    places = [side(at, len(values)).format(value)[1:-1] for at, value in enumerate(values)]
+    cases = [f"{part.name} x ↦ {place}" for part, place in zip(item.parts, places)]
     first, view = f"(elim [ {' | '.join(cases)} ])", "(λ m. m)"
     text = f"(any_variant {der(item.other.base)} {view}) " if item.other else ""
     for part in reversed(item.known):
-        word = "or_variant" if text else "variant"
+        numbers = numbers_of(part)
+        alone = f"λ n e. sym ((bytes_eq-Decides n {numbers}).0 e)"
+        known = f"(record {{ item = {numbers}; is = λ n. bytes_eq n {numbers}; itself = refl; alone = {alone} }})"
         view = first if part is item.known[0] else view
-        text = f"({word} {known_record(part)} {der(part.form)} {text}{view}) "
+        text = f"({'or_variant' if text else 'variant'} {known} {der(part.form)} {text}{view}) "
     return text[1:-2]
 
 
-def known_record(part):
-    """The variant's identifier, and the test for it."""
-    numbers = numbers_of(part)
-    alone = f"λ n e. sym ((bytes_eq-Decides n ({numbers})).0 e)"
-    return f"(record {{ item = {numbers}; is = λ n. bytes_eq n ({numbers}); itself = refl; alone = {alone} }})"
-
-
-def readable(item, own):
-    life, tests = item.life or "'a", []
+def readable(item):
+    life, tests, other = item.life or "'a", [], item.other
     for part in item.known:
         value = f"parser.read_element::<{part.form}>()?{'.into_inner()' if part.tag else ''}"
         tests.append(f"if is_identifier(&item, {call(part)}) {{ return Ok({item.name}::{part.name}({value})); }}")
     last = "Err(ParseError::new(ParseErrorKind::UnknownDefinedBy))"
-    if item.other:
-        value = f"parser.read_element::<Tlv<{life}>>()?"
-        last = f"Ok({item.name}::{item.other.name}({item.name}{item.other.name} {{ item, value: {value} }}))"
-    answers = clauses(
-        f"ensures answers {{ ReadsDefined {by(own)} item parser.old parser.new result }}",
-        "ensures rest { EndsWith parser.old parser.new }",
-        f"ensures stops {{ OnErr result ({by(own)}.means.stops ({by(own)}.seen item) parser.old parser.new) }}",
+    if other:
+        value = f"{item.name}{other.name} {{ item, value: parser.read_element::<Tlv<{life}>>()? }}"
+        last = f"Ok({item.name}::{other.name}({value}))"
+    parse = method(
+        item,
+        f"fn parse(item: {ITEM}, parser: &mut Parser<{life}>) -> ParseResult<{own(item)}>",
+        " ".join([*tests, last]),
+        f"answers {{ ReadsDefined {by(item)} item parser.old parser.new result }}",
+        "rest { EndsWith parser.old parser.new }",
+        f"stops {{ OnErr result ({by(item)}.means.stops ({by(item)}.seen item) parser.old parser.new) }}",
     )
-    plain = clauses(f"ensures {{ {by(own)}.means.plain }}")
-    return f"""
-impl<{life}> Asn1DefinedByReadable<{life}, {ITEM}> for {own} {{
-    fn parse(item: {ITEM}, parser: &mut Parser<{life}>) -> ParseResult<{own}>{answers if item.life else ""} {{
-        {' '.join(tests)}
-        {last}
-    }}
-
-    fn one_text(){plain if item.life else ""} {{}}
-}}
-"""
-
-
-def writable(item, own):
-    return f"""
-impl{angle(item.life)} Asn1DefinedByWritable<{ITEM}> for {own} {{
-    type Error = WriteError;
-
-    ghost write_errors_by = {{ λ _ _. ⊥ }};
-
-    fn item(&self) -> {ITEM} {{
-        match self {{ {arms(item, call, "x.item.clone().unwrap()", "_")} }}
-    }}
-
-    fn write(&self, dest: &mut Writer<'_>) -> WriteResult<()> {{
-        match self {{ {arms(item, write_arm, "dest.write_element(&x.value)")} }}
-    }}
-
-    fn encoded_length(&self) -> Option<usize> {{
-        match self {{ {arms(item, length_arm, "x.value.encoded_length()")} }}
-    }}
-}}
-"""
+    one_text = method(item, "fn one_text()", "", f"{{ {by(item)}.means.plain }}")
+    return impl(item, f"Asn1DefinedByReadable<{life}, {ITEM}> ", parse, one_text, life=life)

@@ -1,351 +1,268 @@
 """The forms of docs/OWN_TYPES.md, filled in with declarations."""
 
-import re
+import textwrap
 
-from declarations import Rejected
-from declared_types import GHOST, KEPT, LIST, camel, snake
+from declarations import reject
+from declared_types import camel, snake
 
-
-def der(type):
-    """What a type means. Its bound is a number here: the kit takes back no library that quotes it as a constant."""
-    return f"⟦<{str(type).replace('{ usize::MAX }', str(2**64 - 1))} as Asn1Type>⟧.der"
-
-
-def clauses(*lines):
-    return "".join(f"\n        {line}" for line in lines) + ("\n   " if lines else "")
-
-
-def simple_impls(item, row, tag, reads=True, writes=True, errors="λ _ _. ⊥"):
-    """The impls of a struct around a row or a list, which are the same for all."""
-    own = item.name + angle(item.life)
-    text = f"""
-impl{angle(item.life)} Asn1Type for {own} {{
-    ghost der = {{ seen (λ v. v.0) {der(row)} }};
-
-    fn known(&self) {{
-        self.0.known()
-    }}
-}}
-"""
-    value = f"ensures value {{ result ≡ {der(own)}.content.tag }}"
-    simple = f"ensures simple {{ {der(own)}.is_simple }}"
-    text += simple_readable(item, own, row, tag, value, simple) if reads else ""
-    return text + (simple_writable(item, own, tag, value, simple, errors) if writes else "")
-
-
-def simple_readable(item, own, row, tag, value, simple):
-    life = item.life or "'a"
-    plain = f"ensures plain {{ {der(own)}.plain }}"
-    answers = f"ensures {{ ReadsContents {der(own)} «data».entry.now result }}"
-    return f"""
-impl<{life}> SimpleAsn1Readable<{life}> for {own} {{
-    fn tag() -> Tag{clauses(value, simple, plain) if item.life else ""} {{
-        Tag::constructed({tag})
-    }}
-
-    fn parse_data(alloc: Global, data: &{life} [u8]) -> ParseResult<{own}>{clauses(answers) if item.life else ""} {{
-        match <{row} as SimpleAsn1Readable<{item.life or "'_"}>>::parse_data(alloc, data) {{
-            Ok(fields) => Ok({item.name}(fields)),
-            Err(error) => Err(error),
-        }}
-    }}
-}}
-"""
-
-
-def simple_writable(item, own, tag, value, simple, errors):
-    return f"""
-impl{angle(item.life)} SimpleAsn1Writable for {own} {{
-    type Error = WriteError;
-
-    ghost write_errors = {{ {errors} }};
-
-    fn tag() -> Tag{clauses(value, simple) if item.life else ""} {{
-        Tag::constructed({tag})
-    }}
-
-    fn write_data(&self, dest: &mut WriteBuf) -> WriteResult<()> {{
-        self.0.write_data(dest)
-    }}
-
-    fn data_length(&self) -> Option<usize> {{
-        self.0.data_length()
-    }}
-}}
-"""
+WIDTH = 100
+BY_TAGS = "#[tactic(auto, using(asn1::specs::Lemmas::Fields::tags_differ))]\n"
+ERROR = "    type Error = WriteError;"
 
 
 def angle(life):
     return f"<{life}>" if life else ""
 
 
+def own(item):
+    return item.name + angle(item.life)
+
+
+def quoted(type, trait="Asn1Type"):
+    """The impl of a type. Its bound is a number here: the kit takes back no library that quotes it as a constant."""
+    return f"⟦<{str(type).replace('{ usize::MAX }', str(2**64 - 1))} as {trait}>⟧"
+
+
+def der(type):
+    """What a type means."""
+    return quoted(type) + ".der"
+
+
 def comment(item, default):
     return "\n".join(item.doc or [f"/// {default}"])
-
-
-def row_of(fields):
-    """The row's type: the fields in order, where an item and the value that it defines are one."""
-    if not fields:
-        return "NoFields"
-    first, rest = fields[0], fields[1:]
-    if isinstance(first, tuple):
-        forms = ", ".join([str(first[0]), *(str(part.form) for part in first[1:])])
-        return f"{cell_of(first, rest)}<{forms}{', ' + row_of(rest) if rest else ''}>"
-    if not rest:
-        return f"Last<{first.form}>"
-    if len(fields) <= 12 and not any(isinstance(each, tuple) for each in rest):
-        return f"Fields{len(fields)}<{', '.join(str(each.form) for each in fields)}>"
-    return f"Field<{first.form}, {row_of(rest)}>"
-
-
-def cell_of(step, others):
-    """The type that holds the first fields of a row: one, or an item, the value that it defines, and one between."""
-    cell = {2: "Defined", 3: "Between"}[len(step)] if isinstance(step, tuple) else ""
-    return cell + ("Last" if not others else "" if cell else "Field")
-
-
-def steps(item):
-    """The fields of a row: each alone, or an item's type with the value that it defines, or with a field and that."""
-    found, parts = [], list(item.parts)
-    while parts:
-        part = parts.pop(0)
-        if "defined_by" in part.attributes:
-            raise Rejected(part.line, f"`{part.name}` doesn't stand after the marker of its item")
-        if part.type.name != "DefinedByMarker":
-            found.append(part)
-            continue
-        by = [part.name, ","]
-        ends = [count for count, each in enumerate(parts[:2], 1) if each.attributes.get("defined_by") == by]
-        if not ends or any(each.type.name == "DefinedByMarker" for each in parts[: ends[0]]):
-            why = f"`#[defined_by({part.name})]` has to follow, with at most one field between"
-            raise Rejected(part.line, f"`{part.name}` marks an item: {why}")
-        found.append((part.type.inner[0], *parts[: ends[0]]))
-        parts = parts[ends[0] :]
-    return found
-
-
-def kept_parts(row):
-    """The fields of a row that are kept, with the path to each."""
-    for index, step in enumerate(row):
-        parts = step[1:] if isinstance(step, tuple) else (step,)
-        for part, name in zip(parts, ("value",) if len(parts) == 1 else ("between", "value")):
-            yield part, ".rest" * index + f".{name}"
-
-
-def at(path, after=""):
-    """How the field with this path is reached, in two steps where the path is long."""
-    whole = f"self.0.fields{path}"
-    if len(whole + after) <= 60:
-        return "", whole
-    first = ".rest" * 7
-    return f"let others = &self.0.fields{first};\n        ", f"others{path.removeprefix(first)}"
-
-
-def accessor(module, part, path):
-    """Returns a field: a copy where its type is Copy, else a reference."""
-    known = module.known(part.base if part.default is not None or part.tag else part.form)
-    copy = bool(known and known.is_copy)
-    if part.form.name == "Option" and part.tag:
-        return missing_accessor(part, path, copy)
-    where, after = f"self.now.0.fields{path}", ""
-    type = part.form
-    if part.default is not None:
-        where, after, type = f"defaulted_inner {where}", ".as_inner()", part.base
-    if part.tag and part.form.name != "Option":
-        where, after, type = f"{part.tag}_inner {group(where)}", after + ".as_inner()", part.base
-    before, reached = at(path, after)
-    body = reached + after
-    if after:
-        body = "*" + body if copy else body
-    elif not copy:
-        body = "&" + body
-    return f"""
-    {comment(part, "The field.")}
-    pub fn {part.name}(&self) -> {'' if copy else '&'}{type}
-        ensures {{ {'result' if copy else 'result.now'} ≡ {where} }}
-    {{
-        {before}{body}
-    }}
-"""
-
-
-def missing_accessor(part, path, copy):
-    """Returns a field with a tag that may be missing: the value under the tag, a copy or a reference as above."""
-    inner, view = ("into_inner", "λ v. v") if copy else ("as_inner", "λ v. v.now")
-    call = f"{'' if copy else '.as_ref()'}.map({part.tag.capitalize()}::{inner})"
-    before, reached = at(path)
-    if len(reached + call) > 60:
-        before, reached = f"{before}let field = {'' if copy else '&'}{reached};\n        ", "field"
-    where = f"self.now.0.fields{path}"
-    return f"""
-    {comment(part, "The field.")}
-    pub fn {part.name}(&self) -> Option<{'' if copy else '&'}{part.base}>
-        ensures {{ option_meaning ({view}) result ≡ option_meaning {part.tag}_inner {where} }}
-    {{
-        {before}{reached}{call}
-    }}
-"""
 
 
 def group(words):
     return f"({words})" if " " in words else words
 
 
-def parameter(part):
-    """The field's name as a parameter of `new` and of its clause: another where clauses have the word."""
-    words = " ".join(GHOST.values()).split() + RESERVED.split()
-    return f"{part.name}_value" if part.name in words else part.name
+def lines_of(texts):
+    return "\n".join(texts)
 
 
-def passed(part):
-    """A parameter of `new` in its clause."""
-    return f"{parameter(part)}.entry" if part.type.life() else parameter(part)
+def function(head, body, *clauses):
+    said = "".join(f"\n        ensures {clause}" for clause in clauses)
+    return f"    {head}{said}\n    {{\n        {body}\n    }}"
 
 
-RESERVED = "data record package open as unfold unfolding ruleset infix elim do result alloc row no yes length"
+def method(item, head, body, *clauses):
+    """A method of an impl. Its clauses are written where the type has a lifetime: else they are the trait's."""
+    return function(head, body, *(clauses if item.life else ()))
 
 
-def constructor(item, row):
-    """Makes the structure of its fields, as the declaration has them."""
-    own, parts = item.name + angle(item.life), [*kept_parts(row)]
-    params = [f"{parameter(part)}: {part.type}" for part, _ in parts]
-    ensures = [f"ensures {parameter(part)} {{ {kept(part, path)} }}" for part, path in parts]
-    lets = [wrapped(part, parameter(part)) for part, _ in parts]
-    for index, step in reversed([*enumerate(row, 1)]):
-        names = [parameter(part) for part in (step[1:] if isinstance(step, tuple) else (step,))]
-        names += ["row"] if row[index:] else []
-        lets.append(f"let row = {cell_of(step, row[index:])}::new({', '.join(names)});\n        ")
-    body = "".join(lets) or "let row = NoFields;\n        "
-    return f"""
-    /// Of these fields.
-    pub fn new({', '.join(params)}) -> {own}{clauses(*ensures)} {{
-        {body}{item.name}(Structure::new(row))
-    }}
-"""
+def ghost(name, term):
+    return f"    ghost {name} = {{ {term} }};"
 
 
-def wrapped(part, name):
-    """The field's value in the row, where its type is another there."""
-    if part.form.name == "Option" and part.tag:
-        return f"let {name} = {name}.map({part.tag.capitalize()}::new);\n        "
-    value = f"{part.tag.capitalize()}::new({name})" if part.tag else name
-    value = f"Defaulted::new({value})" if part.default is not None else value
-    return "" if value == name else f"let {name} = {value};\n        "
+def impl(item, trait, *members, life=""):
+    """An impl of a trait, which may name a lifetime where the type has none."""
+    return f"\nimpl{angle(item.life or life)} {trait}for {own(item)} {{\n" + "\n\n".join(members) + "\n}\n"
 
 
-def kept(part, path):
-    """That `new` keeps a field."""
-    where = f"result.0.fields{path}"
-    if part.form.name == "Option" and part.tag:
-        return f"option_meaning {part.tag}_inner {where} ≡ option_meaning (λ v. v) {passed(part)}"
-    if part.default is not None:
-        where = f"defaulted_inner {where}"
-    if part.tag:
-        where = f"{part.tag}_inner {group(where)}"
-    return f"{where} ≡ {passed(part)}"
+def stated(item, default, fields):
+    """The struct or the enum, with its comments and its derives."""
+    derives = item.derives + ([] if "Copy" in item.derives else ["Drop"])
+    parts = lines_of(f"    {comment(part, default)}\n    {field}," for part, field in zip(item.parts, fields))
+    text = f"\n{comment(item, f'`{item.name}`.')}\n#[derive({', '.join(derives)})]\n"
+    return f"{text}pub {item.kind} {own(item)} {{\n{parts}\n}}\n"
 
 
-def structure(module, item):
-    """A struct around a row of its fields."""
-    row, names = steps(item), f"{snake(item.name).upper()}_NAMES"
-    fields = f"{item.name}Fields{angle(item.life)}"
-    labels = ", ".join(f'"{item.name}::{part.name}"' for part in item.parts)
-    text = "".join(map(default, [(item, part) for part in item.parts if part.default is not None]))
-    text += f"""
-/// The fields.
-type {fields} = Structure<{item.name}Names, {row_of(row)}>;
-
-const {names}: [&str; {len(item.parts)}] = [{labels}];
-
-/// The names of the fields.
-struct {item.name}Names;
-
-impl FieldNames for {item.name}Names {{
-    ghost names = {{ map (λ s. s.now) {names} }};
-
-    fn names() -> Names {{
-        Names::new(&{names})
-    }}
-}}
-
-{comment(item, f"`{item.name}`.")}
-#[derive({', '.join([*item.derives, 'Drop'])})]
-pub struct {item.name}{angle(item.life)}({fields});
-
-impl{angle(item.life)} {item.name}{angle(item.life)} {{"""
-    text += constructor(item, row) + "".join(accessor(module, part, path) for part, path in kept_parts(row)) + "}\n"
-    made = [part for part in item.parts if made_in_code(part.form)]
-    if made and item.reads:
-        raise Rejected(made[0].line, f"`{made[0].name}` is a list that is written and not read")
-    errors = f"λ v. ⟦<{fields} as SimpleAsn1Writable>⟧.write_errors v.0" if made else "λ _ _. ⊥"
-    return text + simple_impls(item, fields, "0x10", item.reads, item.writes, errors)
+def call(head, entries, tail):
+    """A call of a macro, whose list is broken where it is too long for a line: the formatter leaves it as it stands."""
+    line = f"{head}{', '.join(entries)}{tail}"
+    if len(line) <= WIDTH - 8 or not entries:
+        return line.replace("; )", ";)").replace("{  }", "{}")
+    text = ", ".join(entry.replace(" ", "\0") for entry in entries)
+    lines = "".join(f"\n            {each}" for each in textwrap.wrap(text, WIDTH - 12, break_long_words=False))
+    return head.rstrip() + lines.replace("\0", " ") + ("\n        " + tail.strip() if tail[0] == " " else tail)
 
 
-def made_in_code(type):
-    """Whether the type holds a list that is written and not read."""
-    return type.name in ("SequenceOfWriter", "SetOfWriter") or any(map(made_in_code, type.inner))
+# ---- structures
 
 
-def default(pair):
+def pair_items(item):
+    """Gives each marker the value that its item defines, and each such value the item's type."""
+    marker = None
+    for part in item.parts:
+        part.value, part.item, by = None, None, part.attributes.get("defined_by")
+        if by:
+            reject(not marker or by != [marker.name, ","], part.line, f"`{part.name}` doesn't stand after the marker of its item")
+            marker.value, part.item, marker = part, marker.type.inner[0], None
+        elif part.type.name == "DefinedByMarker":
+            check_marker(marker)
+            marker = part
+    check_marker(marker)
+
+
+def check_marker(marker):
+    """There is no marker before whose value no other stands."""
+    name = marker and marker.name
+    why = f"`{name}` marks an item: `#[defined_by({name})]` has to follow, with no other marker between"
+    reject(marker, marker and marker.line, why)
+
+
+def field_type(item, part):
+    """The field's type in the row: the private alias of one with a tag or a default."""
+    alias = f"{item.name}{camel(part.name)}Field{angle(''.join(part.form.lives()[:1]))}"
+    return alias if part.is_wrapped else str(part.form)
+
+
+def field_value(part):
+    """A field's value as the row has it."""
+    value = f"v.{part.name}"
+    if part.tag and part.is_wrapped:
+        value = f"option_meaning {part.tag} {value}" if part.is_option else f"{part.tag} {value}"
+    return f"defaulted {group(value)}" if part.default is not None else value
+
+
+def is_plain(parts, is_inside):
+    """Whether no field stands between an item and the value that it defines, or is such."""
+    return not is_inside and not any(part.value for part in parts)
+
+
+def row_of(item, parts, is_inside=False):
+    """The row's type: of the fields in order."""
+    if is_plain(parts, is_inside):
+        types = [field_type(item, part) for part in parts]
+        name = "Last" if len(types) == 1 else f"Fields{len(types)}"
+        return f"{name}<{', '.join(types)}>" if types else "NoFields"
+    first, rest, form = parts[0], parts[1:], field_type(item, parts[0])
+    if first.item:
+        return f"Value<{form}, {row_of(item, rest)}>" if rest else f"LastValue<{form}>"
+    if first.value:
+        return f"Item<{first.type.inner[0]}, {row_of(item, rest, True)}>"
+    return f"{'Before' if is_inside else 'Field'}<{form}, {row_of(item, rest, is_inside)}>"
+
+
+def view_of(parts, is_inside=False, indent=" " * 6):
+    """A struct's values as values of the row."""
+    if is_plain(parts, is_inside):
+        return " ".join([f"fields{len(parts)}", *(group(field_value(part)) for part in parts)])
+    first, rest, lines = parts[0], parts[1:], ["record {", f"{indent}value = {field_value(parts[0])};"]
+    is_inside = not first.item and (is_inside or bool(first.value))
+    lines += [f"{indent}rest = {view_of(rest, is_inside, indent + '  ')};"] if rest else []
+    return lines_of([*lines, indent[2:] + "}"])
+
+
+def entry(item, part):
+    """A field as the macros of bodies take it."""
+    if part.value:
+        return f"{part.name} of {part.value.name}: {part.type.inner[0]}"
+    said = f": {field_type(item, part)}" if part.is_wrapped else f" by {part.item}" if part.item else ""
+    return part.name + said
+
+
+def structure(item):
+    """A struct with its fields as they were declared, and its impls, which go by a row of them."""
+    pair_items(item)
+    row, life, means = f"{item.name}Fields{angle(item.life)}", item.life or "'a", der(own(item))
+    types = [part.form if part.item else part.type for part in item.parts]
+    text = stated(item, "The field.", [f"pub {part.name}: {type}" for part, type in zip(item.parts, types)])
+    text += "".join(default(item, part) for part in item.parts if part.default is not None)
+    wrapped = [part for part in item.parts if part.is_wrapped]
+    text += "".join(f"\ntype {field_type(item, part)} = {part.form};\n" for part in wrapped)
+    text += f"\ntype {row} = {row_of(item, item.parts)};\n"
+    names = " ∷ ".join([*(f'codes "{item.name}::{part.name}"' for part in item.parts), "[]"])
+    view = f"structure (λ v. {view_of(item.parts)}) {quoted(row, 'Row')}.list ({names})"
+    fields = [entry(item, part) for part in item.parts]
+    known = call("known_fields!(self; ", fields, ")")
+    text += impl(item, "Asn1Type ", ghost("der", view), method(item, "fn known(&self)", known))
+    value, simple = f"value {{ result ≡ {means}.content.tag }}", f"simple {{ {means}.is_simple }}"
+    tag = ("fn tag() -> Tag", "Tag::constructed(0x10)", value, simple)
+    if item.reads:
+        read = [part.name if part.value or part.item else field for part, field in zip(item.parts, fields)]
+        head = f"fn parse_data(alloc: Global, data: &{life} [u8]) -> ParseResult<{own(item)}>"
+        body = call(f"read_fields!({row}, alloc, data => {item.name} {{ ", read, " })")
+        parse = method(item, head, body, f"{{ ReadsContents {means} «data».entry.now result }}")
+        plain = f"plain {{ {means}.plain }}"
+        text += impl(item, f"SimpleAsn1Readable<{life}> ", method(item, *tag, plain), parse, life=life)
+    if item.writes:
+        body = call("write_fields!(self, dest; ", fields, ")")
+        write = method(item, "fn write_data(&self, dest: &mut WriteBuf) -> WriteResult<()>", body)
+        body = call("fields_length!(self; ", fields, ")")
+        length = method(item, "fn data_length(&self) -> Option<usize>", body)
+        fails = ghost("write_errors", errors(item))
+        text += impl(item, "SimpleAsn1Writable ", ERROR, fails, method(item, *tag), write, length)
+    return text
+
+
+def errors(item):
+    """Which errors a write may return: those of lists that are made in code."""
+    failing = [part for part in item.parts if part.fails]
+    found = [f"{quoted(part.form, part.fails)}.write_errors {group(field_value(part))}" for part in failing]
+    if len(found) < 2:
+        return f"λ v. {found[0]}" if found else "λ _ _. ⊥"
+    return f"λ v e. {' ⊎ '.join(f'{errors} e' for errors in found)}"
+
+
+def default(item, part):
     """The type that says a field's default."""
-    item, part = pair
-    name, inner = f"{item.name}{camel(part.name)}", part.form.inner[0]
-    value = f"{part.tag.capitalize()}::new({part.default})" if part.tag else part.default
-    ghost = f"record {{ inner = {part.default} }}" if part.tag else part.default
+    name, inner, value = item.name + camel(part.name), part.form.inner[0], part.default
+    term = value
+    if str(part.base).startswith("i"):
+        term = f"negsuc {-int(value) - 1}" if value.startswith("-") else f"pos {value}"
+    term, made = (f"record {{ inner = {term} }}", f"{part.tag.capitalize()}::new({value})") if part.tag else (term, value)
     return f"""
 /// What `{part.name}` is where it is left out.
 #[derive(Debug, PartialEq, Eq, Drop)]
 pub struct {name};
 
 impl DefaultValue<{inner}> for {name} {{
-    ghost default = {{ {ghost} }};
+{ghost("default", term)}
 
-    fn value() -> {inner} {{
-        {value}
-    }}
+{function(f"fn value() -> {inner}", made)}
 }}
 """
 
 
-def list_struct(item):
-    """A struct around a list, which stands in several places."""
-    alias, tag = f"{item.name}List{angle(item.life)}", "0x11" if item.type.name == "SetOf" else "0x10"
-    return f"""
-type {alias} = {item.type};
-
-{comment(item, "A list.")}
-#[derive({', '.join([*[name for name in KEPT if name in LIST], 'Drop'])})]
-pub struct {item.name}{angle(item.life)}(pub {alias});
-{simple_impls(item, alias, tag)}"""
+def list_alias(item):
+    return f"\n{comment(item, 'A list.')}\npub type {own(item)} = {item.type};\n"
 
 
-def nested(item, life=None):
-    """The library's choices of the variants: of more than three, the third is a choice of the others. Each by its name."""
-    forms, found, life = [part.form for part in item.parts], [], angle(item.life if life is None else life)
-    name = f"{item.name}Choice{life}"
-    while len(forms) > 3:
-        inner = f"{item.name}From{len(item.parts) - len(forms) + 3}{life}"
-        found.append((name, [*forms[:2], inner]))
-        name, forms = inner, forms[2:]
-    return [*found, (name, forms)]
+# ---- choices
 
 
-def arm(index, count, value):
-    """The pattern of the library's choice for one of so many."""
-    letter, sizes = "ABC"[min(index, 2)], min(count, 3)
-    inside = arm(index - 2, count - 2, value) if count > 3 and index >= 2 else value
-    return f"Choice{sizes}::Choice{letter}({inside})"
+def tree_of(parts):
+    """The variants as choices of at most three: up to eighteen each third one is a choice of the others, and more are
+    three such choices, since the compiler follows no longer chain."""
+    if len(parts) <= 3:
+        return parts
+    if len(parts) <= 18:
+        return [*parts[:2], tree_of(parts[2:])]
+    third = -(-len(parts) // 3)
+    return [tree_of(parts[start : start + third]) for start in range(0, len(parts), third)]
 
 
-def side(index, count, value):
+def choices_of(item, tree, life, name="Choice"):
+    """The library's choices of the variants, the whole one first: the name of each, and its alternatives."""
+    found, types = [], []
+    for branch in tree:
+        first = branch
+        while isinstance(first, list):
+            first = first[0]
+        at = f"From{item.parts.index(first) + 1}"
+        types.append(first.form if branch is first else item.name + at + angle(life))
+        found += [] if branch is first else choices_of(item, branch, life, at)
+    return [(item.name + name + angle(life), types), *found]
+
+
+def side(at, count):
     """Where the meaning of one of so many stands in their sum."""
-    value = value if index == count - 1 else f"(inl {value})"
-    for _ in range(index):
-        value = f"(inr {value})"
-    return value[1:-1]
+    return "(inr " * at + ("(inl {})" if at < count - 1 else "{}") + ")" * at
 
 
-def alternatives(forms):
+def places_of(tree, pattern="{}", place="{}"):
+    """Of each variant: the pattern of the library's choice, and where its meaning stands in the sum of all."""
+    for at, branch in enumerate(tree):
+        inner = pattern.format(f"Choice{len(tree)}::Choice{'ABC'[at]}({{}})")
+        within = place.format(side(at, len(tree)))
+        if isinstance(branch, list):
+            yield from places_of(branch, inner, within)
+        else:
+            yield inner, within
+
+
+def sum_of(forms):
     """The record of the alternatives, as the library's choice has it."""
     text = f"only {der(forms[-1])}"
     for form in reversed(forms[:-1]):
@@ -355,192 +272,101 @@ def alternatives(forms):
 
 def variants_of(item, specs):
     """The import of the variants, which stands in the impl: there no other enum's variants have these names."""
-    return f"ghost use {specs}{item.name}.TheVariants.{{{', '.join(part.name for part in item.parts)}}};"
+    return f"    ghost use {specs}{item.name}.TheVariants.{{{', '.join(part.name for part in item.parts)}}};"
+
+
+def match(item, body, other="", name="x"):
+    """A match with an arm for each variant, of which the default may be another."""
+    found = [f"{item.name}::{part.name}({name}) => {body(part)}," for part in item.parts if "default" not in part.attributes]
+    found += [f"{item.name}::{item.parts[-1].name}(x) => {other},"] if other else []
+    return f"match self {{ {lines_of(found)} }}"
+
+
+def writes(item, other=""):
+    """The methods that write a variant's value, and tell its length."""
+    length = f"{other}.encoded_length()" if other else ""
+    return (
+        function(
+            "fn write(&self, dest: &mut Writer<'_>) -> WriteResult<()>",
+            match(item, write_arm, f"dest.write_element(&{other})" if other else ""),
+        ),
+        function("fn encoded_length(&self) -> Option<usize>", match(item, length_arm, length)),
+    )
+
+
+def write_arm(part):
+    return f"dest.write_{part.tag}_element(x, {part.form.args[1]})" if part.tag else "dest.write_element(x)"
+
+
+def length_arm(part):
+    value = f"{part.tag.capitalize()}::<&{part.base}, {part.form.args[1]}>::new(x)" if part.tag else "x"
+    return f"{value}.encoded_length()"
 
 
 def choice(item, specs):
     """An enum whose variants are told by their tags."""
-    own, parts = item.name + angle(item.life), item.parts
-    choices = nested(item)
-    aliases = "\n".join(f"type {name} = Choice{len(forms)}<{', '.join(map(str, forms))}>;\n" for name, forms in choices)
-    cases = " | ".join(
-        f"{part.name} x ↦ {side(index, len(parts), f'({der(part.base)}.meaning x)')}" for index, part in enumerate(parts)
-    )
-    variants = "\n".join(f"    {comment(part, 'This alternative.')}\n    {part.name}({part.base})," for part in parts)
-    text = f"""
-{aliases}
-{comment(item, f"`{item.name}`.")}
-#[derive({', '.join([*item.derives, 'Drop'])})]
-pub enum {own} {{
-{variants}
-}}
-
-impl{angle(item.life)} Asn1Type for {own} {{
-    {variants_of(item, specs)}
-
-    ghost der = {{ choice_der (elim [ {cases} ]) ({alternatives(choices[0][1])}) }};
-
-    fn known(&self) {{
-        match self {{ {each_variant(item, lambda part: "x.known()")} }}
-    }}
-}}
-"""
-    text += choice_readable(item, own, choices[0][0]) if item.reads else ""
-    return text + (choice_writable(item, own) if item.writes else "")
-
-
-def each_variant(item, body):
-    return "\n".join(f"{item.name}::{part.name}(x) => {body(part)}," for part in item.parts)
-
-
-def choice_readable(item, own, alias):
-    life, count, arms = item.life or "'a", len(item.parts), []
-    for index, part in enumerate(item.parts):
-        value = "x.into_inner()" if part.tag else "x"
-        arms.append(f"{arm(index, count, 'x')} => Ok({item.name}::{part.name}({value})),")
-    return f"""
-impl<{life}> Asn1Readable<{life}> for {own} {{
-    fn parse(parser: &mut Parser<{life}>) -> ParseResult<{own}>{read_clauses(own) if item.life else ""} {{
-        match parser.read_element::<{alias}>()? {{ {' '.join(arms)} }}
-    }}
-
-    fn can_parse(tag: Tag) -> bool{accept_clauses(own) if item.life else ""} {{
-        <{alias} as Asn1Readable<{item.life or "'_"}>>::can_parse(tag)
-    }}
-}}
-"""
-
-
-def choice_writable(item, own):
-    return f"""
-impl{angle(item.life)} Asn1Writable for {own} {{
-    type Error = WriteError;
-
-    ghost write_errors = {{ λ _ _. ⊥ }};
-
-    fn write(&self, dest: &mut Writer<'_>) -> WriteResult<()> {{
-        match self {{ {each_variant(item, write_arm)} }}
-    }}
-
-    fn encoded_length(&self) -> Option<usize> {{
-        match self {{ {each_variant(item, length_arm)} }}
-    }}
-}}
-"""
-
-
-def read_clauses(own):
-    return clauses(
-        f"ensures answers {{ ReadsPrefix {der(own)} parser.old parser.new result }}",
-        "ensures rest { EndsWith parser.old parser.new }",
-        f"ensures stops {{ OnErr result ({der(own)}.stops parser.old parser.new) }}",
-    )
-
-
-def accept_clauses(own):
-    return clauses(f"ensures value {{ result ≡ {der(own)}.accepts tag }}", f"ensures plain {{ {der(own)}.plain }}")
-
-
-def write_arm(part):
-    if part.tag:
-        return f"dest.write_{part.tag}_element(x, {part.form.args[1]})"
-    return "dest.write_element(x)"
-
-
-def length_arm(part):
-    if part.tag:
-        return f"{part.tag.capitalize()}::<&{part.base}, {part.form.args[1]}>::new(x).encoded_length()"
-    return "x.encoded_length()"
-
-
-def lawful(items, name):
-    """A function whose contract says that the types that are read are lawful, and such of long choices, which it calls."""
-    items = [item for item in items if item.kind == "type" or item.reads and not item.is_defined]
-    types = [(item, item.name + ("<'static>" if item.life else "")) for item in items]
-    lines = [f"ensures {snake(item.name)} {{ HasOneEncoding {der(type)} }}" for item, type in types]
-    long = [item for item in items if item.kind == "enum" and len(item.parts) > 3]
-    calls = " ".join(f"{snake(item.name)}_is_lawful();" for item in long)
-    return "".join(map(long_choice_is_lawful, long)) + f"""
-/// Each value of these types has one encoding, which is read back.
-pub fn {name}_are_lawful(){clauses(*lines)} {{ {calls} }}
-"""
-
-
-def long_choice_is_lawful(item):
-    """A choice of more than three is lawful by parts: the last alternatives, then those with two more in front."""
-    text, call = "", ""
-    for name, _ in reversed(nested(item, item.life and "'static")):
-        is_whole = "From" not in name[len(item.name) :]
-        type = item.name + angle(item.life and "'static") if is_whole else name
-        function = snake(re.sub("<.*", "", type)) + "_is_lawful"
-        what = f"The alternatives of `{item.name}`" if is_whole else f"Those of `{re.sub('<.*', '', name)}`"
-        text += f"""
-/// {what} are told by their tags.
-fn {function}(){clauses(f"ensures {{ HasOneEncoding {der(type)} }}")} {{ {call} }}
-"""
-        call = f"{function}()"
+    life, tree, means = item.life or "'a", tree_of(item.parts), der(own(item))
+    choices, places = choices_of(item, tree, item.life), [*places_of(tree)]
+    alias, forms = choices[0]
+    text = "".join(f"\ntype {name} = Choice{len(forms)}<{', '.join(map(str, forms))}>;\n" for name, forms in choices)
+    text += stated(item, "This alternative.", [f"{part.name}({part.base})" for part in item.parts])
+    cases, arms = [], []
+    for part, (pattern, place) in zip(item.parts, places):
+        cases.append(f"{part.name} x ↦ {place.format(f'({der(part.base)}.meaning x)')[1:-1]}")
+        arms.append(f"{pattern.format('x')} => Ok({item.name}::{part.name}({'x.into_inner()' if part.tag else 'x'})),")
+    view = ghost("der", f"choice_der (elim [ {' | '.join(cases)} ]) ({sum_of(forms)})")
+    known = function("fn known(&self)", match(item, lambda part: "x.known()"))
+    text += impl(item, "Asn1Type ", variants_of(item, specs), view, known)
+    if item.reads:
+        parse = method(
+            item,
+            f"fn parse(parser: &mut Parser<{life}>) -> ParseResult<{own(item)}>",
+            f"match parser.read_element::<{alias}>()? {{ {' '.join(arms)} }}",
+            f"answers {{ ReadsPrefix {means} parser.old parser.new result }}",
+            "rest { EndsWith parser.old parser.new }",
+            f"stops {{ OnErr result ({means}.stops parser.old parser.new) }}",
+        )
+        body = f"<{alias} as Asn1Readable<{item.life or chr(39) + '_'}>>::can_parse(tag)"
+        clauses = f"value {{ result ≡ {means}.accepts tag }}", f"plain {{ {means}.plain }}"
+        can_parse = method(item, "fn can_parse(tag: Tag) -> bool", body, *clauses)
+        text += impl(item, f"Asn1Readable<{life}> ", parse, can_parse, life=life)
+    if item.writes:
+        text += impl(item, "Asn1Writable ", ERROR, ghost("write_errors", "λ _ _. ⊥"), *writes(item))
     return text
 
 
-def octets_of(item):
-    """The encoded numbers of an identifier (X.690 8.19.4), and its contents octets."""
-    first, second, *others = [int(arc.replace("_", "")) for arc in item.arcs]
-    if first > 2 or first < 2 and second > 39:
-        raise Rejected(item.line, f"`{item.name}` is no identifier: its second number is below 40 after 0 and 1")
-    numbers, octets = [40 * first + second, *others], []
-    for number in numbers:
-        digits = [number & 127]
-        while number := number >> 7:
-            digits.insert(0, number & 127 | 128)
-        octets += digits
-    if len(octets) > 63 or max(numbers) >= 2**128:
-        raise Rejected(item.line, f"`{item.name}` has more than 63 octets, or a number from 2^128 on")
-    return numbers, octets
+# ---- laws
 
 
-def terms(numbers):
-    return "".join(f"{number} ∷ " for number in numbers) + "[]"
+def lawful(module, item):
+    """The functions that say that each value of the type has one encoding: first those of the choices in a choice."""
+    if item.kind == "const" or item.is_defined or item.kind != "type" and not item.reads:
+        return ""
+    life = item.life and "'static"
+    if item.kind != "enum":
+        return law(module, item.name, life, [item.type] if item.type else [part.form for part in item.parts])
+    (_, types), *inner = choices_of(item, tree_of(item.parts), life)
+    text = "".join(law(module, name.split("<")[0], life, types, "") for name, types in reversed(inner))
+    return text + law(module, item.name, life, types)
 
 
-def identifier(item):
-    """A function that returns an identifier: its clause has the numbers, of which the first stands for two."""
-    numbers, octets = octets_of(item)
-    lets = "".join(f"    octets[{at}] = {octet:#04x};\n" for at, octet in enumerate(octets))
-    return f"""
-{comment(item, f"The identifier {'.'.join(item.arcs)}.")}
-pub fn {item.name.lower()}() -> ObjectIdentifier
-    ensures {{ identifier_of result ≡ {terms(numbers)} }}
-{{
-    let mut octets = [0; 63];
-{lets}    ObjectIdentifier::from_der_unchecked(octets, {len(octets)})
-}}
-"""
+def law(module, name, life, types, visible="pub "):
+    """The law of a type of these types, whose laws it calls. Where one may be missing, or for a choice, tags differ."""
+    names = dict.fromkeys(name for part in types for name in laws_of(module, part))
+    declared = module.items.get(name)
+    is_choice = not declared or declared.kind == "enum"
+    by_tags = BY_TAGS if is_choice or any(module.known(part).is_missing for part in types[:-1]) else ""
+    head, calls = f"{visible}fn {snake(name)}_is_lawful()", " ".join(f"{name}_is_lawful();" for name in names)
+    says = f"{{ HasOneEncoding {der(name + angle(life))} }}"
+    return f"\n/// Each value of `{name}` has one encoding, which is read back.\n{by_tags}{function(head, calls, says).strip()}\n"
 
 
-def identifier_answer(item, crate, path):
-    """The proofs that an identifier's function owes: it computes them."""
-    numbers, octets = octets_of(item)
-    small = "tt"
-    for _ in octets:
-        small = f"(lit< tt, {small})"
-    return f"""use Rattle.std.proofs.Common.{{◌≡◌, [], ◌∷◌, ◌∙◌, true, refl, lit<, lit≤}}
-use Rattle.std.specs.Prelude.{{is_some}}
-use Rattle.asn1.specs.Base128.{{number_front}}
-use Rattle.asn1.specs.Identifier.{{numbers_in, identifier_numbers}}
-use Rattle.asn1.specs.KnownIdentifiers.{{known_form}}
-use Rattle.{crate}.proofs.{path}{item.name.lower()}.Goals as goal
-
-are_numbers : is_some (numbers_in ({terms(octets)})) ≡ true
-unfolding numbers_in number_front
-are_numbers = refl
-
-numbers_are : identifier_numbers ({terms(octets)}) ≡ {terms(numbers)}
-unfolding numbers_in number_front
-numbers_are = refl
-
-pub from_der_unchecked-requires : goal.from_der_unchecked-requires
-from_der_unchecked-requires c = known_form ({terms(octets)}) (lit< tt) (lit≤ tt) are_numbers {small}
-
-pub returns : goal.returns
-returns c = c.from_der_unchecked.ensures ∙ numbers_are
-"""
+def laws_of(module, type):
+    """The names of the types in a type whose laws are said here, or imported."""
+    if isinstance(type, str):
+        return [snake(type.split("<")[0])]
+    declared = module.items.get(type.name)
+    if declared and not declared.is_defined or f"{snake(type.name)}_is_lawful" in module.imported:
+        return [snake(type.name)]
+    inner = [part.form for part in declared.parts] if declared else type.inner
+    return [name for part in inner for name in laws_of(module, part)]

@@ -103,7 +103,7 @@ struct TwoTags {
 #[derive(asn1::Asn1Read)]
 struct ImplicitChoice {
     #[implicit(0)]
-    either: Option<Either>, //~ `either` is implicit, and its type has no tag of its own
+    either: Option<Either>, //~ `Either` is implicit, and has no tag of its own
 }
 #[derive(asn1::Asn1Read)]
 enum Either {
@@ -124,12 +124,12 @@ enum Either {
 
 #[derive(asn1::Asn1Read)]
 struct TwiceMissing {
-    value: Option<Option<u8>>, //~ `value` is an option of an option
+    value: Option<Option<u8>>, //~ an option or a default of what may be missing itself
 }
 
 #[derive(asn1::Asn1Read)]
 struct Written<'a> {
-    items: asn1::SequenceOfWriter<'a, u8>, //~ `items` is a list that is written and not read
+    items: asn1::SequenceOfWriter<'a, u8>, //~ `items` is a list made in code: it stands only in a struct that isn't read
 }
 
 #[derive(asn1::Asn1Read)]
@@ -246,12 +246,17 @@ struct NumberByItem {
 
 use crate::content::Content;
 #[derive(asn1::Asn1Read)]
-struct TwoBetween {
-    kind: asn1::DefinedByMarker<asn1::ObjectIdentifier>, //~ `kind` marks an item: `#[defined_by(kind)]` has to follow, with at most one field between
-    number: u8,
-    other: u8,
+struct TwoMarkers {
+    kind: asn1::DefinedByMarker<asn1::ObjectIdentifier>, //~ `kind` marks an item: `#[defined_by(kind)]` has to follow, with no other marker between
+    other: asn1::DefinedByMarker<asn1::ObjectIdentifier>,
     #[defined_by(kind)]
     content: Content,
+}
+
+#[derive(asn1::Asn1Read)]
+struct OnlyMarked {
+    kind: asn1::DefinedByMarker<asn1::ObjectIdentifier>, //~ `kind` marks an item: `#[defined_by(kind)]` has to follow, with no other marker between
+    number: u8,
 }
 
 use crate::content::Content;
@@ -277,7 +282,7 @@ struct Referred<'a> {
 }
 
 #[derive(asn1::Asn1Read)]
-struct Structure { //~ `Structure` is a type of the library, which this file uses: name it otherwise
+struct Value { //~ `Value` is a word of the library, which this file uses: name it otherwise
     value: bool,
 }
 
@@ -291,3 +296,156 @@ struct Twice { //~ `Twice` is declared twice
 }
 
 fn main() {} //~ `fn` isn't a struct, an enum, an alias or an identifier's constant
+
+#[derive(asn1::Asn1Read)]
+struct OfRattle {
+    ensures: bool, //~ `ensures` is a word of Rust or Rattle: name it otherwise
+}
+
+#[derive(asn1::Asn1Read)]
+struct Ghost {
+    ghost: bool, //~ `ghost` is a word of Rust or Rattle: name it otherwise
+}
+
+#[derive(asn1::Asn1Read)]
+struct Raw {
+    r#type: bool, //~ `:` was expected, and `#` stands here
+}
+
+#[derive(asn1::Asn1Read)]
+struct FieldTwice {
+    value: bool,
+    value: u8, //~ `value` is declared twice
+}
+
+type Serial<'a> = asn1::BigUint<'a>; //~ `Serial` is an alias of another type than a list: write that type
+
+#[derive(asn1::Asn1Read)]
+struct ImplicitElement<'a> {
+    #[implicit(0, required = true)]
+    value: asn1::Tlv<'a>, //~ `Tlv<'a>` is implicit, and has no tag of its own
+}
+
+#[derive(asn1::Asn1Read)]
+struct Static {
+    value: &'static [u8], //~ a lifetime that `Static` doesn't declare
+}
+
+#[derive(asn1::Asn1Read)]
+struct OtherLife<'a> {
+    value: asn1::BigInt<'b>, //~ a lifetime that `OtherLife` doesn't declare
+}
+
+#[derive(asn1::Asn1Read)]
+struct NoLife {
+    value: asn1::BigInt, //~ `BigInt` lacks its lifetime, its type or its number, or has another
+}
+
+#[derive(asn1::Asn1Read)]
+struct NoTag {
+    value: asn1::Explicit<bool>, //~ `Explicit` lacks its lifetime, its type or its number, or has another
+}
+
+#[derive(asn1::Asn1Read)]
+struct LargeTag {
+    #[explicit(4294967296)]
+    value: Option<bool>, //~ a tag isn't a number from 0 to 4294967295
+}
+
+#[derive(asn1::Asn1Read)]
+struct LargeDefault {
+    #[default(300)]
+    value: u8, //~ `300` is no value of `u8`: a default is of a Boolean or an integer type
+}
+
+#[derive(asn1::Asn1Read)]
+struct SmallDefault {
+    #[default(-129)]
+    value: i8, //~ `-129` is no value of `i8`: a default is of a Boolean or an integer type
+}
+
+#[derive(asn1::Asn1Read)]
+struct NumberForBoolean {
+    #[default(1)]
+    value: bool, //~ `1` is no value of `bool`: a default is of a Boolean or an integer type
+}
+
+#[derive(asn1::Asn1Read)]
+struct DefaultOfALargeInteger<'a> {
+    #[default(1)]
+    value: asn1::BigUint<'a>, //~ `1` is no value of `BigUint<'a>`: a default is of a Boolean or an integer type
+}
+
+#[derive(asn1::Asn1Read)]
+#[cfg(test)] //~ the attribute `cfg` isn't known
+struct Conditional {
+    value: bool,
+}
+
+#[derive(asn1::Asn1Read)]
+struct Seventeen { //~ `Seventeen` has more than 16 fields
+    a: u8, b: u8, c: u8, d: u8, e: u8, f: u8, g: u8, h: u8, i: u8, j: u8, k: u8, l: u8, m: u8, n: u8, o: u8, p: u8,
+    q: u8,
+}
+
+#[derive(asn1::Asn1Read)]
+enum NoVariant {} //~ `NoVariant` has no variant, or more than 36
+
+#[derive(asn1::Asn1Read)]
+struct LifeOfNothing<'a> { //~ `LifeOfNothing` declares a lifetime, and nothing in it has one
+    value: bool,
+}
+
+#[derive(asn1::Asn1Read)]
+enum OptionalVariant {
+    Flag(Option<bool>), //~ `Flag` may be missing, and is an alternative of a choice
+    Number(u8),
+}
+
+#[derive(asn1::Asn1Write)]
+enum ListOfCode<'a> {
+    List(asn1::SetOfWriter<'a, u8>), //~ `List` is a list made in code: it stands only in a struct that isn't read
+    Number(u8),
+}
+
+#[derive(asn1::Asn1Read)]
+struct Extension {
+    #[default(false)]
+    critical: bool,
+    number: u8,
+}
+#[derive(asn1::Asn1Read)]
+struct ExtensionCritical { //~ `ExtensionCritical` is printed for `ExtensionCritical`, and for `Extension` too: name one otherwise
+    value: bool,
+}
+
+const SOME_OID: asn1::ObjectIdentifier = asn1::oid!(1, 2, 3);
+#[derive(asn1::Asn1DefinedByRead, asn1::Asn1DefinedByWrite)]
+enum AnyValue<'a> {
+    #[defined_by(SOME_OID)]
+    Octets(&'a [u8]),
+    #[default]
+    Other(asn1::ObjectIdentifier, asn1::Tlv<'a>),
+}
+#[derive(asn1::Asn1Read)]
+struct AmbiguousExtension<'a> {
+    kind: asn1::DefinedByMarker<asn1::ObjectIdentifier>,
+    #[default(false)]
+    critical: bool,
+    #[defined_by(kind)]
+    value: AnyValue<'a>, //~ a tag of `value` is one of `critical` too, from which it is told by its tag
+}
+
+const SOME_OID: asn1::ObjectIdentifier = asn1::oid!(1, 2, 3);
+#[derive(asn1::Asn1DefinedByRead, asn1::Asn1DefinedByWrite)]
+enum Flagged {
+    #[defined_by(SOME_OID)]
+    Flag(Option<bool>),
+}
+#[derive(asn1::Asn1Read)]
+struct FlagBehindFlag {
+    kind: asn1::DefinedByMarker<asn1::ObjectIdentifier>,
+    #[defined_by(kind)]
+    value: Flagged,
+    flag: bool, //~ a tag of `flag` is one of `value` too, from which it is told by its tag
+}

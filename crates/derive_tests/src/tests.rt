@@ -1,21 +1,18 @@
-//! Objects that openssl made are read as the printed types, looked at, and written back as the same octets.
-
-mod data;
+//! Values of the printed types are read, looked at, and written back as the same octets.
 
 use asn1::{
-    Asn1Readable, Asn1Writable, ObjectIdentifier, ParseError, ParseErrorKind, ParseLocation,
-    SetOfWriter, Tlv, WriteError, parse_single, write_readable, write_single,
+    Asn1Readable, Asn1Writable, DefinedByMarker, Explicit, ObjectIdentifier, OctetStringEncoded,
+    ParseError, ParseErrorKind, ParseLocation, SetOfWriter, Tlv, WriteError, parse_single,
+    write_readable, write_single,
 };
-use data::{CRL, CURVE_KEY, ED_KEY, NAMED_KEY};
-use derived::crl::{CertificateList, Revoked, RevokedCertificate, Time};
-use derived::keys::PrivateKeyInfo;
 use derived::page::{
     Alternative, AnyContent, AnyContentUnknown, AnySequence, Bag, Content, Entry, GeneralName,
-    MySequence, Notice, Signature, Tagged, other_oid, sha256_with_rsa, some_oid,
+    Letter, Listed, MySequence, Nothing, Notice, Signature, Tagged, other_oid, sha256_with_rsa,
+    some_oid,
 };
 use std::alloc::Global;
 use std::test::Fail;
-use testing::{are_both_ways, are_refused_with, refused};
+use testing::{are_both_ways, are_refused_with, both_ways, refused};
 
 /// Whether the octets are read as the type and written as the same octets, of which the type says how many they are.
 fn is_written_back<'a, T: Asn1Readable<'a> + Asn1Writable<Error = WriteError>>(
@@ -28,79 +25,36 @@ fn is_written_back<'a, T: Asn1Readable<'a> + Asn1Writable<Error = WriteError>>(
 }
 
 #[test]
-fn keys_are_written_back(rt: HostRuntime) -> Result<(), Fail> {
-    let alloc = rt.alloc();
-    for (text, count, attributes) in [
-        (ED_KEY, 34, false),
-        (CURVE_KEY, 109, false),
-        (NAMED_KEY, 34, true),
-    ] {
-        let octets = hex::decode(alloc, text)?;
-        let octets = octets.as_slice();
-        assert!(rt; is_written_back::<PrivateKeyInfo<'_>>(alloc, octets)?);
-        let key = parse_single::<PrivateKeyInfo<'_>>(alloc, octets)?;
-        assert_eq!(rt; key.version(), 0);
-        assert_eq!(rt; key.key().len(), count);
-        assert_eq!(rt; key.attributes().is_some(), attributes);
-    }
-    Ok(())
-}
-
-/// Whether this is the entry of the list: the certificate 1, with a short date and an extension, the reason.
-fn is_the_entry(revoked: &RevokedCertificate<'_>) -> bool {
-    let is_short = match revoked.date() {
-        Time::ShortTime(_) => true,
-        Time::LongTime(_) => false,
-    };
-    is_short && revoked.serial().as_bytes() == [1u8].as_slice() && revoked.extensions().is_some()
-}
-
-/// Whether the list has that entry alone.
-fn has_the_entry<'a>(list: &Option<Revoked<'a>>) -> Result<bool, Fail> {
-    let Some(list) = list else {
-        return Ok(false);
-    };
-    let mut found = false;
-    for revoked in list.0.clone()? {
-        if found || !is_the_entry(&revoked?) {
-            return Ok(false);
-        }
-        found = true;
-    }
-    Ok(found)
-}
-
-#[test]
-fn revocation_lists_are_written_back(rt: HostRuntime) -> Result<(), Fail> {
-    let alloc = rt.alloc();
-    let octets = hex::decode(alloc, CRL)?;
-    let octets = octets.as_slice();
-    assert!(rt; is_written_back::<CertificateList<'_>>(alloc, octets)?);
-    let list = parse_single::<CertificateList<'_>>(alloc, octets)?;
-    assert_eq!(rt; list.tbs().version(), Some(1));
-    assert!(rt; list.tbs().next_update().is_some());
-    assert!(rt; list.tbs().extensions().is_some());
-    assert!(rt; has_the_entry(list.tbs().revoked())?);
-    assert_eq!(rt; list.signature().as_bytes().len(), 72);
-    Ok(())
-}
-
-#[test]
 fn signatures(rt: HostRuntime) -> Result<(), Fail> {
     let alloc = rt.alloc();
     let octets: &[u8] = &[0x30, 6, 2, 1, 7, 2, 1, 9];
-    let written = write_single(alloc, &Signature::new(7, 9))?;
-    assert_eq!(rt; written.as_slice(), octets);
+    both_ways(alloc, Signature { r: 7, s: 9 }, octets)?;
     let signature = parse_single::<Signature>(alloc, octets)?;
-    assert_eq!(rt; (signature.r(), signature.s()), (7, 9));
-    Ok(())
+    assert_eq!(rt; (signature.r, signature.s), (7, 9));
+    are_refused_with::<Signature>(
+        alloc,
+        &[(
+            &[0x30, 3, 2, 1, 7],
+            at("Signature::s", ParseErrorKind::ShortData { needed: 1 }),
+        )],
+    )
+}
+
+#[test]
+fn no_fields(rt: HostRuntime) -> Result<(), Fail> {
+    let alloc = rt.alloc();
+    both_ways(alloc, Nothing {}, &[0x30, 0])?;
+    are_refused_with::<Nothing>(
+        alloc,
+        &[(&[0x30, 2, 5, 0], ParseError::new(ParseErrorKind::ExtraData))],
+    )
 }
 
 /// Fields with tags: each in its place, and with all that may be left out missing.
 const TAGGED: [&[u8]; 2] = [
     &[
-        0x30, 34, 0x80, 1, 0xab, 0xa1, 3, 2, 1, 5, 1, 1, 0xff, 0xa2, 3, 2, 1, 3, 0xa3, 6, 2, 1, 1,
-        2, 1, 2, 0xa4, 8, 0x30, 6, 2, 1, 7, 2, 1, 9,
+        0x30, 37, 0x80, 1, 0xab, 0xa1, 3, 2, 1, 5, 1, 1, 0xff, 0xa2, 3, 2, 1, 3, 0xa3, 6, 2, 1, 1,
+        2, 1, 2, 0xa4, 8, 0x30, 6, 2, 1, 7, 2, 1, 9, 0x85, 1, 7,
     ],
     &[
         0x30, 15, 0xa3, 3, 2, 1, 1, 0xa4, 8, 0x30, 6, 2, 1, 7, 2, 1, 9,
@@ -115,37 +69,51 @@ fn fields_with_tags(rt: HostRuntime) -> Result<(), Fail> {
     }
     let all = parse_single::<Tagged<'_>>(alloc, TAGGED[0])?;
     assert_eq!(rt;
-        (all.critical(), all.version(), all.signature().s()),
-        (true, 3, 9)
+        (all.octets, all.number),
+        (Some([0xabu8].as_slice()), Some(5))
     );
+    assert_eq!(rt; (all.critical, all.version, all.level), (true, 3, 7));
+    assert_eq!(rt; (all.numbers.len(), all.signature.s), (2, 9));
     let few = parse_single::<Tagged<'_>>(alloc, TAGGED[1])?;
-    assert_eq!(rt;
-        (few.critical(), few.version(), few.signature().r()),
-        (false, 1, 7)
-    );
-    assert!(rt; few.octets().is_none() && few.number().is_none());
+    assert_eq!(rt; (few.octets, few.number), (None, None));
+    assert_eq!(rt; (few.critical, few.version, few.level), (false, 1, -1));
+    assert_eq!(rt; (few.numbers.len(), few.signature.r), (1, 7));
     Ok(())
 }
 
-/// A default that is encoded, an empty list that has to have an item, and the tag of another field.
+/// Defaults that are encoded, an empty list that has to have an item, and a field that is missing.
 #[test]
 fn rejected_fields(rt: HostRuntime) -> Result<(), Fail> {
-    let alloc = rt.alloc();
-    let encoded = &[
-        0x30, 18, 1, 1, 0, 0xa3, 3, 2, 1, 1, 0xa4, 8, 0x30, 6, 2, 1, 7, 2, 1, 9,
-    ];
-    assert_eq!(rt;
-        refused::<Tagged<'_>>(alloc, encoded),
-        Some(ParseErrorKind::EncodedDefault)
-    );
-    let empty = &[0x30, 12, 0xa3, 0, 0xa4, 8, 0x30, 6, 2, 1, 7, 2, 1, 9];
     let size = ParseErrorKind::InvalidSize {
         min: 1,
         max: 4,
         actual: 0,
     };
-    assert_eq!(rt; refused::<Tagged<'_>>(alloc, empty), Some(size));
-    Ok(())
+    are_refused_with::<Tagged<'_>>(
+        rt.alloc(),
+        &[
+            (
+                &[
+                    0x30, 18, 1, 1, 0, 0xa3, 3, 2, 1, 1, 0xa4, 8, 0x30, 6, 2, 1, 7, 2, 1, 9,
+                ],
+                at("Tagged::critical", ParseErrorKind::EncodedDefault),
+            ),
+            (
+                &[
+                    0x30, 18, 0xa3, 3, 2, 1, 1, 0xa4, 8, 0x30, 6, 2, 1, 7, 2, 1, 9, 0x85, 1, 0xff,
+                ],
+                at("Tagged::level", ParseErrorKind::EncodedDefault),
+            ),
+            (
+                &[0x30, 12, 0xa3, 0, 0xa4, 8, 0x30, 6, 2, 1, 7, 2, 1, 9],
+                at("Tagged::numbers", size),
+            ),
+            (
+                &[0x30, 5, 0xa3, 3, 2, 1, 1],
+                at("Tagged::signature", ParseErrorKind::ShortData { needed: 1 }),
+            ),
+        ],
+    )
 }
 
 /// A name of each form (RFC 5280, 4.2.1.6), by its tag.
@@ -186,7 +154,7 @@ fn a_name_that_may_be_missing(rt: HostRuntime) -> Result<(), Fail> {
         assert!(rt; is_written_back::<Alternative<'_>>(alloc, octets)?);
     }
     let missing = parse_single::<Alternative<'_>>(alloc, &[0x30, 0])?;
-    assert!(rt; missing.name().is_none());
+    assert!(rt; missing.name.is_none());
     Ok(())
 }
 
@@ -206,7 +174,11 @@ fn identifiers(rt: HostRuntime) -> Result<(), Fail> {
 #[test]
 fn a_list_made_in_code(rt: HostRuntime) -> Result<(), Fail> {
     let octets: &[u8] = &[0x30, 11, 1, 1, 0xff, 0x31, 6, 2, 1, 1, 2, 1, 2];
-    let written = write_single(rt.alloc(), &Bag::new(true, SetOfWriter::new(&[2, 1])))?;
+    let bag = Bag {
+        full: true,
+        numbers: SetOfWriter::new(&[2, 1]),
+    };
+    let written = write_single(rt.alloc(), &bag)?;
     assert_eq!(rt; written.as_slice(), octets);
     Ok(())
 }
@@ -226,11 +198,23 @@ fn a_content_by_its_identifier(rt: HostRuntime) -> Result<(), Fail> {
     for octets in [number, null] {
         assert!(rt; is_written_back::<MySequence>(alloc, octets)?);
     }
-    let read = parse_single::<MySequence>(alloc, number)?;
-    assert!(rt; *read.content() == Content::SomeVariant(5));
+    let made = MySequence {
+        content_type: DefinedByMarker::marker(),
+        content: Content::SomeVariant(5),
+    };
+    both_ways(alloc, made, number)?;
     let kind = ParseErrorKind::UnknownDefinedBy;
     let unknown: &[u8] = &[0x30, 7, 6, 2, 0x2a, 4, 2, 1, 5];
     are_refused_with::<MySequence>(alloc, &[(unknown, at("MySequence::content", kind))])
+}
+
+/// A notice of the number five.
+fn notice(critical: bool) -> Notice {
+    Notice {
+        kind: DefinedByMarker::marker(),
+        critical,
+        content: Content::SomeVariant(5),
+    }
 }
 
 #[test]
@@ -240,27 +224,67 @@ fn a_field_between_an_identifier_and_its_content(rt: HostRuntime) -> Result<(), 
         alloc,
         &[
             (
-                Notice::new(true, Content::SomeVariant(5)),
+                notice(true),
                 &[0x30, 10, 6, 2, 0x2a, 3, 1, 1, 0xff, 2, 1, 5],
             ),
-            (
-                Notice::new(false, Content::SomeVariant(5)),
-                &[0x30, 7, 6, 2, 0x2a, 3, 2, 1, 5],
-            ),
+            (notice(false), &[0x30, 7, 6, 2, 0x2a, 3, 2, 1, 5]),
         ],
     )?;
-    let default: &[u8] = &[0x30, 10, 6, 2, 0x2a, 3, 1, 1, 0, 2, 1, 5];
-    let unknown: &[u8] = &[0x30, 10, 6, 2, 0x2a, 4, 1, 1, 0xff, 2, 1, 5];
     are_refused_with::<Notice>(
         alloc,
         &[
             (
-                default,
+                &[0x30, 10, 6, 2, 0x2a, 3, 1, 1, 0, 2, 1, 5],
                 at("Notice::critical", ParseErrorKind::EncodedDefault),
             ),
             (
-                unknown,
+                &[0x30, 10, 6, 2, 0x2a, 4, 1, 1, 0xff, 2, 1, 5],
                 at("Notice::content", ParseErrorKind::UnknownDefinedBy),
+            ),
+        ],
+    )
+}
+
+/// A letter with the number nine and the content five.
+fn letter(critical: bool, sent: Option<u8>) -> Letter {
+    Letter {
+        number: 9,
+        kind: DefinedByMarker::marker(),
+        critical,
+        sent,
+        content: Content::SomeVariant(5),
+        is_read: true,
+    }
+}
+
+#[test]
+fn two_fields_between_an_identifier_and_its_content(rt: HostRuntime) -> Result<(), Fail> {
+    let alloc = rt.alloc();
+    are_both_ways(
+        alloc,
+        &[
+            (
+                letter(true, Some(4)),
+                &[
+                    0x30, 19, 2, 1, 9, 6, 2, 0x2a, 3, 1, 1, 0xff, 0x80, 1, 4, 2, 1, 5, 1, 1, 0xff,
+                ],
+            ),
+            (
+                letter(false, None),
+                &[0x30, 13, 2, 1, 9, 6, 2, 0x2a, 3, 2, 1, 5, 1, 1, 0xff],
+            ),
+        ],
+    )?;
+    are_refused_with::<Letter>(
+        alloc,
+        &[
+            (
+                &[0x30, 13, 2, 1, 9, 6, 2, 0x2a, 4, 2, 1, 5, 1, 1, 0xff],
+                at("Letter::content", ParseErrorKind::UnknownDefinedBy),
+            ),
+            (
+                &[0x30, 10, 2, 1, 9, 6, 2, 0x2a, 3, 2, 1, 5],
+                at("Letter::is_read", ParseErrorKind::ShortData { needed: 1 }),
             ),
         ],
     )
@@ -297,9 +321,9 @@ fn contents_by_any_identifier(rt: HostRuntime) -> Result<(), Fail> {
         assert!(rt; is_written_back::<AnySequence<'_>>(alloc, octets)?);
     }
     let number = parse_single::<AnySequence<'_>>(alloc, CONTENTS[1])?;
-    assert!(rt; *number.content() == AnyContent::Number(9));
+    assert!(rt; number.content == AnyContent::Number(9));
     let other = parse_single::<AnySequence<'_>>(alloc, CONTENTS[4])?;
-    assert!(rt; is_null_by_another(other.content()));
+    assert!(rt; is_null_by_another(&other.content));
     assert!(rt; other.clone()? == other);
     let string = &[0x30, 6, 6, 2, 0x2a, 3, 5, 0];
     let refusal = refused::<AnySequence<'_>>(alloc, string);
@@ -328,19 +352,35 @@ fn contents_that_are_made(rt: HostRuntime) -> Result<(), Fail> {
         (AnyContent::Unknown(other), CONTENTS[4]),
     ];
     for (content, octets) in rows {
-        let written = write_readable(alloc, &AnySequence::new(content))?;
+        let made = AnySequence {
+            content_type: DefinedByMarker::marker(),
+            content,
+        };
+        let written = write_readable(alloc, &made)?;
         assert_eq!(rt; written.as_slice(), octets);
     }
     Ok(())
 }
 
-/// Entries: of numbers with a note, and of an identifier that no other variant is for, without one.
-const ENTRIES: [&[u8]; 2] = [
+/// Entries: of numbers with a note, of an identifier that no other variant is for, and of fields with tags.
+const ENTRIES: [&[u8]; 3] = [
     &[
         0x30, 17, 6, 2, 0x2a, 4, 0xa0, 8, 0x30, 6, 2, 1, 1, 2, 1, 2, 1, 1, 0xff,
     ],
     &[0x30, 8, 6, 2, 0x2a, 5, 0xa0, 2, 5, 0],
+    &[
+        0x30, 25, 6, 2, 0x2a, 3, 0xa0, 19, 4, 17, 0x30, 15, 0xa3, 3, 2, 1, 1, 0xa4, 8, 0x30, 6, 2,
+        1, 7, 2, 1, 9,
+    ],
 ];
+
+/// The number `s` in an entry of fields with tags.
+fn signed(entry: &Entry<'_>) -> Option<u64> {
+    match entry.listed.as_inner() {
+        Listed::Tagged(tagged) => Some(tagged.get().signature.s),
+        _ => None,
+    }
+}
 
 #[test]
 fn contents_under_a_tag(rt: HostRuntime) -> Result<(), Fail> {
@@ -349,7 +389,17 @@ fn contents_under_a_tag(rt: HostRuntime) -> Result<(), Fail> {
         assert!(rt; is_written_back::<Entry<'_>>(alloc, octets)?);
     }
     let entry = parse_single::<Entry<'_>>(alloc, ENTRIES[0])?;
-    assert_eq!(rt; entry.note(), Some(true));
+    assert_eq!(rt; (entry.note, signed(&entry)), (Some(true), None));
+    let entry = parse_single::<Entry<'_>>(alloc, ENTRIES[2])?;
+    assert_eq!(rt; (entry.note, signed(&entry)), (None, Some(9)));
+    let made = Entry {
+        kind: DefinedByMarker::marker(),
+        listed: Explicit::new(Listed::Tagged(OctetStringEncoded::new(parse_single::<Tagged<'_>>(
+            alloc, TAGGED[1],
+        )?))),
+        note: None,
+    };
+    both_ways(alloc, made, ENTRIES[2])?;
     let no_list = &[0x30, 8, 6, 2, 0x2a, 4, 0xa0, 2, 5, 0];
     let refusal = refused::<Entry<'_>>(alloc, no_list);
     assert!(rt; matches!(refusal, Some(ParseErrorKind::UnexpectedTag { .. })));

@@ -12,7 +12,7 @@ pub const SHA256_WITH_RSA: asn1::ObjectIdentifier = asn1::oid!(1, 2, 840, 113549
 pub const OTHER_OID: asn1::ObjectIdentifier = asn1::oid!(1, 2, 4);
 
 /// Two numbers, by plain names.
-#[derive(Asn1Read, Asn1Write, Debug, Clone, PartialEq, Eq, Hash)]
+#[derive(Asn1Read, Asn1Write, Debug, Clone, Copy, PartialEq, Eq, Hash)]
 pub struct Signature {
     /// The first.
     pub r: u64,
@@ -20,8 +20,12 @@ pub struct Signature {
     pub s: u64,
 }
 
+/// No fields.
+#[derive(Asn1Read, Asn1Write, Debug, Clone, PartialEq, Eq, Hash)]
+pub struct Nothing {}
+
 /// Fields with tags and defaults.
-#[derive(asn1::Asn1Read, asn1::Asn1Write, Debug, PartialEq, Eq)]
+#[derive(asn1::Asn1Read, asn1::Asn1Write, Debug, Clone, PartialEq, Eq, Hash)]
 pub struct Tagged<'a> {
     /// Octets under a tag in place of their own.
     #[implicit(0)]
@@ -42,6 +46,10 @@ pub struct Tagged<'a> {
     /// A signature under a tag around its own.
     #[explicit(4, required = true)]
     pub signature: Signature,
+    /// A number under a tag in place of its own: -1, unless said.
+    #[implicit(5)]
+    #[default(-1)]
+    pub level: i8,
 }
 
 /// A name of one of nine forms (RFC 5280, 4.2.1.6), some of whose types stand for longer ones.
@@ -149,19 +157,42 @@ pub struct Notice {
     pub content: Content,
 }
 
+/// Two fields between an identifier and what it defines, one before both, and one behind.
+#[derive(asn1::Asn1Read, asn1::Asn1Write, Debug, Clone, PartialEq, Eq, Hash)]
+pub struct Letter {
+    /// A number.
+    pub number: u64,
+    /// The identifier, which the content tells.
+    pub kind: asn1::DefinedByMarker<asn1::ObjectIdentifier>,
+    /// Whether the content has to be known: it need not, unless said.
+    #[default(false)]
+    pub critical: bool,
+    /// How often it was sent.
+    #[implicit(0)]
+    pub sent: Option<u8>,
+    /// The content.
+    #[defined_by(kind)]
+    pub content: Content,
+    /// Whether it was read.
+    pub is_read: bool,
+}
+
 /// Numbers, or any other content, before a note.
-#[derive(asn1::Asn1DefinedByRead, asn1::Asn1DefinedByWrite, Clone, PartialEq, Eq)]
+#[derive(asn1::Asn1DefinedByRead, asn1::Asn1DefinedByWrite, Debug, Clone, PartialEq, Eq)]
 pub enum Listed<'a> {
     /// Numbers.
     #[defined_by(OTHER_OID)]
     Numbers(asn1::SequenceOf<'a, u64>),
+    /// Fields with tags, whose encoding stands in octets.
+    #[defined_by(SOME_OID)]
+    Tagged(asn1::OctetStringEncoded<Tagged<'a>>),
     /// Every other identifier, and its value.
     #[default]
     Unknown(asn1::ObjectIdentifier, asn1::Tlv<'a>),
 }
 
 /// An identifier, what it defines under a tag, and a note.
-#[derive(asn1::Asn1Read, asn1::Asn1Write, PartialEq, Eq)]
+#[derive(asn1::Asn1Read, asn1::Asn1Write, Debug, PartialEq, Eq)]
 pub struct Entry<'a> {
     /// The identifier, which the list tells.
     pub kind: asn1::DefinedByMarker<asn1::ObjectIdentifier>,
@@ -174,7 +205,7 @@ pub struct Entry<'a> {
 }
 
 /// Whether a bag is full, and the numbers in it: it is made in code, and only written.
-#[derive(asn1::Asn1Write)]
+#[derive(asn1::Asn1Write, Debug, Clone, PartialEq, Eq, Hash)]
 pub struct Bag<'a> {
     /// Whether it is full.
     pub full: bool,

@@ -1,6 +1,4 @@
 //! Types that `scripts/derive` printed from the declarations in `declarations`, as it printed them.
 #![tactic(auto)]
 
-pub mod crl;
-pub mod keys;
 pub mod page;

@@ -1,31 +1,31 @@
 //! Each attribute of the original's derives, once.
+// Printed by scripts/derive from declarations/page.rs, with the sum 42c34124.
 
-ghost use Rattle.std.specs.Prelude.{◌≡◌, ◌⊎◌, ◌∷◌, [], map, true, false, ⊤, MatchOption, OnErr};
+ghost use Rattle.std.specs.Prelude.{◌≡◌, ◌⊎◌, ◌∷◌, [], codes, negsuc, true, false, ⊤, MatchOption, OnErr};
 ghost use Rattle.std.specs.Str.{bytes_eq};
 ghost use Rattle.std.proofs.Common.{inl, inr, refl, sym};
 ghost use Rattle.std.proofs.lemmas.Slice.Eq.{bytes_eq-Decides};
-ghost use Rattle.asn1.specs.Der.{seen};
 ghost use Rattle.asn1.specs.Choices.{choice_der, only, or};
-ghost use Rattle.asn1.specs.InHand.{defaulted_inner, explicit_inner, implicit_inner};
 ghost use Rattle.asn1.specs.IdentifierValues.{identifier_of};
 ghost use Rattle.asn1.specs.ItemsAndValues.{by_item, word_for_word};
 ghost use Rattle.asn1.specs.Options.{option_meaning};
 ghost use Rattle.asn1.specs.Reading.{EndsWith};
 ghost use Rattle.asn1.specs.Reads.{HasOneEncoding, ReadsContents, ReadsDefined, ReadsPrefix};
+ghost use Rattle.asn1.specs.Structures.{defaulted, explicit, implicit, structure, fields0, fields1, fields2, fields7};
 ghost use Rattle.asn1.specs.Variants.{any_variant, or_variant, variant};
-ghost use Rattle.derived.specs.declared.page.TheConstants.{SIGNATURE_NAMES, TAGGED_NAMES, ALTERNATIVE_NAMES, MY_SEQUENCE_NAMES, ANY_SEQUENCE_NAMES, NOTICE_NAMES, ENTRY_NAMES, BAG_NAMES};
+ghost use Rattle.derived.specs.declared.page.TheConstants.{OTHER_OID_NUMBERS, SHA256_WITH_RSA_NUMBERS, SOME_OID_NUMBERS};
 
 use asn1::fields::{
-    BetweenLast, Defined, DefinedField, DefinedLast, Field, FieldNames, Fields2, Fields6, Last,
-    Names, Structure,
+    Before, DefinedField, Field, Fields2, Fields7, Item, Last, LastValue, NoFields, Row, Value,
 };
 use asn1::laws::identifiers_compare;
 use asn1::{
     Asn1DefinedBy, Asn1DefinedByReadable, Asn1DefinedByWritable, Asn1Readable, Asn1Type,
-    Asn1Writable, Choice3, DefaultValue, Defaulted, Explicit, IA5String, Implicit, Null,
-    ObjectIdentifier, ParseError, ParseErrorKind, ParseResult, Parser, PrintableString, Sequence,
-    SequenceOf, SetOf, SetOfWriter, SimpleAsn1Readable, SimpleAsn1Writable, Tag, Tlv, WriteBuf,
-    WriteError, WriteResult, Writer,
+    Asn1Writable, Choice3, DefaultValue, Defaulted, DefinedByMarker, Explicit, IA5String, Implicit,
+    Null, ObjectIdentifier, OctetStringEncoded, ParseError, ParseErrorKind, ParseResult, Parser,
+    PrintableString, Sequence, SequenceOf, SetOf, SetOfWriter, SimpleAsn1Readable,
+    SimpleAsn1Writable, Tag, Tlv, WriteBuf, WriteError, WriteResult, Writer, fields_length,
+    known_fields, read_fields, write_fields,
 };
 use std::alloc::{AllocError, Global};
 
@@ -38,9 +38,12 @@ fn is_identifier(item: &ObjectIdentifier, known: ObjectIdentifier) -> bool
     *item == known
 }
 
+/// The numbers of [`some_oid`], as they are encoded: the first stands for two.
+pub const SOME_OID_NUMBERS: [u64; 2] = [42, 3];
+
 /// The identifier 1.2.3.
 pub fn some_oid() -> ObjectIdentifier
-    ensures { identifier_of result ≡ 42 ∷ 3 ∷ [] }
+    ensures { identifier_of result ≡ SOME_OID_NUMBERS }
 {
     let mut octets = [0; 63];
     octets[0] = 0x2a;
@@ -48,9 +51,12 @@ pub fn some_oid() -> ObjectIdentifier
     ObjectIdentifier::from_der_unchecked(octets, 2)
 }
 
+/// The numbers of [`sha256_with_rsa`], as they are encoded: the first stands for two.
+pub const SHA256_WITH_RSA_NUMBERS: [u64; 6] = [42, 840, 113549, 1, 1, 11];
+
 /// RSA with SHA-256 (RFC 8017).
 pub fn sha256_with_rsa() -> ObjectIdentifier
-    ensures { identifier_of result ≡ 42 ∷ 840 ∷ 113549 ∷ 1 ∷ 1 ∷ 11 ∷ [] }
+    ensures { identifier_of result ≡ SHA256_WITH_RSA_NUMBERS }
 {
     let mut octets = [0; 63];
     octets[0] = 0x2a;
@@ -65,9 +71,12 @@ pub fn sha256_with_rsa() -> ObjectIdentifier
     ObjectIdentifier::from_der_unchecked(octets, 9)
 }
 
+/// The numbers of [`other_oid`], as they are encoded: the first stands for two.
+pub const OTHER_OID_NUMBERS: [u64; 2] = [42, 4];
+
 /// The identifier 1.2.4.
 pub fn other_oid() -> ObjectIdentifier
-    ensures { identifier_of result ≡ 42 ∷ 4 ∷ [] }
+    ensures { identifier_of result ≡ OTHER_OID_NUMBERS }
 {
     let mut octets = [0; 63];
     octets[0] = 0x2a;
@@ -75,57 +84,23 @@ pub fn other_oid() -> ObjectIdentifier
     ObjectIdentifier::from_der_unchecked(octets, 2)
 }
 
-/// The fields.
-type SignatureFields = Structure<SignatureNames, Fields2<u64, u64>>;
-
-const SIGNATURE_NAMES: [&str; 2] = ["Signature::r", "Signature::s"];
-
-/// The names of the fields.
-struct SignatureNames;
-
-impl FieldNames for SignatureNames {
-    ghost names = { map (λ s. s.now) SIGNATURE_NAMES };
-
-    fn names() -> Names {
-        Names::new(&SIGNATURE_NAMES)
-    }
-}
-
 /// Two numbers, by plain names.
-#[derive(Debug, Clone, PartialEq, Eq, Hash, Drop)]
-pub struct Signature(SignatureFields);
-
-impl Signature {
-    /// Of these fields.
-    pub fn new(r: u64, s: u64) -> Signature
-        ensures r { result.0.fields.value ≡ r }
-        ensures s { result.0.fields.rest.value ≡ s }
-    {
-        let row = Last::new(s);
-        let row = Field::new(r, row);
-        Signature(Structure::new(row))
-    }
-
+#[derive(Debug, Clone, Copy, PartialEq, Eq, Hash)]
+pub struct Signature {
     /// The first.
-    pub fn r(&self) -> u64
-        ensures { result ≡ self.now.0.fields.value }
-    {
-        self.0.fields.value
-    }
-
+    pub r: u64,
     /// The second.
-    pub fn s(&self) -> u64
-        ensures { result ≡ self.now.0.fields.rest.value }
-    {
-        self.0.fields.rest.value
-    }
+    pub s: u64,
 }
+
+type SignatureFields = Fields2<u64, u64>;
 
 impl Asn1Type for Signature {
-    ghost der = { seen (λ v. v.0) ⟦<SignatureFields as Asn1Type>⟧.der };
+    ghost der = { structure (λ v. fields2 v.r v.s) ⟦<SignatureFields as Row>⟧.list
+        (codes "Signature::r" ∷ codes "Signature::s" ∷ []) };
 
     fn known(&self) {
-        self.0.known()
+        known_fields!(self; r, s)
     }
 }
 
@@ -135,10 +110,7 @@ impl<'a> SimpleAsn1Readable<'a> for Signature {
     }
 
     fn parse_data(alloc: Global, data: &'a [u8]) -> ParseResult<Signature> {
-        match <SignatureFields as SimpleAsn1Readable<'_>>::parse_data(alloc, data) {
-            Ok(fields) => Ok(Signature(fields)),
-            Err(error) => Err(error),
-        }
+        read_fields!(SignatureFields, alloc, data => Signature { r, s })
     }
 }
 
@@ -152,12 +124,73 @@ impl SimpleAsn1Writable for Signature {
     }
 
     fn write_data(&self, dest: &mut WriteBuf) -> WriteResult<()> {
-        self.0.write_data(dest)
+        write_fields!(self, dest; r, s)
     }
 
     fn data_length(&self) -> Option<usize> {
-        self.0.data_length()
+        fields_length!(self; r, s)
     }
+}
+
+/// No fields.
+#[derive(Debug, Clone, PartialEq, Eq, Hash, Drop)]
+pub struct Nothing {}
+
+type NothingFields = NoFields;
+
+impl Asn1Type for Nothing {
+    ghost der = { structure (λ v. fields0) ⟦<NothingFields as Row>⟧.list ([]) };
+
+    fn known(&self) {
+        known_fields!(self;)
+    }
+}
+
+impl<'a> SimpleAsn1Readable<'a> for Nothing {
+    fn tag() -> Tag {
+        Tag::constructed(0x10)
+    }
+
+    fn parse_data(alloc: Global, data: &'a [u8]) -> ParseResult<Nothing> {
+        read_fields!(NothingFields, alloc, data => Nothing {})
+    }
+}
+
+impl SimpleAsn1Writable for Nothing {
+    type Error = WriteError;
+
+    ghost write_errors = { λ _ _. ⊥ };
+
+    fn tag() -> Tag {
+        Tag::constructed(0x10)
+    }
+
+    fn write_data(&self, dest: &mut WriteBuf) -> WriteResult<()> {
+        write_fields!(self, dest;)
+    }
+
+    fn data_length(&self) -> Option<usize> {
+        fields_length!(self;)
+    }
+}
+
+/// Fields with tags and defaults.
+#[derive(Debug, Clone, PartialEq, Eq, Hash, Drop)]
+pub struct Tagged<'a> {
+    /// Octets under a tag in place of their own.
+    pub octets: Option<&'a [u8]>,
+    /// A number under a tag around its own.
+    pub number: Option<u64>,
+    /// Whether something is so: false, unless said.
+    pub critical: bool,
+    /// The version: 1, unless said.
+    pub version: u8,
+    /// Numbers under a tag in place of the list's own.
+    pub numbers: SequenceOf<'a, i32, 1, 4>,
+    /// A signature under a tag around its own.
+    pub signature: Signature,
+    /// A number under a tag in place of its own: -1, unless said.
+    pub level: i8,
 }
 
 /// What `critical` is where it is left out.
@@ -184,129 +217,55 @@ impl DefaultValue<Explicit<u8, 2>> for TaggedVersion {
     }
 }
 
-/// The fields.
-type TaggedFields<'a> = Structure<
-    TaggedNames,
-    Fields6<
-        Option<Implicit<&'a [u8], 0>>,
-        Option<Explicit<u64, 1>>,
-        Defaulted<bool, TaggedCritical>,
-        Defaulted<Explicit<u8, 2>, TaggedVersion>,
-        Implicit<SequenceOf<'a, i32, 1, 4>, 3>,
-        Explicit<Signature, 4>,
-    >,
+/// What `level` is where it is left out.
+#[derive(Debug, PartialEq, Eq, Drop)]
+pub struct TaggedLevel;
+
+impl DefaultValue<Implicit<i8, 5>> for TaggedLevel {
+    ghost default = { record { inner = negsuc 0 } };
+
+    fn value() -> Implicit<i8, 5> {
+        Implicit::new(-1)
+    }
+}
+
+type TaggedOctetsField<'a> = Option<Implicit<&'a [u8], 0>>;
+
+type TaggedNumberField = Option<Explicit<u64, 1>>;
+
+type TaggedCriticalField = Defaulted<bool, TaggedCritical>;
+
+type TaggedVersionField = Defaulted<Explicit<u8, 2>, TaggedVersion>;
+
+type TaggedNumbersField<'a> = Implicit<SequenceOf<'a, i32, 1, 4>, 3>;
+
+type TaggedSignatureField = Explicit<Signature, 4>;
+
+type TaggedLevelField = Defaulted<Implicit<i8, 5>, TaggedLevel>;
+
+type TaggedFields<'a> = Fields7<
+    TaggedOctetsField<'a>,
+    TaggedNumberField,
+    TaggedCriticalField,
+    TaggedVersionField,
+    TaggedNumbersField<'a>,
+    TaggedSignatureField,
+    TaggedLevelField,
 >;
 
-const TAGGED_NAMES: [&str; 6] = [
-    "Tagged::octets",
-    "Tagged::number",
-    "Tagged::critical",
-    "Tagged::version",
-    "Tagged::numbers",
-    "Tagged::signature",
-];
-
-/// The names of the fields.
-struct TaggedNames;
-
-impl FieldNames for TaggedNames {
-    ghost names = { map (λ s. s.now) TAGGED_NAMES };
-
-    fn names() -> Names {
-        Names::new(&TAGGED_NAMES)
-    }
-}
-
-/// Fields with tags and defaults.
-#[derive(PartialEq, Eq, Drop)]
-pub struct Tagged<'a>(TaggedFields<'a>);
-
-impl<'a> Tagged<'a> {
-    /// Of these fields.
-    pub fn new(
-        octets: Option<&'a [u8]>,
-        number: Option<u64>,
-        critical: bool,
-        version: u8,
-        numbers: SequenceOf<'a, i32, 1, 4>,
-        signature: Signature,
-    ) -> Tagged<'a>
-        ensures octets { option_meaning implicit_inner result.0.fields.value ≡ option_meaning (λ v.
-            v) octets.entry }
-        ensures number { option_meaning explicit_inner result.0.fields.rest.value ≡ option_meaning
-            (λ v. v) number }
-        ensures critical { defaulted_inner result.0.fields.rest.rest.value ≡ critical }
-        ensures version { explicit_inner (defaulted_inner result.0.fields.rest.rest.rest.value) ≡
-            version }
-        ensures numbers { implicit_inner result.0.fields.rest.rest.rest.rest.value ≡ numbers.entry }
-        ensures signature { explicit_inner result.0.fields.rest.rest.rest.rest.rest.value ≡
-            signature }
-    {
-        let octets = octets.map(Implicit::new);
-        let number = number.map(Explicit::new);
-        let critical = Defaulted::new(critical);
-        let version = Defaulted::new(Explicit::new(version));
-        let numbers = Implicit::new(numbers);
-        let signature = Explicit::new(signature);
-        let row = Last::new(signature);
-        let row = Field::new(numbers, row);
-        let row = Field::new(version, row);
-        let row = Field::new(critical, row);
-        let row = Field::new(number, row);
-        let row = Field::new(octets, row);
-        Tagged(Structure::new(row))
-    }
-
-    /// Octets under a tag in place of their own.
-    pub fn octets(&self) -> Option<&'a [u8]>
-        ensures { option_meaning (λ v. v) result ≡ option_meaning implicit_inner
-            self.now.0.fields.value }
-    {
-        self.0.fields.value.map(Implicit::into_inner)
-    }
-
-    /// A number under a tag around its own.
-    pub fn number(&self) -> Option<u64>
-        ensures { option_meaning (λ v. v) result ≡ option_meaning explicit_inner
-            self.now.0.fields.rest.value }
-    {
-        self.0.fields.rest.value.map(Explicit::into_inner)
-    }
-
-    /// Whether something is so: false, unless said.
-    pub fn critical(&self) -> bool
-        ensures { result ≡ defaulted_inner self.now.0.fields.rest.rest.value }
-    {
-        *self.0.fields.rest.rest.value.as_inner()
-    }
-
-    /// The version: 1, unless said.
-    pub fn version(&self) -> u8
-        ensures { result ≡ explicit_inner (defaulted_inner self.now.0.fields.rest.rest.rest.value) }
-    {
-        *self.0.fields.rest.rest.rest.value.as_inner().as_inner()
-    }
-
-    /// Numbers under a tag in place of the list's own.
-    pub fn numbers(&self) -> &SequenceOf<'a, i32, 1, 4>
-        ensures { result.now ≡ implicit_inner self.now.0.fields.rest.rest.rest.rest.value }
-    {
-        self.0.fields.rest.rest.rest.rest.value.as_inner()
-    }
-
-    /// A signature under a tag around its own.
-    pub fn signature(&self) -> &Signature
-        ensures { result.now ≡ explicit_inner self.now.0.fields.rest.rest.rest.rest.rest.value }
-    {
-        self.0.fields.rest.rest.rest.rest.rest.value.as_inner()
-    }
-}
-
 impl<'a> Asn1Type for Tagged<'a> {
-    ghost der = { seen (λ v. v.0) ⟦<TaggedFields<'a> as Asn1Type>⟧.der };
+    ghost der = { structure (λ v. fields7 (option_meaning implicit v.octets) (option_meaning
+        explicit v.number) (defaulted v.critical) (defaulted (explicit v.version)) (implicit
+        v.numbers) (explicit v.signature) (defaulted (implicit v.level)))
+        ⟦<TaggedFields<'a> as Row>⟧.list (codes "Tagged::octets" ∷ codes "Tagged::number" ∷
+        codes "Tagged::critical" ∷ codes "Tagged::version" ∷ codes "Tagged::numbers" ∷
+        codes "Tagged::signature" ∷ codes "Tagged::level" ∷ []) };
 
     fn known(&self) {
-        self.0.known()
+        known_fields!(self;
+            octets: TaggedOctetsField<'a>, number: TaggedNumberField, critical: TaggedCriticalField,
+            version: TaggedVersionField, numbers: TaggedNumbersField<'a>,
+            signature: TaggedSignatureField, level: TaggedLevelField)
     }
 }
 
@@ -322,10 +281,11 @@ impl<'a> SimpleAsn1Readable<'a> for Tagged<'a> {
     fn parse_data(alloc: Global, data: &'a [u8]) -> ParseResult<Tagged<'a>>
         ensures { ReadsContents ⟦<Tagged<'a> as Asn1Type>⟧.der «data».entry.now result }
     {
-        match <TaggedFields<'a> as SimpleAsn1Readable<'a>>::parse_data(alloc, data) {
-            Ok(fields) => Ok(Tagged(fields)),
-            Err(error) => Err(error),
-        }
+        read_fields!(TaggedFields<'a>, alloc, data => Tagged {
+            octets: TaggedOctetsField<'a>, number: TaggedNumberField, critical: TaggedCriticalField,
+            version: TaggedVersionField, numbers: TaggedNumbersField<'a>,
+            signature: TaggedSignatureField, level: TaggedLevelField
+        })
     }
 }
 
@@ -342,11 +302,17 @@ impl<'a> SimpleAsn1Writable for Tagged<'a> {
     }
 
     fn write_data(&self, dest: &mut WriteBuf) -> WriteResult<()> {
-        self.0.write_data(dest)
+        write_fields!(self, dest;
+            octets: TaggedOctetsField<'a>, number: TaggedNumberField, critical: TaggedCriticalField,
+            version: TaggedVersionField, numbers: TaggedNumbersField<'a>,
+            signature: TaggedSignatureField, level: TaggedLevelField)
     }
 
     fn data_length(&self) -> Option<usize> {
-        self.0.data_length()
+        fields_length!(self;
+            octets: TaggedOctetsField<'a>, number: TaggedNumberField, critical: TaggedCriticalField,
+            version: TaggedVersionField, numbers: TaggedNumbersField<'a>,
+            signature: TaggedSignatureField, level: TaggedLevelField)
     }
 }
 
@@ -375,7 +341,7 @@ type GeneralNameFrom7<'a> = Choice3<
 >;
 
 /// A name of one of nine forms (RFC 5280, 4.2.1.6), some of whose types stand for longer ones.
-#[derive(PartialEq, Eq, Drop)]
+#[derive(Debug, PartialEq, Eq, Drop)]
 pub enum GeneralName<'a> {
     /// A name by a type that is named by an identifier.
     OtherName(Signature),
@@ -511,102 +477,24 @@ impl<'a> Asn1Writable for GeneralName<'a> {
     }
 }
 
-type StringsList<'a> = SetOf<'a, PrintableString<'a>>;
-
 /// Strings, in the order of a set.
-#[derive(Clone, PartialEq, Eq, Hash, Drop)]
-pub struct Strings<'a>(pub StringsList<'a>);
-
-impl<'a> Asn1Type for Strings<'a> {
-    ghost der = { seen (λ v. v.0) ⟦<StringsList<'a> as Asn1Type>⟧.der };
-
-    fn known(&self) {
-        self.0.known()
-    }
-}
-
-impl<'a> SimpleAsn1Readable<'a> for Strings<'a> {
-    fn tag() -> Tag
-        ensures value { result ≡ ⟦<Strings<'a> as Asn1Type>⟧.der.content.tag }
-        ensures simple { ⟦<Strings<'a> as Asn1Type>⟧.der.is_simple }
-        ensures plain { ⟦<Strings<'a> as Asn1Type>⟧.der.plain }
-    {
-        Tag::constructed(0x11)
-    }
-
-    fn parse_data(alloc: Global, data: &'a [u8]) -> ParseResult<Strings<'a>>
-        ensures { ReadsContents ⟦<Strings<'a> as Asn1Type>⟧.der «data».entry.now result }
-    {
-        match <StringsList<'a> as SimpleAsn1Readable<'a>>::parse_data(alloc, data) {
-            Ok(fields) => Ok(Strings(fields)),
-            Err(error) => Err(error),
-        }
-    }
-}
-
-impl<'a> SimpleAsn1Writable for Strings<'a> {
-    type Error = WriteError;
-
-    ghost write_errors = { λ _ _. ⊥ };
-
-    fn tag() -> Tag
-        ensures value { result ≡ ⟦<Strings<'a> as Asn1Type>⟧.der.content.tag }
-        ensures simple { ⟦<Strings<'a> as Asn1Type>⟧.der.is_simple }
-    {
-        Tag::constructed(0x11)
-    }
-
-    fn write_data(&self, dest: &mut WriteBuf) -> WriteResult<()> {
-        self.0.write_data(dest)
-    }
-
-    fn data_length(&self) -> Option<usize> {
-        self.0.data_length()
-    }
-}
-
-/// The fields.
-type AlternativeFields<'a> = Structure<AlternativeNames, Last<Option<GeneralName<'a>>>>;
-
-const ALTERNATIVE_NAMES: [&str; 1] = ["Alternative::name"];
-
-/// The names of the fields.
-struct AlternativeNames;
-
-impl FieldNames for AlternativeNames {
-    ghost names = { map (λ s. s.now) ALTERNATIVE_NAMES };
-
-    fn names() -> Names {
-        Names::new(&ALTERNATIVE_NAMES)
-    }
-}
+pub type Strings<'a> = SetOf<'a, PrintableString<'a>>;
 
 /// A choice that stands in a structure, where it may be missing.
-#[derive(PartialEq, Eq, Drop)]
-pub struct Alternative<'a>(AlternativeFields<'a>);
-
-impl<'a> Alternative<'a> {
-    /// Of these fields.
-    pub fn new(name: Option<GeneralName<'a>>) -> Alternative<'a>
-        ensures name { result.0.fields.value ≡ name.entry }
-    {
-        let row = Last::new(name);
-        Alternative(Structure::new(row))
-    }
-
+#[derive(Debug, PartialEq, Eq, Drop)]
+pub struct Alternative<'a> {
     /// The name, if there is one.
-    pub fn name(&self) -> &Option<GeneralName<'a>>
-        ensures { result.now ≡ self.now.0.fields.value }
-    {
-        &self.0.fields.value
-    }
+    pub name: Option<GeneralName<'a>>,
 }
 
+type AlternativeFields<'a> = Last<Option<GeneralName<'a>>>;
+
 impl<'a> Asn1Type for Alternative<'a> {
-    ghost der = { seen (λ v. v.0) ⟦<AlternativeFields<'a> as Asn1Type>⟧.der };
+    ghost der = { structure (λ v. fields1 v.name) ⟦<AlternativeFields<'a> as Row>⟧.list
+        (codes "Alternative::name" ∷ []) };
 
     fn known(&self) {
-        self.0.known()
+        known_fields!(self; name)
     }
 }
 
@@ -622,10 +510,7 @@ impl<'a> SimpleAsn1Readable<'a> for Alternative<'a> {
     fn parse_data(alloc: Global, data: &'a [u8]) -> ParseResult<Alternative<'a>>
         ensures { ReadsContents ⟦<Alternative<'a> as Asn1Type>⟧.der «data».entry.now result }
     {
-        match <AlternativeFields<'a> as SimpleAsn1Readable<'a>>::parse_data(alloc, data) {
-            Ok(fields) => Ok(Alternative(fields)),
-            Err(error) => Err(error),
-        }
+        read_fields!(AlternativeFields<'a>, alloc, data => Alternative { name })
     }
 }
 
@@ -642,56 +527,36 @@ impl<'a> SimpleAsn1Writable for Alternative<'a> {
     }
 
     fn write_data(&self, dest: &mut WriteBuf) -> WriteResult<()> {
-        self.0.write_data(dest)
+        write_fields!(self, dest; name)
     }
 
     fn data_length(&self) -> Option<usize> {
-        self.0.data_length()
-    }
-}
-
-/// The fields.
-type MySequenceFields = Structure<MySequenceNames, DefinedLast<ObjectIdentifier, Content>>;
-
-const MY_SEQUENCE_NAMES: [&str; 2] = ["MySequence::content_type", "MySequence::content"];
-
-/// The names of the fields.
-struct MySequenceNames;
-
-impl FieldNames for MySequenceNames {
-    ghost names = { map (λ s. s.now) MY_SEQUENCE_NAMES };
-
-    fn names() -> Names {
-        Names::new(&MY_SEQUENCE_NAMES)
+        fields_length!(self; name)
     }
 }
 
 /// An identifier, and what it defines.
 #[derive(Debug, Clone, PartialEq, Eq, Hash, Drop)]
-pub struct MySequence(MySequenceFields);
-
-impl MySequence {
-    /// Of these fields.
-    pub fn new(content: Content) -> MySequence
-        ensures content { result.0.fields.value ≡ content }
-    {
-        let row = DefinedLast::new(content);
-        MySequence(Structure::new(row))
-    }
-
+pub struct MySequence {
+    /// The identifier, which the content tells.
+    pub content_type: DefinedByMarker<ObjectIdentifier>,
     /// The content.
-    pub fn content(&self) -> &Content
-        ensures { result.now ≡ self.now.0.fields.value }
-    {
-        &self.0.fields.value
-    }
+    pub content: Content,
 }
 
+type MySequenceFields = Item<ObjectIdentifier, LastValue<Content>>;
+
 impl Asn1Type for MySequence {
-    ghost der = { seen (λ v. v.0) ⟦<MySequenceFields as Asn1Type>⟧.der };
+    ghost der = { structure (λ v. record {
+      value = v.content_type;
+      rest = record {
+        value = v.content;
+      };
+    }) ⟦<MySequenceFields as Row>⟧.list (codes "MySequence::content_type" ∷
+        codes "MySequence::content" ∷ []) };
 
     fn known(&self) {
-        self.0.known()
+        known_fields!(self; content_type of content: ObjectIdentifier, content by ObjectIdentifier)
     }
 }
 
@@ -701,10 +566,7 @@ impl<'a> SimpleAsn1Readable<'a> for MySequence {
     }
 
     fn parse_data(alloc: Global, data: &'a [u8]) -> ParseResult<MySequence> {
-        match <MySequenceFields as SimpleAsn1Readable<'_>>::parse_data(alloc, data) {
-            Ok(fields) => Ok(MySequence(fields)),
-            Err(error) => Err(error),
-        }
+        read_fields!(MySequenceFields, alloc, data => MySequence { content_type, content })
     }
 }
 
@@ -718,11 +580,12 @@ impl SimpleAsn1Writable for MySequence {
     }
 
     fn write_data(&self, dest: &mut WriteBuf) -> WriteResult<()> {
-        self.0.write_data(dest)
+        write_fields!(self, dest;
+            content_type of content: ObjectIdentifier, content by ObjectIdentifier)
     }
 
     fn data_length(&self) -> Option<usize> {
-        self.0.data_length()
+        fields_length!(self; content_type of content: ObjectIdentifier, content by ObjectIdentifier)
     }
 }
 
@@ -742,21 +605,21 @@ impl Asn1DefinedBy<ObjectIdentifier> for Content {
       item = ⟦<ObjectIdentifier as Asn1Type>⟧.der;
       value = or_variant
           (record {
-            item = 42 ∷ 3 ∷ [];
-            is = λ n. bytes_eq n (42 ∷ 3 ∷ []);
+            item = SOME_OID_NUMBERS;
+            is = λ n. bytes_eq n SOME_OID_NUMBERS;
             itself = refl;
-            alone = λ n
-                e. sym ((bytes_eq-Decides n (42 ∷ 3 ∷ [])).0 e);
-          }) ⟦<i32 as Asn1Type>⟧.der (variant (record {
-            item = 42 ∷ 840 ∷ 113549 ∷ 1 ∷ 1 ∷ 11 ∷ [];
-            is = λ n. bytes_eq n (42 ∷ 840 ∷ 113549 ∷ 1 ∷
-                1 ∷ 11 ∷ []);
+            alone = λ n e. sym ((bytes_eq-Decides n SOME_OID_NUMBERS).0 e);
+          }) ⟦<i32 as Asn1Type>⟧.der
+          (variant (record {
+            item = SHA256_WITH_RSA_NUMBERS;
+            is = λ n. bytes_eq n
+                SHA256_WITH_RSA_NUMBERS;
             itself = refl;
-            alone = λ n e. sym ((bytes_eq-Decides n (42 ∷ 840 ∷ 113549 ∷ 1
-                ∷ 1 ∷ 11 ∷ [])).0 e);
+            alone = λ n e. sym ((bytes_eq-Decides n
+                SHA256_WITH_RSA_NUMBERS).0 e);
           }) ⟦<Null as Asn1Type>⟧.der (λ m. m)) (elim [
-            | SomeVariant x ↦ inl
-                (⟦<i32 as Asn1Type>⟧.der.meaning x)
+            | SomeVariant x ↦
+                inl (⟦<i32 as Asn1Type>⟧.der.meaning x)
             | RsaParameters x ↦ inr (⟦<Null as Asn1Type>⟧.der.meaning x)
           ]);
     }) };
@@ -832,18 +695,18 @@ impl Asn1DefinedByWritable<ObjectIdentifier> for Content {
 pub struct AnyContentUnknown<'a> {
     item: ObjectIdentifier,
     value: Tlv<'a>,
-    pub ghost is_not_some_oid: { bytes_eq (identifier_of item) (42 ∷ 3 ∷ []) ≡ false },
-    pub ghost is_not_other_oid: { bytes_eq (identifier_of item) (42 ∷ 4 ∷ []) ≡ false },
-    pub ghost is_not_sha256_with_rsa: { bytes_eq (identifier_of item) (42 ∷ 840 ∷ 113549 ∷ 1 ∷ 1 ∷
-        11 ∷ []) ≡ false },
+    pub ghost is_not_some_oid: { bytes_eq (identifier_of item) SOME_OID_NUMBERS ≡ false },
+    pub ghost is_not_other_oid: { bytes_eq (identifier_of item) OTHER_OID_NUMBERS ≡ false },
+    pub ghost is_not_sha256_with_rsa: { bytes_eq (identifier_of item) SHA256_WITH_RSA_NUMBERS ≡
+        false },
 }
 
 impl<'a> AnyContentUnknown<'a> {
     /// Of this identifier and this value; `None` where another variant is for the identifier.
     pub fn new(item: ObjectIdentifier, value: Tlv<'a>) -> Option<AnyContentUnknown<'a>>
-        ensures { MatchOption result ((bytes_eq (identifier_of item) (42 ∷ 3 ∷ []) ≡ true) ⊎
-            ((bytes_eq (identifier_of item) (42 ∷ 4 ∷ []) ≡ true) ⊎ (bytes_eq (identifier_of item)
-            (42 ∷ 840 ∷ 113549 ∷ 1 ∷ 1 ∷ 11 ∷ []) ≡ true))) (λ v. (v.item ≡ item) × (v.value ≡
+        ensures { MatchOption result ((bytes_eq (identifier_of item) SOME_OID_NUMBERS ≡ true) ⊎
+            ((bytes_eq (identifier_of item) OTHER_OID_NUMBERS ≡ true) ⊎ (bytes_eq (identifier_of
+            item) SHA256_WITH_RSA_NUMBERS ≡ true))) (λ v. (v.item ≡ item) × (v.value ≡
             value.entry)) }
     {
         if is_identifier(&item, some_oid())
@@ -903,30 +766,29 @@ impl<'a> Asn1DefinedBy<ObjectIdentifier> for AnyContent<'a> {
       item = ⟦<ObjectIdentifier as Asn1Type>⟧.der;
       value = or_variant
           (record {
-            item = 42 ∷ 3 ∷ [];
-            is = λ n. bytes_eq n (42 ∷ 3 ∷ []);
+            item = SOME_OID_NUMBERS;
+            is = λ n. bytes_eq n SOME_OID_NUMBERS;
             itself = refl;
-            alone = λ n
-                e. sym ((bytes_eq-Decides n (42 ∷ 3 ∷ [])).0 e);
-          }) ⟦<&'a [u8] as Asn1Type>⟧.der (or_variant
-          (record {
-            item = 42 ∷ 4 ∷ [];
-            is = λ n. bytes_eq n (42 ∷ 4 ∷ []);
+            alone = λ n e. sym ((bytes_eq-Decides n SOME_OID_NUMBERS).0 e);
+          })
+          ⟦<&'a [u8] as Asn1Type>⟧.der (or_variant (record {
+            item = OTHER_OID_NUMBERS;
+            is = λ n.
+                bytes_eq n OTHER_OID_NUMBERS;
             itself = refl;
-            alone = λ n
-                e. sym ((bytes_eq-Decides n (42 ∷ 4 ∷ [])).0 e);
-          }) ⟦<Explicit<u32, 1> as Asn1Type>⟧.der
-          (or_variant (record {
-            item = 42 ∷ 840 ∷ 113549 ∷ 1 ∷ 1 ∷ 11 ∷ [];
-            is = λ n. bytes_eq n (42 ∷
-                840 ∷ 113549 ∷ 1 ∷ 1 ∷ 11 ∷ []);
+            alone = λ n e. sym ((bytes_eq-Decides n
+                OTHER_OID_NUMBERS).0 e);
+          }) ⟦<Explicit<u32, 1> as Asn1Type>⟧.der (or_variant (record {
+            item =
+                SHA256_WITH_RSA_NUMBERS;
+            is = λ n. bytes_eq n SHA256_WITH_RSA_NUMBERS;
             itself = refl;
-            alone = λ n e. sym ((bytes_eq-Decides n (42
-                ∷ 840 ∷ 113549 ∷ 1 ∷ 1 ∷ 11 ∷ [])).0 e);
-          }) ⟦<Option<bool> as Asn1Type>⟧.der (any_variant
-          ⟦<Tlv<'a> as Asn1Type>⟧.der (λ m. m)) (λ m. m)) (λ m. m)) (elim [
-            | Octets x ↦ inl
-                (⟦<&'a [u8] as Asn1Type>⟧.der.meaning x)
+            alone
+                = λ n e. sym ((bytes_eq-Decides n SHA256_WITH_RSA_NUMBERS).0 e);
+          })
+          ⟦<Option<bool> as Asn1Type>⟧.der (any_variant ⟦<Tlv<'a> as Asn1Type>⟧.der (λ m. m)) (λ m.
+          m)) (λ m. m)) (elim [
+            | Octets x ↦ inl (⟦<&'a [u8] as Asn1Type>⟧.der.meaning x)
             | Number x ↦ inr (inl (⟦<u32 as Asn1Type>⟧.der.meaning x))
             | Flag x ↦ inr (inr (inl (⟦<Option<bool> as Asn1Type>⟧.der.meaning x)))
             | Unknown x ↦ inr (inr (inr (
@@ -1028,51 +890,28 @@ impl<'a> Asn1DefinedByWritable<ObjectIdentifier> for AnyContent<'a> {
     }
 }
 
-/// The fields.
-type AnySequenceFields<'a> = Structure<
-    AnySequenceNames,
-    DefinedLast<ObjectIdentifier, AnyContent<'a>>,
->;
-
-const ANY_SEQUENCE_NAMES: [&str; 2] = ["AnySequence::content_type", "AnySequence::content"];
-
-/// The names of the fields.
-struct AnySequenceNames;
-
-impl FieldNames for AnySequenceNames {
-    ghost names = { map (λ s. s.now) ANY_SEQUENCE_NAMES };
-
-    fn names() -> Names {
-        Names::new(&ANY_SEQUENCE_NAMES)
-    }
-}
-
 /// An identifier, and what it defines, whatever it is.
 #[derive(Debug, Clone, PartialEq, Eq, Hash, Drop)]
-pub struct AnySequence<'a>(AnySequenceFields<'a>);
-
-impl<'a> AnySequence<'a> {
-    /// Of these fields.
-    pub fn new(content: AnyContent<'a>) -> AnySequence<'a>
-        ensures content { result.0.fields.value ≡ content.entry }
-    {
-        let row = DefinedLast::new(content);
-        AnySequence(Structure::new(row))
-    }
-
+pub struct AnySequence<'a> {
+    /// The identifier, which the content tells.
+    pub content_type: DefinedByMarker<ObjectIdentifier>,
     /// The content.
-    pub fn content(&self) -> &AnyContent<'a>
-        ensures { result.now ≡ self.now.0.fields.value }
-    {
-        &self.0.fields.value
-    }
+    pub content: AnyContent<'a>,
 }
 
+type AnySequenceFields<'a> = Item<ObjectIdentifier, LastValue<AnyContent<'a>>>;
+
 impl<'a> Asn1Type for AnySequence<'a> {
-    ghost der = { seen (λ v. v.0) ⟦<AnySequenceFields<'a> as Asn1Type>⟧.der };
+    ghost der = { structure (λ v. record {
+      value = v.content_type;
+      rest = record {
+        value = v.content;
+      };
+    }) ⟦<AnySequenceFields<'a> as Row>⟧.list (codes "AnySequence::content_type" ∷
+        codes "AnySequence::content" ∷ []) };
 
     fn known(&self) {
-        self.0.known()
+        known_fields!(self; content_type of content: ObjectIdentifier, content by ObjectIdentifier)
     }
 }
 
@@ -1088,10 +927,7 @@ impl<'a> SimpleAsn1Readable<'a> for AnySequence<'a> {
     fn parse_data(alloc: Global, data: &'a [u8]) -> ParseResult<AnySequence<'a>>
         ensures { ReadsContents ⟦<AnySequence<'a> as Asn1Type>⟧.der «data».entry.now result }
     {
-        match <AnySequenceFields<'a> as SimpleAsn1Readable<'a>>::parse_data(alloc, data) {
-            Ok(fields) => Ok(AnySequence(fields)),
-            Err(error) => Err(error),
-        }
+        read_fields!(AnySequenceFields<'a>, alloc, data => AnySequence { content_type, content })
     }
 }
 
@@ -1108,12 +944,25 @@ impl<'a> SimpleAsn1Writable for AnySequence<'a> {
     }
 
     fn write_data(&self, dest: &mut WriteBuf) -> WriteResult<()> {
-        self.0.write_data(dest)
+        write_fields!(self, dest;
+            content_type of content: ObjectIdentifier, content by ObjectIdentifier)
     }
 
     fn data_length(&self) -> Option<usize> {
-        self.0.data_length()
+        fields_length!(self; content_type of content: ObjectIdentifier, content by ObjectIdentifier)
     }
+}
+
+/// An identifier, whether what it defines has to be known, and that, as in an extension of a
+/// certificate.
+#[derive(Debug, Clone, PartialEq, Eq, Hash, Drop)]
+pub struct Notice {
+    /// The identifier, which the content tells.
+    pub kind: DefinedByMarker<ObjectIdentifier>,
+    /// Whether the content has to be known: it need not, unless said.
+    pub critical: bool,
+    /// The content.
+    pub content: Content,
 }
 
 /// What `critical` is where it is left out.
@@ -1128,61 +977,26 @@ impl DefaultValue<bool> for NoticeCritical {
     }
 }
 
-/// The fields.
-type NoticeFields = Structure<
-    NoticeNames,
-    BetweenLast<ObjectIdentifier, Defaulted<bool, NoticeCritical>, Content>,
->;
+type NoticeCriticalField = Defaulted<bool, NoticeCritical>;
 
-const NOTICE_NAMES: [&str; 3] = ["Notice::kind", "Notice::critical", "Notice::content"];
-
-/// The names of the fields.
-struct NoticeNames;
-
-impl FieldNames for NoticeNames {
-    ghost names = { map (λ s. s.now) NOTICE_NAMES };
-
-    fn names() -> Names {
-        Names::new(&NOTICE_NAMES)
-    }
-}
-
-/// An identifier, whether what it defines has to be known, and that, as in an extension of a
-/// certificate.
-#[derive(Debug, Clone, PartialEq, Eq, Hash, Drop)]
-pub struct Notice(NoticeFields);
-
-impl Notice {
-    /// Of these fields.
-    pub fn new(critical: bool, content: Content) -> Notice
-        ensures critical { defaulted_inner result.0.fields.between ≡ critical }
-        ensures content { result.0.fields.value ≡ content }
-    {
-        let critical = Defaulted::new(critical);
-        let row = BetweenLast::new(critical, content);
-        Notice(Structure::new(row))
-    }
-
-    /// Whether the content has to be known: it need not, unless said.
-    pub fn critical(&self) -> bool
-        ensures { result ≡ defaulted_inner self.now.0.fields.between }
-    {
-        *self.0.fields.between.as_inner()
-    }
-
-    /// The content.
-    pub fn content(&self) -> &Content
-        ensures { result.now ≡ self.now.0.fields.value }
-    {
-        &self.0.fields.value
-    }
-}
+type NoticeFields = Item<ObjectIdentifier, Before<NoticeCriticalField, LastValue<Content>>>;
 
 impl Asn1Type for Notice {
-    ghost der = { seen (λ v. v.0) ⟦<NoticeFields as Asn1Type>⟧.der };
+    ghost der = { structure (λ v. record {
+      value = v.kind;
+      rest = record {
+        value = defaulted v.critical;
+        rest = record {
+          value = v.content;
+        };
+      };
+    }) ⟦<NoticeFields as Row>⟧.list (codes "Notice::kind" ∷ codes "Notice::critical" ∷
+        codes "Notice::content" ∷ []) };
 
     fn known(&self) {
-        self.0.known()
+        known_fields!(self;
+            kind of content: ObjectIdentifier, critical: NoticeCriticalField,
+            content by ObjectIdentifier)
     }
 }
 
@@ -1192,10 +1006,9 @@ impl<'a> SimpleAsn1Readable<'a> for Notice {
     }
 
     fn parse_data(alloc: Global, data: &'a [u8]) -> ParseResult<Notice> {
-        match <NoticeFields as SimpleAsn1Readable<'_>>::parse_data(alloc, data) {
-            Ok(fields) => Ok(Notice(fields)),
-            Err(error) => Err(error),
-        }
+        read_fields!(NoticeFields, alloc, data => Notice {
+            kind, critical: NoticeCriticalField, content
+        })
     }
 }
 
@@ -1209,29 +1022,137 @@ impl SimpleAsn1Writable for Notice {
     }
 
     fn write_data(&self, dest: &mut WriteBuf) -> WriteResult<()> {
-        self.0.write_data(dest)
+        write_fields!(self, dest;
+            kind of content: ObjectIdentifier, critical: NoticeCriticalField,
+            content by ObjectIdentifier)
     }
 
     fn data_length(&self) -> Option<usize> {
-        self.0.data_length()
+        fields_length!(self;
+            kind of content: ObjectIdentifier, critical: NoticeCriticalField,
+            content by ObjectIdentifier)
+    }
+}
+
+/// Two fields between an identifier and what it defines, one before both, and one behind.
+#[derive(Debug, Clone, PartialEq, Eq, Hash, Drop)]
+pub struct Letter {
+    /// A number.
+    pub number: u64,
+    /// The identifier, which the content tells.
+    pub kind: DefinedByMarker<ObjectIdentifier>,
+    /// Whether the content has to be known: it need not, unless said.
+    pub critical: bool,
+    /// How often it was sent.
+    pub sent: Option<u8>,
+    /// The content.
+    pub content: Content,
+    /// Whether it was read.
+    pub is_read: bool,
+}
+
+/// What `critical` is where it is left out.
+#[derive(Debug, PartialEq, Eq, Drop)]
+pub struct LetterCritical;
+
+impl DefaultValue<bool> for LetterCritical {
+    ghost default = { false };
+
+    fn value() -> bool {
+        false
+    }
+}
+
+type LetterCriticalField = Defaulted<bool, LetterCritical>;
+
+type LetterSentField = Option<Implicit<u8, 0>>;
+
+type LetterFields = Field<
+    u64,
+    Item<
+        ObjectIdentifier,
+        Before<LetterCriticalField, Before<LetterSentField, Value<Content, Last<bool>>>>,
+    >,
+>;
+
+impl Asn1Type for Letter {
+    ghost der = { structure (λ v. record {
+      value = v.number;
+      rest = record {
+        value = v.kind;
+        rest = record {
+          value = defaulted v.critical;
+          rest = record {
+            value = option_meaning implicit v.sent;
+            rest = record {
+              value = v.content;
+              rest = fields1 v.is_read;
+            };
+          };
+        };
+      };
+    }) ⟦<LetterFields as Row>⟧.list (codes "Letter::number" ∷ codes "Letter::kind" ∷
+        codes "Letter::critical" ∷ codes "Letter::sent" ∷ codes "Letter::content" ∷
+        codes "Letter::is_read" ∷ []) };
+
+    fn known(&self) {
+        known_fields!(self;
+            number, kind of content: ObjectIdentifier, critical: LetterCriticalField,
+            sent: LetterSentField, content by ObjectIdentifier, is_read)
+    }
+}
+
+impl<'a> SimpleAsn1Readable<'a> for Letter {
+    fn tag() -> Tag {
+        Tag::constructed(0x10)
+    }
+
+    fn parse_data(alloc: Global, data: &'a [u8]) -> ParseResult<Letter> {
+        read_fields!(LetterFields, alloc, data => Letter {
+            number, kind, critical: LetterCriticalField, sent: LetterSentField, content, is_read
+        })
+    }
+}
+
+impl SimpleAsn1Writable for Letter {
+    type Error = WriteError;
+
+    ghost write_errors = { λ _ _. ⊥ };
+
+    fn tag() -> Tag {
+        Tag::constructed(0x10)
+    }
+
+    fn write_data(&self, dest: &mut WriteBuf) -> WriteResult<()> {
+        write_fields!(self, dest;
+            number, kind of content: ObjectIdentifier, critical: LetterCriticalField,
+            sent: LetterSentField, content by ObjectIdentifier, is_read)
+    }
+
+    fn data_length(&self) -> Option<usize> {
+        fields_length!(self;
+            number, kind of content: ObjectIdentifier, critical: LetterCriticalField,
+            sent: LetterSentField, content by ObjectIdentifier, is_read)
     }
 }
 
 /// An identifier that no other variant of `Listed` is for, and the value.
-#[derive(PartialEq, Eq, Drop)]
+#[derive(Debug, PartialEq, Eq, Drop)]
 pub struct ListedUnknown<'a> {
     item: ObjectIdentifier,
     value: Tlv<'a>,
-    pub ghost is_not_other_oid: { bytes_eq (identifier_of item) (42 ∷ 4 ∷ []) ≡ false },
+    pub ghost is_not_other_oid: { bytes_eq (identifier_of item) OTHER_OID_NUMBERS ≡ false },
+    pub ghost is_not_some_oid: { bytes_eq (identifier_of item) SOME_OID_NUMBERS ≡ false },
 }
 
 impl<'a> ListedUnknown<'a> {
     /// Of this identifier and this value; `None` where another variant is for the identifier.
     pub fn new(item: ObjectIdentifier, value: Tlv<'a>) -> Option<ListedUnknown<'a>>
-        ensures { MatchOption result (bytes_eq (identifier_of item) (42 ∷ 4 ∷ []) ≡ true) (λ v.
-            (v.item ≡ item) × (v.value ≡ value.entry)) }
+        ensures { MatchOption result ((bytes_eq (identifier_of item) OTHER_OID_NUMBERS ≡ true) ⊎
+            (bytes_eq (identifier_of item) SOME_OID_NUMBERS ≡ true)) (λ v. (v.item ≡ item) ×
+            (v.value ≡ value.entry)) }
     {
-        if is_identifier(&item, other_oid()) {
+        if is_identifier(&item, other_oid()) || is_identifier(&item, some_oid()) {
             return None;
         }
         Some(ListedUnknown { item, value })
@@ -1266,41 +1187,52 @@ impl<'a> Clone for ListedUnknown<'a> {
 }
 
 /// Numbers, or any other content, before a note.
-#[derive(Clone, PartialEq, Eq, Drop)]
+#[derive(Debug, Clone, PartialEq, Eq, Drop)]
 pub enum Listed<'a> {
     /// Numbers.
     Numbers(SequenceOf<'a, u64, 0, { usize::MAX }>),
+    /// Fields with tags, whose encoding stands in octets.
+    Tagged(OctetStringEncoded<Tagged<'a>>),
     /// Every other identifier, and its value.
     Unknown(ListedUnknown<'a>),
 }
 
 impl<'a> Asn1DefinedBy<ObjectIdentifier> for Listed<'a> {
-    ghost use Rattle.derived.specs.declared.page.Listed.TheVariants.{Numbers, Unknown};
+    ghost use Rattle.derived.specs.declared.page.Listed.TheVariants.{Numbers, Tagged, Unknown};
 
     ghost by = { by_item (record {
       item = ⟦<ObjectIdentifier as Asn1Type>⟧.der;
       value = or_variant
           (record {
-            item = 42 ∷ 4 ∷ [];
-            is = λ n. bytes_eq n (42 ∷ 4 ∷ []);
+            item = OTHER_OID_NUMBERS;
+            is = λ n. bytes_eq n OTHER_OID_NUMBERS;
             itself = refl;
-            alone = λ n
-                e. sym ((bytes_eq-Decides n (42 ∷ 4 ∷ [])).0 e);
+            alone = λ n e. sym ((bytes_eq-Decides n OTHER_OID_NUMBERS).0 e);
           })
-          ⟦<SequenceOf<'a, u64, 0, 18446744073709551615> as Asn1Type>⟧.der (any_variant
-          ⟦<Tlv<'a> as Asn1Type>⟧.der (λ m. m)) (elim [
+          ⟦<SequenceOf<'a, u64, 0, 18446744073709551615> as Asn1Type>⟧.der (or_variant (record {
+            item
+                = SOME_OID_NUMBERS;
+            is = λ n. bytes_eq n SOME_OID_NUMBERS;
+            itself = refl;
+            alone = λ n e. sym
+                ((bytes_eq-Decides n SOME_OID_NUMBERS).0 e);
+          })
+          ⟦<OctetStringEncoded<Tagged<'a>> as Asn1Type>⟧.der (any_variant ⟦<Tlv<'a> as Asn1Type>⟧.der
+          (λ m. m)) (λ m. m)) (elim [
             | Numbers x ↦ inl
                 (⟦<SequenceOf<'a, u64, 0, 18446744073709551615> as Asn1Type>⟧.der.meaning x)
-            | Unknown x ↦ inr (
+            | Tagged x ↦ inr (inl (⟦<OctetStringEncoded<Tagged<'a>> as Asn1Type>⟧.der.meaning x))
+            | Unknown x ↦ inr (inr (
               ⟦<ObjectIdentifier as Asn1Type>⟧.der.meaning x.item,
               ⟦<Tlv<'a> as Asn1Type>⟧.der.meaning x.value,
-            )
+            ))
           ]);
     }) };
 
     fn known_by(&self) {
         match self {
             Listed::Numbers(x) => x.known(),
+            Listed::Tagged(x) => x.known(),
             Listed::Unknown(x) => x.value.known(),
         }
     }
@@ -1316,6 +1248,7 @@ impl<'a> DefinedField<ObjectIdentifier> for Listed<'a> {
     fn known_item(&self) {
         match self {
             Listed::Numbers(_) => other_oid().known(),
+            Listed::Tagged(_) => some_oid().known(),
             Listed::Unknown(x) => x.item.known(),
         }
     }
@@ -1338,6 +1271,9 @@ impl<'a> Asn1DefinedByReadable<'a, ObjectIdentifier> for Listed<'a> {
                 SequenceOf<'a, u64, 0, { usize::MAX }>,
             >()?));
         }
+        if is_identifier(&item, some_oid()) {
+            return Ok(Listed::Tagged(parser.read_element::<OctetStringEncoded<Tagged<'a>>>()?));
+        }
         Ok(Listed::Unknown(ListedUnknown {
             item,
             value: parser.read_element::<Tlv<'a>>()?,
@@ -1357,6 +1293,7 @@ impl<'a> Asn1DefinedByWritable<ObjectIdentifier> for Listed<'a> {
     fn item(&self) -> ObjectIdentifier {
         match self {
             Listed::Numbers(_) => other_oid(),
+            Listed::Tagged(_) => some_oid(),
             Listed::Unknown(x) => x.item.clone().unwrap(),
         }
     }
@@ -1364,6 +1301,7 @@ impl<'a> Asn1DefinedByWritable<ObjectIdentifier> for Listed<'a> {
     fn write(&self, dest: &mut Writer<'_>) -> WriteResult<()> {
         match self {
             Listed::Numbers(x) => dest.write_element(x),
+            Listed::Tagged(x) => dest.write_element(x),
             Listed::Unknown(x) => dest.write_element(&x.value),
         }
     }
@@ -1371,66 +1309,37 @@ impl<'a> Asn1DefinedByWritable<ObjectIdentifier> for Listed<'a> {
     fn encoded_length(&self) -> Option<usize> {
         match self {
             Listed::Numbers(x) => x.encoded_length(),
+            Listed::Tagged(x) => x.encoded_length(),
             Listed::Unknown(x) => x.value.encoded_length(),
         }
     }
 }
 
-/// The fields.
-type EntryFields<'a> = Structure<
-    EntryNames,
-    Defined<ObjectIdentifier, Explicit<Listed<'a>, 0>, Last<Option<bool>>>,
->;
-
-const ENTRY_NAMES: [&str; 3] = ["Entry::kind", "Entry::listed", "Entry::note"];
-
-/// The names of the fields.
-struct EntryNames;
-
-impl FieldNames for EntryNames {
-    ghost names = { map (λ s. s.now) ENTRY_NAMES };
-
-    fn names() -> Names {
-        Names::new(&ENTRY_NAMES)
-    }
-}
-
 /// An identifier, what it defines under a tag, and a note.
-#[derive(PartialEq, Eq, Drop)]
-pub struct Entry<'a>(EntryFields<'a>);
-
-impl<'a> Entry<'a> {
-    /// Of these fields.
-    pub fn new(listed: Listed<'a>, note: Option<bool>) -> Entry<'a>
-        ensures listed { explicit_inner result.0.fields.value ≡ listed.entry }
-        ensures note { result.0.fields.rest.value ≡ note }
-    {
-        let listed = Explicit::new(listed);
-        let row = Last::new(note);
-        let row = Defined::new(listed, row);
-        Entry(Structure::new(row))
-    }
-
+#[derive(Debug, PartialEq, Eq, Drop)]
+pub struct Entry<'a> {
+    /// The identifier, which the list tells.
+    pub kind: DefinedByMarker<ObjectIdentifier>,
     /// The list, or another content.
-    pub fn listed(&self) -> &Listed<'a>
-        ensures { result.now ≡ explicit_inner self.now.0.fields.value }
-    {
-        self.0.fields.value.as_inner()
-    }
-
+    pub listed: Explicit<Listed<'a>, 0>,
     /// A note, which may be unsaid.
-    pub fn note(&self) -> Option<bool>
-        ensures { result ≡ self.now.0.fields.rest.value }
-    {
-        self.0.fields.rest.value
-    }
+    pub note: Option<bool>,
 }
+
+type EntryFields<'a> = Item<ObjectIdentifier, Value<Explicit<Listed<'a>, 0>, Last<Option<bool>>>>;
 
 impl<'a> Asn1Type for Entry<'a> {
-    ghost der = { seen (λ v. v.0) ⟦<EntryFields<'a> as Asn1Type>⟧.der };
+    ghost der = { structure (λ v. record {
+      value = v.kind;
+      rest = record {
+        value = v.listed;
+        rest = fields1 v.note;
+      };
+    }) ⟦<EntryFields<'a> as Row>⟧.list (codes "Entry::kind" ∷ codes "Entry::listed" ∷
+        codes "Entry::note" ∷ []) };
 
     fn known(&self) {
-        self.0.known()
+        known_fields!(self; kind of listed: ObjectIdentifier, listed by ObjectIdentifier, note)
     }
 }
 
@@ -1446,10 +1355,7 @@ impl<'a> SimpleAsn1Readable<'a> for Entry<'a> {
     fn parse_data(alloc: Global, data: &'a [u8]) -> ParseResult<Entry<'a>>
         ensures { ReadsContents ⟦<Entry<'a> as Asn1Type>⟧.der «data».entry.now result }
     {
-        match <EntryFields<'a> as SimpleAsn1Readable<'a>>::parse_data(alloc, data) {
-            Ok(fields) => Ok(Entry(fields)),
-            Err(error) => Err(error),
-        }
+        read_fields!(EntryFields<'a>, alloc, data => Entry { kind, listed, note })
     }
 }
 
@@ -1466,72 +1372,40 @@ impl<'a> SimpleAsn1Writable for Entry<'a> {
     }
 
     fn write_data(&self, dest: &mut WriteBuf) -> WriteResult<()> {
-        self.0.write_data(dest)
+        write_fields!(self, dest;
+            kind of listed: ObjectIdentifier, listed by ObjectIdentifier, note)
     }
 
     fn data_length(&self) -> Option<usize> {
-        self.0.data_length()
-    }
-}
-
-/// The fields.
-type BagFields<'a> = Structure<BagNames, Fields2<bool, SetOfWriter<'a, u64>>>;
-
-const BAG_NAMES: [&str; 2] = ["Bag::full", "Bag::numbers"];
-
-/// The names of the fields.
-struct BagNames;
-
-impl FieldNames for BagNames {
-    ghost names = { map (λ s. s.now) BAG_NAMES };
-
-    fn names() -> Names {
-        Names::new(&BAG_NAMES)
+        fields_length!(self; kind of listed: ObjectIdentifier, listed by ObjectIdentifier, note)
     }
 }
 
 /// Whether a bag is full, and the numbers in it: it is made in code, and only written.
-#[derive(Drop)]
-pub struct Bag<'a>(BagFields<'a>);
-
-impl<'a> Bag<'a> {
-    /// Of these fields.
-    pub fn new(full: bool, numbers: SetOfWriter<'a, u64>) -> Bag<'a>
-        ensures full { result.0.fields.value ≡ full }
-        ensures numbers { result.0.fields.rest.value ≡ numbers.entry }
-    {
-        let row = Last::new(numbers);
-        let row = Field::new(full, row);
-        Bag(Structure::new(row))
-    }
-
+#[derive(Debug, Clone, PartialEq, Eq, Hash, Drop)]
+pub struct Bag<'a> {
     /// Whether it is full.
-    pub fn full(&self) -> bool
-        ensures { result ≡ self.now.0.fields.value }
-    {
-        self.0.fields.value
-    }
-
+    pub full: bool,
     /// The numbers.
-    pub fn numbers(&self) -> &SetOfWriter<'a, u64>
-        ensures { result.now ≡ self.now.0.fields.rest.value }
-    {
-        &self.0.fields.rest.value
-    }
+    pub numbers: SetOfWriter<'a, u64>,
 }
 
+type BagFields<'a> = Fields2<bool, SetOfWriter<'a, u64>>;
+
 impl<'a> Asn1Type for Bag<'a> {
-    ghost der = { seen (λ v. v.0) ⟦<BagFields<'a> as Asn1Type>⟧.der };
+    ghost der = { structure (λ v. fields2 v.full v.numbers) ⟦<BagFields<'a> as Row>⟧.list
+        (codes "Bag::full" ∷ codes "Bag::numbers" ∷ []) };
 
     fn known(&self) {
-        self.0.known()
+        known_fields!(self; full, numbers)
     }
 }
 
 impl<'a> SimpleAsn1Writable for Bag<'a> {
     type Error = WriteError;
 
-    ghost write_errors = { λ v. ⟦<BagFields<'a> as SimpleAsn1Writable>⟧.write_errors v.0 };
+    ghost write_errors = { λ v. ⟦<SetOfWriter<'a, u64> as SimpleAsn1Writable>⟧.write_errors
+        v.numbers };
 
     fn tag() -> Tag
         ensures value { result ≡ ⟦<Bag<'a> as Asn1Type>⟧.der.content.tag }
@@ -1541,51 +1415,101 @@ impl<'a> SimpleAsn1Writable for Bag<'a> {
     }
 
     fn write_data(&self, dest: &mut WriteBuf) -> WriteResult<()> {
-        self.0.write_data(dest)
+        write_fields!(self, dest; full, numbers)
     }
 
     fn data_length(&self) -> Option<usize> {
-        self.0.data_length()
+        fields_length!(self; full, numbers)
     }
 }
 
-/// Those of `GeneralNameFrom7` are told by their tags.
+/// Each value of `Signature` has one encoding, which is read back.
+pub fn signature_is_lawful()
+    ensures { HasOneEncoding ⟦<Signature as Asn1Type>⟧.der }
+{}
+
+/// Each value of `Nothing` has one encoding, which is read back.
+pub fn nothing_is_lawful()
+    ensures { HasOneEncoding ⟦<Nothing as Asn1Type>⟧.der }
+{}
+
+/// Each value of `Tagged` has one encoding, which is read back.
+#[tactic(auto, using(asn1::specs::Lemmas::Fields::tags_differ))]
+pub fn tagged_is_lawful()
+    ensures { HasOneEncoding ⟦<Tagged<'static> as Asn1Type>⟧.der }
+{
+    signature_is_lawful();
+}
+
+/// Each value of `GeneralNameFrom7` has one encoding, which is read back.
+#[tactic(auto, using(asn1::specs::Lemmas::Fields::tags_differ))]
 fn general_name_from7_is_lawful()
     ensures { HasOneEncoding ⟦<GeneralNameFrom7<'static> as Asn1Type>⟧.der }
 {}
 
-/// Those of `GeneralNameFrom5` are told by their tags.
+/// Each value of `GeneralNameFrom5` has one encoding, which is read back.
+#[tactic(auto, using(asn1::specs::Lemmas::Fields::tags_differ))]
 fn general_name_from5_is_lawful()
     ensures { HasOneEncoding ⟦<GeneralNameFrom5<'static> as Asn1Type>⟧.der }
 {
-    general_name_from7_is_lawful()
+    strings_is_lawful();
+    general_name_from7_is_lawful();
 }
 
-/// Those of `GeneralNameFrom3` are told by their tags.
+/// Each value of `GeneralNameFrom3` has one encoding, which is read back.
+#[tactic(auto, using(asn1::specs::Lemmas::Fields::tags_differ))]
 fn general_name_from3_is_lawful()
     ensures { HasOneEncoding ⟦<GeneralNameFrom3<'static> as Asn1Type>⟧.der }
 {
-    general_name_from5_is_lawful()
+    general_name_from5_is_lawful();
 }
 
-/// The alternatives of `GeneralName` are told by their tags.
-fn general_name_is_lawful()
+/// Each value of `GeneralName` has one encoding, which is read back.
+#[tactic(auto, using(asn1::specs::Lemmas::Fields::tags_differ))]
+pub fn general_name_is_lawful()
     ensures { HasOneEncoding ⟦<GeneralName<'static> as Asn1Type>⟧.der }
 {
-    general_name_from3_is_lawful()
+    signature_is_lawful();
+    general_name_from3_is_lawful();
 }
 
-/// Each value of these types has one encoding, which is read back.
-pub fn page_are_lawful()
-    ensures signature { HasOneEncoding ⟦<Signature as Asn1Type>⟧.der }
-    ensures tagged { HasOneEncoding ⟦<Tagged<'static> as Asn1Type>⟧.der }
-    ensures general_name { HasOneEncoding ⟦<GeneralName<'static> as Asn1Type>⟧.der }
-    ensures strings { HasOneEncoding ⟦<Strings<'static> as Asn1Type>⟧.der }
-    ensures alternative { HasOneEncoding ⟦<Alternative<'static> as Asn1Type>⟧.der }
-    ensures my_sequence { HasOneEncoding ⟦<MySequence as Asn1Type>⟧.der }
-    ensures any_sequence { HasOneEncoding ⟦<AnySequence<'static> as Asn1Type>⟧.der }
-    ensures notice { HasOneEncoding ⟦<Notice as Asn1Type>⟧.der }
-    ensures entry { HasOneEncoding ⟦<Entry<'static> as Asn1Type>⟧.der }
+/// Each value of `Strings` has one encoding, which is read back.
+pub fn strings_is_lawful()
+    ensures { HasOneEncoding ⟦<Strings<'static> as Asn1Type>⟧.der }
+{}
+
+/// Each value of `Alternative` has one encoding, which is read back.
+pub fn alternative_is_lawful()
+    ensures { HasOneEncoding ⟦<Alternative<'static> as Asn1Type>⟧.der }
 {
     general_name_is_lawful();
+}
+
+/// Each value of `MySequence` has one encoding, which is read back.
+pub fn my_sequence_is_lawful()
+    ensures { HasOneEncoding ⟦<MySequence as Asn1Type>⟧.der }
+{}
+
+/// Each value of `AnySequence` has one encoding, which is read back.
+pub fn any_sequence_is_lawful()
+    ensures { HasOneEncoding ⟦<AnySequence<'static> as Asn1Type>⟧.der }
+{}
+
+/// Each value of `Notice` has one encoding, which is read back.
+#[tactic(auto, using(asn1::specs::Lemmas::Fields::tags_differ))]
+pub fn notice_is_lawful()
+    ensures { HasOneEncoding ⟦<Notice as Asn1Type>⟧.der }
+{}
+
+/// Each value of `Letter` has one encoding, which is read back.
+#[tactic(auto, using(asn1::specs::Lemmas::Fields::tags_differ))]
+pub fn letter_is_lawful()
+    ensures { HasOneEncoding ⟦<Letter as Asn1Type>⟧.der }
+{}
+
+/// Each value of `Entry` has one encoding, which is read back.
+pub fn entry_is_lawful()
+    ensures { HasOneEncoding ⟦<Entry<'static> as Asn1Type>⟧.der }
+{
+    tagged_is_lawful();
 }

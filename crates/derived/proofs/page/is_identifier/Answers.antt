@@ -1,3 +1,4 @@
+-- Printed by scripts/derive from declarations/page.rs, with the sum a0889d72.
 use Rattle.std.proofs.Common.{◌≡◌, sym, ◌∙◌}
 use Rattle.std.specs.Bool.{Decides}
 use Rattle.std.specs.Str.{bytes_eq}

@@ -1,15 +1,17 @@
+-- Printed by scripts/derive from declarations/page.rs, with the sum aaf473b3.
 use Rattle.std.proofs.Common.{◌≡◌, [], ◌∷◌, ◌∙◌, true, refl, lit<, lit≤}
 use Rattle.std.specs.Prelude.{is_some}
 use Rattle.asn1.specs.Base128.{number_front}
 use Rattle.asn1.specs.Identifier.{numbers_in, identifier_numbers}
 use Rattle.asn1.specs.KnownIdentifiers.{known_form}
+use Rattle.derived.specs.declared.page.TheConstants.{OTHER_OID_NUMBERS}
 use Rattle.derived.proofs.page.other_oid.Goals as goal
 
 are_numbers : is_some (numbers_in (42 ∷ 4 ∷ [])) ≡ true
 unfolding numbers_in number_front
 are_numbers = refl
 
-numbers_are : identifier_numbers (42 ∷ 4 ∷ []) ≡ 42 ∷ 4 ∷ []
+numbers_are : identifier_numbers (42 ∷ 4 ∷ []) ≡ OTHER_OID_NUMBERS
 unfolding numbers_in number_front
 numbers_are = refl
 
