@@ -1,6 +1,6 @@
 use Rattle.std.proofs.Common.{◌∙◌, sym, ap, refl, Some}
 use Rattle.std.proofs.lemmas.Result.{err_from_is_err_and}
-use Rattle.pkix.proofs.extension_values.Extension.value.Goals as goal
+use Rattle.pkix.proofs.common.extension.Extension.value.Goals as goal
 
 pub returns-in_err-parse_single-in-AuthorityInfoAccess : goal.returns-in_err-parse_single-in-AuthorityInfoAccess
 returns-in_err-parse_single-in-AuthorityInfoAccess c =
