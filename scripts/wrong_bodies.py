@@ -1,39 +1,40 @@
-"""The wrong bodies in crates/NAME/must-fail and crates/NAME/wrong-bodies: reading them, and putting them into a copy of
-a crate. `rt must-fail` tries those of must-fail by itself, and reads their lines file, old and new alone.
+"""The wrong bodies in crates/NAME/must-fail and crates/NAME/wrong-bodies: reading them, putting them into a copy of a
+crate, and the state of a crate that scripts/planted.txt keeps. `rt ci` tries those of must-fail, and reads their lines
+file, old and new alone. Those of wrong-bodies/first the gate plants each time, the others where a crate changes.
 
 A file holds one wrong body or several, parted by empty lines; a line that begins with # is a comment. Each is a few
 lines 'key: value':
 
 function: PATH      the function that has to be refused, by its path in the crate, as a check names it
-impl: HEADER        the header of its impl without generic parameters, where it stands in one
 body: TEXT          what stands in place of its whole body; or
-first: TEXT         what stands in front of its body; or, in place of impl and body:
+first: TEXT         what stands in front of its body; or
 file: src/NAME.rt   a file, and pairs of
 old: TEXT           a text that stands in the file once, and
 new: TEXT           what stands in its place
-clause: NAME        where the function has a proof written by hand: the clause that the body breaks, and
-test: CRATE::PATH   the test that fails with it, or
+clause: NAMES       what the body breaks: clauses of the function, 'the only one' where it has one, or a goal by its name,
+                    as that of a struct's ghost field
+test: CRATE::PATH   the test that fails with it: where the function has a proof written by hand, or where the prover
+                    finds a step without a proof and not a clause; or
 no test: REASON     why none can
 must: WORDS         in a folder canaries alone: what has to come out in place of a refusal
+impl: HEADER        passed over
 
 A list such as {i8,i16} stands for each of its words in turn. In must-fail a file holds one body, with old and new texts
 and no list.
 """
 
+import hashlib
 import re
 from collections import namedtuple
-from pathlib import Path
 
-TOP = Path(__file__).resolve().parent.parent
+from sources import CRATES, TOP, clauses_of, functions, functions_in, uses
+
 LIST = re.compile(r"\{(\w+(?:,\w+)+)\}")
-Wrong = namedtuple("Wrong", "function name changes clause tests must reason is_whole", defaults=[None, True])
+FOLDERS = ["must-fail", "wrong-bodies/first", "wrong-bodies"]
+KEYS = {"function", "body", "first", "file", "old", "new", "clause", "test", "no test", "must", "impl"}
+PLANTED = TOP / "scripts/planted.txt"
+Wrong = namedtuple("Wrong", "function name changes clauses tests must reason", defaults=[None])
 Change = namedtuple("Change", "file start end text")
-
-
-def uses():
-    """The repository's crates, and what each uses."""
-    lines = (line.partition(":") for line in (TOP / "crates.txt").read_text().splitlines())
-    return {name: used.split() for name, _, used in lines}
 
 
 def each_of(block):
@@ -45,100 +46,69 @@ def each_of(block):
         yield LIST.sub(lambda found: found[1].split(",")[place], block)
 
 
-def without_generics(line):
-    shorter = re.sub(r"<[^<>]*>", "", line)
-    return line if shorter == line else without_generics(shorter)
-
-
-def impl_with(lines, header):
-    """The first line of the impl with this header, which may stand on several."""
-    for place in (place for place, line in enumerate(lines) if line.startswith("impl")):
-        ends = next(end for end in range(place, len(lines)) if lines[end].endswith("{\n"))
-        if without_generics(" ".join(line.strip() for line in lines[place : ends + 1])) == f"impl {header} {{":
-            return place
-    raise ValueError("no such impl")
-
-
-def source_of(crate, function):
-    """The file in which the function stands, by its path."""
-    modules = function.split("::")[1:-1]
-    files = [crate.joinpath("src", *modules[:count]).with_suffix(".rt") for count in range(len(modules), 0, -1)]
-    return next(file for file in [*files, crate / "src/lib.rt"] if file.is_file())
-
-
-def opening(lines, head, indent):
-    """The line that opens the body of a function, whose head is at this line; None where it has no body.
-
-    Clauses may hold braces and ends of lines such as `= year;`, and behind them the brace of a body stands alone."""
-    has_clauses = False
-    for place in range(head, len(lines)):
-        line = lines[place]
-        has_clauses = has_clauses or re.match(r" *(ensures|requires|ghost)\b", line) is not None
-        if line == f"{indent}{{\n" or not has_clauses and line.endswith("{\n"):
-            return place
-        if line == f"{indent}{{}}\n" or line.endswith("};\n" if has_clauses else (";\n", "{}\n")):
-            return None
-    return None
-
-
-def body_of(text, function, header):
-    """Where the body of a function begins and ends in its file."""
-    lines = text.splitlines(keepends=True)
-    indent, start = ("    ", impl_with(lines, header)) if header else ("", 0)
-    begins = re.compile(rf"{indent}(pub(\(\w+\))? )?(const )?fn {function.rsplit('::', 1)[1]}\b")
-    start = next(place for place in range(start, len(lines)) if begins.match(lines[place]))
-    opens = opening(lines, start, indent)
-    closes = lines.index(indent + "}\n", opens)
-    before, own = (len("".join(part)) for part in (lines[: opens + 1], lines[opens + 1 : closes]))
-    return before, before + own, f"{indent}    "
-
-
-def changes_of(crate, said):
-    """What a wrong body changes."""
+def changes_of(crate, said, function):
+    """What a wrong body of this function changes."""
     values = dict(said)
     if "body" in values or "first" in values:
-        file = source_of(crate, values["function"])
-        start, end, indent = body_of(file.read_text(), values["function"], values.get("impl"))
-        end = end if "body" in values else start
-        return [Change(file.relative_to(crate), start, end, f"{indent}{values.get('body') or values['first']}\n")]
-    file, changes = crate / values["file"], []
+        end = function.end if "body" in values else function.start
+        text = f"{function.indent}{values.get('body') or values['first']}\n"
+        return [Change(function.file, function.start, end, text)]
+    file, changes = CRATES / crate / values["file"], []
     for (_, old), (_, new) in zip(*[iter(pair for pair in said if pair[0] in ("old", "new"))] * 2):
         text = file.read_text()
         if text.count(old) != 1:
             raise ValueError("an old text that stands there not once")
-        changes.append(Change(file.relative_to(crate), text.index(old), text.index(old) + len(old), new))
+        changes.append(Change(file.relative_to(CRATES / crate), text.index(old), text.index(old) + len(old), new))
     return changes
 
 
-def wrong_bodies_in(file, crate):
-    """The wrong bodies of a file, which are those of a crate."""
+def broken(clause, function):
+    """The clauses that a wrong body of this function breaks, as its file says: they are the function's, or goals."""
+    there = clauses_of(function)
+    if clause == "the only one":
+        if there is not None and len(there) != 1:
+            raise ValueError(f"the clauses are {', '.join(there)}")
+        return ["unnamed"]
+    words = clause.split()
+    if there is not None and not {*there}.issuperset(word for word in words if "-" not in word):
+        raise ValueError(f"the clauses are {', '.join(there)}")
+    return words
+
+
+def wrong_bodies_in(file, crate, known):
+    """The wrong bodies of a file, which are those of a crate with these functions."""
     lines = (line for line in file.read_text().splitlines() if not line.startswith("#"))
     for block in re.split(r"\n\n+", "\n".join(lines).strip()):
         try:
             for text in each_of(block):
                 said = [line.partition(": ")[::2] for line in text.splitlines()]
-                values = {"clause": None, "test": "", "must": "be refused", "no test": None, **dict(said)}
-                text = values.get("body") or values.get("first")
-                function, name, tests = values["function"], text or file.name, values["test"].split()
-                if function.split("::")[0] != crate.name:
-                    raise ValueError("a function of another crate")
-                others = (values[key] for key in ("must", "no test"))
-                yield Wrong(function, name, changes_of(crate, said), values["clause"], tests, *others, text is not None)
-        except (StopIteration, KeyError, ValueError) as error:
+                values = {"clause": "", "test": "", "must": "be refused", "no test": None, **dict(said)}
+                name = values.get("body") or values.get("first") or file.name
+                if not KEYS.issuperset(key for key, _ in said):
+                    raise ValueError("a line with another key")
+                function = known[values["function"]]
+                changes = changes_of(crate, said, function)
+                if not changes:
+                    raise ValueError("it changes nothing")
+                clauses = broken(values["clause"], function)
+                tests = values["test"].split()
+                yield Wrong(function.name, name, changes, clauses, tests, values["must"], values["no test"])
+        except (StopIteration, KeyError, ValueError, TypeError) as error:
             raise ValueError(f"{file.relative_to(TOP)}: {block.splitlines()[0]}: {error!r}") from error
 
 
 def wrong_bodies(name, *folders):
     """All wrong bodies in folders of a crate."""
-    crate = TOP / "crates" / name
+    crate = CRATES / name
     files = [file for folder in folders for file in sorted(crate.glob(f"{folder}/*.edit"))]
-    return [body for file in files for body in wrong_bodies_in(file, crate)]
+    known = {function.name: function for function in functions(name) if function.start is not None} if files else {}
+    return [body for file in files for body in wrong_bodies_in(file, name, known)]
 
 
-def has_own_proof(body):
-    """Whether the function has a proof written by hand."""
-    crate, *path = body.function.split("::")
-    return TOP.joinpath("crates", crate, "proofs", *path).is_dir()
+def has_own_proof(function):
+    """Whether the function of this name has a proof written by hand."""
+    crate, *path = function.split("::")
+    return CRATES.joinpath(crate, "proofs", *path).is_dir()
 
 
 def with_changes(text, changes):
@@ -146,3 +116,44 @@ def with_changes(text, changes):
     for _, start, end, new in sorted(changes, reverse=True):
         text = text[:start] + new + text[end:]
     return text
+
+
+def below(name):
+    """The repository's crates that a crate is made of, without itself."""
+    used, found, left = uses(), [], [name]
+    while left:
+        more = [one for one in used[left.pop()] if one in used and one not in found]
+        found, left = found + more, left + more
+    return sorted(found)
+
+
+def without_comments(file):
+    return re.sub(r"^\s*//.*\n", "", file.read_text(), flags=re.MULTILINE) if file.suffix == ".rt" else file.read_text()
+
+
+def without_bodies(file):
+    """What a crate above sees of a source: its text without comments and without what the functions do."""
+    text = file.read_text()
+    for function in sorted(functions_in(text, []), key=lambda it: -(it.start or 0)):
+        text = text if function.start is None else text[: function.start] + text[function.end :]
+    return re.sub(r"^\s*//.*\n", "", text, flags=re.MULTILINE)
+
+
+def state_of(name):
+    """A hash of all that decides whether a crate's wrong bodies are refused: its sources, specs, proofs and wrong bodies,
+    and of the crates below the specs and the contracts, which its own cite; their bodies and proofs show nowhere above.
+    """
+    read = [(folder, without_comments) for folder in ["src", "specs", "proofs", *FOLDERS, "canaries"]]
+    places = [(name, *it) for it in read]
+    places += [(crate, *it) for crate in below(name) for it in (("src", without_bodies), ("specs", without_comments))]
+    found = hashlib.sha256()
+    for crate, folder, text in places:
+        pattern = "*.edit" if folder in (*FOLDERS, "canaries") else "**/*.*"
+        for file in sorted((CRATES / crate / folder).glob(pattern)):
+            found.update(f"{file.relative_to(CRATES)}\n{text(file)}\n".encode())
+    return found.hexdigest()[:32]
+
+
+def planted():
+    """The state of each crate in which its wrong bodies were planted, all of them, and refused."""
+    return dict(line.split() for line in PLANTED.read_text().splitlines() if not line.startswith("#"))

@@ -13,7 +13,7 @@ use Rattle.asn1_core.specs.Reading.{Answers, expected, element_front, whole}
 use Rattle.asn1_core.specs.Der.{Der}
 use Rattle.asn1_core.specs.DefinedBy.{DefinedBy, ByItem}
 use Rattle.asn1.specs.DefinedReads.{element_read}
-use Rattle.asn1.specs.Defined.{by_inside, by_seen, defined_inside, defined_seen}
+use Rattle.asn1.specs.Defined.{by_inside, defined_inside}
 
 -- What an item means, and what a value means that it defines.
 pub record ItemAndValue (T V : Type 0) : Type 1 where
@@ -143,26 +143,6 @@ agrees_inside tag view d by both h =
         read = λ i t. tagged_seen k.stands_for (by.means.read (by.seen i)) (both.value.read (both.item.meaning i)) (k.read i) tag (element_front t);
         runs_out = λ i t places out. (out.0, out.1, out.2, (out.3.0, out.3.1, k.runs_out i (element_text out.3.0) places out.3.2));
         texts = λ m t. (element_texts tag _ _ (λ x. (k.texts m x).0) t, element_texts tag _ _ (λ x. (k.texts m x).1) t);
-        closures = k.closures;
-        valid = k.valid;
-        plain = k.plain;
-      },
-    )
-
--- ---- seen in another type
-
-pub agrees_seen : {T V W : Type 0} (view : W → V) (d : Der T) (by : ByItem T V) (both : ItemAndValue T V) → Agrees d by both →
-    Agrees d (by_seen view by) (record { item = both.item; value = defined_seen view both.value })
-agrees_seen view d by both h =
-    let k = h.1 in (
-      h.0,
-      record {
-        stands_for = k.stands_for;
-        meaning = λ w. k.meaning (view w);
-        item = k.item;
-        read = k.read;
-        runs_out = k.runs_out;
-        texts = k.texts;
         closures = k.closures;
         valid = k.valid;
         plain = k.plain;

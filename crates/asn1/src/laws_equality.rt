@@ -34,9 +34,11 @@ pub fn contents_compare()
 /// Where the equality of a type is that of what its values mean, so is that of its wrappers.
 pub fn wrappers_compare<T: Asn1Type + PartialEq, const TAG: u32>()
     ensures explicit { IsEqualityOf T.der.meaning T.eq
-        → IsEqualityOf ⟦<Explicit<T, TAG> as Asn1Type>⟧.der.meaning ⟦<Explicit<T, TAG> as PartialEq>⟧.eq }
+        → IsEqualityOf ⟦<Explicit<T, TAG> as Asn1Type>⟧.der.meaning
+        ⟦<Explicit<T, TAG> as PartialEq>⟧.eq }
     ensures implicit { IsEqualityOf T.der.meaning T.eq
-        → IsEqualityOf ⟦<Implicit<T, TAG> as Asn1Type>⟧.der.meaning ⟦<Implicit<T, TAG> as PartialEq>⟧.eq }
+        → IsEqualityOf ⟦<Implicit<T, TAG> as Asn1Type>⟧.der.meaning
+        ⟦<Implicit<T, TAG> as PartialEq>⟧.eq }
     ensures octet_string { IsEqualityOf T.der.meaning T.eq
         → IsEqualityOf ⟦<OctetStringEncoded<T> as Asn1Type>⟧.der.meaning
         ⟦<OctetStringEncoded<T> as PartialEq>⟧.eq }
@@ -53,7 +55,8 @@ pub fn choices_compare<
     T3: Asn1Type + PartialEq,
 >()
     ensures choice2 { IsEqualityOf T1.der.meaning T1.eq → IsEqualityOf T2.der.meaning T2.eq
-        → IsEqualityOf ⟦<Choice2<T1, T2> as Asn1Type>⟧.der.meaning ⟦<Choice2<T1, T2> as PartialEq>⟧.eq }
+        → IsEqualityOf ⟦<Choice2<T1, T2> as Asn1Type>⟧.der.meaning
+        ⟦<Choice2<T1, T2> as PartialEq>⟧.eq }
     ensures choice3 { IsEqualityOf T1.der.meaning T1.eq → IsEqualityOf T2.der.meaning T2.eq
         → IsEqualityOf T3.der.meaning T3.eq
         → IsEqualityOf ⟦<Choice3<T1, T2, T3> as Asn1Type>⟧.der.meaning

@@ -1,11 +1,12 @@
 //! Which types are lawful, have one encoding for each value, take memory and have bounds, each the contract of a
 //! function that does nothing. A type with parts is as its parts are.
 
-ghost use Rattle.std.specs.Prelude.{◌≡◌, false};
+ghost use Rattle.std.specs.Prelude.{◌≡◌, List, false, ℕ};
 ghost use Rattle.asn1_core.specs.declared.tag.Tag.{Tag};
+ghost use Rattle.asn1.specs.Structures.{structure};
 ghost use Rattle.asn1.specs.TypeLaws.{Inherits, InheritsBoth, IsSound, IsSoundOwned};
 
-use crate::fields::{Field, FieldNames, Last, Row, Structure};
+use crate::fields::{Field, Last, Row};
 use crate::{
     BMPString, BigInt, BigUint, BitString, Choice1, Choice2, Choice3, DefaultValue, Defaulted,
     Enumerated, ErrorInto, Explicit, GeneralizedTime, IA5String, MeaningEq, Null, ObjectIdentifier,
@@ -139,14 +140,18 @@ pub fn rows_inherit<A: Asn1Type, R: Row>()
         ⟦<Field<A, R> as Row>⟧.list.fields.bounded → ⊥ }
 {}
 
-/// A structure is as its row is.
-pub fn structures_inherit<N: FieldNames, R: Row>()
-    ensures lawful { R.list.fields.lawful → ⟦<Structure<N, R> as Asn1Type>⟧.der.lawful }
-    ensures plain { R.list.fields.plain → ⟦<Structure<N, R> as Asn1Type>⟧.der.plain }
-    ensures takes_none { (R.list.fields.takes_memory → ⊥) →
-        ⟦<Structure<N, R> as Asn1Type>⟧.der.takes_memory → ⊥ }
-    ensures unbounded { (R.list.fields.bounded → ⊥) →
-        ⟦<Structure<N, R> as Asn1Type>⟧.der.bounded → ⊥ }
-    ensures simple { ⟦<Structure<N, R> as Asn1Type>⟧.der.is_simple }
-    ensures element { ⟦<Structure<N, R> as Asn1Type>⟧.der.is_element }
+/// A structure is as its row is, whatever its names and the struct of its fields.
+pub fn structures_inherit<V, R: Row>()
+    ensures lawful { (view : V → R) (names : List (List ℕ)) → R.list.fields.lawful →
+        (structure view R.list names).lawful }
+    ensures plain { (view : V → R) (names : List (List ℕ)) → R.list.fields.plain →
+        (structure view R.list names).plain }
+    ensures takes_none { (view : V → R) (names : List (List ℕ)) →
+        (R.list.fields.takes_memory → ⊥) → (structure view R.list names).takes_memory → ⊥ }
+    ensures unbounded { (view : V → R) (names : List (List ℕ)) →
+        (R.list.fields.bounded → ⊥) → (structure view R.list names).bounded → ⊥ }
+    ensures simple { (view : V → R) (names : List (List ℕ)) →
+        (structure view R.list names).is_simple }
+    ensures element { (view : V → R) (names : List (List ℕ)) →
+        (structure view R.list names).is_element }
 {}

@@ -50,7 +50,8 @@ pub fn write_and_read_back<'a, T: Asn1Readable<'a> + Asn1Writable>(
     requires allowed { T.der.allowed (T.der.meaning value.now) }
     requires fits { Fits (T.der.text (T.der.meaning value.now)) }
     ensures { IfOk result (λ read. Answers T.der.meaning
-        (T.der.runs_out (T.der.text (T.der.meaning value.now))) read (Ok (T.der.meaning value.now))) }
+        (T.der.runs_out (T.der.text (T.der.meaning value.now))) read
+        (Ok (T.der.meaning value.now))) }
 {
     value.known();
     *store = write_readable(alloc, value)?;

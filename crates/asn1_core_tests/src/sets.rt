@@ -166,7 +166,17 @@ impl From<WriteError> for Custom {
 struct Digit(u8);
 
 impl Asn1Type for Digit {
-    ghost der = { simple_der (λ v. v.0) (written (record { tag = universal 2; text = λ m. m ∷ []; texts = λ m t. t ≡ m ∷ []; closures = λ m. Unit {0}; valid = λ m. Unit {0}; plain = Unit {0}; lawful = ⊥; one_text = λ p m t e. e; no_closures = λ p m. tt })) };
+    ghost der = { simple_der (λ v. v.0) (written (record {
+      tag = universal 2;
+      text = λ m. m ∷ [];
+      texts = λ m t. t ≡ m ∷ [];
+      closures = λ m. Unit {0};
+      valid = λ m. Unit {0};
+      plain = Unit {0};
+      lawful = ⊥;
+      one_text = λ p m t e. e;
+      no_closures = λ p m. tt;
+    })) };
 
     fn known(&self) {}
 }

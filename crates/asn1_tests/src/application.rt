@@ -1,15 +1,15 @@
 //! Types with tags of the class application: those of the example of X.690, 8.14.3, and a structure.
 
-ghost use Rattle.std.specs.Prelude.{◌≡◌, false, map, true};
+ghost use Rattle.std.specs.Prelude.{◌≡◌, ◌∷◌, [], codes, false, true};
 ghost use Rattle.asn1.specs.Reads.{HasOneEncoding, ReadsContents};
+ghost use Rattle.asn1.specs.Structures.{fields2, structure};
 ghost use Rattle.asn1.specs.Tagged.{application_tag, seen_under_tag, seen_with_tag};
-ghost use Rattle.asn1_tests.specs.declared.application.TheConstants.{NAMES};
 
-use asn1::fields::{Field, FieldNames, Fields2, Last, Names, Structure};
+use asn1::fields::{Fields2, Row};
 use asn1::{
     Asn1Type, Asn1Writable, Explicit, Implicit, ParseError, ParseErrorKind, ParseResult,
     SimpleAsn1Readable, SimpleAsn1Writable, Tag, TagClass, VisibleString, WriteBuf, WriteError,
-    WriteResult, Writer, parse_single,
+    WriteResult, Writer, fields_length, known_fields, parse_single, read_fields, write_fields,
 };
 use std::alloc::Global;
 use std::test::Fail;
@@ -127,28 +127,59 @@ impl<'a> SimpleAsn1Writable for Type4<'a> {
 /// Type5 ::= [2] IMPLICIT Type2
 type Type5<'a> = Implicit<Type2<'a>, 2>;
 
-/// The fields.
-type Fields = Structure<StampNames, Fields2<u64, bool>>;
+/// SEQUENCE { value INTEGER, used BOOLEAN }
+#[derive(Debug, Clone, PartialEq, Eq, Hash, Drop)]
+pub struct Use {
+    pub value: u64,
+    pub used: bool,
+}
 
-const NAMES: [&str; 2] = ["Stamp::value", "Stamp::used"];
+type Fields = Fields2<u64, bool>;
 
-struct StampNames;
+impl Asn1Type for Use {
+    ghost der = { structure (λ v. fields2 v.value v.used) ⟦<Fields as Row>⟧.list
+        (codes "Use::value" ∷ codes "Use::used" ∷ []) };
 
-impl FieldNames for StampNames {
-    ghost names = { map (λ s. s.now) NAMES };
+    fn known(&self) {
+        known_fields!(self; value, used)
+    }
+}
 
-    fn names() -> Names {
-        Names::new(&NAMES)
+impl<'a> SimpleAsn1Readable<'a> for Use {
+    fn tag() -> Tag {
+        Tag::constructed(0x10)
+    }
+
+    fn parse_data(alloc: Global, data: &'a [u8]) -> ParseResult<Use> {
+        read_fields!(Fields, alloc, data => Use { value, used })
+    }
+}
+
+impl SimpleAsn1Writable for Use {
+    type Error = WriteError;
+
+    ghost write_errors = { λ _ _. ⊥ };
+
+    fn tag() -> Tag {
+        Tag::constructed(0x10)
+    }
+
+    fn write_data(&self, dest: &mut WriteBuf) -> WriteResult<()> {
+        write_fields!(self, dest; value, used)
+    }
+
+    fn data_length(&self) -> Option<usize> {
+        fields_length!(self; value, used)
     }
 }
 
 /// [APPLICATION 1] EXPLICIT SEQUENCE { value INTEGER, used BOOLEAN }
 #[derive(Debug, Clone, PartialEq, Eq, Hash, Drop)]
-pub struct Stamp(Fields);
+pub struct Stamp(pub Use);
 
 impl Asn1Type for Stamp {
     ghost der = { seen_under_tag (λ v. v.0) (application_tag true 1)
-        ⟦<Fields as Asn1Type>⟧.der };
+        ⟦<Use as Asn1Type>⟧.der };
 
     fn known(&self) {
         self.0.known()
@@ -161,7 +192,7 @@ impl<'a> SimpleAsn1Readable<'a> for Stamp {
     }
 
     fn parse_data(alloc: Global, data: &'a [u8]) -> ParseResult<Stamp> {
-        match parse_single::<Fields>(alloc, data) {
+        match parse_single::<Use>(alloc, data) {
             Ok(fields) => Ok(Stamp(fields)),
             Err(error) => Err(error),
         }
@@ -220,7 +251,10 @@ fn texts_of_an_application(rt: HostRuntime) -> Result<(), Fail> {
 #[test]
 fn stamps(rt: HostRuntime) -> Result<(), Fail> {
     let alloc = rt.alloc();
-    let stamp = Stamp(Structure::new(Field::new(7, Last::new(true))));
+    let stamp = Stamp(Use {
+        value: 7,
+        used: true,
+    });
     both_ways(alloc, stamp, &[0x61, 8, 0x30, 6, 2, 1, 7, 1, 1, 0xff])?;
     let number = ParseErrorKind::UnexpectedTag {
         actual: Tag::primitive(2),

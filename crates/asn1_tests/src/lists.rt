@@ -284,7 +284,17 @@ const LETTERS: [u8; 65532] = [0x61; 65532];
 struct Announced(Vec<u8>);
 
 impl Asn1Type for Announced {
-    ghost der = { simple_der (λ v. v.0.items) (written (record { tag = sequence_tag; text = λ m. m; texts = λ m t. t ≡ m; closures = λ m. Unit {0}; valid = λ m. Unit {0}; plain = Unit {0}; lawful = ⊥; one_text = λ p m t e. e; no_closures = λ p m. tt })) };
+    ghost der = { simple_der (λ v. v.0.items) (written (record {
+      tag = sequence_tag;
+      text = λ m. m;
+      texts = λ m t. t ≡ m;
+      closures = λ m. Unit {0};
+      valid = λ m. Unit {0};
+      plain = Unit {0};
+      lawful = ⊥;
+      one_text = λ p m t e. e;
+      no_closures = λ p m. tt;
+    })) };
 
     fn known(&self) {}
 }
@@ -394,7 +404,17 @@ impl From<WriteError> for Custom {
 struct Unwritable(Option<usize>);
 
 impl Asn1Type for Unwritable {
-    ghost der = { simple_der (λ v. tt {0}) (written (record { tag = universal 2; text = λ m. []; texts = λ m t. ⊥; closures = λ m. Unit {0}; valid = λ m. Unit {0}; plain = Unit {0}; lawful = ⊥; one_text = λ p m t e. absurd e; no_closures = λ p m. tt })) };
+    ghost der = { simple_der (λ v. tt {0}) (written (record {
+      tag = universal 2;
+      text = λ m. [];
+      texts = λ m t. ⊥;
+      closures = λ m. Unit {0};
+      valid = λ m. Unit {0};
+      plain = Unit {0};
+      lawful = ⊥;
+      one_text = λ p m t e. absurd e;
+      no_closures = λ p m. tt;
+    })) };
 
     fn known(&self) {}
 }

@@ -34,7 +34,8 @@ fn several_values(rt: HostRuntime) -> Result<(), Fail> {
         rt.alloc(),
         |writer: &mut Writer<'_>| -> WriteResult<()>
             ensures same_buffer { buffer_name writer.new ≡ buffer_name writer.old }
-            ensures ok { OnOk result (octets_of writer.new ≡ octets_of writer.old ++ (bool_text true ++ bool_text false)) }
+            ensures ok { OnOk result (octets_of writer.new
+                ≡ octets_of writer.old ++ (bool_text true ++ bool_text false)) }
             ensures err { OnErr result (KeepsFront (octets_of writer.old) (octets_of writer.new)) }
         {
             writer.write_element(&true)?;

@@ -1,29 +1,75 @@
 //! Structures whose fields have tags and are always there.
 
-ghost use Rattle.std.specs.Prelude.{◌≡◌, map};
+ghost use Rattle.std.specs.Prelude.{◌∷◌, [], codes};
 ghost use Rattle.asn1.specs.Reads.{HasOneEncoding};
-ghost use Rattle.asn1_tests.specs.declared.structures.TheConstants.{NAMES};
-
-use asn1::fields::{Field, FieldNames, Fields2, Last, Names, Structure};
-use asn1::{
-    Asn1Type, Explicit, Implicit, ParseError, ParseErrorKind, ParseLocation, Tag, explicit_tag,
-    parse_single,
+ghost use Rattle.asn1.specs.Structures.{
+  defaulted,
+  explicit,
+  fields16,
+  fields2,
+  fields3,
+  implicit,
+  structure,
 };
+
+use asn1::fields::{Fields2, Fields3, Fields16, Row};
+use asn1::{
+    Asn1Type, Asn1Writable, DefaultValue, Defaulted, Explicit, Implicit, ParseError,
+    ParseErrorKind, ParseLocation, ParseResult, SimpleAsn1Readable, SimpleAsn1Writable, Tag,
+    WriteBuf, WriteError, WriteResult, explicit_tag, fields_length, known_fields, parse_single,
+    read_fields, write_fields,
+};
+use std::alloc::Global;
 use std::test::Fail;
-use testing::{error_of, is_written, same};
+use testing::{both_ways, error_of, is_written, same};
 
 /// A number under an implicit tag, and a Boolean under an explicit one. Neither may be missing.
-type Tagged = Structure<TaggedNames, Fields2<Implicit<u64, 0>, Explicit<bool, 1>>>;
+#[derive(Debug, Clone, PartialEq, Eq, Hash, Drop)]
+pub struct Tagged {
+    pub number: u64,
+    pub flag: bool,
+}
 
-const NAMES: [&str; 2] = ["Tagged::number", "Tagged::flag"];
+type Number = Implicit<u64, 0>;
 
-struct TaggedNames;
+type Flag = Explicit<bool, 1>;
 
-impl FieldNames for TaggedNames {
-    ghost names = { map (λ s. s.now) NAMES };
+type Fields = Fields2<Number, Flag>;
 
-    fn names() -> Names {
-        Names::new(&NAMES)
+impl Asn1Type for Tagged {
+    ghost der = { structure (λ v. fields2 (implicit v.number) (explicit v.flag))
+        ⟦<Fields as Row>⟧.list (codes "Tagged::number" ∷ codes "Tagged::flag" ∷ []) };
+
+    fn known(&self) {
+        known_fields!(self; number: Number, flag: Flag)
+    }
+}
+
+impl<'a> SimpleAsn1Readable<'a> for Tagged {
+    fn tag() -> Tag {
+        Tag::constructed(0x10)
+    }
+
+    fn parse_data(alloc: Global, data: &'a [u8]) -> ParseResult<Tagged> {
+        read_fields!(Fields, alloc, data => Tagged { number: Number, flag: Flag })
+    }
+}
+
+impl SimpleAsn1Writable for Tagged {
+    type Error = WriteError;
+
+    ghost write_errors = { λ _ _. ⊥ };
+
+    fn tag() -> Tag {
+        Tag::constructed(0x10)
+    }
+
+    fn write_data(&self, dest: &mut WriteBuf) -> WriteResult<()> {
+        write_fields!(self, dest; number: Number, flag: Flag)
+    }
+
+    fn data_length(&self) -> Option<usize> {
+        fields_length!(self; number: Number, flag: Flag)
     }
 }
 
@@ -41,14 +87,16 @@ fn at(name: &'static str, kind: ParseErrorKind) -> Option<ParseError> {
 fn fields_with_tags(rt: HostRuntime) -> Result<(), Fail> {
     let alloc = rt.alloc();
     let octets: &[u8] = &[0x30, 8, 0x80, 1, 5, 0xa1, 3, 1, 1, 0xff];
-    let fields = Field::new(Implicit::new(5), Last::new(Explicit::new(true)));
-    let value: Tagged = Structure::new(fields);
+    let value = Tagged {
+        number: 5,
+        flag: true,
+    };
     is_written(alloc, &value, octets)?;
     let read = parse_single::<Tagged>(alloc, octets)?;
     assert!(rt; read == value);
     assert!(rt; read.clone()? == read);
-    same(*read.fields.value.as_inner(), 5)?;
-    same(*read.fields.rest.value.as_inner(), true)
+    same(read.number, 5)?;
+    same(read.flag, true)
 }
 
 #[test]
@@ -65,4 +113,231 @@ fn fields_with_tags_that_are_missing(rt: HostRuntime) -> Result<(), Fail> {
     let flag = error_of(parse_single::<Tagged>(alloc, &[0x30, 3, 0x80, 1, 5]));
     let kind = ParseErrorKind::ShortData { needed: 1 };
     same(&flag, &at("Tagged::flag", kind))
+}
+
+/// What each field is where it is left out.
+#[derive(Drop)]
+pub struct Three;
+
+impl DefaultValue<u64> for Three {
+    ghost default = { 3 };
+
+    fn value() -> u64 {
+        3
+    }
+}
+
+impl DefaultValue<Explicit<u64, 0>> for Three {
+    ghost default = { record { inner = 3 } };
+
+    fn value() -> Explicit<u64, 0> {
+        Explicit::new(3)
+    }
+}
+
+impl DefaultValue<Implicit<u64, 1>> for Three {
+    ghost default = { record { inner = 3 } };
+
+    fn value() -> Implicit<u64, 1> {
+        Implicit::new(3)
+    }
+}
+
+/// Three numbers that are 3 by default: under an explicit tag, under an implicit one, and under none.
+#[derive(Debug, Clone, PartialEq, Eq, Hash, Drop)]
+pub struct Defaults {
+    pub explicit: u64,
+    pub implicit: u64,
+    pub plain: u64,
+}
+
+type ExplicitThree = Defaulted<Explicit<u64, 0>, Three>;
+
+type ImplicitThree = Defaulted<Implicit<u64, 1>, Three>;
+
+type PlainThree = Defaulted<u64, Three>;
+
+type DefaultsFields = Fields3<ExplicitThree, ImplicitThree, PlainThree>;
+
+impl Asn1Type for Defaults {
+    ghost der = { structure (λ v. fields3 (defaulted (explicit v.explicit))
+        (defaulted (implicit v.implicit)) (defaulted v.plain)) ⟦<DefaultsFields as Row>⟧.list
+        (codes "Defaults::explicit" ∷ codes "Defaults::implicit" ∷ codes "Defaults::plain" ∷ []) };
+
+    fn known(&self) {
+        known_fields!(self; explicit: ExplicitThree, implicit: ImplicitThree, plain: PlainThree)
+    }
+}
+
+impl<'a> SimpleAsn1Readable<'a> for Defaults {
+    fn tag() -> Tag {
+        Tag::constructed(0x10)
+    }
+
+    fn parse_data(alloc: Global, data: &'a [u8]) -> ParseResult<Defaults> {
+        read_fields!(DefaultsFields, alloc, data => Defaults {
+            explicit: ExplicitThree, implicit: ImplicitThree, plain: PlainThree
+        })
+    }
+}
+
+impl SimpleAsn1Writable for Defaults {
+    type Error = WriteError;
+
+    ghost write_errors = { λ _ _. ⊥ };
+
+    fn tag() -> Tag {
+        Tag::constructed(0x10)
+    }
+
+    fn write_data(&self, dest: &mut WriteBuf) -> WriteResult<()> {
+        write_fields!(self, dest;
+            explicit: ExplicitThree, implicit: ImplicitThree, plain: PlainThree)
+    }
+
+    fn data_length(&self) -> Option<usize> {
+        fields_length!(self; explicit: ExplicitThree, implicit: ImplicitThree, plain: PlainThree)
+    }
+}
+
+/// Each value has one encoding, which is read back.
+#[tactic(auto, using(asn1::specs::Lemmas::Fields::tags_differ))]
+pub fn defaults_are_lawful()
+    ensures { HasOneEncoding ⟦<Defaults as Asn1Type>⟧.der }
+{}
+
+#[test]
+fn defaults_under_tags(rt: HostRuntime) -> Result<(), Fail> {
+    let alloc = rt.alloc();
+    let others = Defaults {
+        explicit: 1,
+        implicit: 2,
+        plain: 4,
+    };
+    same(others.encoded_length(), Some(13))?;
+    let octets: &[u8] = &[0x30, 11, 0xa0, 3, 2, 1, 1, 0x81, 1, 2, 2, 1, 4];
+    both_ways(alloc, others, octets)?;
+    let all = Defaults {
+        explicit: 3,
+        implicit: 3,
+        plain: 3,
+    };
+    same(all.encoded_length(), Some(2))?;
+    both_ways(alloc, all, &[0x30, 0])?;
+    for (octets, name) in [
+        (
+            &[0x30u8, 5, 0xa0, 3, 2, 1, 3] as &[u8],
+            "Defaults::explicit",
+        ),
+        (&[0x30, 3, 0x81, 1, 3], "Defaults::implicit"),
+        (&[0x30, 3, 2, 1, 3], "Defaults::plain"),
+    ] {
+        let found = error_of(parse_single::<Defaults>(alloc, octets));
+        same(&found, &at(name, ParseErrorKind::EncodedDefault))?;
+    }
+    Ok(())
+}
+
+/// Sixteen numbers, the most that a structure has.
+#[derive(Debug, Clone, PartialEq, Eq, Drop)]
+pub struct Sixteen {
+    pub a: u8,
+    pub b: u8,
+    pub c: u8,
+    pub d: u8,
+    pub e: u8,
+    pub f: u8,
+    pub g: u8,
+    pub h: u8,
+    pub i: u8,
+    pub j: u8,
+    pub k: u8,
+    pub l: u8,
+    pub m: u8,
+    pub n: u8,
+    pub o: u8,
+    pub p: u8,
+}
+
+type SixteenFields = Fields16<u8, u8, u8, u8, u8, u8, u8, u8, u8, u8, u8, u8, u8, u8, u8, u8>;
+
+impl Asn1Type for Sixteen {
+    ghost der = { structure (λ v. fields16 v.a v.b v.c v.d v.e v.f v.g v.h v.i v.j v.k v.l v.m v.n
+        v.o v.p) ⟦<SixteenFields as Row>⟧.list (codes "Sixteen::a" ∷ codes "Sixteen::b" ∷
+        codes "Sixteen::c" ∷ codes "Sixteen::d" ∷ codes "Sixteen::e" ∷ codes "Sixteen::f" ∷
+        codes "Sixteen::g" ∷ codes "Sixteen::h" ∷ codes "Sixteen::i" ∷ codes "Sixteen::j" ∷
+        codes "Sixteen::k" ∷ codes "Sixteen::l" ∷ codes "Sixteen::m" ∷ codes "Sixteen::n" ∷
+        codes "Sixteen::o" ∷ codes "Sixteen::p" ∷ []) };
+
+    fn known(&self) {
+        known_fields!(self; a, b, c, d, e, f, g, h, i, j, k, l, m, n, o, p)
+    }
+}
+
+impl<'a> SimpleAsn1Readable<'a> for Sixteen {
+    fn tag() -> Tag {
+        Tag::constructed(0x10)
+    }
+
+    fn parse_data(alloc: Global, data: &'a [u8]) -> ParseResult<Sixteen> {
+        read_fields!(SixteenFields, alloc, data => Sixteen {
+            a, b, c, d, e, f, g, h, i, j, k, l, m, n, o, p
+        })
+    }
+}
+
+impl SimpleAsn1Writable for Sixteen {
+    type Error = WriteError;
+
+    ghost write_errors = { λ _ _. ⊥ };
+
+    fn tag() -> Tag {
+        Tag::constructed(0x10)
+    }
+
+    fn write_data(&self, dest: &mut WriteBuf) -> WriteResult<()> {
+        write_fields!(self, dest; a, b, c, d, e, f, g, h, i, j, k, l, m, n, o, p)
+    }
+
+    fn data_length(&self) -> Option<usize> {
+        fields_length!(self; a, b, c, d, e, f, g, h, i, j, k, l, m, n, o, p)
+    }
+}
+
+#[test]
+fn sixteen_fields(rt: HostRuntime) -> Result<(), Fail> {
+    let alloc = rt.alloc();
+    let value = Sixteen {
+        a: 0,
+        b: 1,
+        c: 2,
+        d: 3,
+        e: 4,
+        f: 5,
+        g: 6,
+        h: 7,
+        i: 8,
+        j: 9,
+        k: 10,
+        l: 11,
+        m: 12,
+        n: 13,
+        o: 14,
+        p: 15,
+    };
+    let octets: &[u8] = &[
+        0x30, 48, 2, 1, 0, 2, 1, 1, 2, 1, 2, 2, 1, 3, 2, 1, 4, 2, 1, 5, 2, 1, 6, 2, 1, 7, 2, 1, 8,
+        2, 1, 9, 2, 1, 10, 2, 1, 11, 2, 1, 12, 2, 1, 13, 2, 1, 14, 2, 1, 15,
+    ];
+    both_ways(alloc, value.clone()?, octets)?;
+    same(value.encoded_length(), Some(50))?;
+    let short = ParseErrorKind::ShortData { needed: 1 };
+    let last = error_of(parse_single::<Sixteen>(
+        alloc,
+        &[
+            0x30, 45, 2, 1, 0, 2, 1, 1, 2, 1, 2, 2, 1, 3, 2, 1, 4, 2, 1, 5, 2, 1, 6, 2, 1, 7, 2, 1,
+            8, 2, 1, 9, 2, 1, 10, 2, 1, 11, 2, 1, 12, 2, 1, 13, 2, 1, 14,
+        ],
+    ));
+    same(&last, &at("Sixteen::p", short))
 }

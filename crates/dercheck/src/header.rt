@@ -34,7 +34,8 @@ pub enum Header {
 /// How many identifier octets there are, and how many octets follow the length octets, where these are all there.
 fn header_parts(octets: &[u8]) -> Option<(usize, usize)>
     ensures { MatchOption result
-        ((tag : Tag) → (after : List ℕ) → tag_front octets.now ≡ Ok (tag, after) → ¬ HoldsLength after)
+        ((tag : Tag) → (after : List ℕ) → tag_front octets.now ≡ Ok (tag, after)
+        → ¬ HoldsLength after)
         (λ counts. IsSplit octets.now counts.0 counts.1) }
 {
     let Ok((_, after)) = Tag::from_bytes(octets) else {

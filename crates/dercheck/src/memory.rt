@@ -53,7 +53,8 @@ impl Source for Pieces<'_> {
             result buf.new }
         ensures bound { MatchOption result (length self.new.first.now + length self.new.second.now
             ≤ length self.old.first.now + length self.old.second.now)
-            (λ n. length self.new.first.now + length self.new.second.now + n ≤ length self.old.first.now + length self.old.second.now) }
+            (λ n. length self.new.first.now + length self.new.second.now + n
+            ≤ length self.old.first.now + length self.old.second.now) }
         ensures flag { FlagFollows (pieces_failed self.old) (pieces_failed self.new) result }
         ensures most { IfSome result (λ n. n ≤ piece_of self.old) }
         ensures end { IsNone result

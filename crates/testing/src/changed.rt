@@ -10,7 +10,9 @@ use std::test::Fail;
 /// An encoding, and it again and again with each of its octets replaced by each of the 256 values.
 #[derive(Drop)]
 pub struct Text {
+    /// The encoding.
     pub whole: Vec<u8>,
+    /// The changed ones, one behind another.
     pub changed: Vec<u8>,
 }
 

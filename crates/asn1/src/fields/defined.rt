@@ -1,18 +1,26 @@
-//! Fields that the field in front of them defines.
+//! Fields that an item before them defines (X.680, types that another field defines).
 
-ghost use Rattle.std.specs.Prelude.{◌≡◌, ◌⊎◌, OnOk, OnErr, IfErr};
+ghost use Rattle.std.specs.Prelude.{◌≡◌, OnOk, OnErr, IfErr};
 ghost use Rattle.asn1_core.specs.Buffer.{Appends, KeepsFront};
 ghost use Rattle.asn1_core.specs.Reading.{Answers};
 ghost use Rattle.asn1_core.specs.Writers.{buffer_name, octets_of};
 ghost use Rattle.asn1_core.specs.Writing.{KnowsLength, Refuses};
-ghost use Rattle.asn1.specs.Defined.{by_seen, defined_seen};
-ghost use Rattle.asn1.specs.ItemsAndValues.{Agrees, ItemAndValue, agrees_seen};
-ghost use Rattle.asn1.specs.FieldLists.{ItemOf, defined_field, defined_last_field};
+ghost use Rattle.asn1.specs.FieldLists.{
+  BehindItem,
+  ItemErrors,
+  before_behind,
+  item_list,
+  value_behind,
+  value_last_behind,
+};
+ghost use Rattle.asn1.specs.ItemFields.{item_der, written_value};
+ghost use Rattle.asn1.specs.ItemsAndValues.{Agrees, ItemAgrees, ItemAndValue};
 
-use super::{NameSource, Row, RowReadable, RowWritable, finish, placed, sum};
+use super::{NameSource, Row, RowReadable, finish, placed};
+use crate::wrappers::DefinedByMarker;
 use asn1_core::{
     Asn1DefinedBy, Asn1DefinedByReadable, Asn1DefinedByWritable, Asn1Readable, Asn1Type,
-    Asn1Writable, ParseResult, Parser, Tag, WriteError, Writer,
+    Asn1Writable, ParseResult, Parser, WriteError, Writer,
 };
 use std::marker::PhantomData;
 
@@ -20,7 +28,7 @@ use std::marker::PhantomData;
 pub trait DefinedField<T: Asn1Type>: Asn1DefinedBy<T> + Sized {
     ghost both: { ItemAndValue T Self };
 
-    /// The item of a value in hand is one of which the laws speak.
+    /// States that the item of the value is valid. It does nothing at run time.
     fn known_item(&self)
         ensures { both.item.valid (both.value.item (both.value.meaning self.now)) };
 
@@ -28,140 +36,70 @@ pub trait DefinedField<T: Asn1Type>: Asn1DefinedBy<T> + Sized {
     ghost agrees: { Agrees T.der Self.by both };
 }
 
-/// An item and the last field, which it defines; they have two names. Only the value is kept: it tells its item.
-#[derive(Drop)]
-#[derive_where(Debug, Clone, PartialEq, Eq, Hash; C)]
-pub struct DefinedLast<T, C> {
-    /// The value.
-    pub value: C,
-    /// The type of its item.
-    pub of: PhantomData<T>,
+/// The fields behind an item of the type `T`, one of which it defines: what they mean, for contracts alone.
+pub trait RowBehind<T: Asn1Type>: Sized {
+    ghost behind: { BehindItem T Self };
+
+    // The item's type says the same of the item.
+    ghost item_agrees: { ItemAgrees T.der behind.item };
 }
 
-/// An item, a field that it defines, and those behind these. The two have the first two names. Only the value is kept:
-/// it tells its item.
+/// Such fields that are read.
+pub trait RowBehindReadable<'a, T: Asn1Readable<'a>>: RowBehind<T> + Sized + Drop {
+    /// Reads the fields where this item stands before them. Errors are those of [`RowReadable::read`].
+    fn read<S: NameSource>(item: T, parser: Parser<'a>, names: S) -> ParseResult<Self>
+        ensures { Answers Self.behind.meaning (Self.behind.fields.runs_out (S.texts names)
+            (Self.behind.item.meaning item) parser.entry) result
+            (Self.behind.fields.read (S.texts names) (Self.behind.item.meaning item) parser.entry) };
+}
+
+/// An item, and the fields behind it. The item isn't kept: the value that it defines tells it.
 #[derive(Drop)]
-#[derive_where(Debug, Clone, PartialEq, Eq, Hash; C, R)]
-pub struct Defined<T, C, R> {
+pub struct Item<T, B> {
+    /// The place of the item.
+    pub value: DefinedByMarker<T>,
+    /// The fields after it.
+    pub rest: B,
+}
+
+/// A field between an item and the value that the item defines, and the fields after it.
+#[derive(Drop)]
+pub struct Before<A, B> {
+    /// The field's value.
+    pub value: A,
+    /// The fields after it.
+    pub rest: B,
+}
+
+/// A value that an item before it defines, and the fields after it.
+#[derive(Drop)]
+pub struct Value<C, R> {
     /// The value.
     pub value: C,
     /// The fields after it.
     pub rest: R,
-    /// The type of its item.
-    pub of: PhantomData<T>,
 }
 
-impl<T, C> DefinedLast<T, C> {
-    /// The last field, with its item in front.
-    pub fn new(value: C) -> DefinedLast<T, C>
-        ensures { result.value ≡ value }
-    {
-        DefinedLast {
-            value,
-            of: PhantomData,
-        }
-    }
-}
-
-impl<T, C, R> Defined<T, C, R> {
-    /// A field with its item in front, and those behind it.
-    pub fn new(value: C, rest: R) -> Defined<T, C, R>
-        ensures value { result.value ≡ value }
-        ensures rest { result.rest ≡ rest }
-    {
-        Defined {
-            value,
-            rest,
-            of: PhantomData,
-        }
-    }
-}
-
-/// A value that an item defines, written where it stands: in place of a reference, where it isn't `Copy`.
+/// A value that an item before it defines, as the last field.
 #[derive(Drop)]
-pub struct Borrowed<'r, C> {
+pub struct LastValue<C> {
     /// The value.
-    pub value: &'r C,
+    pub value: C,
 }
 
-impl<'r, C> Borrowed<'r, C> {
-    /// The value, where it stands.
-    pub fn new(value: &'r C) -> Borrowed<'r, C>
-        ensures { result.value.now ≡ value.entry.now }
-    {
-        Borrowed { value }
-    }
-}
-
-impl<T: Asn1Type, C: Asn1DefinedBy<T>> Asn1DefinedBy<T> for Borrowed<'_, C> {
-    ghost by = { by_seen (λ x. x.value.now) C.by };
-
-    fn known_by(&self) {
-        self.value.known_by()
-    }
-}
-
-impl<T: Asn1Type, C: DefinedField<T>> DefinedField<T> for Borrowed<'_, C> {
-    ghost both = { record {
-      item = C.both.item;
-      value = defined_seen (λ x. x.value.now) C.both.value;
-    } };
-
-    fn known_item(&self) {
-        self.value.known_item()
-    }
-
-    ghost agrees = { agrees_seen (λ x. x.value.now) _ _ _ C.agrees };
-}
-
-impl<T: Asn1Writable, C: Asn1DefinedByWritable<T>> Asn1DefinedByWritable<T> for Borrowed<'_, C> {
-    type Error = C::Error;
-
-    ghost write_errors_by = { λ x. C.write_errors_by x.value.now };
-
-    fn item(&self) -> T {
-        self.value.item()
-    }
-
-    fn write(&self, dest: &mut Writer<'_>) -> Result<(), C::Error> {
-        self.value.write(dest)
-    }
-
-    fn encoded_length(&self) -> Option<usize> {
-        self.value.encoded_length()
-    }
-}
-
-/// The item and the value that it defines have one text each, as both are said together: what the `tag` of a structure
-/// needs that is generic over its value. The body asks both types.
-pub fn both_have_one_text<
-    'a,
-    T: Asn1Readable<'a>,
-    C: DefinedField<T> + Asn1DefinedByReadable<'a, T>,
->()
-    ensures item { C.both.item.plain }
-    ensures value { C.both.value.plain }
-{
-    let _accepted = T::can_parse(Tag::primitive(0));
-    C::one_text();
-}
-
-/// Reads the item, as both are said together.
-pub(super) fn read_item<'a, T: Asn1Readable<'a>, C: DefinedField<T>>(
-    parser: &mut Parser<'a>,
-) -> ParseResult<T>
-    ensures { Answers (λ v. (C.both.item.meaning v, parser.new)) (C.both.item.runs_out parser.old)
-        result (C.both.item.read parser.old) }
+/// Reads the item, as it is said together with the fields behind it.
+fn read_item<'a, T: Asn1Readable<'a>, B: RowBehind<T>>(parser: &mut Parser<'a>) -> ParseResult<T>
+    ensures { Answers (λ v. (B.behind.item.meaning v, parser.new))
+        (B.behind.item.runs_out parser.old) result (B.behind.item.read parser.old) }
 {
     parser.read_element::<T>()
 }
 
 /// Reads the value that the item defines, as both are said together.
-pub(super) fn read_value<
-    'a,
-    T: Asn1Readable<'a>,
-    C: DefinedField<T> + Asn1DefinedByReadable<'a, T>,
->(item: T, parser: &mut Parser<'a>) -> ParseResult<C>
+fn read_value<'a, T: Asn1Readable<'a>, C: DefinedField<T> + Asn1DefinedByReadable<'a, T>>(
+    item: T,
+    parser: &mut Parser<'a>,
+) -> ParseResult<C>
     ensures { Answers (λ v. (C.both.value.meaning v, parser.new))
         (C.both.value.runs_out (C.both.item.meaning item) parser.old) result
         (C.both.value.read (C.both.item.meaning item) parser.old) }
@@ -169,120 +107,44 @@ pub(super) fn read_value<
     C::parse(item, parser)
 }
 
-/// The value is one of which the laws speak, as both are said together.
-pub(super) fn known_value<T: Asn1Type, C: DefinedField<T>>(value: &C)
-    ensures { C.both.value.valid (C.both.value.meaning value.now) }
-{
-    value.known_by()
+impl<T: Asn1Type, B: RowBehind<T>> Row for Item<T, B> {
+    ghost list = { item_list (λ x. x.rest) B.behind };
 }
 
-/// Writes the item that defines the value.
-pub(super) fn write_item<T: Asn1Writable + Drop, C: DefinedField<T> + Asn1DefinedByWritable<T>>(
-    value: &C,
-    dest: &mut Writer<'_>,
-) -> Result<(), T::Error>
-    requires { C.both.item.closures (C.both.value.item (C.both.value.meaning value.now)) }
-    ensures same_buffer { buffer_name dest.new ≡ buffer_name dest.old }
-    ensures ok { OnOk result (Appends (C.both.item.texts
-        (C.both.value.item (C.both.value.meaning value.now)))
-        (octets_of dest.old) (octets_of dest.new)) }
-    ensures err { OnErr result (KeepsFront (octets_of dest.old) (octets_of dest.new)) }
-    ensures error { IfErr result (Refuses T.Error.from_gives
-        (ItemOf C.both value.now T.write_errors)) }
-{
-    let item = value.item();
-    dest.write_element(&item)
-}
-
-/// Writes the value without its item.
-pub(super) fn write_value<T: Asn1Writable, C: DefinedField<T> + Asn1DefinedByWritable<T>>(
-    value: &C,
-    dest: &mut Writer<'_>,
-) -> Result<(), C::Error>
-    requires { C.both.value.closures (C.both.value.meaning value.now) }
-    ensures same_buffer { buffer_name dest.new ≡ buffer_name dest.old }
-    ensures ok { OnOk result (Appends (C.both.value.texts (C.both.value.meaning value.now))
-        (octets_of dest.old) (octets_of dest.new)) }
-    ensures err { OnErr result (KeepsFront (octets_of dest.old) (octets_of dest.new)) }
-    ensures error { IfErr result (Refuses C.Error.from_gives (C.write_errors_by value.now)) }
-{
-    value.write(dest)
-}
-
-/// How many octets the item's text has.
-pub(super) fn item_length<T: Asn1Writable + Drop, C: DefinedField<T> + Asn1DefinedByWritable<T>>(
-    value: &C,
-) -> Option<usize>
-    ensures { KnowsLength (C.both.item.texts (C.both.value.item (C.both.value.meaning value.now)))
-        result }
-{
-    let item = value.item();
-    item.encoded_length()
-}
-
-/// How many octets the value's text has, without its item.
-pub(super) fn value_length<T: Asn1Writable, C: DefinedField<T> + Asn1DefinedByWritable<T>>(
-    value: &C,
-) -> Option<usize>
-    ensures { KnowsLength (C.both.value.texts (C.both.value.meaning value.now)) result }
-{
-    value.encoded_length()
-}
-
-impl<T: Asn1Type, C: DefinedField<T>> Row for DefinedLast<T, C> {
-    ghost list = { defined_last_field (λ x. x.value) C.both };
-
-    fn known_row(&self) {
-        self.value.known_item();
-        known_value::<T, C>(&self.value)
-    }
-}
-
-impl<'a, T: Asn1Readable<'a>, C: DefinedField<T> + Asn1DefinedByReadable<'a, T>> RowReadable<'a>
-    for DefinedLast<T, C> {
+impl<'a, T: Asn1Readable<'a>, B: RowBehindReadable<'a, T>> RowReadable<'a> for Item<T, B> {
     fn read<S: NameSource>(parser: Parser<'a>, names: S) -> ParseResult<Self> {
         let mut parser = parser;
-        let item = placed(read_item::<T, C>(&mut parser), names.first())?;
-        let names = names.others();
-        let value = placed(read_value::<T, C>(item, &mut parser), names.first())?;
-        finish(parser)?;
-        Ok(DefinedLast::new(value))
-    }
-
-    fn plain() {
-        both_have_one_text::<T, C>()
+        let item = placed(read_item::<T, B>(&mut parser), names.first())?;
+        let rest = B::read(item, parser, names.others())?;
+        Ok(Item {
+            value: DefinedByMarker::marker(),
+            rest,
+        })
     }
 }
 
-impl<
-    E: From<WriteError>,
-    T: Asn1Writable<Error = E> + Drop,
-    C: DefinedField<T> + Asn1DefinedByWritable<T, Error = E>,
-> RowWritable<E> for DefinedLast<T, C> {
-    ghost write_errors = { λ x e. (ItemOf C.both x.value T.write_errors e)
-        ⊎ C.write_errors_by x.value e };
+impl<T: Asn1Type, A: Asn1Type, B: RowBehind<T>> RowBehind<T> for Before<A, B> {
+    ghost behind = { before_behind (λ x. x.value) A.der (λ x. x.rest) B.behind };
 
-    fn write(&self, dest: &mut Writer<'_>) -> Result<(), E> {
-        write_item::<T, C>(&self.value, dest)?;
-        write_value::<T, C>(&self.value, dest)
-    }
+    ghost item_agrees = { B.item_agrees };
+}
 
-    fn length(&self) -> Option<usize> {
-        sum(
-            item_length::<T, C>(&self.value),
-            value_length::<T, C>(&self.value),
-        )
+impl<'a, T: Asn1Readable<'a>, A: Asn1Readable<'a>, B: RowBehindReadable<'a, T>> RowBehindReadable<
+    'a,
+    T,
+> for Before<A, B> {
+    fn read<S: NameSource>(item: T, parser: Parser<'a>, names: S) -> ParseResult<Self> {
+        let mut parser = parser;
+        let value = placed(parser.read_element::<A>(), names.first())?;
+        let rest = B::read(item, parser, names.others())?;
+        Ok(Before { value, rest })
     }
 }
 
-impl<T: Asn1Type, C: DefinedField<T>, R: Row> Row for Defined<T, C, R> {
-    ghost list = { defined_field (λ x. x.value) C.both (λ x. x.rest) R.list };
+impl<T: Asn1Type, C: DefinedField<T>, R: Row> RowBehind<T> for Value<C, R> {
+    ghost behind = { value_behind (λ x. x.value) C.both (λ x. x.rest) R.list };
 
-    fn known_row(&self) {
-        self.value.known_item();
-        known_value::<T, C>(&self.value);
-        self.rest.known_row()
-    }
+    ghost item_agrees = { C.agrees.0 };
 }
 
 impl<
@@ -290,39 +152,109 @@ impl<
     T: Asn1Readable<'a>,
     C: DefinedField<T> + Asn1DefinedByReadable<'a, T>,
     R: RowReadable<'a>,
-> RowReadable<'a> for Defined<T, C, R> {
-    fn read<S: NameSource>(parser: Parser<'a>, names: S) -> ParseResult<Self> {
+> RowBehindReadable<'a, T> for Value<C, R> {
+    fn read<S: NameSource>(item: T, parser: Parser<'a>, names: S) -> ParseResult<Self> {
         let mut parser = parser;
-        let item = placed(read_item::<T, C>(&mut parser), names.first())?;
-        let names = names.others();
         let value = placed(read_value::<T, C>(item, &mut parser), names.first())?;
         let rest = R::read(parser, names.others())?;
-        Ok(Defined::new(value, rest))
-    }
-
-    fn plain() {
-        both_have_one_text::<T, C>();
-        R::plain()
+        Ok(Value { value, rest })
     }
 }
 
-impl<
-    E: From<WriteError>,
-    T: Asn1Writable<Error = E> + Drop,
-    C: DefinedField<T> + Asn1DefinedByWritable<T, Error = E>,
-    R: RowWritable<E>,
-> RowWritable<E> for Defined<T, C, R> {
-    ghost write_errors = { λ x e. (ItemOf C.both x.value T.write_errors e)
-        ⊎ (C.write_errors_by x.value e ⊎ R.write_errors x.rest e) };
+impl<T: Asn1Type, C: DefinedField<T>> RowBehind<T> for LastValue<C> {
+    ghost behind = { value_last_behind (λ x. x.value) C.both };
 
-    fn write(&self, dest: &mut Writer<'_>) -> Result<(), E> {
-        write_item::<T, C>(&self.value, dest)?;
-        write_value::<T, C>(&self.value, dest)?;
-        self.rest.write(dest)
+    ghost item_agrees = { C.agrees.0 };
+}
+
+impl<'a, T: Asn1Readable<'a>, C: DefinedField<T> + Asn1DefinedByReadable<'a, T>> RowBehindReadable<
+    'a,
+    T,
+> for LastValue<C> {
+    fn read<S: NameSource>(item: T, parser: Parser<'a>, names: S) -> ParseResult<Self> {
+        let mut parser = parser;
+        let value = placed(read_value::<T, C>(item, &mut parser), names.first())?;
+        finish(parser)?;
+        Ok(LastValue { value })
+    }
+}
+
+/// States that the item of a value is valid. It does nothing at run time.
+pub fn known_item<T: Asn1Type, C: DefinedField<T>>(value: &C)
+    ensures { C.both.item.valid (C.both.value.item (C.both.value.meaning value.now)) }
+{
+    value.known_item()
+}
+
+/// States that a value that an item defines is valid. It does nothing at run time.
+pub fn known_value<T: Asn1Type, C: DefinedField<T>>(value: &C)
+    ensures { C.both.value.valid (C.both.value.meaning value.now) }
+{
+    value.known_by()
+}
+
+/// The item of a value that it defines, written where the value stands.
+#[derive(Drop)]
+pub struct ItemOf<'r, T, C> {
+    /// The value.
+    pub value: &'r C,
+    /// The type of its item.
+    pub of: PhantomData<T>,
+}
+
+impl<T: Asn1Type, C: DefinedField<T>> Asn1Type for ItemOf<'_, T, C> {
+    ghost der = { item_der (λ x. x.value.now) C.both };
+
+    fn known(&self) {
+        known_item::<T, C>(self.value)
+    }
+}
+
+impl<T: Asn1Writable + Drop, C: DefinedField<T> + Asn1DefinedByWritable<T>> Asn1Writable
+    for ItemOf<'_, T, C> {
+    type Error = T::Error;
+
+    ghost write_errors = { λ x. ItemErrors C.both x.value.now T.write_errors };
+
+    fn write(&self, dest: &mut Writer<'_>) -> Result<(), T::Error> {
+        let item = self.value.item();
+        dest.write_element(&item)
     }
 
-    fn length(&self) -> Option<usize> {
-        let behind = sum(value_length::<T, C>(&self.value), self.rest.length());
-        sum(item_length::<T, C>(&self.value), behind)
+    fn encoded_length(&self) -> Option<usize> {
+        let item = self.value.item();
+        item.encoded_length()
+    }
+}
+
+/// A value that an item defines, written without the item.
+#[derive(Drop)]
+pub struct ValueOf<'r, T, C> {
+    /// The value.
+    pub value: &'r C,
+    /// The type of its item.
+    pub of: PhantomData<T>,
+}
+
+impl<T: Asn1Type, C: DefinedField<T>> Asn1Type for ValueOf<'_, T, C> {
+    ghost der = { written_value (λ x. x.value.now) C.both.value };
+
+    fn known(&self) {
+        known_value::<T, C>(self.value)
+    }
+}
+
+impl<T: Asn1Writable, C: DefinedField<T> + Asn1DefinedByWritable<T>> Asn1Writable
+    for ValueOf<'_, T, C> {
+    type Error = C::Error;
+
+    ghost write_errors = { λ x. C.write_errors_by x.value.now };
+
+    fn write(&self, dest: &mut Writer<'_>) -> Result<(), C::Error> {
+        self.value.write(dest)
+    }
+
+    fn encoded_length(&self) -> Option<usize> {
+        self.value.encoded_length()
     }
 }

@@ -23,6 +23,7 @@ use asn1_core::{
     SimpleAsn1Readable, SimpleAsn1Writable, Tag, Tlv, WriteBuf, WriteError, Writer,
 };
 use std::alloc::{AllocError, Global};
+use std::fmt;
 use std::hash::{Hash, Hasher};
 use std::marker::PhantomData;
 
@@ -69,7 +70,8 @@ impl<'a, T: Asn1Readable<'a>, const MINIMUM_LEN: usize, const MAXIMUM_LEN: usize
     /// Whether no item remains.
     pub fn is_empty(&self) -> bool
         ensures { result ≡ (length
-            (⟦<SequenceOf<'a, T, MINIMUM_LEN, MAXIMUM_LEN> as Asn1Type>⟧.der.meaning self.now) == 0) }
+            (⟦<SequenceOf<'a, T, MINIMUM_LEN, MAXIMUM_LEN> as Asn1Type>⟧.der.meaning self.now)
+            == 0) }
     {
         self.count == 0
     }
@@ -88,6 +90,25 @@ impl<'a, T: Asn1Type, const MINIMUM_LEN: usize, const MAXIMUM_LEN: usize> Clone
             count: self.count,
             of: PhantomData,
         })
+    }
+}
+
+/// The items that remain, as a list.
+impl<
+    'a,
+    T: Asn1Readable<'a> + fmt::Debug,
+    const MINIMUM_LEN: usize,
+    const MAXIMUM_LEN: usize,
+> fmt::Debug for SequenceOf<'a, T, MINIMUM_LEN, MAXIMUM_LEN> {
+    fn fmt<W: fmt::Write>(&self, f: &mut fmt::Formatter<W>) -> fmt::Result {
+        let mut list = f.debug_list();
+        for item in self.clone().unwrap() {
+            match item {
+                Ok(item) => list.entry(&item),
+                Err(error) => list.entry(&error),
+            };
+        }
+        list.finish()
     }
 }
 

@@ -29,6 +29,7 @@ use asn1_core::{
     parse,
 };
 use std::alloc::{AllocError, Global};
+use std::fmt;
 use std::hash::{Hash, Hasher};
 use std::marker::PhantomData;
 
@@ -245,6 +246,20 @@ impl<'a, T: Asn1Type> Clone for SetOf<'a, T> {
             alloc: self.alloc,
             of: PhantomData,
         })
+    }
+}
+
+/// The items that remain, as a list.
+impl<'a, T: Asn1Readable<'a> + fmt::Debug> fmt::Debug for SetOf<'a, T> {
+    fn fmt<W: fmt::Write>(&self, f: &mut fmt::Formatter<W>) -> fmt::Result {
+        let mut list = f.debug_list();
+        for item in self.clone().unwrap() {
+            match item {
+                Ok(item) => list.entry(&item),
+                Err(error) => list.entry(&error),
+            };
+        }
+        list.finish()
     }
 }
 

@@ -68,7 +68,7 @@ impl<F: Fn(&mut Writer<'_>) -> Result<(), E>, E: From<WriteError>> SimpleAsn1Wri
 ///
 /// The length is known where each item's is and their sum fits a `usize`. Writing returns `AllocationError` where out
 /// of memory, or an error of one of the items.
-#[derive(Clone, PartialEq, Eq, Hash, Drop)]
+#[derive(Debug, Clone, PartialEq, Eq, Hash, Drop)]
 pub struct SequenceOfWriter<'a, T> {
     items: &'a [T],
 }

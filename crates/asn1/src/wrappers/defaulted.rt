@@ -103,7 +103,7 @@ fn or_default<T: MeaningEq + Drop, D>(
 }
 
 /// Whether the value equals the default, and so isn't encoded.
-fn is_default<T: MeaningEq + Drop, D: DefaultValue<T>>(inner: &T) -> bool
+pub(crate) fn is_default<T: MeaningEq + Drop, D: DefaultValue<T>>(inner: &T) -> bool
     ensures { result ≡ same_text T.der.text (T.der.meaning inner.now) (T.der.meaning D.default) }
 {
     let default = D::value();

@@ -140,7 +140,8 @@ impl MeaningEq for Enumerated {
 }
 
 impl SimpleMeaningEq for Enumerated {
-    ghost content_tells = { λ a b. naturals_content_tells (enumerated_value a) (enumerated_value b) };
+    ghost content_tells = { λ a b. naturals_content_tells (enumerated_value a)
+        (enumerated_value b) };
 }
 
 impl MeaningEq for () {

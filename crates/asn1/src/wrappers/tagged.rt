@@ -20,7 +20,7 @@ use std::fmt;
 /// where octets remain there. Writing returns what writing `T` does.
 #[derive(Debug, Clone, Copy, PartialEq, Eq, Hash)]
 pub struct Explicit<T, const TAG: u32> {
-    inner: T,
+    pub(crate) inner: T,
 }
 
 impl<T, const TAG: u32> Explicit<T, TAG> {
@@ -101,7 +101,7 @@ impl<T: Asn1Writable, const TAG: u32> SimpleAsn1Writable for Explicit<T, TAG> {
 /// returns what writing `T` does.
 #[derive(Debug, Clone, Copy, PartialEq, Eq, Hash)]
 pub struct Implicit<T, const TAG: u32> {
-    inner: T,
+    pub(crate) inner: T,
 }
 
 impl<T, const TAG: u32> Implicit<T, TAG> {

@@ -143,7 +143,7 @@ fn write_listing<T: Asn1Writable>(items: &[T], dest: &mut WriteBuf) -> Result<()
 /// Two sets of items, each of which is written as one element, have the same encoding exactly where the items have the
 /// same encodings, each as often. Writing returns `AllocationError` where out of memory, or an error of an item. The
 /// length is known where each item's is and their sum fits a `usize`.
-#[derive(Clone, PartialEq, Eq, Hash, Drop)]
+#[derive(Debug, Clone, PartialEq, Eq, Hash, Drop)]
 pub struct SetOfWriter<'a, T> {
     items: &'a [T],
 }

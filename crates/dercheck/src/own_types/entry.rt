@@ -1,15 +1,14 @@
 //! A structure in which fields follow a value that the OBJECT IDENTIFIER before it defines.
 
-ghost use Rattle.std.specs.Prelude.{◌≡◌, map};
-ghost use Rattle.asn1.specs.Der.{seen};
-ghost use Rattle.asn1.specs.InHand.{defaulted_inner};
-ghost use Rattle.dercheck.specs.declared.own_types.entry.TheConstants.{NAMES};
+ghost use Rattle.std.specs.Prelude.{◌∷◌, [], codes};
+ghost use Rattle.asn1.specs.Structures.{defaulted, explicit, fields2, structure};
 
 use super::my_sequence::Content;
-use asn1::fields::{Defined, Field, FieldNames, Fields2, Last, Names, Structure};
+use asn1::fields::{Fields2, Item, Row, Value};
 use asn1::{
-    Asn1Type, DefaultValue, Defaulted, Explicit, ObjectIdentifier, ParseResult, SimpleAsn1Readable,
-    SimpleAsn1Writable, Tag, WriteBuf, WriteError, WriteResult,
+    Asn1Type, DefaultValue, Defaulted, DefinedByMarker, Explicit, ObjectIdentifier, ParseResult,
+    SimpleAsn1Readable, SimpleAsn1Writable, Tag, WriteBuf, WriteError, WriteResult, fields_length,
+    known_fields, read_fields, write_fields,
 };
 use std::alloc::Global;
 
@@ -25,73 +24,34 @@ impl DefaultValue<Explicit<u8, 0>> for One {
     }
 }
 
-/// The fields.
-type Fields = Structure<
-    EntryNames,
-    Defined<ObjectIdentifier, Content, Fields2<Option<bool>, Defaulted<Explicit<u8, 0>, One>>>,
->;
-
-const NAMES: [&str; 4] = [
-    "Entry::content_type",
-    "Entry::content",
-    "Entry::note",
-    "Entry::version",
-];
-
-/// The names of the fields.
-struct EntryNames;
-
-impl FieldNames for EntryNames {
-    ghost names = { map (λ s. s.now) NAMES };
-
-    fn names() -> Names {
-        Names::new(&NAMES)
-    }
-}
-
 /// An OBJECT IDENTIFIER and the content that it defines, a note that may be missing, and a version, 1 by default.
-#[derive(Debug, PartialEq, Eq, Drop)]
-pub struct Entry(Fields);
-
-impl Entry {
-    /// An entry with this content, from which the object identifier follows.
-    pub fn new(content: Content, note: Option<bool>, version: u8) -> Entry
-        ensures content { result.0.fields.value ≡ content }
-        ensures note { result.0.fields.rest.value ≡ note }
-        ensures version { (defaulted_inner result.0.fields.rest.rest.value).inner ≡ version }
-    {
-        let version = Defaulted::new(Explicit::new(version));
-        let behind = Field::new(note, Last::new(version));
-        Entry(Structure::new(Defined::new(content, behind)))
-    }
-
+#[derive(Debug, Clone, PartialEq, Eq, Hash, Drop)]
+pub struct Entry {
+    /// The OBJECT IDENTIFIER, which the content tells.
+    pub content_type: DefinedByMarker<ObjectIdentifier>,
     /// The content.
-    pub fn content(&self) -> &Content
-        ensures { result.now ≡ self.now.0.fields.value }
-    {
-        &self.0.fields.value
-    }
-
-    /// The note.
-    pub fn note(&self) -> Option<bool>
-        ensures { result ≡ self.now.0.fields.rest.value }
-    {
-        self.0.fields.rest.value
-    }
-
-    /// The version.
-    pub fn version(&self) -> u8
-        ensures { result ≡ (defaulted_inner self.now.0.fields.rest.rest.value).inner }
-    {
-        *self.0.fields.rest.rest.value.as_inner().as_inner()
-    }
+    pub content: Content,
+    /// A note, which may be missing.
+    pub note: Option<bool>,
+    /// The version, under the explicit tag 0.
+    pub version: u8,
 }
+
+type Version = Defaulted<Explicit<u8, 0>, One>;
+
+type Fields = Item<ObjectIdentifier, Value<Content, Fields2<Option<bool>, Version>>>;
 
 impl Asn1Type for Entry {
-    ghost der = { seen (λ v. v.0) ⟦<Fields as Asn1Type>⟧.der };
+    ghost der = { structure (λ v. record { value = v.content_type; rest = record { value =
+        v.content; rest = fields2 v.note (defaulted (explicit v.version)); };
+    })
+        ⟦<Fields as Row>⟧.list (codes "Entry::content_type" ∷ codes "Entry::content" ∷ codes
+        "Entry::note" ∷ codes "Entry::version" ∷ []) };
 
     fn known(&self) {
-        self.0.known()
+        known_fields!(self;
+            content_type of content: ObjectIdentifier, content by ObjectIdentifier, note,
+            version: Version)
     }
 }
 
@@ -101,10 +61,7 @@ impl<'a> SimpleAsn1Readable<'a> for Entry {
     }
 
     fn parse_data(alloc: Global, data: &'a [u8]) -> ParseResult<Entry> {
-        match Fields::parse_data(alloc, data) {
-            Ok(fields) => Ok(Entry(fields)),
-            Err(error) => Err(error),
-        }
+        read_fields!(Fields, alloc, data => Entry { content_type, content, note, version: Version })
     }
 }
 
@@ -118,10 +75,14 @@ impl SimpleAsn1Writable for Entry {
     }
 
     fn write_data(&self, dest: &mut WriteBuf) -> WriteResult<()> {
-        self.0.write_data(dest)
+        write_fields!(self, dest;
+            content_type of content: ObjectIdentifier, content by ObjectIdentifier, note,
+            version: Version)
     }
 
     fn data_length(&self) -> Option<usize> {
-        self.0.data_length()
+        fields_length!(self;
+            content_type of content: ObjectIdentifier, content by ObjectIdentifier, note,
+            version: Version)
     }
 }

@@ -1,18 +1,18 @@
 //! A structure whose content is defined by the OBJECT IDENTIFIER before it.
 
-ghost use Rattle.std.specs.Prelude.{◌≡◌, map};
-ghost use Rattle.asn1.specs.Der.{seen};
+ghost use Rattle.std.specs.Prelude.{◌≡◌, ◌∷◌, [], codes};
 ghost use Rattle.asn1.specs.IdentifierValues.{identifier_of};
 ghost use Rattle.asn1.specs.ItemsAndValues.{by_item, word_for_word};
+ghost use Rattle.asn1.specs.Structures.{structure};
 ghost use Rattle.dercheck.specs.MySequence.{are_some, some_numbers, content_both};
-ghost use Rattle.dercheck.specs.declared.own_types.my_sequence.TheConstants.{NAMES};
 
-use asn1::fields::{DefinedField, DefinedLast, FieldNames, Names, Structure};
+use asn1::fields::{DefinedField, Item, LastValue, Row};
 use asn1::laws::identifiers_compare;
 use asn1::{
     Asn1DefinedBy, Asn1DefinedByReadable, Asn1DefinedByWritable, Asn1Type, Asn1Writable,
-    ObjectIdentifier, ParseError, ParseErrorKind, ParseResult, Parser, SimpleAsn1Readable,
-    SimpleAsn1Writable, Tag, WriteBuf, WriteError, WriteResult, Writer,
+    DefinedByMarker, ObjectIdentifier, ParseError, ParseErrorKind, ParseResult, Parser,
+    SimpleAsn1Readable, SimpleAsn1Writable, Tag, WriteBuf, WriteError, WriteResult, Writer,
+    fields_length, known_fields, read_fields, write_fields,
 };
 use std::alloc::Global;
 
@@ -97,47 +97,25 @@ impl Asn1DefinedByWritable<ObjectIdentifier> for Content {
     }
 }
 
-/// The object identifier and the content. The content alone is kept: the object identifier follows from it.
-type Fields = Structure<MySequenceNames, DefinedLast<ObjectIdentifier, Content>>;
-
-const NAMES: [&str; 2] = ["MySequence::content_type", "MySequence::content"];
-
-/// The names of the fields.
-struct MySequenceNames;
-
-impl FieldNames for MySequenceNames {
-    ghost names = { map (λ s. s.now) NAMES };
-
-    fn names() -> Names {
-        Names::new(&NAMES)
-    }
-}
-
 /// An OBJECT IDENTIFIER, and the content that it defines.
 #[derive(Debug, Clone, PartialEq, Eq, Hash, Drop)]
-pub struct MySequence(Fields);
-
-impl MySequence {
-    /// This content, after its object identifier.
-    pub fn new(content: Content) -> MySequence
-        ensures { result.0.fields.value ≡ content }
-    {
-        MySequence(Structure::new(DefinedLast::new(content)))
-    }
-
+pub struct MySequence {
+    /// The OBJECT IDENTIFIER, which the content tells.
+    pub content_type: DefinedByMarker<ObjectIdentifier>,
     /// The content.
-    pub fn content(&self) -> &Content
-        ensures { result.now ≡ self.now.0.fields.value }
-    {
-        &self.0.fields.value
-    }
+    pub content: Content,
 }
 
+type Fields = Item<ObjectIdentifier, LastValue<Content>>;
+
 impl Asn1Type for MySequence {
-    ghost der = { seen (λ v. v.0) ⟦<Fields as Asn1Type>⟧.der };
+    ghost der = { structure (λ v. record { value = v.content_type; rest = record { value =
+        v.content; };
+    }) ⟦<Fields as Row>⟧.list (codes "MySequence::content_type" ∷ codes "MySequence::content"
+        ∷ []) };
 
     fn known(&self) {
-        self.0.known()
+        known_fields!(self; content_type of content: ObjectIdentifier, content by ObjectIdentifier)
     }
 }
 
@@ -147,10 +125,7 @@ impl<'a> SimpleAsn1Readable<'a> for MySequence {
     }
 
     fn parse_data(alloc: Global, data: &'a [u8]) -> ParseResult<MySequence> {
-        match Fields::parse_data(alloc, data) {
-            Ok(fields) => Ok(MySequence(fields)),
-            Err(error) => Err(error),
-        }
+        read_fields!(Fields, alloc, data => MySequence { content_type, content })
     }
 }
 
@@ -164,10 +139,11 @@ impl SimpleAsn1Writable for MySequence {
     }
 
     fn write_data(&self, dest: &mut WriteBuf) -> WriteResult<()> {
-        self.0.write_data(dest)
+        write_fields!(self, dest;
+            content_type of content: ObjectIdentifier, content by ObjectIdentifier)
     }
 
     fn data_length(&self) -> Option<usize> {
-        self.0.data_length()
+        fields_length!(self; content_type of content: ObjectIdentifier, content by ObjectIdentifier)
     }
 }

@@ -1,52 +1,59 @@
-//! A structure of two numbers, in the short form.
+//! A structure of two numbers.
 
-ghost use Rattle.std.specs.Prelude.{◌≡◌, map};
-ghost use Rattle.dercheck.specs.declared.own_types.signature.TheConstants.{NAMES};
+ghost use Rattle.std.specs.Prelude.{◌∷◌, [], codes};
+ghost use Rattle.asn1.specs.Structures.{fields2, structure};
 
-use asn1::fields::{Field, FieldNames, Fields2, Last, Names, Structure};
+use asn1::fields::{Fields2, Row};
+use asn1::{
+    Asn1Type, ParseResult, SimpleAsn1Readable, SimpleAsn1Writable, Tag, WriteBuf, WriteError,
+    WriteResult, fields_length, known_fields, read_fields, write_fields,
+};
+use std::alloc::Global;
 
 /// Two numbers in a sequence.
-pub type Signature = Structure<SignatureNames, Fields2<u64, u64>>;
-
-const NAMES: [&str; 2] = ["Signature::r", "Signature::s"];
-
-/// The names of its fields.
-pub struct SignatureNames;
-
-impl FieldNames for SignatureNames {
-    ghost names = { map (λ s. s.now) NAMES };
-
-    fn names() -> Names {
-        Names::new(&NAMES)
-    }
-}
-
-/// A signature of these numbers.
-pub fn signature(r: u64, s: u64) -> Signature
-    ensures { (result.fields.value ≡ r) × (result.fields.rest.value ≡ s) }
-{
-    Structure::new(Field::new(r, Last::new(s)))
-}
-
-/// The fields of a signature.
-pub trait SignatureFields {
+#[derive(Debug, Clone, PartialEq, Eq, Hash, Drop)]
+pub struct Signature {
     /// The first number.
-    fn r(&self) -> u64;
-
+    pub r: u64,
     /// The second number.
-    fn s(&self) -> u64;
+    pub s: u64,
 }
 
-impl SignatureFields for Signature {
-    fn r(&self) -> u64
-        ensures { result ≡ self.now.fields.value }
-    {
-        self.fields.value
+type Fields = Fields2<u64, u64>;
+
+impl Asn1Type for Signature {
+    ghost der = { structure (λ v. fields2 v.r v.s) ⟦<Fields as Row>⟧.list (codes "Signature::r" ∷
+        codes "Signature::s" ∷ []) };
+
+    fn known(&self) {
+        known_fields!(self; r, s)
+    }
+}
+
+impl<'a> SimpleAsn1Readable<'a> for Signature {
+    fn tag() -> Tag {
+        Tag::constructed(0x10)
     }
 
-    fn s(&self) -> u64
-        ensures { result ≡ self.now.fields.rest.value }
-    {
-        self.fields.rest.value
+    fn parse_data(alloc: Global, data: &'a [u8]) -> ParseResult<Signature> {
+        read_fields!(Fields, alloc, data => Signature { r, s })
+    }
+}
+
+impl SimpleAsn1Writable for Signature {
+    type Error = WriteError;
+
+    ghost write_errors = { λ _ _. ⊥ };
+
+    fn tag() -> Tag {
+        Tag::constructed(0x10)
+    }
+
+    fn write_data(&self, dest: &mut WriteBuf) -> WriteResult<()> {
+        write_fields!(self, dest; r, s)
+    }
+
+    fn data_length(&self) -> Option<usize> {
+        fields_length!(self; r, s)
     }
 }

@@ -1,54 +1,38 @@
 //! A structure made in code, with a list in it.
 
-ghost use Rattle.std.specs.Prelude.{◌≡◌, map};
-ghost use Rattle.asn1.specs.Der.{seen};
-ghost use Rattle.dercheck_tests.specs.declared.tests.bag.TheConstants.{NAMES};
+ghost use Rattle.std.specs.Prelude.{◌≡◌, ◌∷◌, [], codes};
+ghost use Rattle.asn1.specs.Structures.{fields2, structure};
 
-use asn1::fields::{Field, FieldNames, Fields2, Last, Names, Structure};
+use asn1::fields::{Fields2, Row};
 use asn1::{
-    Asn1Type, SetOfWriter, SimpleAsn1Writable, Tag, WriteBuf, WriteError, WriteResult, write_single,
+    Asn1Type, SetOfWriter, SimpleAsn1Writable, Tag, WriteBuf, WriteError, WriteResult,
+    fields_length, known_fields, write_fields, write_single,
 };
 use std::test::Fail;
 use testing::same;
 
-/// The fields.
-type Fields<'a> = Structure<BagNames, Fields2<bool, SetOfWriter<'a, u64>>>;
-
-const NAMES: [&str; 2] = ["Bag::full", "Bag::numbers"];
-
-struct BagNames;
-
-impl FieldNames for BagNames {
-    ghost names = { map (λ s. s.now) NAMES };
-
-    fn names() -> Names {
-        Names::new(&NAMES)
-    }
-}
-
 /// Whether a bag is full, and the numbers in it.
-#[derive(Drop)]
-pub struct Bag<'a>(Fields<'a>);
-
-impl<'a> Bag<'a> {
-    pub fn new(full: bool, numbers: &'a [u64]) -> Bag<'a> {
-        let numbers = Last::new(SetOfWriter::new(numbers));
-        Bag(Structure::new(Field::new(full, numbers)))
-    }
+#[derive(Debug, Clone, PartialEq, Eq, Hash, Drop)]
+pub struct Bag<'a> {
+    pub full: bool,
+    pub numbers: SetOfWriter<'a, u64>,
 }
+
+type Fields<'a> = Fields2<bool, SetOfWriter<'a, u64>>;
 
 impl<'a> Asn1Type for Bag<'a> {
-    ghost der = { seen (λ v. v.0) ⟦<Fields<'a> as Asn1Type>⟧.der };
+    ghost der = { structure (λ v. fields2 v.full v.numbers) ⟦<Fields<'a> as Row>⟧.list
+        (codes "Bag::full" ∷ codes "Bag::numbers" ∷ []) };
 
     fn known(&self) {
-        self.0.known()
+        known_fields!(self; full, numbers)
     }
 }
 
 impl<'a> SimpleAsn1Writable for Bag<'a> {
     type Error = WriteError;
 
-    ghost write_errors = { λ v. ⟦<Fields<'a> as SimpleAsn1Writable>⟧.write_errors v.0 };
+    ghost write_errors = { λ v. ⟦<SetOfWriter<'a, u64> as SimpleAsn1Writable>⟧.write_errors v.numbers };
 
     fn tag() -> Tag
         ensures value { result ≡ ⟦<Bag<'a> as Asn1Type>⟧.der.content.tag }
@@ -58,11 +42,11 @@ impl<'a> SimpleAsn1Writable for Bag<'a> {
     }
 
     fn write_data(&self, dest: &mut WriteBuf) -> WriteResult<()> {
-        self.0.write_data(dest)
+        write_fields!(self, dest; full, numbers)
     }
 
     fn data_length(&self) -> Option<usize> {
-        self.0.data_length()
+        fields_length!(self; full, numbers)
     }
 }
 
@@ -70,6 +54,10 @@ impl<'a> SimpleAsn1Writable for Bag<'a> {
 fn bags(rt: HostRuntime) -> Result<(), Fail> {
     let alloc = rt.alloc();
     let octets: &[u8] = &[0x30, 11, 1, 1, 0xff, 0x31, 6, 2, 1, 1, 2, 1, 2];
-    let written = write_single(alloc, &Bag::new(true, &[2, 1]))?;
+    let bag = Bag {
+        full: true,
+        numbers: SetOfWriter::new(&[2, 1]),
+    };
+    let written = write_single(alloc, &bag)?;
     same(written.as_slice(), octets)
 }

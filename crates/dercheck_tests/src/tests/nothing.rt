@@ -1,31 +1,62 @@
 //! A structure of no fields.
 
 ghost use Rattle.std.specs.Prelude.{[]};
+ghost use Rattle.asn1.specs.Structures.{fields0, structure};
 
 use crate::tests::own_types::{of, other_tag};
-use asn1::ParseErrorKind;
-use asn1::fields::{FieldNames, Names, NoFields, Structure};
+use asn1::fields::{NoFields, Row};
+use asn1::{
+    Asn1Type, ParseErrorKind, ParseResult, SimpleAsn1Readable, SimpleAsn1Writable, Tag, WriteBuf,
+    WriteError, WriteResult, fields_length, known_fields, read_fields, write_fields,
+};
+use std::alloc::Global;
 use std::test::Fail;
 use testing::{are_refused_with, both_ways};
 
 /// A sequence of nothing.
-type Nothing = Structure<NothingNames, NoFields>;
+#[derive(Debug, Clone, PartialEq, Eq, Hash, Drop)]
+pub struct Nothing {}
 
-struct NothingNames;
+impl Asn1Type for Nothing {
+    ghost der = { structure (λ v. fields0) ⟦<NoFields as Row>⟧.list [] };
 
-impl FieldNames for NothingNames {
-    ghost names = { [] };
+    fn known(&self) {
+        known_fields!(self;)
+    }
+}
 
-    fn names() -> Names {
-        Names::new(&[])
+impl<'a> SimpleAsn1Readable<'a> for Nothing {
+    fn tag() -> Tag {
+        Tag::constructed(0x10)
+    }
+
+    fn parse_data(alloc: Global, data: &'a [u8]) -> ParseResult<Nothing> {
+        read_fields!(NoFields, alloc, data => Nothing {})
+    }
+}
+
+impl SimpleAsn1Writable for Nothing {
+    type Error = WriteError;
+
+    ghost write_errors = { λ _ _. ⊥ };
+
+    fn tag() -> Tag {
+        Tag::constructed(0x10)
+    }
+
+    fn write_data(&self, dest: &mut WriteBuf) -> WriteResult<()> {
+        write_fields!(self, dest;)
+    }
+
+    fn data_length(&self) -> Option<usize> {
+        fields_length!(self;)
     }
 }
 
 #[test]
-fn nothing(rt: HostRuntime) -> Result<(), Fail> {
+fn sequences_of_nothing(rt: HostRuntime) -> Result<(), Fail> {
     let alloc = rt.alloc();
-    let value: Nothing = Structure::new(NoFields);
-    both_ways(alloc, value, &[0x30, 0])?;
+    both_ways(alloc, Nothing {}, &[0x30, 0])?;
     are_refused_with::<Nothing>(
         alloc,
         &[

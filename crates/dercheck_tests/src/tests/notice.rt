@@ -1,56 +1,20 @@
 //! A field between an item and the value that it defines.
 
-ghost use Rattle.std.specs.Prelude.{◌≡◌, false, map};
+ghost use Rattle.std.specs.Prelude.{◌∷◌, [], codes, false};
 ghost use Rattle.asn1.specs.Reads.{HasOneEncoding};
-ghost use Rattle.dercheck_tests.specs.declared.tests.notice.TheConstants.{LETTER, NOTICE};
+ghost use Rattle.asn1.specs.Structures.{defaulted, structure};
 
 use crate::tests::own_types::{at, of, other_tag};
-use asn1::fields::{Between, BetweenLast, FieldNames, Last, Names, Structure};
-use asn1::{Asn1Type, DefaultValue, Defaulted, Explicit, ObjectIdentifier, ParseErrorKind};
+use asn1::fields::{Before, Item, Last, LastValue, Row, Value};
+use asn1::{
+    Asn1Type, DefaultValue, Defaulted, DefinedByMarker, Explicit, ObjectIdentifier, ParseErrorKind,
+    ParseResult, SimpleAsn1Readable, SimpleAsn1Writable, Tag, WriteBuf, WriteError, WriteResult,
+    fields_length, known_fields, read_fields, write_fields,
+};
 use dercheck::own_types::my_sequence::Content;
+use std::alloc::Global;
 use std::test::Fail;
 use testing::{are_both_ways, are_refused_with, both_ways};
-
-/// An OBJECT IDENTIFIER, a Boolean that is false by default, and the content that the first defines.
-type Notice = Structure<
-    NoticeNames,
-    BetweenLast<ObjectIdentifier, Defaulted<bool, No>, Explicit<Content, 0>>,
->;
-
-const NOTICE: [&str; 3] = ["Notice::kind", "Notice::critical", "Notice::content"];
-
-struct NoticeNames;
-
-impl FieldNames for NoticeNames {
-    ghost names = { map (λ s. s.now) NOTICE };
-
-    fn names() -> Names {
-        Names::new(&NOTICE)
-    }
-}
-
-/// The same before a number.
-type Letter = Structure<
-    LetterNames,
-    Between<ObjectIdentifier, Defaulted<bool, No>, Explicit<Content, 0>, Last<u64>>,
->;
-
-const LETTER: [&str; 4] = [
-    "Letter::kind",
-    "Letter::critical",
-    "Letter::content",
-    "Letter::number",
-];
-
-struct LetterNames;
-
-impl FieldNames for LetterNames {
-    ghost names = { map (λ s. s.now) LETTER };
-
-    fn names() -> Names {
-        Names::new(&LETTER)
-    }
-}
 
 /// False, by default.
 #[derive(Debug, PartialEq, Eq, Drop)]
@@ -64,6 +28,124 @@ impl DefaultValue<bool> for No {
     }
 }
 
+/// An OBJECT IDENTIFIER, a Boolean that is false by default, and the content that the first defines.
+#[derive(Debug, Clone, PartialEq, Eq, Hash, Drop)]
+pub struct Notice {
+    pub kind: DefinedByMarker<ObjectIdentifier>,
+    pub critical: bool,
+    pub content: Explicit<Content, 0>,
+}
+
+type Critical = Defaulted<bool, No>;
+
+type NoticeFields = Item<ObjectIdentifier, Before<Critical, LastValue<Explicit<Content, 0>>>>;
+
+impl Asn1Type for Notice {
+    ghost der = { structure (λ v. record { value = v.kind; rest = record { value = defaulted
+        v.critical; rest = record { value = v.content };
+      };
+    }) ⟦<NoticeFields as Row>⟧.list (codes
+        "Notice::kind" ∷ codes "Notice::critical" ∷ codes "Notice::content" ∷ []) };
+
+    fn known(&self) {
+        known_fields!(self;
+            kind of content: ObjectIdentifier, critical: Critical, content by ObjectIdentifier)
+    }
+}
+
+impl<'a> SimpleAsn1Readable<'a> for Notice {
+    fn tag() -> Tag {
+        Tag::constructed(0x10)
+    }
+
+    fn parse_data(alloc: Global, data: &'a [u8]) -> ParseResult<Notice> {
+        read_fields!(NoticeFields, alloc, data => Notice { kind, critical: Critical, content })
+    }
+}
+
+impl SimpleAsn1Writable for Notice {
+    type Error = WriteError;
+
+    ghost write_errors = { λ _ _. ⊥ };
+
+    fn tag() -> Tag {
+        Tag::constructed(0x10)
+    }
+
+    fn write_data(&self, dest: &mut WriteBuf) -> WriteResult<()> {
+        write_fields!(self, dest;
+            kind of content: ObjectIdentifier, critical: Critical, content by ObjectIdentifier)
+    }
+
+    fn data_length(&self) -> Option<usize> {
+        fields_length!(self;
+            kind of content: ObjectIdentifier, critical: Critical, content by ObjectIdentifier)
+    }
+}
+
+/// The same before a number.
+#[derive(Debug, Clone, PartialEq, Eq, Hash, Drop)]
+pub struct Letter {
+    pub kind: DefinedByMarker<ObjectIdentifier>,
+    pub critical: bool,
+    pub content: Explicit<Content, 0>,
+    pub number: u64,
+}
+
+type LetterFields = Item<
+    ObjectIdentifier,
+    Before<Critical, Value<Explicit<Content, 0>, Last<u64>>>,
+>;
+
+impl Asn1Type for Letter {
+    ghost der = { structure (λ v. record { value = v.kind; rest = record { value = defaulted
+        v.critical; rest = record { value = v.content; rest = record { value = v.number } };
+      };
+    })
+        ⟦<LetterFields as Row>⟧.list (codes "Letter::kind" ∷ codes "Letter::critical" ∷ codes
+        "Letter::content" ∷ codes "Letter::number" ∷ []) };
+
+    fn known(&self) {
+        known_fields!(self;
+            kind of content: ObjectIdentifier, critical: Critical, content by ObjectIdentifier,
+            number)
+    }
+}
+
+impl<'a> SimpleAsn1Readable<'a> for Letter {
+    fn tag() -> Tag {
+        Tag::constructed(0x10)
+    }
+
+    fn parse_data(alloc: Global, data: &'a [u8]) -> ParseResult<Letter> {
+        read_fields!(LetterFields, alloc, data => Letter {
+            kind, critical: Critical, content, number
+        })
+    }
+}
+
+impl SimpleAsn1Writable for Letter {
+    type Error = WriteError;
+
+    ghost write_errors = { λ _ _. ⊥ };
+
+    fn tag() -> Tag {
+        Tag::constructed(0x10)
+    }
+
+    fn write_data(&self, dest: &mut WriteBuf) -> WriteResult<()> {
+        write_fields!(self, dest;
+            kind of content: ObjectIdentifier, critical: Critical, content by ObjectIdentifier,
+            number)
+    }
+
+    fn data_length(&self) -> Option<usize> {
+        fields_length!(self;
+            kind of content: ObjectIdentifier, critical: Critical, content by ObjectIdentifier,
+            number)
+    }
+}
+
 /// Each value of the types here has one encoding, which is read back.
 #[tactic(auto, using(asn1::specs::Lemmas::Fields::tags_differ))]
 pub fn notices_are_lawful()
@@ -72,9 +154,12 @@ pub fn notices_are_lawful()
 {}
 
 /// A notice of the one content.
-fn notice(critical: bool) -> Notice {
-    let content = Explicit::new(Content::SomeVariant(7));
-    Structure::new(BetweenLast::new(Defaulted::new(critical), content))
+fn notice_of_seven(critical: bool) -> Notice {
+    Notice {
+        kind: DefinedByMarker::marker(),
+        critical,
+        content: Explicit::new(Content::SomeVariant(7)),
+    }
 }
 
 #[test]
@@ -87,7 +172,10 @@ fn notices(rt: HostRuntime) -> Result<(), Fail> {
                 notice(true),
                 &[0x30, 12, 6, 2, 0x2a, 3, 1, 1, 0xff, 0xa0, 3, 2, 1, 7],
             ),
-            (notice(false), &[0x30, 9, 6, 2, 0x2a, 3, 0xa0, 3, 2, 1, 7]),
+            (
+                notice_of_seven(false),
+                &[0x30, 9, 6, 2, 0x2a, 3, 0xa0, 3, 2, 1, 7],
+            ),
         ],
     )?;
     are_refused_with::<Notice>(
@@ -113,12 +201,15 @@ fn notices(rt: HostRuntime) -> Result<(), Fail> {
 #[test]
 fn letters(rt: HostRuntime) -> Result<(), Fail> {
     let alloc = rt.alloc();
-    let content = Explicit::new(Content::SomeVariant(7));
-    let row = Between::new(Defaulted::new(true), content, Last::new(9));
     let octets: &[u8] = &[
         0x30, 15, 6, 2, 0x2a, 3, 1, 1, 0xff, 0xa0, 3, 2, 1, 7, 2, 1, 9,
     ];
-    let letter: Letter = Structure::new(row);
+    let letter = Letter {
+        kind: DefinedByMarker::marker(),
+        critical: true,
+        content: Explicit::new(Content::SomeVariant(7)),
+        number: 9,
+    };
     both_ways(alloc, letter, octets)?;
     are_refused_with::<Letter>(
         alloc,

@@ -1,18 +1,15 @@
 //! Types by hand, written and read.
 
-ghost use Rattle.std.specs.Prelude.{◌≡◌};
-
-use asn1::fields::{Borrowed, Defined, DefinedLast, Last, Names, RowReadable, RowWritable};
 use asn1::{
-    Asn1DefinedByReadable, Asn1DefinedByWritable, Asn1Readable, Asn1Writable, Explicit,
-    ObjectIdentifier, ParseError, ParseErrorKind, ParseLocation, ParseResult, Parser, Tag,
-    WriteError, Writer, parse_single, read_and_write_back, write, write_single,
+    Asn1DefinedByReadable, Asn1DefinedByWritable, Asn1Readable, Asn1Writable, DefinedByMarker,
+    Explicit, ObjectIdentifier, ParseError, ParseErrorKind, ParseLocation, ParseResult, Parser,
+    Tag, WriteError, Writer, parse_single, read_and_write_back, write, write_single,
 };
 use dercheck::own_types::entry::Entry;
 use dercheck::own_types::my_sequence::{Content, MySequence, some_oid};
 use dercheck::own_types::reason::Reason;
 use dercheck::own_types::sealable::{SealError, Sealable};
-use dercheck::own_types::signature::{Signature, SignatureFields, signature};
+use dercheck::own_types::signature::Signature;
 use dercheck::own_types::some_sequence::SomeSequence;
 use dercheck::own_types::time::Time;
 use std::alloc::Global;
@@ -60,9 +57,9 @@ fn reasons(rt: HostRuntime) -> Result<(), Fail> {
 fn signatures(rt: HostRuntime) -> Result<(), Fail> {
     let alloc = rt.alloc();
     let octets: &[u8] = &[0x30, 6, 2, 1, 1, 2, 1, 2];
-    both_ways(alloc, signature(1, 2), octets)?;
+    both_ways(alloc, Signature { r: 1, s: 2 }, octets)?;
     let read = parse_single::<Signature>(alloc, octets)?;
-    same((read.r(), read.s()), (1, 2))?;
+    same((read.r, read.s), (1, 2))?;
     are_refused_with::<Signature>(
         alloc,
         &[
@@ -88,10 +85,13 @@ fn some_sequences(rt: HostRuntime) -> Result<(), Fail> {
         alloc,
         &[
             (
-                SomeSequence::new(Some(b"ab"), Some(5)),
+                SomeSequence {
+                    a: Some(b"ab"),
+                    b: Some(5),
+                },
                 &[0x30, 9, 0x80, 2, 0x61, 0x62, 0xa1, 3, 2, 1, 5],
             ),
-            (SomeSequence::new(None, None), &[0x30, 0]),
+            (SomeSequence { a: None, b: None }, &[0x30, 0]),
         ],
     )?;
     let short = ParseErrorKind::ShortData { needed: 1 };
@@ -121,7 +121,10 @@ fn times(rt: HostRuntime) -> Result<(), Fail> {
 
 /// A sequence with the one variant.
 fn sequence_of_seven() -> MySequence {
-    MySequence::new(Content::SomeVariant(7))
+    MySequence {
+        content_type: DefinedByMarker::marker(),
+        content: Content::SomeVariant(7),
+    }
 }
 
 #[test]
@@ -150,7 +153,12 @@ fn my_sequences(rt: HostRuntime) -> Result<(), Fail> {
 
 /// An entry with the one variant.
 fn entry(note: Option<bool>, version: u8) -> Entry {
-    Entry::new(Content::SomeVariant(7), note, version)
+    Entry {
+        content_type: DefinedByMarker::marker(),
+        content: Content::SomeVariant(7),
+        note,
+        version,
+    }
 }
 
 #[test]
@@ -246,41 +254,19 @@ fn contents(rt: HostRuntime) -> Result<(), Fail> {
     same(&unknown, &Some(of(ParseErrorKind::UnknownDefinedBy)))
 }
 
-/// The names of an identifier and its content in a row.
-const TAGGED: [&str; 2] = ["identifier", "content"];
-
-/// An identifier, and the content that it defines, under the explicit tag 3.
-type Tagged = DefinedLast<ObjectIdentifier, Explicit<Content, 3>>;
-
 #[test]
-fn contents_under_a_tag(rt: HostRuntime) -> Result<(), Fail> {
-    let alloc = rt.alloc();
-    let octets: &[u8] = &[6, 2, 0x2a, 3, 0xa3, 3, 2, 1, 7];
-    let row = Tagged::read(Parser::new(alloc, octets), Names::new(&TAGGED))?;
-    same(row.value.as_inner(), &Content::SomeVariant(7))?;
-    same(row.length(), Some(octets.len()))?;
-    let written = write(alloc, |writer: &mut Writer<'_>| row.write(writer))?;
-    same(written.as_slice(), octets)?;
-    let two: &[u8] = &[6, 2, 0x2a, 3, 0xa3, 6, 2, 1, 7, 2, 1, 7];
-    let two = error_of(Tagged::read(Parser::new(alloc, two), Names::new(&TAGGED)));
-    same(&two, &Some(at("content", ParseErrorKind::ExtraData)))
-}
-
-#[test]
-fn contents_where_they_stand(rt: HostRuntime) -> Result<(), Fail> {
-    let alloc = rt.alloc();
-    let content = Content::SomeVariant(7);
-    let octets: &[u8] = &[6, 2, 0x2a, 3, 2, 1, 7];
-    let row = DefinedLast::<ObjectIdentifier, Borrowed<'_, Content>>::new(Borrowed::new(&content));
-    same(row.length(), Some(octets.len()))?;
-    let written = write(alloc, |writer: &mut Writer<'_>| row.write(writer))?;
-    same(written.as_slice(), octets)?;
-    let behind = Last::new(true);
-    let row = Defined::<ObjectIdentifier, _, _>::new(Borrowed::new(&content), behind);
-    let octets: &[u8] = &[6, 2, 0x2a, 3, 2, 1, 7, 1, 1, 0xff];
-    same(row.length(), Some(octets.len()))?;
-    let written = write(alloc, |writer: &mut Writer<'_>| row.write(writer))?;
-    same(written.as_slice(), octets)
+fn known_lengths(rt: HostRuntime) -> Result<(), Fail> {
+    same(Signature { r: 1, s: 2 }.encoded_length(), Some(8))?;
+    same(sequence_of_seven().encoded_length(), Some(9))?;
+    same(entry(Some(true), 2).encoded_length(), Some(17))?;
+    same(entry(None, 1).encoded_length(), Some(9))?;
+    let both = SomeSequence {
+        a: Some(b"ab"),
+        b: Some(5),
+    };
+    same(both.encoded_length(), Some(11))?;
+    let none = SomeSequence { a: None, b: None };
+    same(none.encoded_length(), Some(2))
 }
 
 /// Writes it; want of memory is handed on, and any other error is in the value.

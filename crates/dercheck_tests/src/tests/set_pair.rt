@@ -1,44 +1,34 @@
 //! A set of two fields, in the order of their tags.
 
-ghost use Rattle.std.specs.Prelude.{◌≡◌, map};
+ghost use Rattle.std.specs.Prelude.{◌∷◌, [], codes};
 ghost use Rattle.asn1.specs.Items.{set_tag};
-ghost use Rattle.asn1.specs.Tagged.{seen_with_tag};
-ghost use Rattle.dercheck_tests.specs.declared.tests.set_pair.TheConstants.{NAMES};
+ghost use Rattle.asn1.specs.Structures.{fields2, structure_with_tag};
 
 use crate::tests::own_types::{at, other_tag};
-use asn1::fields::{Field, FieldNames, Fields2, Last, Names, Structure};
+use asn1::fields::{Fields2, Row};
 use asn1::{
     Asn1Type, ParseResult, SimpleAsn1Readable, SimpleAsn1Writable, Tag, WriteBuf, WriteError,
-    WriteResult,
+    WriteResult, fields_length, known_fields, read_fields, write_fields,
 };
 use std::alloc::Global;
 use std::test::Fail;
 use testing::{are_refused_with, both_ways};
 
-/// The fields.
-type Fields = Structure<PairNames, Fields2<bool, u64>>;
-
-const NAMES: [&str; 2] = ["Pair::r", "Pair::s"];
-
-struct PairNames;
-
-impl FieldNames for PairNames {
-    ghost names = { map (λ s. s.now) NAMES };
-
-    fn names() -> Names {
-        Names::new(&NAMES)
-    }
-}
-
 /// A Boolean and a number in a set.
 #[derive(Debug, Clone, PartialEq, Eq, Hash, Drop)]
-pub struct Pair(Fields);
+pub struct Pair {
+    pub r: bool,
+    pub s: u64,
+}
+
+type Fields = Fields2<bool, u64>;
 
 impl Asn1Type for Pair {
-    ghost der = { seen_with_tag (λ v. v.0) set_tag ⟦<Fields as Asn1Type>⟧.der };
+    ghost der = { structure_with_tag set_tag (λ v. fields2 v.r v.s) ⟦<Fields as Row>⟧.list
+        (codes "Pair::r" ∷ codes "Pair::s" ∷ []) };
 
     fn known(&self) {
-        self.0.known()
+        known_fields!(self; r, s)
     }
 }
 
@@ -48,10 +38,7 @@ impl<'a> SimpleAsn1Readable<'a> for Pair {
     }
 
     fn parse_data(alloc: Global, data: &'a [u8]) -> ParseResult<Pair> {
-        match Fields::parse_data(alloc, data) {
-            Ok(fields) => Ok(Pair(fields)),
-            Err(error) => Err(error),
-        }
+        read_fields!(Fields, alloc, data => Pair { r, s })
     }
 }
 
@@ -65,11 +52,11 @@ impl SimpleAsn1Writable for Pair {
     }
 
     fn write_data(&self, dest: &mut WriteBuf) -> WriteResult<()> {
-        self.0.write_data(dest)
+        write_fields!(self, dest; r, s)
     }
 
     fn data_length(&self) -> Option<usize> {
-        self.0.data_length()
+        fields_length!(self; r, s)
     }
 }
 
@@ -82,8 +69,7 @@ pub fn pairs_are_lawful()
 fn pairs(rt: HostRuntime) -> Result<(), Fail> {
     let alloc = rt.alloc();
     let octets: &[u8] = &[0x31, 6, 1, 1, 0xff, 2, 1, 2];
-    let pair = Pair(Structure::new(Field::new(true, Last::new(2))));
-    both_ways(alloc, pair, octets)?;
+    both_ways(alloc, Pair { r: true, s: 2 }, octets)?;
     let turned: &[u8] = &[0x31, 6, 2, 1, 2, 1, 1, 0xff];
     are_refused_with::<Pair>(alloc, &[(turned, at("Pair::r", other_tag(2)))])
 }

@@ -1,0 +1,9 @@
+use Rattle.std.proofs.Common.{ap, ◌∙◌}
+use Rattle.asn1_core.specs.Tag.{implicit_tag_of}
+use Rattle.asn1_core.specs.Lemmas.Bodies.{element_length}
+use Rattle.asn1.proofs.fields.plain.implicit.implicit_length.Goals as goal
+
+pub returns : goal.returns
+returns g c =
+    let d = g.T.Asn1Type.der in
+    element_length (d.content.texts (d.meaning c.args.value.now)) _ (c.implicit_tag.ensures ∙ ap (implicit_tag_of c.args.tag) c.tag.ensures.value) c.in_ok-data_length.ensures _ _ c.full_length.ensures.value

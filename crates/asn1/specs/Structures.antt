@@ -1,0 +1,92 @@
+-- Structures (X.690 8.9), seen as rows of fields.
+use Rattle.std.specs.Prelude.{ℕ, List}
+use Rattle.asn1_core.specs.declared.tag.Tag.{Tag}
+use Rattle.asn1_core.specs.Der.{Der, simple_der}
+use Rattle.asn1.specs.Fields.{sequence}
+use Rattle.asn1.specs.FieldLists.{FieldList}
+use Rattle.asn1.specs.Inside.{retagged}
+use Rattle.asn1.specs.declared.fields.NoFields.{NoFields}
+use Rattle.asn1.specs.declared.fields.Field.{Field}
+use Rattle.asn1.specs.declared.fields.Last.{Last}
+use Rattle.asn1.specs.declared.wrappers.tagged.Explicit.{Explicit}
+use Rattle.asn1.specs.declared.wrappers.tagged.Implicit.{Implicit}
+use Rattle.asn1.specs.declared.wrappers.defaulted.Defaulted.{Defaulted}
+
+-- A sequence of the fields as which a value is seen, with these names.
+abbrev pub structure : {V W : Type 0} → (W → V) → FieldList V → List (List ℕ) → Der W
+structure view row names = simple_der (λ w. row.meaning (view w)) (sequence row.fields names)
+
+-- The same under another tag, such as that of a set (8.11) or of an application (8.14.3).
+abbrev pub structure_with_tag : {V W : Type 0} → Tag → (W → V) → FieldList V → List (List ℕ) → Der W
+structure_with_tag tag view row names = simple_der (λ w. row.meaning (view w)) (retagged (λ own. tag) (sequence row.fields names))
+
+-- The encodings that a write of a value may append, and what the closures in it owe.
+abbrev pub encoded : {V : Type 0} → Der V → V → List ℕ → Type 0
+encoded d v = d.texts (d.meaning v)
+
+abbrev pub owed : {V : Type 0} → Der V → V → Type 0
+owed d v = d.closures (d.meaning v)
+
+-- ---- values of a struct's fields as values of a row's: under a tag, or with a default
+
+abbrev pub explicit : {T : Type 0} {tag : ℕ} → T → Explicit T tag
+explicit x = record { inner = x }
+
+abbrev pub implicit : {T : Type 0} {tag : ℕ} → T → Implicit T tag
+implicit x = record { inner = x }
+
+abbrev pub defaulted : {T D : Type 0} → T → Defaulted T D
+defaulted x = record { inner = x; default = record {} }
+
+-- ---- rows of these values
+
+abbrev pub fields0 : NoFields
+fields0 = record {}
+
+abbrev pub fields1 : {A : Type 0} → A → Last A
+fields1 a = record { value = a }
+
+abbrev pub fields2 : {A B : Type 0} → A → B → Field A (Last B)
+fields2 a b = record { value = a; rest = fields1 b }
+
+abbrev pub fields3 : {A B C : Type 0} → A → B → C → Field A (Field B (Last C))
+fields3 a b c = record { value = a; rest = fields2 b c }
+
+abbrev pub fields4 : {A B C D : Type 0} → A → B → C → D → Field A (Field B (Field C (Last D)))
+fields4 a b c d = record { value = a; rest = fields3 b c d }
+
+abbrev pub fields5 : {A B C D E : Type 0} → A → B → C → D → E → Field A (Field B (Field C (Field D (Last E))))
+fields5 a b c d e = record { value = a; rest = fields4 b c d e }
+
+abbrev pub fields6 : {A B C D E F : Type 0} → A → B → C → D → E → F → Field A (Field B (Field C (Field D (Field E (Last F)))))
+fields6 a b c d e f = record { value = a; rest = fields5 b c d e f }
+
+abbrev pub fields7 : {A B C D E F G : Type 0} → A → B → C → D → E → F → G → Field A (Field B (Field C (Field D (Field E (Field F (Last G))))))
+fields7 a b c d e f g = record { value = a; rest = fields6 b c d e f g }
+
+abbrev pub fields8 : {A B C D E F G H : Type 0} → A → B → C → D → E → F → G → H → Field A (Field B (Field C (Field D (Field E (Field F (Field G (Last H)))))))
+fields8 a b c d e f g h = record { value = a; rest = fields7 b c d e f g h }
+
+abbrev pub fields9 : {A B C D E F G H I : Type 0} → A → B → C → D → E → F → G → H → I → Field A (Field B (Field C (Field D (Field E (Field F (Field G (Field H (Last I))))))))
+fields9 a b c d e f g h i = record { value = a; rest = fields8 b c d e f g h i }
+
+abbrev pub fields10 : {A B C D E F G H I J : Type 0} → A → B → C → D → E → F → G → H → I → J → Field A (Field B (Field C (Field D (Field E (Field F (Field G (Field H (Field I (Last J)))))))))
+fields10 a b c d e f g h i j = record { value = a; rest = fields9 b c d e f g h i j }
+
+abbrev pub fields11 : {A B C D E F G H I J K : Type 0} → A → B → C → D → E → F → G → H → I → J → K → Field A (Field B (Field C (Field D (Field E (Field F (Field G (Field H (Field I (Field J (Last K))))))))))
+fields11 a b c d e f g h i j k = record { value = a; rest = fields10 b c d e f g h i j k }
+
+abbrev pub fields12 : {A B C D E F G H I J K L : Type 0} → A → B → C → D → E → F → G → H → I → J → K → L → Field A (Field B (Field C (Field D (Field E (Field F (Field G (Field H (Field I (Field J (Field K (Last L)))))))))))
+fields12 a b c d e f g h i j k l = record { value = a; rest = fields11 b c d e f g h i j k l }
+
+abbrev pub fields13 : {A B C D E F G H I J K L M : Type 0} → A → B → C → D → E → F → G → H → I → J → K → L → M → Field A (Field B (Field C (Field D (Field E (Field F (Field G (Field H (Field I (Field J (Field K (Field L (Last M))))))))))))
+fields13 a b c d e f g h i j k l m = record { value = a; rest = fields12 b c d e f g h i j k l m }
+
+abbrev pub fields14 : {A B C D E F G H I J K L M N : Type 0} → A → B → C → D → E → F → G → H → I → J → K → L → M → N → Field A (Field B (Field C (Field D (Field E (Field F (Field G (Field H (Field I (Field J (Field K (Field L (Field M (Last N)))))))))))))
+fields14 a b c d e f g h i j k l m n = record { value = a; rest = fields13 b c d e f g h i j k l m n }
+
+abbrev pub fields15 : {A B C D E F G H I J K L M N O : Type 0} → A → B → C → D → E → F → G → H → I → J → K → L → M → N → O → Field A (Field B (Field C (Field D (Field E (Field F (Field G (Field H (Field I (Field J (Field K (Field L (Field M (Field N (Last O))))))))))))))
+fields15 a b c d e f g h i j k l m n o = record { value = a; rest = fields14 b c d e f g h i j k l m n o }
+
+abbrev pub fields16 : {A B C D E F G H I J K L M N O P : Type 0} → A → B → C → D → E → F → G → H → I → J → K → L → M → N → O → P → Field A (Field B (Field C (Field D (Field E (Field F (Field G (Field H (Field I (Field J (Field K (Field L (Field M (Field N (Field O (Last P)))))))))))))))
+fields16 a b c d e f g h i j k l m n o p = record { value = a; rest = fields15 b c d e f g h i j k l m n o p }

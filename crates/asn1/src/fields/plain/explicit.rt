@@ -1,0 +1,118 @@
+//! Fields under an explicit tag, as a struct has them: the value that is always there, may be missing, or has a default.
+
+ghost use Rattle.std.specs.Prelude.{◌≡◌};
+ghost use Rattle.asn1_core.specs.Options.{option_meaning};
+ghost use Rattle.asn1_core.specs.Tag.{explicit_tag_of};
+ghost use Rattle.asn1_core.specs.Writing.{IsElementOf, KnowsLength};
+ghost use Rattle.asn1.specs.Defaults.{same_text};
+ghost use Rattle.asn1.specs.Structures.{defaulted, explicit};
+
+use super::{Wraps, WrapsWritable};
+use crate::wrappers::{DefaultValue, Defaulted, Explicit, MeaningEq};
+use asn1_core::writer::full_length;
+use asn1_core::{Asn1Type, Asn1Writable, Writer, explicit_tag};
+
+/// How many octets a value has under an explicit tag, where that is known.
+fn explicit_length<T: Asn1Writable>(value: &T, tag: u32) -> Option<usize>
+    ensures { KnowsLength (IsElementOf (explicit_tag_of tag) (T.der.texts (T.der.meaning value.now)))
+        result }
+{
+    full_length(explicit_tag(tag), value.encoded_length()?)
+}
+
+/// Whether a value equals the default, which stands under an explicit tag.
+fn is_explicit_default<T: MeaningEq + Drop, const N: u32, D: DefaultValue<Explicit<T, N>>>(
+    value: &T,
+) -> bool
+    ensures { result ≡ same_text ⟦<Explicit<T, N> as Asn1Type>⟧.der.text (T.der.meaning value.now)
+        (⟦<Explicit<T, N> as Asn1Type>⟧.der.meaning D.default) }
+{
+    let default = D::value();
+    *value == default.inner
+}
+
+impl<T: Asn1Type, const N: u32> Wraps<T> for Explicit<T, N> {
+    ghost wrap = { explicit };
+
+    fn into_plain(self) -> T {
+        self.into_inner()
+    }
+
+    fn known_plain(value: &T) {
+        value.known()
+    }
+}
+
+impl<T: Asn1Writable, const N: u32> WrapsWritable<T> for Explicit<T, N> {
+    fn write_plain(value: &T, dest: &mut Writer<'_>) -> Result<(), T::Error> {
+        dest.write_explicit_element(value, N)
+    }
+
+    fn plain_length(value: &T) -> Option<usize> {
+        explicit_length(value, N)
+    }
+}
+
+impl<T: Asn1Type, const N: u32> Wraps<Option<T>> for Option<Explicit<T, N>> {
+    ghost wrap = { option_meaning explicit };
+
+    fn into_plain(self) -> Option<T> {
+        match self {
+            Some(value) => Some(value.into_inner()),
+            None => None,
+        }
+    }
+
+    fn known_plain(value: &Option<T>) {
+        value.known()
+    }
+}
+
+impl<T: Asn1Writable, const N: u32> WrapsWritable<Option<T>> for Option<Explicit<T, N>> {
+    fn write_plain(value: &Option<T>, dest: &mut Writer<'_>) -> Result<(), T::Error> {
+        match value {
+            Some(value) => dest.write_explicit_element(value, N),
+            None => Ok(()),
+        }
+    }
+
+    fn plain_length(value: &Option<T>) -> Option<usize> {
+        match value {
+            Some(value) => explicit_length(value, N),
+            None => Some(0),
+        }
+    }
+}
+
+impl<T: MeaningEq, const N: u32, D: DefaultValue<Explicit<T, N>>> Wraps<T>
+    for Defaulted<Explicit<T, N>, D> {
+    ghost wrap = { λ x. defaulted (explicit x) };
+
+    fn into_plain(self) -> T {
+        self.into_inner().into_inner()
+    }
+
+    fn known_plain(value: &T) {
+        value.known()
+    }
+}
+
+impl<
+    T: Asn1Writable + MeaningEq + Drop,
+    const N: u32,
+    D: DefaultValue<Explicit<T, N>>,
+> WrapsWritable<T> for Defaulted<Explicit<T, N>, D> {
+    fn write_plain(value: &T, dest: &mut Writer<'_>) -> Result<(), T::Error> {
+        if is_explicit_default::<T, N, D>(value) {
+            return Ok(());
+        }
+        dest.write_explicit_element(value, N)
+    }
+
+    fn plain_length(value: &T) -> Option<usize> {
+        if is_explicit_default::<T, N, D>(value) {
+            return Some(0);
+        }
+        explicit_length(value, N)
+    }
+}

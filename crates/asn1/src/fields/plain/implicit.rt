@@ -1,0 +1,118 @@
+//! Fields under an implicit tag, as a struct has them: the value that is always there, may be missing, or has a default.
+
+ghost use Rattle.std.specs.Prelude.{◌≡◌};
+ghost use Rattle.asn1_core.specs.Options.{option_meaning};
+ghost use Rattle.asn1_core.specs.Tag.{implicit_tag_of};
+ghost use Rattle.asn1_core.specs.Writing.{IsElementOf, KnowsLength};
+ghost use Rattle.asn1.specs.Defaults.{same_text};
+ghost use Rattle.asn1.specs.Structures.{defaulted, implicit};
+
+use super::{Wraps, WrapsWritable};
+use crate::wrappers::{DefaultValue, Defaulted, Implicit, SimpleMeaningEq};
+use asn1_core::writer::full_length;
+use asn1_core::{Asn1Type, SimpleAsn1Writable, Writer, implicit_tag};
+
+/// How many octets a value has under an implicit tag, where that is known.
+fn implicit_length<T: SimpleAsn1Writable>(value: &T, tag: u32) -> Option<usize>
+    ensures { KnowsLength (IsElementOf (implicit_tag_of tag T.der.content.tag)
+        (T.der.content.texts (T.der.meaning value.now))) result }
+{
+    full_length(implicit_tag(tag, T::tag()), value.data_length()?)
+}
+
+/// Whether a value equals the default, which stands under an implicit tag.
+fn is_implicit_default<T: SimpleMeaningEq + Drop, const N: u32, D: DefaultValue<Implicit<T, N>>>(
+    value: &T,
+) -> bool
+    ensures { result ≡ same_text ⟦<Implicit<T, N> as Asn1Type>⟧.der.text (T.der.meaning value.now)
+        (⟦<Implicit<T, N> as Asn1Type>⟧.der.meaning D.default) }
+{
+    let default = D::value();
+    *value == default.inner
+}
+
+impl<T: Asn1Type, const N: u32> Wraps<T> for Implicit<T, N> {
+    ghost wrap = { implicit };
+
+    fn into_plain(self) -> T {
+        self.into_inner()
+    }
+
+    fn known_plain(value: &T) {
+        value.known()
+    }
+}
+
+impl<T: SimpleAsn1Writable, const N: u32> WrapsWritable<T> for Implicit<T, N> {
+    fn write_plain(value: &T, dest: &mut Writer<'_>) -> Result<(), T::Error> {
+        dest.write_implicit_element(value, N)
+    }
+
+    fn plain_length(value: &T) -> Option<usize> {
+        implicit_length(value, N)
+    }
+}
+
+impl<T: Asn1Type, const N: u32> Wraps<Option<T>> for Option<Implicit<T, N>> {
+    ghost wrap = { option_meaning implicit };
+
+    fn into_plain(self) -> Option<T> {
+        match self {
+            Some(value) => Some(value.into_inner()),
+            None => None,
+        }
+    }
+
+    fn known_plain(value: &Option<T>) {
+        value.known()
+    }
+}
+
+impl<T: SimpleAsn1Writable, const N: u32> WrapsWritable<Option<T>> for Option<Implicit<T, N>> {
+    fn write_plain(value: &Option<T>, dest: &mut Writer<'_>) -> Result<(), T::Error> {
+        match value {
+            Some(value) => dest.write_implicit_element(value, N),
+            None => Ok(()),
+        }
+    }
+
+    fn plain_length(value: &Option<T>) -> Option<usize> {
+        match value {
+            Some(value) => implicit_length(value, N),
+            None => Some(0),
+        }
+    }
+}
+
+impl<T: SimpleMeaningEq, const N: u32, D: DefaultValue<Implicit<T, N>>> Wraps<T>
+    for Defaulted<Implicit<T, N>, D> {
+    ghost wrap = { λ x. defaulted (implicit x) };
+
+    fn into_plain(self) -> T {
+        self.into_inner().into_inner()
+    }
+
+    fn known_plain(value: &T) {
+        value.known()
+    }
+}
+
+impl<
+    T: SimpleAsn1Writable + SimpleMeaningEq + Drop,
+    const N: u32,
+    D: DefaultValue<Implicit<T, N>>,
+> WrapsWritable<T> for Defaulted<Implicit<T, N>, D> {
+    fn write_plain(value: &T, dest: &mut Writer<'_>) -> Result<(), T::Error> {
+        if is_implicit_default::<T, N, D>(value) {
+            return Ok(());
+        }
+        dest.write_implicit_element(value, N)
+    }
+
+    fn plain_length(value: &T) -> Option<usize> {
+        if is_implicit_default::<T, N, D>(value) {
+            return Some(0);
+        }
+        implicit_length(value, N)
+    }
+}

@@ -1,0 +1,151 @@
+"""Reads the sources of the repository's crates: what each crate uses, and its functions as a check names them, each with
+its clauses and its body."""
+
+import re
+from collections import namedtuple
+from functools import cache
+from pathlib import Path
+
+TOP = Path(__file__).resolve().parent.parent
+CRATES = TOP / "crates"
+# Of a function: its name, its file in the crate, whether it is public, its trait, the names of its `ensures` clauses, and
+# where its body begins and ends in the file, with the body's indentation.
+Function = namedtuple("Function", "name file is_public trait clauses start end indent")
+KINDS = "fn|struct|enum|trait|impl|mod|type|const|static|ghost|use"
+START = rf"(pub )?(?:pub\(\w+\) )?(?:const |unsafe )*({KINDS})\b ?(\w*)"
+CLAUSE = re.compile(r"\b(?:requires|(ensures))(?:\s+(\w+))?\s+\{|\bghost (\w+)(?: =|:)\s+\{")
+
+
+def uses():
+    """The repository's crates, and what each uses."""
+    lines = (line.partition(":") for line in (TOP / "crates.txt").read_text().splitlines())
+    return {name: used.split() for name, _, used in lines}
+
+
+def libraries(*others):
+    """The crates that are no tests and no programs, without these others."""
+    return [name for name in uses() if not name.endswith(("_tests", "_cli")) and name not in others]
+
+
+def spans_of_clauses(text):
+    """Each clause and ghost member: its name, 'unnamed' where it has none and nothing for `requires`; where it begins,
+    and where its text in braces begins and ends."""
+    for found in CLAUSE.finditer(text):
+        depth, end = 1, found.end()
+        while depth:
+            depth, end = depth + {"{": 1, "}": -1}.get(text[end], 0), end + 1
+        yield (found[2] or "unnamed") if found[1] else found[3], found.start(), found.end(), end - 1
+
+
+def clauses(text):
+    """The name of each clause and ghost member, and its text."""
+    return [(name, text[start:end]) for name, _, start, end in spans_of_clauses(text)]
+
+
+def parts(text):
+    """The parts between the commas that no bracket holds."""
+    depth, found = 0, [""]
+    for letter in text:
+        depth += (letter in "<([") - (letter in ">)]")
+        found = [*found, ""] if letter == "," and not depth else [*found[:-1], found[-1] + letter]
+    return [part.strip() for part in found if part.strip()]
+
+
+def cut_generics(header):
+    """The parameters in front of a header, and what follows them."""
+    depth = 0
+    for place, letter in enumerate(header):
+        depth += (letter == "<") - (letter == ">")
+        if not depth:
+            return (header[1:place], header[place + 1 :]) if place else ("", header)
+
+
+def word(named, parameters):
+    """A type or trait as it stands in the name of an impl; parameters and lifetimes are left out."""
+    if named.startswith("&"):
+        return "Ref" + word(re.sub(r"^&('\w+ )?", "", named), parameters)
+    if named.startswith("["):
+        return ("Array" if ";" in named else "Slice") + word(re.split(r"[];]", named[1:])[0], parameters)
+    if named == "()":
+        return "Unit"
+    name, _, rest = named.partition("<")
+    name = name.rpartition("::")[2]
+    if name in parameters or not name[0].isalnum():
+        return ""
+    return name[0].upper() + name[1:] + "".join(word(part, parameters) for part in parts(rest.rpartition(">")[0]))
+
+
+def impl_name(header):
+    """The name of an impl, and that of its trait, where it has one."""
+    generics, rest = cut_generics(re.sub(r"\s+", " ", header.replace("->", "")).strip())
+    parameters = {re.match(r"(?:const )?('?\w+)", part)[1] for part in parts(generics)}
+    trait, _, of = rest.strip().rpartition(" for ")
+    name = (word(of, parameters) or "Any") + (word(trait, parameters) if trait else "")
+    return name, re.match(r"(?:\w+::)*(\w*)", trait)[1]
+
+
+def items(text, indent=""):
+    """Of each item of a file, or of an impl or trait: whether it is public, its kind, its name and its text."""
+    starts = [*re.finditer(f"^{indent}{START}", text, re.MULTILINE)]
+    ends = [start.start() for start in starts[1:]] + [len(text)]
+    for start, end in zip(starts, ends):
+        yield bool(start[1]), start[2], start[3], text[start.start() : end], start.start()
+
+
+def contract(function, indent=""):
+    """A function's header and clauses, without its body."""
+    has_clauses = re.search(r"\b(requires|ensures)\b|\{\}?$", function, re.MULTILINE)
+    opens = rf"^{indent}\{{" if has_clauses and has_clauses[1] else r"\{\}?$"
+    body = re.search(opens, function, re.MULTILINE)
+    return function[: body.start()] if body else function
+
+
+def functions_in(text, path):
+    """The functions of a file, whose path of modules is given, those without a body too."""
+    text = re.sub(r"//.*", lambda comment: " " * len(comment[0]), text)
+    for is_public, kind, name, item, start in items(text):
+        if kind == "fn":
+            yield function_in(item, start, [*path, name], is_public)
+        if kind not in ("impl", "trait"):
+            continue
+        header = re.split(rf"\{{\}}?$|\bwhere\b", item, flags=re.MULTILINE)[0].partition(kind)[2]
+        block, trait = impl_name(header) if kind == "impl" else (name, name)
+        for says_pub, inner, member, function, place in items(item, "    "):
+            seen = says_pub or (kind == "impl" and trait != "") or (kind == "trait" and is_public)
+            if inner == "fn":
+                yield function_in(function, start + place, [*path, block, member], seen, trait, "    ")
+
+
+def function_in(item, start, path, is_public, trait="", indent=""):
+    """A function whose text, from its header on, begins at this place of the file."""
+    head = contract(item, indent)
+    named = [name for name, _ in clauses(head) if name is not None]
+    if len(head) == len(item):
+        return Function("::".join(path), None, is_public, trait, named, None, None, indent + "    ")
+    opens = item.index("{", len(head)) + 1
+    is_empty = item[opens] == "}"
+    opens += not is_empty
+    closes = opens if is_empty else item.index(f"\n{indent}}}\n", len(head)) + 1
+    return Function("::".join(path), None, is_public, trait, named, start + opens, start + closes, indent + "    ")
+
+
+def functions(crate):
+    """The functions of a crate, those of its traits that have no body too."""
+    source = CRATES / crate / "src"
+    for file in sorted(source.rglob("*.rt")):
+        path = [crate, *(part for part in file.relative_to(source).with_suffix("").parts if part != "lib")]
+        for function in functions_in(file.read_text(), path):
+            yield function._replace(file=file.relative_to(CRATES / crate))
+
+
+@cache
+def clauses_of_traits():
+    """The clauses of each method of the repository's traits."""
+    found = (function for crate in uses() for function in functions(crate) if function.trait)
+    return {tuple(it.name.split("::")[-2:]): it.clauses for it in found if it.name.split("::")[-2] == it.trait}
+
+
+def clauses_of(function):
+    """The names of the clauses that a function has to meet: its own, or else its trait's; None of a trait of std."""
+    of_trait = clauses_of_traits().get((function.trait, function.name.split("::")[-1]), None if function.trait else [])
+    return function.clauses or of_trait
