@@ -1,18 +1,16 @@
 //! Each attribute of the original's derives, once.
-// Printed by scripts/derive from declarations/page.rs, with the sum b69c4674.
+// Printed by scripts/derive from declarations/page.rs, with the sum a51c4b9f.
 
 ghost use Rattle.std.specs.Prelude.{◌≡◌, ◌⊎◌, ◌∷◌, [], codes, negsuc, true, false, ⊤, MatchOption, OnErr};
 ghost use Rattle.std.specs.Str.{bytes_eq};
-ghost use Rattle.std.proofs.Common.{inl, inr, refl, sym};
-ghost use Rattle.std.proofs.lemmas.Slice.Eq.{bytes_eq-Decides};
+ghost use Rattle.std.proofs.Common.{inl, inr};
 ghost use Rattle.asn1.specs.Choices.{choice_der, only, or};
 ghost use Rattle.asn1.specs.IdentifierValues.{identifier_of};
-ghost use Rattle.asn1.specs.ItemsAndValues.{by_item, word_for_word};
+ghost use Rattle.asn1.specs.ItemsAndValues.{word_for_word};
 ghost use Rattle.asn1.specs.Options.{option_meaning};
 ghost use Rattle.asn1.specs.Reading.{EndsWith};
 ghost use Rattle.asn1.specs.Reads.{HasOneEncoding, ReadsContents, ReadsDefined, ReadsPrefix};
 ghost use Rattle.asn1.specs.Structures.{defaulted, explicit, implicit, structure, fields0, fields1, fields2, fields7};
-ghost use Rattle.asn1.specs.Variants.{any_variant, or_variant, variant};
 ghost use Rattle.derived.specs.declared.page.TheConstants.{OTHER_OID_NUMBERS, SHA256_WITH_RSA_NUMBERS, SOME_OID_NUMBERS};
 
 use asn1::fields::{
@@ -674,27 +672,21 @@ impl Asn1DefinedBy<ObjectIdentifier> for Content {
 
     ghost by = { by_item (record {
       item = ⟦<ObjectIdentifier as Asn1Type>⟧.der;
-      value =
-          or_variant (record {
-            item = SOME_OID_NUMBERS;
-            is = λ n. bytes_eq n
-                SOME_OID_NUMBERS;
-            itself = refl;
-            alone = λ n e. sym ((bytes_eq-Decides n
-                SOME_OID_NUMBERS).0 e);
-          }) ⟦<i32 as Asn1Type>⟧.der (variant (record {
-            item =
-                SHA256_WITH_RSA_NUMBERS;
-            is = λ n. bytes_eq n SHA256_WITH_RSA_NUMBERS;
-            itself =
-                refl;
-            alone = λ n e. sym ((bytes_eq-Decides n SHA256_WITH_RSA_NUMBERS).0 e);
-          })
-          ⟦<Null as Asn1Type>⟧.der (λ m. m)) (elim [
-            | SomeVariant x ↦ inl
-                (⟦<i32 as Asn1Type>⟧.der.meaning x)
-            | RsaParameters x ↦ inr (⟦<Null as Asn1Type>⟧.der.meaning x)
-          ]);
+      value = or_variant (record {
+        item = SOME_OID_NUMBERS;
+        is = λ n. bytes_eq n SOME_OID_NUMBERS;
+        itself = refl;
+        alone = λ n e. sym ((bytes_eq-Decides n SOME_OID_NUMBERS).0 e);
+      }) ⟦<i32 as Asn1Type>⟧.der (variant (record {
+        item = SHA256_WITH_RSA_NUMBERS;
+        is = λ n. bytes_eq n SHA256_WITH_RSA_NUMBERS;
+        itself = refl;
+        alone = λ n e. sym ((bytes_eq-Decides n SHA256_WITH_RSA_NUMBERS).0 e);
+      }) ⟦<Null as Asn1Type>⟧.der (λ m. m)) (elim [
+        | SomeVariant x ↦ inl
+            (⟦<i32 as Asn1Type>⟧.der.meaning x)
+        | RsaParameters x ↦ inr (⟦<Null as Asn1Type>⟧.der.meaning x)
+      ]);
     }) };
 
     fn known_by(&self) {
@@ -708,8 +700,7 @@ impl Asn1DefinedBy<ObjectIdentifier> for Content {
 impl DefinedField<ObjectIdentifier> for Content {
     ghost both = { record {
       item = ⟦<ObjectIdentifier as Asn1Type>⟧.der;
-      value =
-          ⟦<Content as Asn1DefinedBy<ObjectIdentifier>>⟧.by.means;
+      value = ⟦<Content as Asn1DefinedBy<ObjectIdentifier>>⟧.by.means;
     } };
 
     fn known_item(&self) {
@@ -837,37 +828,28 @@ impl<'a> Asn1DefinedBy<ObjectIdentifier> for AnyContent<'a> {
 
     ghost by = { by_item (record {
       item = ⟦<ObjectIdentifier as Asn1Type>⟧.der;
-      value =
-          or_variant (record {
-            item = SOME_OID_NUMBERS;
-            is = λ n. bytes_eq n
-                SOME_OID_NUMBERS;
-            itself = refl;
-            alone = λ n e. sym ((bytes_eq-Decides n
-                SOME_OID_NUMBERS).0 e);
-          }) ⟦<&'a [u8] as Asn1Type>⟧.der (or_variant (record {
-            item = OTHER_OID_NUMBERS;
-            is = λ n. bytes_eq n OTHER_OID_NUMBERS;
-            itself = refl;
-            alone = λ n e. sym ((bytes_eq-Decides n OTHER_OID_NUMBERS).0 e);
-          })
-          ⟦<Explicit<u32, 1> as Asn1Type>⟧.der (or_variant (record {
-            item =
-                SHA256_WITH_RSA_NUMBERS;
-            is = λ n. bytes_eq n SHA256_WITH_RSA_NUMBERS;
-            itself =
-                refl;
-            alone = λ n e. sym ((bytes_eq-Decides n SHA256_WITH_RSA_NUMBERS).0 e);
-          })
-          ⟦<Option<bool> as Asn1Type>⟧.der (any_variant ⟦<Tlv<'a> as Asn1Type>⟧.der (λ m.
-          m)) (λ m. m)) (λ m. m)) (elim [
-            | Octets x ↦ inl
-                (⟦<&'a [u8] as Asn1Type>⟧.der.meaning x)
+      value = or_variant (record {
+        item = SOME_OID_NUMBERS;
+        is = λ n. bytes_eq n SOME_OID_NUMBERS;
+        itself = refl;
+        alone = λ n e. sym ((bytes_eq-Decides n SOME_OID_NUMBERS).0 e);
+      }) ⟦<&'a [u8] as Asn1Type>⟧.der (or_variant (record {
+        item = OTHER_OID_NUMBERS;
+        is = λ n. bytes_eq n OTHER_OID_NUMBERS;
+        itself = refl;
+        alone = λ n e. sym ((bytes_eq-Decides n OTHER_OID_NUMBERS).0 e);
+      }) ⟦<Explicit<u32, 1> as Asn1Type>⟧.der (or_variant (record {
+        item = SHA256_WITH_RSA_NUMBERS;
+        is = λ n. bytes_eq n SHA256_WITH_RSA_NUMBERS;
+        itself = refl;
+        alone = λ n e. sym ((bytes_eq-Decides n SHA256_WITH_RSA_NUMBERS).0 e);
+      }) ⟦<Option<bool> as Asn1Type>⟧.der (any_variant ⟦<Tlv<'a> as Asn1Type>⟧.der (λ m. m)) (λ m.
+          m)) (λ m. m)) (elim [
+            | Octets x ↦ inl (⟦<&'a [u8] as Asn1Type>⟧.der.meaning x)
             | Number x ↦ inr (inl (⟦<u32 as Asn1Type>⟧.der.meaning x))
             | Flag x ↦ inr (inr (inl (⟦<Option<bool> as Asn1Type>⟧.der.meaning x)))
             | Unknown x ↦ inr (inr (inr (
-              ⟦<ObjectIdentifier as Asn1Type>⟧.der.meaning
-                  x.item,
+              ⟦<ObjectIdentifier as Asn1Type>⟧.der.meaning x.item,
               ⟦<Tlv<'a> as Asn1Type>⟧.der.meaning x.value,
             )))
           ]);
@@ -886,8 +868,7 @@ impl<'a> Asn1DefinedBy<ObjectIdentifier> for AnyContent<'a> {
 impl<'a> DefinedField<ObjectIdentifier> for AnyContent<'a> {
     ghost both = { record {
       item = ⟦<ObjectIdentifier as Asn1Type>⟧.der;
-      value =
-          ⟦<AnyContent<'a> as Asn1DefinedBy<ObjectIdentifier>>⟧.by.means;
+      value = ⟦<AnyContent<'a> as Asn1DefinedBy<ObjectIdentifier>>⟧.by.means;
     } };
 
     fn known_item(&self) {
@@ -1277,29 +1258,22 @@ impl<'a> Asn1DefinedBy<ObjectIdentifier> for Listed<'a> {
 
     ghost by = { by_item (record {
       item = ⟦<ObjectIdentifier as Asn1Type>⟧.der;
-      value =
-          or_variant (record {
-            item = OTHER_OID_NUMBERS;
-            is = λ n. bytes_eq n
-                OTHER_OID_NUMBERS;
-            itself = refl;
-            alone = λ n e. sym ((bytes_eq-Decides n
-                OTHER_OID_NUMBERS).0 e);
-          })
-          ⟦<SequenceOf<'a, u64, 0, 18446744073709551615> as Asn1Type>⟧.der (or_variant
+      value = or_variant (record {
+        item = OTHER_OID_NUMBERS;
+        is = λ n. bytes_eq n OTHER_OID_NUMBERS;
+        itself = refl;
+        alone = λ n e. sym ((bytes_eq-Decides n OTHER_OID_NUMBERS).0 e);
+      }) ⟦<SequenceOf<'a, u64, 0, 18446744073709551615> as Asn1Type>⟧.der (or_variant
           (record {
             item = SOME_OID_NUMBERS;
             is = λ n. bytes_eq n SOME_OID_NUMBERS;
-            itself
-                = refl;
+            itself = refl;
             alone = λ n e. sym ((bytes_eq-Decides n SOME_OID_NUMBERS).0 e);
-          })
-          ⟦<OctetStringEncoded<Tagged<'a>> as Asn1Type>⟧.der (any_variant
-          ⟦<Tlv<'a> as Asn1Type>⟧.der (λ m. m)) (λ m. m)) (elim [
+          }) ⟦<OctetStringEncoded<Tagged<'a>> as Asn1Type>⟧.der (any_variant ⟦<Tlv<'a> as Asn1Type>⟧.der
+          (λ m. m)) (λ m. m)) (elim [
             | Numbers x ↦ inl
                 (⟦<SequenceOf<'a, u64, 0, 18446744073709551615> as Asn1Type>⟧.der.meaning x)
-            | Tagged x ↦ inr (inl
-                (⟦<OctetStringEncoded<Tagged<'a>> as Asn1Type>⟧.der.meaning x))
+            | Tagged x ↦ inr (inl (⟦<OctetStringEncoded<Tagged<'a>> as Asn1Type>⟧.der.meaning x))
             | Unknown x ↦ inr (inr (
               ⟦<ObjectIdentifier as Asn1Type>⟧.der.meaning x.item,
               ⟦<Tlv<'a> as Asn1Type>⟧.der.meaning x.value,
@@ -1319,8 +1293,7 @@ impl<'a> Asn1DefinedBy<ObjectIdentifier> for Listed<'a> {
 impl<'a> DefinedField<ObjectIdentifier> for Listed<'a> {
     ghost both = { record {
       item = ⟦<ObjectIdentifier as Asn1Type>⟧.der;
-      value =
-          ⟦<Listed<'a> as Asn1DefinedBy<ObjectIdentifier>>⟧.by.means;
+      value = ⟦<Listed<'a> as Asn1DefinedBy<ObjectIdentifier>>⟧.by.means;
     } };
 
     fn known_item(&self) {
