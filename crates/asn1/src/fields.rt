@@ -86,8 +86,8 @@ pub fn read_fields<'a, R: RowReadable<'a>, S: NameSource>(
     data: &'a [u8],
     names: S,
 ) -> ParseResult<R>
-    ensures { Answers R.list.meaning (R.list.fields.runs_out (S.texts names) «data».entry.now) result
-        (R.list.fields.read (S.texts names) «data».entry.now) }
+    ensures { Answers R.list.meaning (R.list.fields.runs_out (S.texts names) «data».entry.now)
+        result (R.list.fields.read (S.texts names) «data».entry.now) }
 {
     R::read(Parser::new(alloc, data), names)
 }

@@ -1,4 +1,4 @@
-//! The examples of the README, as they are printed there.
+//! The example of the README, as it is printed there, and further uses of the calls that it names.
 
 use asn1::*;
 use std::test::Fail;
@@ -53,5 +53,19 @@ fn writing(rt: HostRuntime) -> Result<(), Fail> {
     assert_eq!(rt; octets.as_slice(), [1u8, 1, 0xff].as_slice());
     assert_eq!(rt; tagged.as_slice(), [0xa2u8, 3, 1, 1, 0xff].as_slice());
     assert_eq!(rt; patched.as_slice(), [4u8, 3, 0x61, 0x62, 0x63].as_slice());
+    Ok(())
+}
+
+#[test]
+fn one_encoding(rt: HostRuntime) -> Result<(), Fail> {
+    let alloc = rt.alloc();
+    let octets = write_single(alloc, &true)?;
+    assert_eq!(rt; octets.as_slice(), [1u8, 1, 0xff].as_slice());
+    assert!(rt; parse_single::<bool>(alloc, octets.as_slice())?);
+    // BER would read this as true. DER has one encoding of true, so it is rejected.
+    match parse_single::<bool>(alloc, &[1u8, 1, 1]) {
+        Ok(_) => return Err(Fail::new(format_args!("a second encoding of true"))),
+        Err(error) => assert!(rt; *error.kind() == ParseErrorKind::InvalidValue),
+    }
     Ok(())
 }

@@ -50,7 +50,8 @@ pub trait RowBehindReadable<'a, T: Asn1Readable<'a>>: RowBehind<T> + Sized + Dro
     fn read<S: NameSource>(item: T, parser: Parser<'a>, names: S) -> ParseResult<Self>
         ensures { Answers Self.behind.meaning (Self.behind.fields.runs_out (S.texts names)
             (Self.behind.item.meaning item) parser.entry) result
-            (Self.behind.fields.read (S.texts names) (Self.behind.item.meaning item) parser.entry) };
+            (Self.behind.fields.read (S.texts names) (Self.behind.item.meaning item)
+            parser.entry) };
 }
 
 /// An item, and the fields behind it. The item isn't kept: the value that it defines tells it.

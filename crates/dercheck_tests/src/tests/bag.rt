@@ -32,7 +32,8 @@ impl<'a> Asn1Type for Bag<'a> {
 impl<'a> SimpleAsn1Writable for Bag<'a> {
     type Error = WriteError;
 
-    ghost write_errors = { λ v. ⟦<SetOfWriter<'a, u64> as SimpleAsn1Writable>⟧.write_errors v.numbers };
+    ghost write_errors = { λ v. ⟦<SetOfWriter<'a, u64> as SimpleAsn1Writable>⟧.write_errors
+        v.numbers };
 
     fn tag() -> Tag
         ensures value { result ≡ ⟦<Bag<'a> as Asn1Type>⟧.der.content.tag }

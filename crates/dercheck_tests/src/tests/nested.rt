@@ -41,7 +41,9 @@ impl<'a> SimpleAsn1Readable<'a> for Inner<'a> {
     }
 
     fn parse_data(alloc: Global, data: &'a [u8]) -> ParseResult<Inner<'a>>
-        ensures { Answers (λ v. ⟦<Three<'a> as Asn1Type>⟧.der.meaning v.0) (⟦<Three<'a> as Asn1Type>⟧.der.content.runs_out «data».entry.now) result (⟦<Three<'a> as Asn1Type>⟧.der.content.read «data».entry.now) }
+        ensures { Answers (λ v. ⟦<Three<'a> as Asn1Type>⟧.der.meaning v.0)
+            (⟦<Three<'a> as Asn1Type>⟧.der.content.runs_out «data».entry.now) result
+            (⟦<Three<'a> as Asn1Type>⟧.der.content.read «data».entry.now) }
     {
         match <Three<'a>>::parse_data(alloc, data) {
             Ok(list) => Ok(Inner(list)),

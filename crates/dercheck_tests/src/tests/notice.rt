@@ -41,8 +41,12 @@ type Critical = Defaulted<bool, No>;
 type NoticeFields = Item<ObjectIdentifier, Before<Critical, LastValue<Explicit<Content, 0>>>>;
 
 impl Asn1Type for Notice {
-    ghost der = { structure (λ v. record { value = v.kind; rest = record { value = defaulted
-        v.critical; rest = record { value = v.content };
+    ghost der = { structure (λ v. record {
+      value = v.kind;
+      rest = record {
+        value = defaulted
+            v.critical;
+        rest = record { value = v.content };
       };
     }) ⟦<NoticeFields as Row>⟧.list (codes
         "Notice::kind" ∷ codes "Notice::critical" ∷ codes "Notice::content" ∷ []) };
@@ -98,8 +102,12 @@ type LetterFields = Item<
 >;
 
 impl Asn1Type for Letter {
-    ghost der = { structure (λ v. record { value = v.kind; rest = record { value = defaulted
-        v.critical; rest = record { value = v.content; rest = record { value = v.number } };
+    ghost der = { structure (λ v. record {
+      value = v.kind;
+      rest = record {
+        value = defaulted
+            v.critical;
+        rest = record { value = v.content; rest = record { value = v.number } };
       };
     })
         ⟦<LetterFields as Row>⟧.list (codes "Letter::kind" ∷ codes "Letter::critical" ∷ codes

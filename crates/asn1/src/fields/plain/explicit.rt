@@ -1,4 +1,5 @@
-//! Fields under an explicit tag, as a struct has them: the value that is always there, may be missing, or has a default.
+//! Fields under an explicit tag, as a struct has them: a value that is always there, that may be missing, or that has a
+//! default.
 
 ghost use Rattle.std.specs.Prelude.{◌≡◌};
 ghost use Rattle.asn1_core.specs.Options.{option_meaning};
@@ -14,8 +15,8 @@ use asn1_core::{Asn1Type, Asn1Writable, Writer, explicit_tag};
 
 /// How many octets a value has under an explicit tag, where that is known.
 fn explicit_length<T: Asn1Writable>(value: &T, tag: u32) -> Option<usize>
-    ensures { KnowsLength (IsElementOf (explicit_tag_of tag) (T.der.texts (T.der.meaning value.now)))
-        result }
+    ensures { KnowsLength (IsElementOf (explicit_tag_of tag)
+        (T.der.texts (T.der.meaning value.now))) result }
 {
     full_length(explicit_tag(tag), value.encoded_length()?)
 }

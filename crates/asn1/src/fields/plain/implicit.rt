@@ -1,4 +1,5 @@
-//! Fields under an implicit tag, as a struct has them: the value that is always there, may be missing, or has a default.
+//! Fields under an implicit tag, as a struct has them: a value that is always there, that may be missing, or that has a
+//! default.
 
 ghost use Rattle.std.specs.Prelude.{◌≡◌};
 ghost use Rattle.asn1_core.specs.Options.{option_meaning};
