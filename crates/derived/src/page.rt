@@ -1,5 +1,5 @@
 //! Each attribute of the original's derives, once.
-// Printed by scripts/derive from declarations/page.rs, with the sum a51c4b9f.
+// Printed by scripts/derive from declarations/page.rs, with the sum d4e61c77.
 
 ghost use Rattle.std.specs.Prelude.{◌≡◌, ◌⊎◌, ◌∷◌, [], codes, negsuc, true, false, ⊤, MatchOption, OnErr};
 ghost use Rattle.std.specs.Str.{bytes_eq};
@@ -843,13 +843,15 @@ impl<'a> Asn1DefinedBy<ObjectIdentifier> for AnyContent<'a> {
         is = λ n. bytes_eq n SHA256_WITH_RSA_NUMBERS;
         itself = refl;
         alone = λ n e. sym ((bytes_eq-Decides n SHA256_WITH_RSA_NUMBERS).0 e);
-      }) ⟦<Option<bool> as Asn1Type>⟧.der (any_variant ⟦<Tlv<'a> as Asn1Type>⟧.der (λ m. m)) (λ m.
-          m)) (λ m. m)) (elim [
-            | Octets x ↦ inl (⟦<&'a [u8] as Asn1Type>⟧.der.meaning x)
+      }) ⟦<Option<bool> as Asn1Type>⟧.der (any_variant ⟦<Tlv<'a> as Asn1Type>⟧.der (λ m.
+          m)) (λ m. m)) (λ m. m)) (elim [
+            | Octets x ↦ inl
+                (⟦<&'a [u8] as Asn1Type>⟧.der.meaning x)
             | Number x ↦ inr (inl (⟦<u32 as Asn1Type>⟧.der.meaning x))
             | Flag x ↦ inr (inr (inl (⟦<Option<bool> as Asn1Type>⟧.der.meaning x)))
             | Unknown x ↦ inr (inr (inr (
-              ⟦<ObjectIdentifier as Asn1Type>⟧.der.meaning x.item,
+              ⟦<ObjectIdentifier as Asn1Type>⟧.der.meaning
+                  x.item,
               ⟦<Tlv<'a> as Asn1Type>⟧.der.meaning x.value,
             )))
           ]);
@@ -1269,11 +1271,12 @@ impl<'a> Asn1DefinedBy<ObjectIdentifier> for Listed<'a> {
             is = λ n. bytes_eq n SOME_OID_NUMBERS;
             itself = refl;
             alone = λ n e. sym ((bytes_eq-Decides n SOME_OID_NUMBERS).0 e);
-          }) ⟦<OctetStringEncoded<Tagged<'a>> as Asn1Type>⟧.der (any_variant ⟦<Tlv<'a> as Asn1Type>⟧.der
-          (λ m. m)) (λ m. m)) (elim [
+          }) ⟦<OctetStringEncoded<Tagged<'a>> as Asn1Type>⟧.der (any_variant
+          ⟦<Tlv<'a> as Asn1Type>⟧.der (λ m. m)) (λ m. m)) (elim [
             | Numbers x ↦ inl
                 (⟦<SequenceOf<'a, u64, 0, 18446744073709551615> as Asn1Type>⟧.der.meaning x)
-            | Tagged x ↦ inr (inl (⟦<OctetStringEncoded<Tagged<'a>> as Asn1Type>⟧.der.meaning x))
+            | Tagged x ↦ inr (inl
+                (⟦<OctetStringEncoded<Tagged<'a>> as Asn1Type>⟧.der.meaning x))
             | Unknown x ↦ inr (inr (
               ⟦<ObjectIdentifier as Asn1Type>⟧.der.meaning x.item,
               ⟦<Tlv<'a> as Asn1Type>⟧.der.meaning x.value,
