@@ -117,10 +117,10 @@ def defined(module, item, specs):
     types = [part.base for part in item.known] + ([other_type(item)] if item.other else [])
     text = other_struct(item) if item.other else ""
     text += stated(item, "This alternative.", [f"{part.name}({type})" for part, type in zip(item.parts, types)])
-    means = ghost("by", f"by_item (record {{ item = {der(ITEM)}; value = {alternatives(item)} }})")
+    means = ghost("by", f"by_item (record {{\nitem = {der(ITEM)};\nvalue = {alternatives(item)};\n}})")
     known = function("fn known_by(&self)", match(item, lambda part: "x.known()", item.other and "x.value.known()"))
     text += impl(item, f"Asn1DefinedBy<{ITEM}> ", variants_of(item, specs), means, known)
-    both = ghost("both", f"record {{ item = {der(ITEM)}; value = {by(item)}.means }}")
+    both = ghost("both", f"record {{\nitem = {der(ITEM)};\nvalue = {by(item)}.means;\n}}")
     told = match(item, lambda part: f"{call(part)}.known()", item.other and "x.item.known()", "_")
     agrees = ghost("agrees", "word_for_word _")
     text += impl(item, f"DefinedField<{ITEM}> ", both, function("fn known_item(&self)", told), agrees)
@@ -228,9 +228,9 @@ def alternatives(item):
     for part in reversed(item.known):
         numbers = numbers_of(part)
         alone = f"λ n e. sym ((bytes_eq-Decides n {numbers}).0 e)"
-        known = f"(record {{ item = {numbers}; is = λ n. bytes_eq n {numbers}; itself = refl; alone = {alone} }})"
+        known = f"item = {numbers};\nis = λ n. bytes_eq n {numbers};\nitself = refl;\nalone = {alone};"
         view = first if part is item.known[0] else view
-        text = f"({'or_variant' if text else 'variant'} {known} {der(part.form)} {text}{view}) "
+        text = f"({'or_variant' if text else 'variant'} (record {{\n{known}\n}}) {der(part.form)} {text}{view}) "
     return text[1:-2]
 
 

@@ -1,18 +1,16 @@
 //! Each attribute of the original's derives, once.
-// Printed by scripts/derive from declarations/page.rs, with the sum 42c34124.
+// Printed by scripts/derive from declarations/page.rs, with the sum d4e61c77.
 
 ghost use Rattle.std.specs.Prelude.{◌≡◌, ◌⊎◌, ◌∷◌, [], codes, negsuc, true, false, ⊤, MatchOption, OnErr};
 ghost use Rattle.std.specs.Str.{bytes_eq};
-ghost use Rattle.std.proofs.Common.{inl, inr, refl, sym};
-ghost use Rattle.std.proofs.lemmas.Slice.Eq.{bytes_eq-Decides};
+ghost use Rattle.std.proofs.Common.{inl, inr};
 ghost use Rattle.asn1.specs.Choices.{choice_der, only, or};
 ghost use Rattle.asn1.specs.IdentifierValues.{identifier_of};
-ghost use Rattle.asn1.specs.ItemsAndValues.{by_item, word_for_word};
+ghost use Rattle.asn1.specs.ItemsAndValues.{word_for_word};
 ghost use Rattle.asn1.specs.Options.{option_meaning};
 ghost use Rattle.asn1.specs.Reading.{EndsWith};
 ghost use Rattle.asn1.specs.Reads.{HasOneEncoding, ReadsContents, ReadsDefined, ReadsPrefix};
 ghost use Rattle.asn1.specs.Structures.{defaulted, explicit, implicit, structure, fields0, fields1, fields2, fields7};
-ghost use Rattle.asn1.specs.Variants.{any_variant, or_variant, variant};
 ghost use Rattle.derived.specs.declared.page.TheConstants.{OTHER_OID_NUMBERS, SHA256_WITH_RSA_NUMBERS, SOME_OID_NUMBERS};
 
 use asn1::fields::{
@@ -21,9 +19,9 @@ use asn1::fields::{
 use asn1::laws::identifiers_compare;
 use asn1::{
     Asn1DefinedBy, Asn1DefinedByReadable, Asn1DefinedByWritable, Asn1Readable, Asn1Type,
-    Asn1Writable, Choice3, DefaultValue, Defaulted, DefinedByMarker, Explicit, IA5String, Implicit,
-    Null, ObjectIdentifier, OctetStringEncoded, ParseError, ParseErrorKind, ParseResult, Parser,
-    PrintableString, Sequence, SequenceOf, SetOf, SetOfWriter, SimpleAsn1Readable,
+    Asn1Writable, Choice2, Choice3, DefaultValue, Defaulted, DefinedByMarker, Explicit, IA5String,
+    Implicit, Null, ObjectIdentifier, OctetStringEncoded, ParseError, ParseErrorKind, ParseResult,
+    Parser, PrintableString, Sequence, SequenceOf, SetOf, SetOfWriter, SimpleAsn1Readable,
     SimpleAsn1Writable, Tag, Tlv, WriteBuf, WriteError, WriteResult, Writer, fields_length,
     known_fields, read_fields, write_fields,
 };
@@ -480,6 +478,77 @@ impl<'a> Asn1Writable for GeneralName<'a> {
 /// Strings, in the order of a set.
 pub type Strings<'a> = SetOf<'a, PrintableString<'a>>;
 
+type ResponderIdChoice<'a> = Choice2<Explicit<Strings<'a>, 1>, Explicit<&'a [u8], 2>>;
+
+/// Who answers (RFC 6960, 4.2.1).
+#[derive(Debug, Clone, PartialEq, Eq, Hash, Drop)]
+pub enum ResponderId<'a> {
+    /// By name.
+    ByName(Strings<'a>),
+    /// By the hash of a key.
+    ByKey(&'a [u8]),
+}
+
+impl<'a> Asn1Type for ResponderId<'a> {
+    ghost use Rattle.derived.specs.declared.page.ResponderId.TheVariants.{ByName, ByKey};
+
+    ghost der = { choice_der (elim [
+      | ByName x ↦ inl (⟦<Strings<'a> as Asn1Type>⟧.der.meaning x)
+      | ByKey x ↦ inr (⟦<&'a [u8] as Asn1Type>⟧.der.meaning x)
+    ]) (or
+        ⟦<Explicit<Strings<'a>, 1> as Asn1Type>⟧.der (only
+        ⟦<Explicit<&'a [u8], 2> as Asn1Type>⟧.der)) };
+
+    fn known(&self) {
+        match self {
+            ResponderId::ByName(x) => x.known(),
+            ResponderId::ByKey(x) => x.known(),
+        }
+    }
+}
+
+impl<'a> Asn1Readable<'a> for ResponderId<'a> {
+    fn parse(parser: &mut Parser<'a>) -> ParseResult<ResponderId<'a>>
+        ensures answers { ReadsPrefix ⟦<ResponderId<'a> as Asn1Type>⟧.der parser.old parser.new
+            result }
+        ensures rest { EndsWith parser.old parser.new }
+        ensures stops { OnErr result (⟦<ResponderId<'a> as Asn1Type>⟧.der.stops parser.old
+            parser.new) }
+    {
+        match parser.read_element::<ResponderIdChoice<'a>>()? {
+            Choice2::ChoiceA(x) => Ok(ResponderId::ByName(x.into_inner())),
+            Choice2::ChoiceB(x) => Ok(ResponderId::ByKey(x.into_inner())),
+        }
+    }
+
+    fn can_parse(tag: Tag) -> bool
+        ensures value { result ≡ ⟦<ResponderId<'a> as Asn1Type>⟧.der.accepts tag }
+        ensures plain { ⟦<ResponderId<'a> as Asn1Type>⟧.der.plain }
+    {
+        <ResponderIdChoice<'a> as Asn1Readable<'a>>::can_parse(tag)
+    }
+}
+
+impl<'a> Asn1Writable for ResponderId<'a> {
+    type Error = WriteError;
+
+    ghost write_errors = { λ _ _. ⊥ };
+
+    fn write(&self, dest: &mut Writer<'_>) -> WriteResult<()> {
+        match self {
+            ResponderId::ByName(x) => dest.write_explicit_element(x, 1),
+            ResponderId::ByKey(x) => dest.write_explicit_element(x, 2),
+        }
+    }
+
+    fn encoded_length(&self) -> Option<usize> {
+        match self {
+            ResponderId::ByName(x) => Explicit::<&Strings<'a>, 1>::new(x).encoded_length(),
+            ResponderId::ByKey(x) => Explicit::<&&'a [u8], 2>::new(x).encoded_length(),
+        }
+    }
+}
+
 /// A choice that stands in a structure, where it may be missing.
 #[derive(Debug, PartialEq, Eq, Drop)]
 pub struct Alternative<'a> {
@@ -603,25 +672,21 @@ impl Asn1DefinedBy<ObjectIdentifier> for Content {
 
     ghost by = { by_item (record {
       item = ⟦<ObjectIdentifier as Asn1Type>⟧.der;
-      value = or_variant
-          (record {
-            item = SOME_OID_NUMBERS;
-            is = λ n. bytes_eq n SOME_OID_NUMBERS;
-            itself = refl;
-            alone = λ n e. sym ((bytes_eq-Decides n SOME_OID_NUMBERS).0 e);
-          }) ⟦<i32 as Asn1Type>⟧.der
-          (variant (record {
-            item = SHA256_WITH_RSA_NUMBERS;
-            is = λ n. bytes_eq n
-                SHA256_WITH_RSA_NUMBERS;
-            itself = refl;
-            alone = λ n e. sym ((bytes_eq-Decides n
-                SHA256_WITH_RSA_NUMBERS).0 e);
-          }) ⟦<Null as Asn1Type>⟧.der (λ m. m)) (elim [
-            | SomeVariant x ↦
-                inl (⟦<i32 as Asn1Type>⟧.der.meaning x)
-            | RsaParameters x ↦ inr (⟦<Null as Asn1Type>⟧.der.meaning x)
-          ]);
+      value = or_variant (record {
+        item = SOME_OID_NUMBERS;
+        is = λ n. bytes_eq n SOME_OID_NUMBERS;
+        itself = refl;
+        alone = λ n e. sym ((bytes_eq-Decides n SOME_OID_NUMBERS).0 e);
+      }) ⟦<i32 as Asn1Type>⟧.der (variant (record {
+        item = SHA256_WITH_RSA_NUMBERS;
+        is = λ n. bytes_eq n SHA256_WITH_RSA_NUMBERS;
+        itself = refl;
+        alone = λ n e. sym ((bytes_eq-Decides n SHA256_WITH_RSA_NUMBERS).0 e);
+      }) ⟦<Null as Asn1Type>⟧.der (λ m. m)) (elim [
+        | SomeVariant x ↦ inl
+            (⟦<i32 as Asn1Type>⟧.der.meaning x)
+        | RsaParameters x ↦ inr (⟦<Null as Asn1Type>⟧.der.meaning x)
+      ]);
     }) };
 
     fn known_by(&self) {
@@ -635,8 +700,7 @@ impl Asn1DefinedBy<ObjectIdentifier> for Content {
 impl DefinedField<ObjectIdentifier> for Content {
     ghost both = { record {
       item = ⟦<ObjectIdentifier as Asn1Type>⟧.der;
-      value =
-          ⟦<Content as Asn1DefinedBy<ObjectIdentifier>>⟧.by.means;
+      value = ⟦<Content as Asn1DefinedBy<ObjectIdentifier>>⟧.by.means;
     } };
 
     fn known_item(&self) {
@@ -764,35 +828,30 @@ impl<'a> Asn1DefinedBy<ObjectIdentifier> for AnyContent<'a> {
 
     ghost by = { by_item (record {
       item = ⟦<ObjectIdentifier as Asn1Type>⟧.der;
-      value = or_variant
-          (record {
-            item = SOME_OID_NUMBERS;
-            is = λ n. bytes_eq n SOME_OID_NUMBERS;
-            itself = refl;
-            alone = λ n e. sym ((bytes_eq-Decides n SOME_OID_NUMBERS).0 e);
-          })
-          ⟦<&'a [u8] as Asn1Type>⟧.der (or_variant (record {
-            item = OTHER_OID_NUMBERS;
-            is = λ n.
-                bytes_eq n OTHER_OID_NUMBERS;
-            itself = refl;
-            alone = λ n e. sym ((bytes_eq-Decides n
-                OTHER_OID_NUMBERS).0 e);
-          }) ⟦<Explicit<u32, 1> as Asn1Type>⟧.der (or_variant (record {
-            item =
-                SHA256_WITH_RSA_NUMBERS;
-            is = λ n. bytes_eq n SHA256_WITH_RSA_NUMBERS;
-            itself = refl;
-            alone
-                = λ n e. sym ((bytes_eq-Decides n SHA256_WITH_RSA_NUMBERS).0 e);
-          })
-          ⟦<Option<bool> as Asn1Type>⟧.der (any_variant ⟦<Tlv<'a> as Asn1Type>⟧.der (λ m. m)) (λ m.
-          m)) (λ m. m)) (elim [
-            | Octets x ↦ inl (⟦<&'a [u8] as Asn1Type>⟧.der.meaning x)
+      value = or_variant (record {
+        item = SOME_OID_NUMBERS;
+        is = λ n. bytes_eq n SOME_OID_NUMBERS;
+        itself = refl;
+        alone = λ n e. sym ((bytes_eq-Decides n SOME_OID_NUMBERS).0 e);
+      }) ⟦<&'a [u8] as Asn1Type>⟧.der (or_variant (record {
+        item = OTHER_OID_NUMBERS;
+        is = λ n. bytes_eq n OTHER_OID_NUMBERS;
+        itself = refl;
+        alone = λ n e. sym ((bytes_eq-Decides n OTHER_OID_NUMBERS).0 e);
+      }) ⟦<Explicit<u32, 1> as Asn1Type>⟧.der (or_variant (record {
+        item = SHA256_WITH_RSA_NUMBERS;
+        is = λ n. bytes_eq n SHA256_WITH_RSA_NUMBERS;
+        itself = refl;
+        alone = λ n e. sym ((bytes_eq-Decides n SHA256_WITH_RSA_NUMBERS).0 e);
+      }) ⟦<Option<bool> as Asn1Type>⟧.der (any_variant ⟦<Tlv<'a> as Asn1Type>⟧.der (λ m.
+          m)) (λ m. m)) (λ m. m)) (elim [
+            | Octets x ↦ inl
+                (⟦<&'a [u8] as Asn1Type>⟧.der.meaning x)
             | Number x ↦ inr (inl (⟦<u32 as Asn1Type>⟧.der.meaning x))
             | Flag x ↦ inr (inr (inl (⟦<Option<bool> as Asn1Type>⟧.der.meaning x)))
             | Unknown x ↦ inr (inr (inr (
-              ⟦<ObjectIdentifier as Asn1Type>⟧.der.meaning x.item,
+              ⟦<ObjectIdentifier as Asn1Type>⟧.der.meaning
+                  x.item,
               ⟦<Tlv<'a> as Asn1Type>⟧.der.meaning x.value,
             )))
           ]);
@@ -811,8 +870,7 @@ impl<'a> Asn1DefinedBy<ObjectIdentifier> for AnyContent<'a> {
 impl<'a> DefinedField<ObjectIdentifier> for AnyContent<'a> {
     ghost both = { record {
       item = ⟦<ObjectIdentifier as Asn1Type>⟧.der;
-      value =
-          ⟦<AnyContent<'a> as Asn1DefinedBy<ObjectIdentifier>>⟧.by.means;
+      value = ⟦<AnyContent<'a> as Asn1DefinedBy<ObjectIdentifier>>⟧.by.means;
     } };
 
     fn known_item(&self) {
@@ -1202,26 +1260,23 @@ impl<'a> Asn1DefinedBy<ObjectIdentifier> for Listed<'a> {
 
     ghost by = { by_item (record {
       item = ⟦<ObjectIdentifier as Asn1Type>⟧.der;
-      value = or_variant
+      value = or_variant (record {
+        item = OTHER_OID_NUMBERS;
+        is = λ n. bytes_eq n OTHER_OID_NUMBERS;
+        itself = refl;
+        alone = λ n e. sym ((bytes_eq-Decides n OTHER_OID_NUMBERS).0 e);
+      }) ⟦<SequenceOf<'a, u64, 0, 18446744073709551615> as Asn1Type>⟧.der (or_variant
           (record {
-            item = OTHER_OID_NUMBERS;
-            is = λ n. bytes_eq n OTHER_OID_NUMBERS;
-            itself = refl;
-            alone = λ n e. sym ((bytes_eq-Decides n OTHER_OID_NUMBERS).0 e);
-          })
-          ⟦<SequenceOf<'a, u64, 0, 18446744073709551615> as Asn1Type>⟧.der (or_variant (record {
-            item
-                = SOME_OID_NUMBERS;
+            item = SOME_OID_NUMBERS;
             is = λ n. bytes_eq n SOME_OID_NUMBERS;
             itself = refl;
-            alone = λ n e. sym
-                ((bytes_eq-Decides n SOME_OID_NUMBERS).0 e);
-          })
-          ⟦<OctetStringEncoded<Tagged<'a>> as Asn1Type>⟧.der (any_variant ⟦<Tlv<'a> as Asn1Type>⟧.der
-          (λ m. m)) (λ m. m)) (elim [
+            alone = λ n e. sym ((bytes_eq-Decides n SOME_OID_NUMBERS).0 e);
+          }) ⟦<OctetStringEncoded<Tagged<'a>> as Asn1Type>⟧.der (any_variant
+          ⟦<Tlv<'a> as Asn1Type>⟧.der (λ m. m)) (λ m. m)) (elim [
             | Numbers x ↦ inl
                 (⟦<SequenceOf<'a, u64, 0, 18446744073709551615> as Asn1Type>⟧.der.meaning x)
-            | Tagged x ↦ inr (inl (⟦<OctetStringEncoded<Tagged<'a>> as Asn1Type>⟧.der.meaning x))
+            | Tagged x ↦ inr (inl
+                (⟦<OctetStringEncoded<Tagged<'a>> as Asn1Type>⟧.der.meaning x))
             | Unknown x ↦ inr (inr (
               ⟦<ObjectIdentifier as Asn1Type>⟧.der.meaning x.item,
               ⟦<Tlv<'a> as Asn1Type>⟧.der.meaning x.value,
@@ -1241,8 +1296,7 @@ impl<'a> Asn1DefinedBy<ObjectIdentifier> for Listed<'a> {
 impl<'a> DefinedField<ObjectIdentifier> for Listed<'a> {
     ghost both = { record {
       item = ⟦<ObjectIdentifier as Asn1Type>⟧.der;
-      value =
-          ⟦<Listed<'a> as Asn1DefinedBy<ObjectIdentifier>>⟧.by.means;
+      value = ⟦<Listed<'a> as Asn1DefinedBy<ObjectIdentifier>>⟧.by.means;
     } };
 
     fn known_item(&self) {
@@ -1477,6 +1531,14 @@ pub fn general_name_is_lawful()
 pub fn strings_is_lawful()
     ensures { HasOneEncoding ⟦<Strings<'static> as Asn1Type>⟧.der }
 {}
+
+/// Each value of `ResponderId` has one encoding, which is read back.
+#[tactic(auto, using(asn1::specs::Lemmas::Fields::tags_differ))]
+pub fn responder_id_is_lawful()
+    ensures { HasOneEncoding ⟦<ResponderId<'static> as Asn1Type>⟧.der }
+{
+    strings_is_lawful();
+}
 
 /// Each value of `Alternative` has one encoding, which is read back.
 pub fn alternative_is_lawful()
