@@ -153,8 +153,6 @@ class Module:
     def known_item(self, item):
         """What is known of a declared type, by what it is made of."""
         if item.kind == "type":
-            why = f"`{item.name}` is an alias of another type than a list: write that type"
-            reject(item.type.name not in LISTS, item.line, why)
             return self.known(item.type)
         by = "DefinedBy" if any("DefinedBy" in name for name in item.wanted) else ""
         item.reads, item.writes = f"Asn1{by}Read" in item.wanted, f"Asn1{by}Write" in item.wanted

@@ -318,8 +318,6 @@ struct FieldTwice {
     value: u8, //~ `value` is declared twice
 }
 
-type Serial<'a> = asn1::BigUint<'a>; //~ `Serial` is an alias of another type than a list: write that type
-
 #[derive(asn1::Asn1Read)]
 struct ImplicitElement<'a> {
     #[implicit(0, required = true)]

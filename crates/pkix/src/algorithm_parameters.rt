@@ -4,8 +4,9 @@ ghost use Rattle.std.specs.Prelude.{◌≡◌, Ok};
 ghost use Rattle.std.specs.Str.{bytes_eq};
 ghost use Rattle.asn1.specs.Identifier.{read_identifier};
 ghost use Rattle.asn1.specs.IdentifierValues.{identifier_of};
-ghost use Rattle.pkix.specs.Algorithms.{algorithm_numbers, algorithm_with, form_of, ReadsForm};
+ghost use Rattle.pkix.specs.Algorithms.{algorithm_numbers, algorithm_with, form_of, parameter_octets, ReadsForm, ReadsParameters};
 
+use crate::common::AlgorithmIdentifier;
 use crate::identifiers;
 use asn1::laws::identifiers_compare;
 use asn1::{ObjectIdentifier, ParseError, ParseErrorKind, ParseResult, Tlv, parse_single};
@@ -206,7 +207,7 @@ impl ParametersForm {
 }
 
 /// The parameters of an algorithm, read as what its identifier says that they are.
-#[derive(Debug, PartialEq, Eq, Drop)]
+#[derive(Debug, Clone, PartialEq, Eq, Drop)]
 pub enum AlgorithmParameters<'a> {
     /// NULL: of RSA, which has to have it, but for signatures with SHA-2, and of digests, which may have it.
     Null,
@@ -217,4 +218,32 @@ pub enum AlgorithmParameters<'a> {
     NamedCurve(ObjectIdentifier),
     /// The parameters of every other algorithm, as they are.
     Other(Option<Tlv<'a>>),
+}
+
+impl<'a> AlgorithmIdentifier<'a> {
+    /// The octets of the parameters: none where there is no element.
+    fn parameter_octets(&self) -> &'a [u8]
+        ensures { result.now ≡ parameter_octets self.now.parameters }
+    {
+        match self.parameters {
+            Some(element) => element.full_data(),
+            None => &[],
+        }
+    }
+
+    /// The parameters, read as [`asn1::parse_single`] reads the type that `algorithm` defines; those of an algorithm
+    /// that isn't a [`KnownAlgorithm`] stay as they are.
+    ///
+    /// Returns the first error of the element's octets, or of no octets where there is no element: `ShortData` where
+    /// there have to be parameters and are none, `UnexpectedTag` or `InvalidValue` where they aren't of that type, and
+    /// `ExtraData` where there may be none, and they are there, or aren't NULL where that may be there.
+    pub fn read_parameters(&self, alloc: Global) -> ParseResult<AlgorithmParameters<'a>>
+        ensures { ReadsParameters (algorithm_with (identifier_of self.now.algorithm))
+            self.now.parameters result }
+    {
+        let Some(algorithm) = KnownAlgorithm::with_identifier(&self.algorithm) else {
+            return Ok(AlgorithmParameters::Other(self.parameters));
+        };
+        algorithm.form().read(alloc, self.parameter_octets())
+    }
 }

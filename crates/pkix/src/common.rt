@@ -7,26 +7,18 @@ mod named_bits;
 mod names;
 mod time;
 
-ghost use Rattle.asn1.specs.Reads.{HasOneEncoding};
-
-pub use algorithm::{AlgorithmIdentifier, SubjectPublicKeyInfo};
-use asn1::Asn1Type;
-pub use extension::{Extension, Extensions, NotCritical};
-pub use general_name::{
-    EdiPartyName, GeneralName, GeneralNames, OtherName, general_names_are_lawful,
+pub use algorithm::{
+    AlgorithmIdentifier, SubjectPublicKeyInfo, algorithm_identifier_is_lawful,
+    subject_public_key_info_is_lawful,
 };
-pub use named_bits::NamedBits;
-pub use names::{Attribute, AttributeTypeAndValue, Attributes, Name};
-pub use time::Time;
-
-/// These types are lawful: what is written is read back, and each value has one encoding.
-#[tactic(auto, using(asn1::specs::Lemmas::Fields::tags_differ))]
-pub fn common_types_are_lawful()
-    ensures algorithm { HasOneEncoding ⟦<AlgorithmIdentifier<'static> as Asn1Type>⟧.der }
-    ensures key { HasOneEncoding ⟦<SubjectPublicKeyInfo<'static> as Asn1Type>⟧.der }
-    ensures name { HasOneEncoding ⟦<Name<'static> as Asn1Type>⟧.der }
-    ensures attributes { HasOneEncoding ⟦<Attributes<'static> as Asn1Type>⟧.der }
-    ensures extensions { HasOneEncoding ⟦<Extensions<'static> as Asn1Type>⟧.der }
-    ensures named_bits { HasOneEncoding ⟦<NamedBits<'static> as Asn1Type>⟧.der }
-    ensures time { HasOneEncoding ⟦<Time as Asn1Type>⟧.der }
-{}
+pub use extension::{Extension, Extensions, extension_is_lawful, extensions_is_lawful};
+pub use general_name::{
+    EdiPartyName, GeneralName, GeneralNames, OtherName, edi_party_name_is_lawful,
+    general_name_is_lawful, general_names_is_lawful, other_name_is_lawful,
+};
+pub use named_bits::{NamedBits, named_bits_is_lawful};
+pub use names::{
+    Attribute, AttributeTypeAndValue, Attributes, Name, attribute_is_lawful,
+    attribute_type_and_value_is_lawful, attributes_is_lawful, name_is_lawful,
+};
+pub use time::{Time, time_is_lawful};

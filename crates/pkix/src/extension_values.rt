@@ -4,7 +4,10 @@ ghost use Rattle.std.specs.Prelude.{◌≡◌, Ok};
 ghost use Rattle.std.specs.Str.{bytes_eq};
 ghost use Rattle.asn1.specs.Identifier.{read_identifier};
 ghost use Rattle.asn1.specs.IdentifierValues.{identifier_of};
-ghost use Rattle.pkix.specs.Extensions.{extension_numbers, extension_with};
+ghost use Rattle.pkix.specs.Extensions.{extension_numbers, extension_with, ReadsExtension};
+ghost use Rattle.pkix.specs.ValueTypes.{typed};
+ghost use Rattle.pkix.specs.declared.extension_values.ExtensionValue.TheVariants as value;
+ghost use Rattle.pkix.specs.declared.extension_values.KnownExtension.TheVariants as known;
 
 use crate::certificate::access::AuthorityInfoAccess;
 use crate::certificate::distribution::CrlDistributionPoints;
@@ -12,11 +15,12 @@ use crate::certificate::extensions::{
     AuthorityKeyIdentifier, BasicConstraints, ExtendedKeyUsage, KeyUsage, SubjectAltName,
     SubjectKeyIdentifier,
 };
-use crate::common::GeneralNames;
+use crate::common::{Extension, GeneralNames};
 use crate::identifiers;
 use crate::revocation::extensions::{CrlNumber, CrlReason};
-use asn1::ObjectIdentifier;
 use asn1::laws::identifiers_compare;
+use asn1::{Asn1Type, ObjectIdentifier, ParseResult, parse_single};
+use std::alloc::Global;
 
 /// An extension whose value has a type here.
 #[derive(Debug, Clone, Copy, PartialEq, Eq)]
@@ -108,7 +112,7 @@ impl KnownExtension {
 }
 
 /// The value of an extension, read as what its identifier says that it is.
-#[derive(PartialEq, Eq, Drop)]
+#[derive(Debug, PartialEq, Eq, Drop)]
 pub enum ExtensionValue<'a> {
     /// Of authorityInfoAccess (RFC 5280, 4.2.2.1).
     AuthorityInfoAccess(AuthorityInfoAccess<'a>),
@@ -134,4 +138,75 @@ pub enum ExtensionValue<'a> {
     SubjectKeyIdentifier(SubjectKeyIdentifier<'a>),
     /// The octets of every other extension.
     Other(&'a [u8]),
+}
+
+impl<'a> Extension<'a> {
+    /// The value, read as [`parse_single`] reads the type that `extn_id` names: of an extension that isn't a
+    /// [`KnownExtension`] the octets. Returns the first error of the octets where they aren't the encoding of a value
+    /// of that type.
+    pub fn value(&self, alloc: Global) -> ParseResult<ExtensionValue<'a>>
+        ensures { ReadsExtension (elim [
+          | known.AuthorityInfoAccess ↦ typed ⟦<AuthorityInfoAccess<'a> as Asn1Type>⟧.der
+              value.AuthorityInfoAccess
+          | known.AuthorityKeyIdentifier ↦ typed ⟦<AuthorityKeyIdentifier<'a> as Asn1Type>⟧.der
+              value.AuthorityKeyIdentifier
+          | known.BasicConstraints ↦ typed ⟦<BasicConstraints<'a> as Asn1Type>⟧.der
+              value.BasicConstraints
+          | known.CrlDistributionPoints ↦ typed ⟦<CrlDistributionPoints<'a> as Asn1Type>⟧.der
+              value.CrlDistributionPoints
+          | known.CrlNumber ↦ typed ⟦<CrlNumber<'a> as Asn1Type>⟧.der
+              value.CrlNumber
+          | known.CrlReason ↦ typed ⟦<CrlReason as Asn1Type>⟧.der
+              value.CrlReason
+          | known.ExtendedKeyUsage ↦ typed ⟦<ExtendedKeyUsage<'a> as Asn1Type>⟧.der
+              value.ExtendedKeyUsage
+          | known.IssuerAltName ↦ typed ⟦<GeneralNames<'a> as Asn1Type>⟧.der
+              value.IssuerAltName
+          | known.KeyUsage ↦ typed ⟦<KeyUsage<'a> as Asn1Type>⟧.der
+              value.KeyUsage
+          | known.SubjectAltName ↦ typed ⟦<SubjectAltName<'a> as Asn1Type>⟧.der
+              value.SubjectAltName
+          | known.SubjectKeyIdentifier ↦ typed ⟦<SubjectKeyIdentifier<'a> as Asn1Type>⟧.der
+              value.SubjectKeyIdentifier
+        ]) value.Other (extension_with (identifier_of self.now.extn_id))
+            self.now.extn_value result }
+    {
+        let octets = self.extn_value;
+        let Some(extension) = KnownExtension::with_identifier(&self.extn_id) else {
+            return Ok(ExtensionValue::Other(octets));
+        };
+        match extension {
+            KnownExtension::AuthorityInfoAccess => Ok(ExtensionValue::AuthorityInfoAccess(
+                parse_single(alloc, octets)?,
+            )),
+            KnownExtension::AuthorityKeyIdentifier => Ok(ExtensionValue::AuthorityKeyIdentifier(
+                parse_single(alloc, octets)?,
+            )),
+            KnownExtension::BasicConstraints => Ok(ExtensionValue::BasicConstraints(parse_single(
+                alloc, octets,
+            )?)),
+            KnownExtension::CrlDistributionPoints => Ok(ExtensionValue::CrlDistributionPoints(
+                parse_single(alloc, octets)?,
+            )),
+            KnownExtension::CrlNumber => Ok(ExtensionValue::CrlNumber(parse_single(
+                alloc, octets,
+            )?)),
+            KnownExtension::CrlReason => Ok(ExtensionValue::CrlReason(parse_single(
+                alloc, octets,
+            )?)),
+            KnownExtension::ExtendedKeyUsage => Ok(ExtensionValue::ExtendedKeyUsage(parse_single(
+                alloc, octets,
+            )?)),
+            KnownExtension::IssuerAltName => Ok(ExtensionValue::IssuerAltName(parse_single(
+                alloc, octets,
+            )?)),
+            KnownExtension::KeyUsage => Ok(ExtensionValue::KeyUsage(parse_single(alloc, octets)?)),
+            KnownExtension::SubjectAltName => Ok(ExtensionValue::SubjectAltName(parse_single(
+                alloc, octets,
+            )?)),
+            KnownExtension::SubjectKeyIdentifier => Ok(ExtensionValue::SubjectKeyIdentifier(
+                parse_single(alloc, octets)?,
+            )),
+        }
+    }
 }

@@ -1,130 +1,63 @@
 //! Keys (RFC 5958, 8017, 5915 and 5480).
+// Printed by scripts/derive from declarations/keys.rs, with the sum 98089ae8.
 
-ghost use Rattle.std.specs.Prelude.{◌≡◌, map};
-ghost use Rattle.asn1.specs.Der.{seen};
-ghost use Rattle.asn1.specs.InHand.{explicit_inner, implicit_inner};
+ghost use Rattle.std.specs.Prelude.{◌≡◌, ◌∷◌, [], codes};
 ghost use Rattle.asn1.specs.Options.{option_meaning};
 ghost use Rattle.asn1.specs.Reads.{HasOneEncoding, ReadsContents};
-ghost use Rattle.pkix.specs.declared.keys.TheConstants.{ONE_ASYMMETRIC_KEY, RSA_PUBLIC_KEY, RSA_PRIVATE_KEY, EC_PRIVATE_KEY};
+ghost use Rattle.asn1.specs.Structures.{explicit, implicit, structure, fields2, fields4, fields5, fields9};
 
-use crate::common::{AlgorithmIdentifier, Attributes};
-use asn1::fields::{Field, FieldNames, Fields2, Fields4, Fields5, Fields9, Last, Names, Structure};
+use crate::common::{
+    AlgorithmIdentifier, Attributes, algorithm_identifier_is_lawful, attributes_is_lawful,
+};
+use asn1::fields::{Fields2, Fields4, Fields5, Fields9, Row};
 use asn1::{
     Asn1Type, BigUint, BitString, Explicit, Implicit, ObjectIdentifier, ParseResult,
-    SimpleAsn1Readable, SimpleAsn1Writable, Tag, WriteBuf, WriteError, WriteResult,
+    SimpleAsn1Readable, SimpleAsn1Writable, Tag, WriteBuf, WriteError, WriteResult, fields_length,
+    known_fields, read_fields, write_fields,
 };
 use std::alloc::Global;
 
-/// The fields.
-type OneAsymmetricKeyFields<'a> = Structure<
-    OneAsymmetricKeyNames,
-    Fields5<
-        u8,
-        AlgorithmIdentifier<'a>,
-        &'a [u8],
-        Option<Implicit<Attributes<'a>, 0>>,
-        Option<Implicit<BitString<'a>, 1>>,
-    >,
+/// OneAsymmetricKey (RFC 5958, 2), a SEQUENCE: a private key, and the public key where it is told. Fields behind these,
+/// which later versions may have, are rejected.
+#[derive(Debug, Clone, PartialEq, Eq, Drop)]
+pub struct OneAsymmetricKey<'a> {
+    /// The version, which is the number less one: 0 is v1, and 1 is v2, which has a public key. Any from 0 to 255 is
+    /// read.
+    pub version: u8,
+    /// The algorithm that the key is for.
+    pub private_key_algorithm: AlgorithmIdentifier<'a>,
+    /// The private key, whose octets the algorithm defines.
+    pub private_key: &'a [u8],
+    /// What else is told of it.
+    pub attributes: Option<Attributes<'a>>,
+    /// The public key, whose bits the algorithm defines.
+    pub public_key: Option<BitString<'a>>,
+}
+
+type OneAsymmetricKeyAttributesField<'a> = Option<Implicit<Attributes<'a>, 0>>;
+
+type OneAsymmetricKeyPublicKeyField<'a> = Option<Implicit<BitString<'a>, 1>>;
+
+type OneAsymmetricKeyFields<'a> = Fields5<
+    u8,
+    AlgorithmIdentifier<'a>,
+    &'a [u8],
+    OneAsymmetricKeyAttributesField<'a>,
+    OneAsymmetricKeyPublicKeyField<'a>,
 >;
 
-const ONE_ASYMMETRIC_KEY: [&str; 5] = [
-    "OneAsymmetricKey::version",
-    "OneAsymmetricKey::private_key_algorithm",
-    "OneAsymmetricKey::private_key",
-    "OneAsymmetricKey::attributes",
-    "OneAsymmetricKey::public_key",
-];
-
-/// The names of the fields.
-struct OneAsymmetricKeyNames;
-
-impl FieldNames for OneAsymmetricKeyNames {
-    ghost names = { map (λ s. s.now) ONE_ASYMMETRIC_KEY };
-
-    fn names() -> Names {
-        Names::new(&ONE_ASYMMETRIC_KEY)
-    }
-}
-
-/// OneAsymmetricKey (RFC 5958, 2), a SEQUENCE: a private key, and the public key where it is told.
-#[derive(Clone, PartialEq, Eq, Drop)]
-pub struct OneAsymmetricKey<'a>(OneAsymmetricKeyFields<'a>);
-
-/// PrivateKeyInfo (RFC 5958, 2), another name of OneAsymmetricKey, with which keys of v1 are read too.
-pub type PrivateKeyInfo<'a> = OneAsymmetricKey<'a>;
-
-impl<'a> OneAsymmetricKey<'a> {
-    /// Of these fields.
-    pub fn new(
-        version: u8,
-        private_key_algorithm: AlgorithmIdentifier<'a>,
-        private_key: &'a [u8],
-        attributes: Option<Attributes<'a>>,
-        public_key: Option<BitString<'a>>,
-    ) -> OneAsymmetricKey<'a>
-        ensures version { result.0.fields.value ≡ version }
-        ensures private_key_algorithm { result.0.fields.rest.value ≡ private_key_algorithm.entry }
-        ensures private_key { result.0.fields.rest.rest.value ≡ private_key.entry }
-        ensures attributes { option_meaning implicit_inner result.0.fields.rest.rest.rest.value
-            ≡ option_meaning (λ v. v) attributes.entry }
-        ensures public_key { option_meaning implicit_inner result.0.fields.rest.rest.rest.rest.value
-            ≡ option_meaning (λ v. v) public_key.entry }
-    {
-        let attributes = attributes.map(Implicit::new);
-        let public_key = public_key.map(Implicit::new);
-        let fields = Last::new(public_key);
-        let fields = Field::new(attributes, fields);
-        let fields = Field::new(private_key, fields);
-        let fields = Field::new(private_key_algorithm, fields);
-        let fields = Field::new(version, fields);
-        OneAsymmetricKey(Structure::new(fields))
-    }
-
-    /// The version, which is the number less one: 0 is v1, and 1 is v2, which has a public key.
-    pub fn version(&self) -> u8
-        ensures { result ≡ self.now.0.fields.value }
-    {
-        self.0.fields.value
-    }
-
-    /// The algorithm that the key is for.
-    pub fn private_key_algorithm(&self) -> &AlgorithmIdentifier<'a>
-        ensures { result.now ≡ self.now.0.fields.rest.value }
-    {
-        &self.0.fields.rest.value
-    }
-
-    /// The private key, whose octets the algorithm defines.
-    pub fn private_key(&self) -> &'a [u8]
-        ensures { result ≡ self.now.0.fields.rest.rest.value }
-    {
-        self.0.fields.rest.rest.value
-    }
-
-    /// What else is told of it.
-    pub fn attributes(&self) -> Option<&Attributes<'a>>
-        ensures { option_meaning (λ v. v.now) result
-            ≡ option_meaning implicit_inner self.now.0.fields.rest.rest.rest.value }
-    {
-        let value = &self.0.fields.rest.rest.rest.value;
-        value.as_ref().map(Implicit::as_inner)
-    }
-
-    /// The public key, whose bits the algorithm defines.
-    pub fn public_key(&self) -> Option<&BitString<'a>>
-        ensures { option_meaning (λ v. v.now) result
-            ≡ option_meaning implicit_inner self.now.0.fields.rest.rest.rest.rest.value }
-    {
-        let value = &self.0.fields.rest.rest.rest.rest.value;
-        value.as_ref().map(Implicit::as_inner)
-    }
-}
-
 impl<'a> Asn1Type for OneAsymmetricKey<'a> {
-    ghost der = { seen (λ v. v.0) ⟦<OneAsymmetricKeyFields<'a> as Asn1Type>⟧.der };
+    ghost der = { structure (λ v. fields5 v.version v.private_key_algorithm v.private_key
+        (option_meaning implicit v.attributes) (option_meaning implicit v.public_key))
+        ⟦<OneAsymmetricKeyFields<'a> as Row>⟧.list (codes "OneAsymmetricKey::version" ∷
+        codes "OneAsymmetricKey::private_key_algorithm" ∷ codes "OneAsymmetricKey::private_key" ∷
+        codes "OneAsymmetricKey::attributes" ∷ codes "OneAsymmetricKey::public_key" ∷ []) };
 
     fn known(&self) {
-        self.0.known()
+        known_fields!(self;
+            version, private_key_algorithm, private_key,
+            attributes: OneAsymmetricKeyAttributesField<'a>,
+            public_key: OneAsymmetricKeyPublicKeyField<'a>)
     }
 }
 
@@ -140,10 +73,11 @@ impl<'a> SimpleAsn1Readable<'a> for OneAsymmetricKey<'a> {
     fn parse_data(alloc: Global, data: &'a [u8]) -> ParseResult<OneAsymmetricKey<'a>>
         ensures { ReadsContents ⟦<OneAsymmetricKey<'a> as Asn1Type>⟧.der «data».entry.now result }
     {
-        match <OneAsymmetricKeyFields<'a> as SimpleAsn1Readable<'a>>::parse_data(alloc, data) {
-            Ok(fields) => Ok(OneAsymmetricKey(fields)),
-            Err(error) => Err(error),
-        }
+        read_fields!(OneAsymmetricKeyFields<'a>, alloc, data => OneAsymmetricKey {
+            version, private_key_algorithm, private_key,
+            attributes: OneAsymmetricKeyAttributesField<'a>,
+            public_key: OneAsymmetricKeyPublicKeyField<'a>
+        })
     }
 }
 
@@ -160,63 +94,38 @@ impl<'a> SimpleAsn1Writable for OneAsymmetricKey<'a> {
     }
 
     fn write_data(&self, dest: &mut WriteBuf) -> WriteResult<()> {
-        self.0.write_data(dest)
+        write_fields!(self, dest;
+            version, private_key_algorithm, private_key,
+            attributes: OneAsymmetricKeyAttributesField<'a>,
+            public_key: OneAsymmetricKeyPublicKeyField<'a>)
     }
 
     fn data_length(&self) -> Option<usize> {
-        self.0.data_length()
+        fields_length!(self;
+            version, private_key_algorithm, private_key,
+            attributes: OneAsymmetricKeyAttributesField<'a>,
+            public_key: OneAsymmetricKeyPublicKeyField<'a>)
     }
 }
 
-/// The fields.
-type RsaPublicKeyFields<'a> = Structure<RsaPublicKeyNames, Fields2<BigUint<'a>, BigUint<'a>>>;
-
-const RSA_PUBLIC_KEY: [&str; 2] = ["RsaPublicKey::modulus", "RsaPublicKey::public_exponent"];
-
-/// The names of the fields.
-struct RsaPublicKeyNames;
-
-impl FieldNames for RsaPublicKeyNames {
-    ghost names = { map (λ s. s.now) RSA_PUBLIC_KEY };
-
-    fn names() -> Names {
-        Names::new(&RSA_PUBLIC_KEY)
-    }
-}
-
-/// RSAPublicKey (RFC 8017, A.1.1), a SEQUENCE.
+/// RSAPublicKey (RFC 8017, A.1.1), a SEQUENCE. Its numbers aren't negative.
 #[derive(Debug, Clone, PartialEq, Eq, Drop)]
-pub struct RsaPublicKey<'a>(RsaPublicKeyFields<'a>);
-
-impl<'a> RsaPublicKey<'a> {
-    /// Of these fields.
-    pub fn new(modulus: BigUint<'a>, public_exponent: BigUint<'a>) -> RsaPublicKey<'a>
-        ensures modulus { result.0.fields.value ≡ modulus.entry }
-        ensures public_exponent { result.0.fields.rest.value ≡ public_exponent.entry }
-    {
-        RsaPublicKey(Structure::new(Field::new(modulus, Last::new(public_exponent))))
-    }
-
+pub struct RsaPublicKey<'a> {
     /// The modulus.
-    pub fn modulus(&self) -> BigUint<'a>
-        ensures { result ≡ self.now.0.fields.value }
-    {
-        self.0.fields.value
-    }
-
+    pub modulus: BigUint<'a>,
     /// The exponent.
-    pub fn public_exponent(&self) -> BigUint<'a>
-        ensures { result ≡ self.now.0.fields.rest.value }
-    {
-        self.0.fields.rest.value
-    }
+    pub public_exponent: BigUint<'a>,
 }
+
+type RsaPublicKeyFields<'a> = Fields2<BigUint<'a>, BigUint<'a>>;
 
 impl<'a> Asn1Type for RsaPublicKey<'a> {
-    ghost der = { seen (λ v. v.0) ⟦<RsaPublicKeyFields<'a> as Asn1Type>⟧.der };
+    ghost der = { structure (λ v. fields2 v.modulus v.public_exponent)
+        ⟦<RsaPublicKeyFields<'a> as Row>⟧.list (codes "RsaPublicKey::modulus" ∷
+        codes "RsaPublicKey::public_exponent" ∷ []) };
 
     fn known(&self) {
-        self.0.known()
+        known_fields!(self; modulus, public_exponent)
     }
 }
 
@@ -232,10 +141,9 @@ impl<'a> SimpleAsn1Readable<'a> for RsaPublicKey<'a> {
     fn parse_data(alloc: Global, data: &'a [u8]) -> ParseResult<RsaPublicKey<'a>>
         ensures { ReadsContents ⟦<RsaPublicKey<'a> as Asn1Type>⟧.der «data».entry.now result }
     {
-        match <RsaPublicKeyFields<'a> as SimpleAsn1Readable<'a>>::parse_data(alloc, data) {
-            Ok(fields) => Ok(RsaPublicKey(fields)),
-            Err(error) => Err(error),
-        }
+        read_fields!(RsaPublicKeyFields<'a>, alloc, data => RsaPublicKey {
+            modulus, public_exponent
+        })
     }
 }
 
@@ -252,163 +160,63 @@ impl<'a> SimpleAsn1Writable for RsaPublicKey<'a> {
     }
 
     fn write_data(&self, dest: &mut WriteBuf) -> WriteResult<()> {
-        self.0.write_data(dest)
+        write_fields!(self, dest; modulus, public_exponent)
     }
 
     fn data_length(&self) -> Option<usize> {
-        self.0.data_length()
+        fields_length!(self; modulus, public_exponent)
     }
 }
 
-/// The fields.
-type RsaPrivateKeyFields<'a> = Structure<
-    RsaPrivateKeyNames,
-    Fields9<
-        u8,
-        BigUint<'a>,
-        BigUint<'a>,
-        BigUint<'a>,
-        BigUint<'a>,
-        BigUint<'a>,
-        BigUint<'a>,
-        BigUint<'a>,
-        BigUint<'a>,
-    >,
+/// RSAPrivateKey (RFC 8017, A.1.2) of two primes, a SEQUENCE. Its numbers aren't negative, and one of more primes is
+/// rejected.
+#[derive(Debug, Clone, PartialEq, Eq, Drop)]
+pub struct RsaPrivateKey<'a> {
+    /// The version: 0, as there are two primes. Any from 0 to 255 is read.
+    pub version: u8,
+    /// The modulus, the product of the primes.
+    pub modulus: BigUint<'a>,
+    /// The exponent of the public key.
+    pub public_exponent: BigUint<'a>,
+    /// The exponent of the private key.
+    pub private_exponent: BigUint<'a>,
+    /// The first prime, p.
+    pub prime1: BigUint<'a>,
+    /// The second prime, q.
+    pub prime2: BigUint<'a>,
+    /// The private exponent modulo p - 1.
+    pub exponent1: BigUint<'a>,
+    /// The private exponent modulo q - 1.
+    pub exponent2: BigUint<'a>,
+    /// The inverse of q modulo p.
+    pub coefficient: BigUint<'a>,
+}
+
+type RsaPrivateKeyFields<'a> = Fields9<
+    u8,
+    BigUint<'a>,
+    BigUint<'a>,
+    BigUint<'a>,
+    BigUint<'a>,
+    BigUint<'a>,
+    BigUint<'a>,
+    BigUint<'a>,
+    BigUint<'a>,
 >;
 
-const RSA_PRIVATE_KEY: [&str; 9] = [
-    "RsaPrivateKey::version",
-    "RsaPrivateKey::modulus",
-    "RsaPrivateKey::public_exponent",
-    "RsaPrivateKey::private_exponent",
-    "RsaPrivateKey::prime1",
-    "RsaPrivateKey::prime2",
-    "RsaPrivateKey::exponent1",
-    "RsaPrivateKey::exponent2",
-    "RsaPrivateKey::coefficient",
-];
-
-/// The names of the fields.
-struct RsaPrivateKeyNames;
-
-impl FieldNames for RsaPrivateKeyNames {
-    ghost names = { map (λ s. s.now) RSA_PRIVATE_KEY };
-
-    fn names() -> Names {
-        Names::new(&RSA_PRIVATE_KEY)
-    }
-}
-
-/// RSAPrivateKey (RFC 8017, A.1.2) of two primes, a SEQUENCE.
-#[derive(Debug, Clone, PartialEq, Eq, Drop)]
-pub struct RsaPrivateKey<'a>(RsaPrivateKeyFields<'a>);
-
-impl<'a> RsaPrivateKey<'a> {
-    /// Of these fields.
-    pub fn new(
-        version: u8,
-        modulus: BigUint<'a>,
-        public_exponent: BigUint<'a>,
-        private_exponent: BigUint<'a>,
-        prime1: BigUint<'a>,
-        prime2: BigUint<'a>,
-        exponent1: BigUint<'a>,
-        exponent2: BigUint<'a>,
-        coefficient: BigUint<'a>,
-    ) -> RsaPrivateKey<'a>
-        ensures version { result.0.fields.value ≡ version }
-        ensures modulus { result.0.fields.rest.value ≡ modulus.entry }
-        ensures public_exponent { result.0.fields.rest.rest.value ≡ public_exponent.entry }
-        ensures private_exponent { result.0.fields.rest.rest.rest.value ≡ private_exponent.entry }
-        ensures prime1 { result.0.fields.rest.rest.rest.rest.value ≡ prime1.entry }
-        ensures prime2 { result.0.fields.rest.rest.rest.rest.rest.value ≡ prime2.entry }
-        ensures exponent1 { result.0.fields.rest.rest.rest.rest.rest.rest.value ≡ exponent1.entry }
-        ensures exponent2 { result.0.fields.rest.rest.rest.rest.rest.rest.rest.value
-            ≡ exponent2.entry }
-        ensures coefficient { result.0.fields.rest.rest.rest.rest.rest.rest.rest.rest.value
-            ≡ coefficient.entry }
-    {
-        let fields = Last::new(coefficient);
-        let fields = Field::new(exponent2, fields);
-        let fields = Field::new(exponent1, fields);
-        let fields = Field::new(prime2, fields);
-        let fields = Field::new(prime1, fields);
-        let fields = Field::new(private_exponent, fields);
-        let fields = Field::new(public_exponent, fields);
-        let fields = Field::new(modulus, fields);
-        let fields = Field::new(version, fields);
-        RsaPrivateKey(Structure::new(fields))
-    }
-
-    /// The version: 0, as there are two primes.
-    pub fn version(&self) -> u8
-        ensures { result ≡ self.now.0.fields.value }
-    {
-        self.0.fields.value
-    }
-
-    /// The modulus, the product of the primes.
-    pub fn modulus(&self) -> BigUint<'a>
-        ensures { result ≡ self.now.0.fields.rest.value }
-    {
-        self.0.fields.rest.value
-    }
-
-    /// The exponent of the public key.
-    pub fn public_exponent(&self) -> BigUint<'a>
-        ensures { result ≡ self.now.0.fields.rest.rest.value }
-    {
-        self.0.fields.rest.rest.value
-    }
-
-    /// The exponent of the private key.
-    pub fn private_exponent(&self) -> BigUint<'a>
-        ensures { result ≡ self.now.0.fields.rest.rest.rest.value }
-    {
-        self.0.fields.rest.rest.rest.value
-    }
-
-    /// The first prime, p.
-    pub fn prime1(&self) -> BigUint<'a>
-        ensures { result ≡ self.now.0.fields.rest.rest.rest.rest.value }
-    {
-        self.0.fields.rest.rest.rest.rest.value
-    }
-
-    /// The second prime, q.
-    pub fn prime2(&self) -> BigUint<'a>
-        ensures { result ≡ self.now.0.fields.rest.rest.rest.rest.rest.value }
-    {
-        self.0.fields.rest.rest.rest.rest.rest.value
-    }
-
-    /// The private exponent modulo p - 1.
-    pub fn exponent1(&self) -> BigUint<'a>
-        ensures { result ≡ self.now.0.fields.rest.rest.rest.rest.rest.rest.value }
-    {
-        self.0.fields.rest.rest.rest.rest.rest.rest.value
-    }
-
-    /// The private exponent modulo q - 1.
-    pub fn exponent2(&self) -> BigUint<'a>
-        ensures { result ≡ self.now.0.fields.rest.rest.rest.rest.rest.rest.rest.value }
-    {
-        self.0.fields.rest.rest.rest.rest.rest.rest.rest.value
-    }
-
-    /// The inverse of q modulo p.
-    pub fn coefficient(&self) -> BigUint<'a>
-        ensures { result ≡ self.now.0.fields.rest.rest.rest.rest.rest.rest.rest.rest.value }
-    {
-        self.0.fields.rest.rest.rest.rest.rest.rest.rest.rest.value
-    }
-}
-
 impl<'a> Asn1Type for RsaPrivateKey<'a> {
-    ghost der = { seen (λ v. v.0) ⟦<RsaPrivateKeyFields<'a> as Asn1Type>⟧.der };
+    ghost der = { structure (λ v. fields9 v.version v.modulus v.public_exponent v.private_exponent
+        v.prime1 v.prime2 v.exponent1 v.exponent2 v.coefficient)
+        ⟦<RsaPrivateKeyFields<'a> as Row>⟧.list (codes "RsaPrivateKey::version" ∷
+        codes "RsaPrivateKey::modulus" ∷ codes "RsaPrivateKey::public_exponent" ∷
+        codes "RsaPrivateKey::private_exponent" ∷ codes "RsaPrivateKey::prime1" ∷
+        codes "RsaPrivateKey::prime2" ∷ codes "RsaPrivateKey::exponent1" ∷
+        codes "RsaPrivateKey::exponent2" ∷ codes "RsaPrivateKey::coefficient" ∷ []) };
 
     fn known(&self) {
-        self.0.known()
+        known_fields!(self;
+            version, modulus, public_exponent, private_exponent, prime1, prime2, exponent1,
+            exponent2, coefficient)
     }
 }
 
@@ -424,10 +232,10 @@ impl<'a> SimpleAsn1Readable<'a> for RsaPrivateKey<'a> {
     fn parse_data(alloc: Global, data: &'a [u8]) -> ParseResult<RsaPrivateKey<'a>>
         ensures { ReadsContents ⟦<RsaPrivateKey<'a> as Asn1Type>⟧.der «data».entry.now result }
     {
-        match <RsaPrivateKeyFields<'a> as SimpleAsn1Readable<'a>>::parse_data(alloc, data) {
-            Ok(fields) => Ok(RsaPrivateKey(fields)),
-            Err(error) => Err(error),
-        }
+        read_fields!(RsaPrivateKeyFields<'a>, alloc, data => RsaPrivateKey {
+            version, modulus, public_exponent, private_exponent, prime1, prime2, exponent1,
+            exponent2, coefficient
+        })
     }
 }
 
@@ -444,109 +252,52 @@ impl<'a> SimpleAsn1Writable for RsaPrivateKey<'a> {
     }
 
     fn write_data(&self, dest: &mut WriteBuf) -> WriteResult<()> {
-        self.0.write_data(dest)
+        write_fields!(self, dest;
+            version, modulus, public_exponent, private_exponent, prime1, prime2, exponent1,
+            exponent2, coefficient)
     }
 
     fn data_length(&self) -> Option<usize> {
-        self.0.data_length()
-    }
-}
-
-/// The fields.
-type EcPrivateKeyFields<'a> = Structure<
-    EcPrivateKeyNames,
-    Fields4<
-        u8,
-        &'a [u8],
-        Option<Explicit<ObjectIdentifier, 0>>,
-        Option<Explicit<BitString<'a>, 1>>,
-    >,
->;
-
-const EC_PRIVATE_KEY: [&str; 4] = [
-    "EcPrivateKey::version",
-    "EcPrivateKey::private_key",
-    "EcPrivateKey::parameters",
-    "EcPrivateKey::public_key",
-];
-
-/// The names of the fields.
-struct EcPrivateKeyNames;
-
-impl FieldNames for EcPrivateKeyNames {
-    ghost names = { map (λ s. s.now) EC_PRIVATE_KEY };
-
-    fn names() -> Names {
-        Names::new(&EC_PRIVATE_KEY)
+        fields_length!(self;
+            version, modulus, public_exponent, private_exponent, prime1, prime2, exponent1,
+            exponent2, coefficient)
     }
 }
 
 /// ECPrivateKey (RFC 5915, 3), a SEQUENCE.
 #[derive(Debug, Clone, PartialEq, Eq, Drop)]
-pub struct EcPrivateKey<'a>(EcPrivateKeyFields<'a>);
-
-impl<'a> EcPrivateKey<'a> {
-    /// Of these fields.
-    pub fn new(
-        version: u8,
-        private_key: &'a [u8],
-        parameters: Option<ObjectIdentifier>,
-        public_key: Option<BitString<'a>>,
-    ) -> EcPrivateKey<'a>
-        ensures version { result.0.fields.value ≡ version }
-        ensures private_key { result.0.fields.rest.value ≡ private_key.entry }
-        ensures parameters { option_meaning explicit_inner result.0.fields.rest.rest.value
-            ≡ option_meaning (λ v. v) parameters }
-        ensures public_key { option_meaning explicit_inner result.0.fields.rest.rest.rest.value
-            ≡ option_meaning (λ v. v) public_key.entry }
-    {
-        let parameters = parameters.map(Explicit::new);
-        let public_key = public_key.map(Explicit::new);
-        let fields = Last::new(public_key);
-        let fields = Field::new(parameters, fields);
-        let fields = Field::new(private_key, fields);
-        let fields = Field::new(version, fields);
-        EcPrivateKey(Structure::new(fields))
-    }
-
-    /// The version, which is 1.
-    pub fn version(&self) -> u8
-        ensures { result ≡ self.now.0.fields.value }
-    {
-        self.0.fields.value
-    }
-
+pub struct EcPrivateKey<'a> {
+    /// The version, which is 1. Any from 0 to 255 is read.
+    pub version: u8,
     /// The private key, a number of as many octets as the curve's order has.
-    pub fn private_key(&self) -> &'a [u8]
-        ensures { result ≡ self.now.0.fields.rest.value }
-    {
-        self.0.fields.rest.value
-    }
-
+    pub private_key: &'a [u8],
     /// ECParameters (RFC 5480, 2.1.1): the curve's identifier.
-    pub fn parameters(&self) -> Option<&ObjectIdentifier>
-        ensures { option_meaning (λ v. v.now) result
-            ≡ option_meaning explicit_inner self.now.0.fields.rest.rest.value }
-    {
-        let value = &self.0.fields.rest.rest.value;
-        value.as_ref().map(Explicit::as_inner)
-    }
-
+    pub parameters: Option<ObjectIdentifier>,
     /// The public key, a point.
-    pub fn public_key(&self) -> Option<&BitString<'a>>
-        ensures { option_meaning (λ v. v.now) result
-            ≡ option_meaning explicit_inner self.now.0.fields.rest.rest.rest.value }
-    {
-        let value = &self.0.fields.rest.rest.rest.value;
-        value.as_ref().map(Explicit::as_inner)
-    }
+    pub public_key: Option<BitString<'a>>,
 }
 
+type EcPrivateKeyParametersField = Option<Explicit<ObjectIdentifier, 0>>;
+
+type EcPrivateKeyPublicKeyField<'a> = Option<Explicit<BitString<'a>, 1>>;
+
+type EcPrivateKeyFields<'a> = Fields4<
+    u8,
+    &'a [u8],
+    EcPrivateKeyParametersField,
+    EcPrivateKeyPublicKeyField<'a>,
+>;
+
 impl<'a> Asn1Type for EcPrivateKey<'a> {
-    ghost der = { seen (λ v. v.0) ⟦<EcPrivateKeyFields<'a> as Asn1Type>⟧.der };
+    ghost der = { structure (λ v. fields4 v.version v.private_key (option_meaning explicit
+        v.parameters) (option_meaning explicit v.public_key)) ⟦<EcPrivateKeyFields<'a> as Row>⟧.list
+        (codes "EcPrivateKey::version" ∷ codes "EcPrivateKey::private_key" ∷
+        codes "EcPrivateKey::parameters" ∷ codes "EcPrivateKey::public_key" ∷ []) };
 
     fn known(&self) {
-        self.0.known()
+        known_fields!(self;
+            version, private_key, parameters: EcPrivateKeyParametersField,
+            public_key: EcPrivateKeyPublicKeyField<'a>)
     }
 }
 
@@ -562,10 +313,10 @@ impl<'a> SimpleAsn1Readable<'a> for EcPrivateKey<'a> {
     fn parse_data(alloc: Global, data: &'a [u8]) -> ParseResult<EcPrivateKey<'a>>
         ensures { ReadsContents ⟦<EcPrivateKey<'a> as Asn1Type>⟧.der «data».entry.now result }
     {
-        match <EcPrivateKeyFields<'a> as SimpleAsn1Readable<'a>>::parse_data(alloc, data) {
-            Ok(fields) => Ok(EcPrivateKey(fields)),
-            Err(error) => Err(error),
-        }
+        read_fields!(EcPrivateKeyFields<'a>, alloc, data => EcPrivateKey {
+            version, private_key, parameters: EcPrivateKeyParametersField,
+            public_key: EcPrivateKeyPublicKeyField<'a>
+        })
     }
 }
 
@@ -582,19 +333,39 @@ impl<'a> SimpleAsn1Writable for EcPrivateKey<'a> {
     }
 
     fn write_data(&self, dest: &mut WriteBuf) -> WriteResult<()> {
-        self.0.write_data(dest)
+        write_fields!(self, dest;
+            version, private_key, parameters: EcPrivateKeyParametersField,
+            public_key: EcPrivateKeyPublicKeyField<'a>)
     }
 
     fn data_length(&self) -> Option<usize> {
-        self.0.data_length()
+        fields_length!(self;
+            version, private_key, parameters: EcPrivateKeyParametersField,
+            public_key: EcPrivateKeyPublicKeyField<'a>)
     }
 }
 
-/// The types here are lawful: what is written is read back, and each value has one encoding.
+/// Each value of `OneAsymmetricKey` has one encoding, which is read back.
 #[tactic(auto, using(asn1::specs::Lemmas::Fields::tags_differ))]
-pub fn keys_are_lawful()
-    ensures one_asymmetric_key { HasOneEncoding ⟦<OneAsymmetricKey<'static> as Asn1Type>⟧.der }
-    ensures rsa_public_key { HasOneEncoding ⟦<RsaPublicKey<'static> as Asn1Type>⟧.der }
-    ensures rsa_private_key { HasOneEncoding ⟦<RsaPrivateKey<'static> as Asn1Type>⟧.der }
-    ensures ec_private_key { HasOneEncoding ⟦<EcPrivateKey<'static> as Asn1Type>⟧.der }
+pub fn one_asymmetric_key_is_lawful()
+    ensures { HasOneEncoding ⟦<OneAsymmetricKey<'static> as Asn1Type>⟧.der }
+{
+    algorithm_identifier_is_lawful();
+    attributes_is_lawful();
+}
+
+/// Each value of `RsaPublicKey` has one encoding, which is read back.
+pub fn rsa_public_key_is_lawful()
+    ensures { HasOneEncoding ⟦<RsaPublicKey<'static> as Asn1Type>⟧.der }
+{}
+
+/// Each value of `RsaPrivateKey` has one encoding, which is read back.
+pub fn rsa_private_key_is_lawful()
+    ensures { HasOneEncoding ⟦<RsaPrivateKey<'static> as Asn1Type>⟧.der }
+{}
+
+/// Each value of `EcPrivateKey` has one encoding, which is read back.
+#[tactic(auto, using(asn1::specs::Lemmas::Fields::tags_differ))]
+pub fn ec_private_key_is_lawful()
+    ensures { HasOneEncoding ⟦<EcPrivateKey<'static> as Asn1Type>⟧.der }
 {}

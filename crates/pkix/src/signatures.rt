@@ -4,6 +4,12 @@ mod signed_data;
 mod signer;
 mod values;
 
-pub use signed_data::{ContentInfo, EncapsulatedContentInfo, SignedData, signed_data_is_lawful};
-pub use signer::{IssuerAndSerialNumber, SignerIdentifier, SignerInfo, signers_are_lawful};
-pub use values::{DigestInfo, DsaSigValue, EcdsaSigValue, values_are_lawful};
+pub use signed_data::{
+    ContentInfo, EncapsulatedContentInfo, SignedData, content_info_is_lawful,
+    encapsulated_content_info_is_lawful, signed_data_is_lawful,
+};
+pub use signer::{
+    IssuerAndSerialNumber, SignerIdentifier, SignerInfo, issuer_and_serial_number_is_lawful,
+    signer_identifier_is_lawful, signer_info_is_lawful,
+};
+pub use values::{DigestInfo, EcdsaSigValue, digest_info_is_lawful, ecdsa_sig_value_is_lawful};

@@ -77,23 +77,23 @@ fn parameters_in_certificates(rt: HostRuntime) -> Result<(), Fail> {
     let (rsa, curve) = (hex::decode(alloc, RSA)?, hex::decode(alloc, CURVE)?);
     let rsa = parse_single::<Certificate<'_>>(alloc, rsa.as_slice())?;
     let curve = parse_single::<Certificate<'_>>(alloc, curve.as_slice())?;
-    let rsa_key = rsa.tbs_certificate().subject_public_key_info();
-    let curve_key = curve.tbs_certificate().subject_public_key_info();
+    let rsa_key = &rsa.tbs_certificate.subject_public_key_info;
+    let curve_key = &curve.tbs_certificate.subject_public_key_info;
     all_same(&[
         (
-            rsa.signature_algorithm().read_parameters(alloc)?,
+            rsa.signature_algorithm.read_parameters(alloc)?,
             AlgorithmParameters::Null,
         ),
         (
-            rsa_key.algorithm().read_parameters(alloc)?,
+            rsa_key.algorithm.read_parameters(alloc)?,
             AlgorithmParameters::Null,
         ),
         (
-            curve.signature_algorithm().read_parameters(alloc)?,
+            curve.signature_algorithm.read_parameters(alloc)?,
             AlgorithmParameters::Absent,
         ),
         (
-            curve_key.algorithm().read_parameters(alloc)?,
+            curve_key.algorithm.read_parameters(alloc)?,
             AlgorithmParameters::NamedCurve(p256()?),
         ),
     ])
@@ -110,7 +110,7 @@ fn parameters_in_keys(rt: HostRuntime) -> Result<(), Fail> {
     for (object, wanted) in wanted {
         let octets = hex::decode(alloc, object)?;
         let key = parse_single::<OneAsymmetricKey<'_>>(alloc, octets.as_slice())?;
-        let found = key.private_key_algorithm().read_parameters(alloc)?;
+        let found = key.private_key_algorithm.read_parameters(alloc)?;
         all_same(&[(found, wanted)])?;
     }
     Ok(())
@@ -122,7 +122,7 @@ fn parameters_of_digests(rt: HostRuntime) -> Result<(), Fail> {
     let alloc = rt.alloc();
     let octets = hex::decode(alloc, DIGEST)?;
     let digest = parse_single::<DigestInfo<'_>>(alloc, octets.as_slice())?;
-    let found = digest.digest_algorithm().read_parameters(alloc)?;
+    let found = digest.digest_algorithm.read_parameters(alloc)?;
     all_same(&[(found, AlgorithmParameters::Null)])
 }
 
@@ -133,7 +133,11 @@ fn read<'a>(
     octets: &'a [u8],
 ) -> ParseResult<AlgorithmParameters<'a>> {
     let parameters = parse_single::<Option<Tlv<'a>>>(alloc, octets)?;
-    AlgorithmIdentifier::new(algorithm, parameters).read_parameters(alloc)
+    let algorithm = AlgorithmIdentifier {
+        algorithm,
+        parameters,
+    };
+    algorithm.read_parameters(alloc)
 }
 
 /// For each of these algorithms the parameters of each row are rejected by its kind, or aren't.

@@ -67,7 +67,7 @@ fn are_read(
         return Err(Fail::new(format_args!("no extensions")));
     };
     let mut wanted = wanted.iter().copied();
-    for extension in extensions.items().clone()? {
+    for extension in extensions.clone()? {
         let value = extension?.value(alloc)?;
         same(extension_of(&value), wanted.next())?;
     }
@@ -115,7 +115,11 @@ fn extensions_of_certificates(rt: HostRuntime) -> Result<(), Fail> {
     for (object, wanted) in OF_CERTIFICATES {
         let octets = hex::decode(alloc, object)?;
         let certificate = parse_single::<Certificate<'_>>(alloc, octets.as_slice())?;
-        are_read(alloc, certificate.tbs_certificate().extensions(), wanted)?;
+        are_read(
+            alloc,
+            certificate.tbs_certificate.extensions.as_ref(),
+            wanted,
+        )?;
     }
     Ok(())
 }
@@ -127,20 +131,20 @@ fn extensions_of_revocation_lists(rt: HostRuntime) -> Result<(), Fail> {
     let list = parse_single::<CertificateList<'_>>(alloc, octets.as_slice())?;
     are_read(
         alloc,
-        list.tbs_cert_list().crl_extensions(),
+        list.tbs_cert_list.crl_extensions.as_ref(),
         &[
             KnownExtension::AuthorityKeyIdentifier,
             KnownExtension::CrlNumber,
         ],
     )?;
-    let Some(entries) = list.tbs_cert_list().revoked_certificates() else {
+    let Some(entries) = &list.tbs_cert_list.revoked_certificates else {
         return Err(Fail::new(format_args!("no entries")));
     };
-    for entry in entries.items().clone()? {
+    for entry in entries.clone()? {
         let entry = entry?;
-        if entry.crl_entry_extensions().is_some() {
+        if entry.crl_entry_extensions.is_some() {
             let reason = [KnownExtension::CrlReason];
-            are_read(alloc, entry.crl_entry_extensions(), &reason)?;
+            are_read(alloc, entry.crl_entry_extensions.as_ref(), &reason)?;
         }
     }
     Ok(())
@@ -151,15 +155,23 @@ fn extensions_of_revocation_lists(rt: HostRuntime) -> Result<(), Fail> {
 fn other_extensions(rt: HostRuntime) -> Result<(), Fail> {
     let alloc = rt.alloc();
     let names: &[u8] = b"\x30\x03\x82\x01a";
-    let value = Extension::new(KnownExtension::IssuerAltName.identifier(), false, names).value(
-        alloc,
-    )?;
+    let of_issuer = Extension {
+        extn_id: KnownExtension::IssuerAltName.identifier(),
+        critical: false,
+        extn_value: names,
+    };
+    let value = of_issuer.value(alloc)?;
     same(extension_of(&value), Some(KnownExtension::IssuerAltName))?;
     let Some(identifier) = ObjectIdentifier::from_string("2.5.29.99") else {
         return Err(Fail::new(format_args!("no identifier")));
     };
     let octets: &[u8] = b"\x30\x01";
-    match Extension::new(identifier, true, octets).value(alloc)? {
+    let unknown = Extension {
+        extn_id: identifier,
+        critical: true,
+        extn_value: octets,
+    };
+    match unknown.value(alloc)? {
         ExtensionValue::Other(value) => same(value, octets),
         _ => Err(Fail::new(format_args!("a known extension"))),
     }
@@ -168,21 +180,21 @@ fn other_extensions(rt: HostRuntime) -> Result<(), Fail> {
 #[test]
 fn values_that_are_rejected(rt: HostRuntime) -> Result<(), Fail> {
     let alloc = rt.alloc();
-    let ca = Extension::new(
-        KnownExtension::BasicConstraints.identifier(),
-        true,
-        b"\x30\x03\x01\x01\x00",
-    );
-    let number = Extension::new(
-        KnownExtension::CrlNumber.identifier(),
-        false,
-        b"\x02\x01\x1f\x00",
-    );
-    let key = Extension::new(
-        KnownExtension::SubjectKeyIdentifier.identifier(),
-        false,
-        b"",
-    );
+    let ca = Extension {
+        extn_id: KnownExtension::BasicConstraints.identifier(),
+        critical: true,
+        extn_value: b"\x30\x03\x01\x01\x00",
+    };
+    let number = Extension {
+        extn_id: KnownExtension::CrlNumber.identifier(),
+        critical: false,
+        extn_value: b"\x02\x01\x1f\x00",
+    };
+    let key = Extension {
+        extn_id: KnownExtension::SubjectKeyIdentifier.identifier(),
+        critical: false,
+        extn_value: b"",
+    };
     let at_ca = ParseError::new(ParseErrorKind::EncodedDefault).add_location(ParseLocation::Field(
         "BasicConstraints::ca",
     ));

@@ -50,7 +50,7 @@ fn fields_of_named_bits(rt: HostRuntime) -> Result<(), Fail> {
 fn bits_by_number(rt: HostRuntime) -> Result<(), Fail> {
     let usage = parse_single::<KeyUsage<'_>>(rt.alloc(), b"\x03\x02\x05\xa0")?;
     for (number, is_set) in [(0, true), (1, false), (2, true), (3, false), (8, false)] {
-        same(usage.value().has_bit_set(number), is_set)?;
+        same(usage.has_bit_set(number), is_set)?;
     }
     Ok(())
 }

@@ -1,4 +1,4 @@
-//! The example of the README that reads a certificate.
+//! The example of docs/PKIX.md that reads a certificate.
 
 use crate::objects::{CURVE, FULL, RSA};
 use asn1::parse_single;
@@ -12,10 +12,10 @@ use testing::same;
 fn may_sign(alloc: Global, octets: &[u8]) -> Result<bool, Fail> {
     let mut may_sign = false;
     let certificate = parse_single::<Certificate<'_>>(alloc, octets)?;
-    if let Some(extensions) = certificate.tbs_certificate().extensions() {
-        for extension in extensions.items().clone()? {
+    if let Some(extensions) = &certificate.tbs_certificate.extensions {
+        for extension in extensions.clone()? {
             if let ExtensionValue::BasicConstraints(constraints) = extension?.value(alloc)? {
-                may_sign = constraints.ca();
+                may_sign = constraints.ca;
             }
         }
     }

@@ -3,9 +3,9 @@
 use crate::answers::Fault;
 use crate::identifiers::name_of;
 use crate::show::{Show, empty, item, line, part, read_again};
-use asn1::{ObjectIdentifier, Tlv, parse_single};
+use asn1::{ObjectIdentifier, SetOf, Tlv, parse_single};
 use pkix::common::{
-    AlgorithmIdentifier, Attribute, AttributeTypeAndValue, Attributes, Extensions, Name,
+    AlgorithmIdentifier, Attribute, AttributeTypeAndValue, Attributes, Extensions,
     SubjectPublicKeyInfo,
 };
 use std::alloc::{AllocError, Global};
@@ -25,8 +25,8 @@ pub(crate) fn short_name(
 /// The algorithm, and its parameters: an identifier, as that of a curve, or the octets of another element.
 impl Show for AlgorithmIdentifier<'_> {
     fn show(&self, alloc: Global, place: &str, out: &mut String) -> Result<(), Fault> {
-        self.algorithm().show(alloc, place, out)?;
-        let Some(parameters) = self.parameters() else {
+        self.algorithm.show(alloc, place, out)?;
+        let Some(parameters) = self.parameters else {
             return Ok(());
         };
         match parse_single::<ObjectIdentifier>(alloc, parameters.full_data()) {
@@ -38,12 +38,12 @@ impl Show for AlgorithmIdentifier<'_> {
 
 impl Show for SubjectPublicKeyInfo<'_> {
     fn show(&self, alloc: Global, place: &str, out: &mut String) -> Result<(), Fault> {
-        part(alloc, place, "algorithm", self.algorithm(), out)?;
+        part(alloc, place, "algorithm", &self.algorithm, out)?;
         part(
             alloc,
             place,
             "subjectPublicKey",
-            self.subject_public_key(),
+            &self.subject_public_key,
             out,
         )
     }
@@ -52,23 +52,17 @@ impl Show for SubjectPublicKeyInfo<'_> {
 /// The value, with the attribute's type as its place.
 impl Show for AttributeTypeAndValue<'_> {
     fn show(&self, alloc: Global, place: &str, out: &mut String) -> Result<(), Fault> {
-        let name = short_name(alloc, self.type_id())?;
-        part(alloc, place, name.as_str(), &self.value(), out)
+        let name = short_name(alloc, &self.type_id)?;
+        part(alloc, place, name.as_str(), &self.value, out)
     }
 }
 
-/// The attributes of each set.
-impl Show for Name<'_> {
+/// The attributes of a set, which is a part of a name: each in the set's own place.
+impl Show for SetOf<'_, AttributeTypeAndValue<'_>> {
     fn show(&self, alloc: Global, place: &str, out: &mut String) -> Result<(), Fault> {
         let mut count = 0usize;
-        for set in self.items().clone()? {
-            let place = item(alloc, place, count)?;
-            let mut attributes = 0usize;
-            for attribute in read_again(set)? {
-                read_again(attribute)?.show(alloc, place.as_str(), out)?;
-                attributes = attributes.saturating_add(1);
-            }
-            empty(place.as_str(), attributes, out)?;
+        for attribute in self.clone()? {
+            read_again(attribute)?.show(alloc, place, out)?;
             count = count.saturating_add(1);
         }
         empty(place, count, out)
@@ -96,9 +90,9 @@ fn value(
 /// Each value, with the attribute's type as its place.
 impl Show for Attribute<'_> {
     fn show(&self, alloc: Global, place: &str, out: &mut String) -> Result<(), Fault> {
-        let name = short_name(alloc, self.type_id())?;
+        let name = short_name(alloc, &self.type_id)?;
         let mut count = 0usize;
-        for element in self.values().clone()? {
+        for element in self.values.clone()? {
             value(alloc, place, name.as_str(), &read_again(element)?, out)?;
             count = count.saturating_add(1);
         }
@@ -112,7 +106,7 @@ impl Show for Attribute<'_> {
 impl Show for Attributes<'_> {
     fn show(&self, alloc: Global, place: &str, out: &mut String) -> Result<(), Fault> {
         let mut count = 0usize;
-        for attribute in self.items().clone()? {
+        for attribute in self.clone()? {
             let place = item(alloc, place, count)?;
             read_again(attribute)?.show(alloc, place.as_str(), out)?;
             count = count.saturating_add(1);

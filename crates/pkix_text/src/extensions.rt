@@ -2,28 +2,23 @@
 
 use crate::answers::Fault;
 use crate::common::short_name;
-use crate::show::{Show, item, line, optional, part, read_again, whole_octets, within};
-use pkix::certificate::access::AuthorityInfoAccess;
-use pkix::certificate::distribution::{
-    CrlDistributionPoints, DistributionPoint, DistributionPointName,
-};
-use pkix::certificate::extensions::{
-    AuthorityKeyIdentifier, BasicConstraints, ExtendedKeyUsage, KeyUsage, SubjectAltName,
-    SubjectKeyIdentifier,
-};
-use pkix::common::{Extension, Extensions, NamedBits};
+use crate::show::{Show, line, optional, part, read_again, whole_octets, within};
+use pkix::certificate::access::AccessDescription;
+use pkix::certificate::distribution::{DistributionPoint, DistributionPointName};
+use pkix::certificate::extensions::{AuthorityKeyIdentifier, BasicConstraints};
+use pkix::common::{Extension, NamedBits};
 use pkix::extension_values::ExtensionValue;
-use pkix::revocation::extensions::{CrlNumber, CrlReason};
+use pkix::revocation::extensions::CrlReason;
 use std::alloc::Global;
 
 impl Show for BasicConstraints<'_> {
     fn show(&self, alloc: Global, place: &str, out: &mut String) -> Result<(), Fault> {
-        part(alloc, place, "cA", &self.ca(), out)?;
+        part(alloc, place, "cA", &self.ca, out)?;
         optional(
             alloc,
             place,
             "pathLenConstraint",
-            self.path_len_constraint().as_ref(),
+            self.path_len_constraint.as_ref(),
             out,
         )
     }
@@ -35,29 +30,23 @@ impl Show for AuthorityKeyIdentifier<'_> {
             alloc,
             place,
             "keyIdentifier",
-            self.key_identifier().as_ref(),
+            self.key_identifier.as_ref(),
             out,
         )?;
         optional(
             alloc,
             place,
             "authorityCertIssuer",
-            self.authority_cert_issuer(),
+            self.authority_cert_issuer.as_ref(),
             out,
         )?;
         optional(
             alloc,
             place,
             "authorityCertSerialNumber",
-            self.authority_cert_serial_number().as_ref(),
+            self.authority_cert_serial_number.as_ref(),
             out,
         )
-    }
-}
-
-impl Show for SubjectKeyIdentifier<'_> {
-    fn show(&self, alloc: Global, place: &str, out: &mut String) -> Result<(), Fault> {
-        self.value().show(alloc, place, out)
     }
 }
 
@@ -91,84 +80,32 @@ fn bits(
     Ok(())
 }
 
-/// The bits, and the name of each usage that they allow.
-impl Show for KeyUsage<'_> {
+impl Show for AccessDescription<'_> {
     fn show(&self, alloc: Global, place: &str, out: &mut String) -> Result<(), Fault> {
-        bits(alloc, place, self.value(), &USAGES, out)
+        part(alloc, place, "accessMethod", &self.access_method, out)?;
+        part(alloc, place, "accessLocation", &self.access_location, out)
     }
 }
 
-impl Show for SubjectAltName<'_> {
-    fn show(&self, alloc: Global, place: &str, out: &mut String) -> Result<(), Fault> {
-        self.value().show(alloc, place, out)
-    }
-}
-
-impl Show for ExtendedKeyUsage<'_> {
-    fn show(&self, alloc: Global, place: &str, out: &mut String) -> Result<(), Fault> {
-        let mut count = 0usize;
-        for purpose in self.items().clone()? {
-            let place = item(alloc, place, count)?;
-            read_again(purpose)?.show(alloc, place.as_str(), out)?;
-            count = count.saturating_add(1);
-        }
-        Ok(())
-    }
-}
-
-impl Show for AuthorityInfoAccess<'_> {
-    fn show(&self, alloc: Global, place: &str, out: &mut String) -> Result<(), Fault> {
-        let mut count = 0usize;
-        for description in self.items().clone()? {
-            let place = item(alloc, place, count)?;
-            let description = read_again(description)?;
-            part(
-                alloc,
-                place.as_str(),
-                "accessMethod",
-                description.access_method(),
-                out,
-            )?;
-            part(
-                alloc,
-                place.as_str(),
-                "accessLocation",
-                description.access_location(),
-                out,
-            )?;
-            count = count.saturating_add(1);
-        }
-        Ok(())
-    }
-}
-
-impl Show for CrlNumber<'_> {
-    fn show(&self, alloc: Global, place: &str, out: &mut String) -> Result<(), Fault> {
-        self.value().show(alloc, place, out)
-    }
-}
-
-/// The reason, and its name (RFC 5280, 5.3.1).
-impl Show for CrlReason {
-    fn show(&self, alloc: Global, place: &str, out: &mut String) -> Result<(), Fault> {
-        let number = self.value().value();
-        let name = match number {
-            0 => "unspecified",
-            1 => "keyCompromise",
-            2 => "cACompromise",
-            3 => "affiliationChanged",
-            4 => "superseded",
-            5 => "cessationOfOperation",
-            6 => "certificateHold",
-            8 => "removeFromCRL",
-            9 => "privilegeWithdrawn",
-            10 => "aACompromise",
-            _ => "unknown",
-        };
-        let digits = whole_octets(alloc, number)?;
-        writeln!(out, "{place}: {digits} ({name})")?;
-        Ok(())
-    }
+/// Appends the line of a reason, with its name (RFC 5280, 5.3.1).
+fn reason(alloc: Global, place: &str, value: &CrlReason, out: &mut String) -> Result<(), Fault> {
+    let number = value.value();
+    let name = match number {
+        0 => "unspecified",
+        1 => "keyCompromise",
+        2 => "cACompromise",
+        3 => "affiliationChanged",
+        4 => "superseded",
+        5 => "cessationOfOperation",
+        6 => "certificateHold",
+        8 => "removeFromCRL",
+        9 => "privilegeWithdrawn",
+        10 => "aACompromise",
+        _ => "unknown",
+    };
+    let digits = whole_octets(alloc, number)?;
+    writeln!(out, "{place}: {digits} ({name})")?;
+    Ok(())
 }
 
 /// The reasons' names, in the order of their bits (RFC 5280, 4.2.1.13).
@@ -187,12 +124,10 @@ const REASONS: [&str; 9] = [
 impl Show for DistributionPointName<'_> {
     fn show(&self, alloc: Global, place: &str, out: &mut String) -> Result<(), Fault> {
         match self {
-            DistributionPointName::FullName(names) => {
-                part(alloc, place, "fullName", names.as_inner(), out)
-            }
+            DistributionPointName::FullName(names) => { part(alloc, place, "fullName", names, out) }
             DistributionPointName::NameRelativeToCrlIssuer(set) => {
                 let place = within(alloc, place, "nameRelativeToCRLIssuer")?;
-                for attribute in set.as_inner().clone()? {
+                for attribute in set.clone()? {
                     read_again(attribute)?.show(alloc, place.as_str(), out)?;
                 }
                 Ok(())
@@ -207,30 +142,18 @@ impl Show for DistributionPoint<'_> {
             alloc,
             place,
             "distributionPoint",
-            self.distribution_point(),
+            self.distribution_point.as_ref(),
             out,
         )?;
-        if let Some(reasons) = self.reasons() {
+        if let Some(reasons) = &self.reasons {
             let place = within(alloc, place, "reasons")?;
             bits(alloc, place.as_str(), reasons, &REASONS, out)?;
         }
-        optional(alloc, place, "cRLIssuer", self.crl_issuer(), out)
+        optional(alloc, place, "cRLIssuer", self.crl_issuer.as_ref(), out)
     }
 }
 
-impl Show for CrlDistributionPoints<'_> {
-    fn show(&self, alloc: Global, place: &str, out: &mut String) -> Result<(), Fault> {
-        let mut count = 0usize;
-        for point in self.items().clone()? {
-            let place = item(alloc, place, count)?;
-            read_again(point)?.show(alloc, place.as_str(), out)?;
-            count = count.saturating_add(1);
-        }
-        Ok(())
-    }
-}
-
-/// The lines of the value, whichever type it has.
+/// The lines of the value, whichever type it has: of key usage the bits, and the name of each that is set.
 impl Show for ExtensionValue<'_> {
     fn show(&self, alloc: Global, place: &str, out: &mut String) -> Result<(), Fault> {
         match self {
@@ -239,10 +162,10 @@ impl Show for ExtensionValue<'_> {
             ExtensionValue::BasicConstraints(value) => value.show(alloc, place, out),
             ExtensionValue::CrlDistributionPoints(value) => value.show(alloc, place, out),
             ExtensionValue::CrlNumber(value) => value.show(alloc, place, out),
-            ExtensionValue::CrlReason(value) => value.show(alloc, place, out),
+            ExtensionValue::CrlReason(value) => reason(alloc, place, value, out),
             ExtensionValue::ExtendedKeyUsage(value) => value.show(alloc, place, out),
             ExtensionValue::IssuerAltName(value) => value.show(alloc, place, out),
-            ExtensionValue::KeyUsage(value) => value.show(alloc, place, out),
+            ExtensionValue::KeyUsage(value) => bits(alloc, place, value, &USAGES, out),
             ExtensionValue::SubjectAltName(value) => value.show(alloc, place, out),
             ExtensionValue::SubjectKeyIdentifier(value) => value.show(alloc, place, out),
             ExtensionValue::Other(value) => value.show(alloc, place, out),
@@ -254,31 +177,19 @@ impl Show for ExtensionValue<'_> {
 /// as octets, with the reason where they aren't the encoding of such a value.
 impl Show for Extension<'_> {
     fn show(&self, alloc: Global, place: &str, out: &mut String) -> Result<(), Fault> {
-        part(alloc, place, "extnID", self.extn_id(), out)?;
-        part(alloc, place, "critical", &self.critical(), out)?;
+        part(alloc, place, "extnID", &self.extn_id, out)?;
+        part(alloc, place, "critical", &self.critical, out)?;
         match self.value(alloc) {
             Ok(ExtensionValue::Other(octets)) => part(alloc, place, "extnValue", &octets, out),
             Ok(value) => {
-                let name = short_name(alloc, self.extn_id())?;
+                let name = short_name(alloc, &self.extn_id)?;
                 part(alloc, place, name.as_str(), &value, out)
             }
             Err(error) => {
-                part(alloc, place, "extnValue", &self.extn_value(), out)?;
+                part(alloc, place, "extnValue", &self.extn_value, out)?;
                 let reason = format!(in alloc; "{error} ({error:?})")?;
                 line(alloc, place, "rejected", reason.as_str(), out)
             }
         }
-    }
-}
-
-impl Show for Extensions<'_> {
-    fn show(&self, alloc: Global, place: &str, out: &mut String) -> Result<(), Fault> {
-        let mut count = 0usize;
-        for extension in self.items().clone()? {
-            let place = item(alloc, place, count)?;
-            read_again(extension)?.show(alloc, place.as_str(), out)?;
-            count = count.saturating_add(1);
-        }
-        Ok(())
     }
 }

@@ -1,9 +1,9 @@
 //! General names (RFC 5280, 4.2.1.6).
 
 use crate::answers::Fault;
-use crate::show::{Show, item, optional, part, read_again, string_line, within};
+use crate::show::{Show, optional, part, string_line, within};
 use asn1::{Sequence, write_readable};
-use pkix::common::{EdiPartyName, GeneralName, GeneralNames, OtherName};
+use pkix::common::{EdiPartyName, GeneralName, OtherName};
 use std::alloc::Global;
 
 /// Appends the line of a character string at this part of the place.
@@ -32,8 +32,8 @@ impl Show for Sequence<'_> {
 
 impl Show for OtherName<'_> {
     fn show(&self, alloc: Global, place: &str, out: &mut String) -> Result<(), Fault> {
-        part(alloc, place, "type-id", self.type_id(), out)?;
-        part(alloc, place, "value", &self.value(), out)
+        part(alloc, place, "type-id", &self.type_id, out)?;
+        part(alloc, place, "value", &self.value, out)
     }
 }
 
@@ -43,10 +43,10 @@ impl Show for EdiPartyName<'_> {
             alloc,
             place,
             "nameAssigner",
-            self.name_assigner().as_ref(),
+            self.name_assigner.as_ref(),
             out,
         )?;
-        part(alloc, place, "partyName", &self.party_name(), out)
+        part(alloc, place, "partyName", &self.party_name, out)
     }
 }
 
@@ -54,45 +54,23 @@ impl Show for EdiPartyName<'_> {
 impl Show for GeneralName<'_> {
     fn show(&self, alloc: Global, place: &str, out: &mut String) -> Result<(), Fault> {
         match self {
-            GeneralName::OtherName(name) => part(alloc, place, "otherName", name.as_inner(), out),
+            GeneralName::OtherName(name) => part(alloc, place, "otherName", name, out),
             GeneralName::Rfc822Name(name) => {
-                string(alloc, place, "rfc822Name", name.as_inner().as_str(), out)
+                string(alloc, place, "rfc822Name", name.as_str(), out)
             }
-            GeneralName::DnsName(name) => {
-                string(alloc, place, "dNSName", name.as_inner().as_str(), out)
-            }
-            GeneralName::X400Address(name) => {
-                part(alloc, place, "x400Address", name.as_inner(), out)
-            }
-            GeneralName::DirectoryName(name) => {
-                part(alloc, place, "directoryName", name.as_inner(), out)
-            }
-            GeneralName::EdiPartyName(name) => {
-                part(alloc, place, "ediPartyName", name.as_inner(), out)
-            }
+            GeneralName::DnsName(name) => { string(alloc, place, "dNSName", name.as_str(), out) }
+            GeneralName::X400Address(name) => { part(alloc, place, "x400Address", name, out) }
+            GeneralName::DirectoryName(name) => { part(alloc, place, "directoryName", name, out) }
+            GeneralName::EdiPartyName(name) => { part(alloc, place, "ediPartyName", name, out) }
             GeneralName::UniformResourceIdentifier(name) => string(
                 alloc,
                 place,
                 "uniformResourceIdentifier",
-                name.as_inner().as_str(),
+                name.as_str(),
                 out,
             ),
-            GeneralName::IpAddress(name) => part(alloc, place, "iPAddress", name.as_inner(), out),
-            GeneralName::RegisteredId(name) => {
-                part(alloc, place, "registeredID", name.as_inner(), out)
-            }
+            GeneralName::IpAddress(name) => part(alloc, place, "iPAddress", name, out),
+            GeneralName::RegisteredId(name) => { part(alloc, place, "registeredID", name, out) }
         }
-    }
-}
-
-impl Show for GeneralNames<'_> {
-    fn show(&self, alloc: Global, place: &str, out: &mut String) -> Result<(), Fault> {
-        let mut count = 0usize;
-        for name in self.items().clone()? {
-            let place = item(alloc, place, count)?;
-            read_again(name)?.show(alloc, place.as_str(), out)?;
-            count = count.saturating_add(1);
-        }
-        Ok(())
     }
 }

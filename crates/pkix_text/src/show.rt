@@ -3,8 +3,9 @@
 use crate::answers::Fault;
 use crate::identifiers::name_of;
 use asn1::{
-    BigInt, BigUint, BitString, DateTime, GeneralizedTime, IA5String, ObjectIdentifier,
-    ParseResult, PrintableString, Tlv, Utf8String, VisibleString, parse_single,
+    Asn1Readable, BigInt, BigUint, BitString, DateTime, GeneralizedTime, IA5String,
+    ObjectIdentifier, ParseResult, PrintableString, SequenceOf, Tlv, Utf8String, VisibleString,
+    parse_single,
 };
 use pkix::common::{NamedBits, Time};
 use std::alloc::{AllocError, Global};
@@ -81,6 +82,20 @@ pub(crate) fn empty(place: &str, count: usize, out: &mut String) -> Result<(), F
         writeln!(out, "{place}: (empty)")?;
     }
     Ok(())
+}
+
+/// Each item, with its number in its place.
+impl<'a, T: Asn1Readable<'a> + Show, const MINIMUM_LEN: usize, const MAXIMUM_LEN: usize> Show
+    for SequenceOf<'a, T, MINIMUM_LEN, MAXIMUM_LEN> {
+    fn show(&self, alloc: Global, place: &str, out: &mut String) -> Result<(), Fault> {
+        let mut count = 0usize;
+        for value in self.clone()? {
+            let place = item(alloc, place, count)?;
+            read_again(value)?.show(alloc, place.as_str(), out)?;
+            count = count.saturating_add(1);
+        }
+        empty(place, count, out)
+    }
 }
 
 /// A number in hex, by whole octets.
@@ -218,6 +233,12 @@ pub(crate) fn string_line(place: &str, text: &str, out: &mut String) -> Result<(
     push_escaped(out, text)?;
     out.push('\n')?;
     Ok(())
+}
+
+impl Show for Utf8String<'_> {
+    fn show(&self, _alloc: Global, place: &str, out: &mut String) -> Result<(), Fault> {
+        string_line(place, self.as_str(), out)
+    }
 }
 
 /// The characters of an element that is a character string of ASCII or in UTF-8.

@@ -13,28 +13,22 @@ use std::alloc::Global;
 
 impl Show for EcdsaSigValue<'_> {
     fn show(&self, alloc: Global, place: &str, out: &mut String) -> Result<(), Fault> {
-        part(alloc, place, "r", &self.r(), out)?;
-        part(alloc, place, "s", &self.s(), out)
+        part(alloc, place, "r", &self.r, out)?;
+        part(alloc, place, "s", &self.s, out)
     }
 }
 
 impl Show for DigestInfo<'_> {
     fn show(&self, alloc: Global, place: &str, out: &mut String) -> Result<(), Fault> {
-        part(
-            alloc,
-            place,
-            "digestAlgorithm",
-            self.digest_algorithm(),
-            out,
-        )?;
-        part(alloc, place, "digest", &self.digest(), out)
+        part(alloc, place, "digestAlgorithm", &self.digest_algorithm, out)?;
+        part(alloc, place, "digest", &self.digest, out)
     }
 }
 
 impl Show for IssuerAndSerialNumber<'_> {
     fn show(&self, alloc: Global, place: &str, out: &mut String) -> Result<(), Fault> {
-        part(alloc, place, "issuer", self.issuer(), out)?;
-        part(alloc, place, "serialNumber", &self.serial_number(), out)
+        part(alloc, place, "issuer", &self.issuer, out)?;
+        part(alloc, place, "serialNumber", &self.serial_number, out)
     }
 }
 
@@ -46,7 +40,7 @@ impl Show for SignerIdentifier<'_> {
                 part(alloc, place, "issuerAndSerialNumber", signer, out)
             }
             SignerIdentifier::SubjectKeyIdentifier(signer) => {
-                part(alloc, place, "subjectKeyIdentifier", signer.as_inner(), out)
+                part(alloc, place, "subjectKeyIdentifier", signer, out)
             }
         }
     }
@@ -54,36 +48,36 @@ impl Show for SignerIdentifier<'_> {
 
 impl Show for SignerInfo<'_> {
     fn show(&self, alloc: Global, place: &str, out: &mut String) -> Result<(), Fault> {
-        part(alloc, place, "version", &self.version(), out)?;
-        part(alloc, place, "sid", self.sid(), out)?;
-        part(
-            alloc,
-            place,
-            "digestAlgorithm",
-            self.digest_algorithm(),
-            out,
-        )?;
-        optional(alloc, place, "signedAttrs", self.signed_attrs(), out)?;
+        part(alloc, place, "version", &self.version, out)?;
+        part(alloc, place, "sid", &self.sid, out)?;
+        part(alloc, place, "digestAlgorithm", &self.digest_algorithm, out)?;
+        optional(alloc, place, "signedAttrs", self.signed_attrs.as_ref(), out)?;
         part(
             alloc,
             place,
             "signatureAlgorithm",
-            self.signature_algorithm(),
+            &self.signature_algorithm,
             out,
         )?;
-        part(alloc, place, "signature", &self.signature(), out)?;
-        optional(alloc, place, "unsignedAttrs", self.unsigned_attrs(), out)
+        part(alloc, place, "signature", &self.signature, out)?;
+        optional(
+            alloc,
+            place,
+            "unsignedAttrs",
+            self.unsigned_attrs.as_ref(),
+            out,
+        )
     }
 }
 
 /// The content is shown as a TSTInfo where it is one, and else as octets.
 impl Show for EncapsulatedContentInfo<'_> {
     fn show(&self, alloc: Global, place: &str, out: &mut String) -> Result<(), Fault> {
-        part(alloc, place, "eContentType", self.e_content_type(), out)?;
-        let Some(octets) = self.e_content() else {
+        part(alloc, place, "eContentType", &self.e_content_type, out)?;
+        let Some(octets) = self.e_content else {
             return Ok(());
         };
-        let name = short_name(alloc, self.e_content_type())?;
+        let name = short_name(alloc, &self.e_content_type)?;
         if name.as_str() != "tSTInfo" {
             return part(alloc, place, "eContent", &octets, out);
         }
@@ -112,37 +106,37 @@ fn set<'a, T: Asn1Readable<'a> + Asn1Writable + Show>(
 
 impl Show for SignedData<'_> {
     fn show(&self, alloc: Global, place: &str, out: &mut String) -> Result<(), Fault> {
-        part(alloc, place, "version", &self.version(), out)?;
+        part(alloc, place, "version", &self.version, out)?;
         set(
             alloc,
             place,
             "digestAlgorithms",
-            self.digest_algorithms(),
+            &self.digest_algorithms,
             out,
         )?;
         part(
             alloc,
             place,
             "encapContentInfo",
-            self.encap_content_info(),
+            &self.encap_content_info,
             out,
         )?;
-        if let Some(certificates) = self.certificates() {
+        if let Some(certificates) = &self.certificates {
             set(alloc, place, "certificates", certificates, out)?;
         }
-        if let Some(lists) = self.crls() {
+        if let Some(lists) = &self.crls {
             set(alloc, place, "crls", lists, out)?;
         }
-        set(alloc, place, "signerInfos", self.signer_infos(), out)
+        set(alloc, place, "signerInfos", &self.signer_infos, out)
     }
 }
 
 /// The content is shown as SignedData where it is that, and else as octets.
 impl Show for ContentInfo<'_> {
     fn show(&self, alloc: Global, place: &str, out: &mut String) -> Result<(), Fault> {
-        part(alloc, place, "contentType", self.content_type(), out)?;
-        let octets = self.content().full_data();
-        let name = short_name(alloc, self.content_type())?;
+        part(alloc, place, "contentType", &self.content_type, out)?;
+        let octets = self.content.full_data();
+        let name = short_name(alloc, &self.content_type)?;
         if name.as_str() != "signedData" {
             return part(alloc, place, "content", &octets, out);
         }

@@ -1,57 +1,74 @@
 //! Where revocation lists are found: the CRL distribution points of a certificate (RFC 5280, 4.2.1.13).
+// Printed by scripts/derive from declarations/certificate/distribution.rs, with the sum dffe0ae6.
 
-ghost use Rattle.std.specs.Prelude.{◌≡◌, map};
-ghost use Rattle.asn1.specs.Der.{seen};
-ghost use Rattle.asn1.specs.InHand.{explicit_inner, implicit_inner};
+ghost use Rattle.std.specs.Prelude.{◌≡◌, ◌∷◌, [], codes, OnErr};
+ghost use Rattle.std.proofs.Common.{inl, inr};
+ghost use Rattle.asn1.specs.Choices.{choice_der, only, or};
 ghost use Rattle.asn1.specs.Options.{option_meaning};
-ghost use Rattle.asn1.specs.Reads.{HasOneEncoding, ReadsContents};
-ghost use Rattle.asn1.specs.declared.wrappers.choices.Choice2.TheVariants.{ChoiceA, ChoiceB};
-ghost use Rattle.pkix.specs.declared.certificate.distribution.DistributionPointName.TheVariants.{FullName, NameRelativeToCrlIssuer};
-ghost use Rattle.pkix.specs.declared.certificate.distribution.TheConstants.{DISTRIBUTION_POINT};
+ghost use Rattle.asn1.specs.Reading.{EndsWith};
+ghost use Rattle.asn1.specs.Reads.{HasOneEncoding, ReadsContents, ReadsPrefix};
+ghost use Rattle.asn1.specs.Structures.{explicit, implicit, structure, fields3};
 
-use crate::common::{AttributeTypeAndValue, GeneralNames, NamedBits, general_names_are_lawful};
-use asn1::fields::{Field, FieldNames, Fields3, Last, Names, Structure};
+use crate::common::{
+    AttributeTypeAndValue, GeneralNames, NamedBits, attribute_type_and_value_is_lawful,
+    general_names_is_lawful, named_bits_is_lawful,
+};
+use asn1::fields::{Fields3, Row};
 use asn1::{
     Asn1Readable, Asn1Type, Asn1Writable, Choice2, Explicit, Implicit, ParseResult, Parser,
     SequenceOf, SetOf, SimpleAsn1Readable, SimpleAsn1Writable, Tag, WriteBuf, WriteError,
-    WriteResult, Writer,
+    WriteResult, Writer, fields_length, known_fields, read_fields, write_fields,
 };
 use std::alloc::Global;
 
-/// The alternatives.
 type DistributionPointNameChoice<'a> = Choice2<
     Implicit<GeneralNames<'a>, 0>,
     Implicit<SetOf<'a, AttributeTypeAndValue<'a>>, 1>,
 >;
 
 /// DistributionPointName (RFC 5280, 4.2.1.13), a CHOICE.
-#[derive(Clone, PartialEq, Eq, Drop)]
+#[derive(Debug, Clone, PartialEq, Eq, Drop)]
 pub enum DistributionPointName<'a> {
     /// The names of the list, each by itself.
-    FullName(Implicit<GeneralNames<'a>, 0>),
-    /// The attributes that follow the name of the list's issuer.
-    NameRelativeToCrlIssuer(Implicit<SetOf<'a, AttributeTypeAndValue<'a>>, 1>),
+    FullName(GeneralNames<'a>),
+    /// The attributes that follow the name of the list's issuer. Of this set the RFC says `SIZE (1..MAX)`, which isn't
+    /// looked at.
+    NameRelativeToCrlIssuer(SetOf<'a, AttributeTypeAndValue<'a>>),
 }
 
 impl<'a> Asn1Type for DistributionPointName<'a> {
-    ghost der = { seen (elim [
-      | FullName x ↦ ChoiceA x
-      | NameRelativeToCrlIssuer x ↦ ChoiceB x
-    ]) ⟦<DistributionPointNameChoice<'a> as Asn1Type>⟧.der };
+    ghost use Rattle.pkix.specs.declared.certificate.distribution.DistributionPointName.TheVariants.{FullName, NameRelativeToCrlIssuer};
+
+    ghost der = { choice_der (elim [
+      | FullName x ↦ inl (⟦<GeneralNames<'a> as Asn1Type>⟧.der.meaning
+          x)
+      | NameRelativeToCrlIssuer x ↦ inr
+          (⟦<SetOf<'a, AttributeTypeAndValue<'a>> as Asn1Type>⟧.der.meaning x)
+    ]) (or
+        ⟦<Implicit<GeneralNames<'a>, 0> as Asn1Type>⟧.der (only
+        ⟦<Implicit<SetOf<'a, AttributeTypeAndValue<'a>>, 1> as Asn1Type>⟧.der)) };
 
     fn known(&self) {
         match self {
-            DistributionPointName::FullName(value) => value.known(),
-            DistributionPointName::NameRelativeToCrlIssuer(value) => value.known(),
+            DistributionPointName::FullName(x) => x.known(),
+            DistributionPointName::NameRelativeToCrlIssuer(x) => x.known(),
         }
     }
 }
 
 impl<'a> Asn1Readable<'a> for DistributionPointName<'a> {
-    fn parse(parser: &mut Parser<'a>) -> ParseResult<DistributionPointName<'a>> {
+    fn parse(parser: &mut Parser<'a>) -> ParseResult<DistributionPointName<'a>>
+        ensures answers { ReadsPrefix ⟦<DistributionPointName<'a> as Asn1Type>⟧.der parser.old
+            parser.new result }
+        ensures rest { EndsWith parser.old parser.new }
+        ensures stops { OnErr result (⟦<DistributionPointName<'a> as Asn1Type>⟧.der.stops parser.old
+            parser.new) }
+    {
         match parser.read_element::<DistributionPointNameChoice<'a>>()? {
-            Choice2::ChoiceA(value) => Ok(DistributionPointName::FullName(value)),
-            Choice2::ChoiceB(value) => Ok(DistributionPointName::NameRelativeToCrlIssuer(value)),
+            Choice2::ChoiceA(x) => Ok(DistributionPointName::FullName(x.into_inner())),
+            Choice2::ChoiceB(x) => Ok(DistributionPointName::NameRelativeToCrlIssuer(
+                x.into_inner(),
+            )),
         }
     }
 
@@ -70,104 +87,59 @@ impl<'a> Asn1Writable for DistributionPointName<'a> {
 
     fn write(&self, dest: &mut Writer<'_>) -> WriteResult<()> {
         match self {
-            DistributionPointName::FullName(value) => dest.write_element(value),
-            DistributionPointName::NameRelativeToCrlIssuer(value) => dest.write_element(value),
+            DistributionPointName::FullName(x) => dest.write_implicit_element(x, 0),
+            DistributionPointName::NameRelativeToCrlIssuer(x) => dest.write_implicit_element(x, 1),
         }
     }
 
     fn encoded_length(&self) -> Option<usize> {
         match self {
-            DistributionPointName::FullName(value) => value.encoded_length(),
-            DistributionPointName::NameRelativeToCrlIssuer(value) => value.encoded_length(),
+            DistributionPointName::FullName(x) => Implicit::<&GeneralNames<'a>, 0>::new(
+                x,
+            ).encoded_length(),
+            DistributionPointName::NameRelativeToCrlIssuer(x) => Implicit::<
+                &SetOf<'a, AttributeTypeAndValue<'a>>,
+                1,
+            >::new(x).encoded_length(),
         }
     }
 }
 
-/// The fields.
-type DistributionPointFields<'a> = Structure<
-    DistributionPointNames,
-    Fields3<
-        Option<Explicit<DistributionPointName<'a>, 0>>,
-        Option<Implicit<NamedBits<'a>, 1>>,
-        Option<Implicit<GeneralNames<'a>, 2>>,
-    >,
+/// DistributionPoint (RFC 5280, 4.2.1.13), a SEQUENCE: where a revocation list is, and what it is for. That it has a
+/// place or an issuer isn't looked at.
+#[derive(Debug, Clone, PartialEq, Eq, Drop)]
+pub struct DistributionPoint<'a> {
+    /// Where the list is.
+    pub distribution_point: Option<DistributionPointName<'a>>,
+    /// The reasons that the list has; all of them where there are none here.
+    pub reasons: Option<NamedBits<'a>>,
+    /// Who issues the list, where that isn't the certificate's issuer.
+    pub crl_issuer: Option<GeneralNames<'a>>,
+}
+
+type DistributionPointDistributionPointField<'a> = Option<Explicit<DistributionPointName<'a>, 0>>;
+
+type DistributionPointReasonsField<'a> = Option<Implicit<NamedBits<'a>, 1>>;
+
+type DistributionPointCrlIssuerField<'a> = Option<Implicit<GeneralNames<'a>, 2>>;
+
+type DistributionPointFields<'a> = Fields3<
+    DistributionPointDistributionPointField<'a>,
+    DistributionPointReasonsField<'a>,
+    DistributionPointCrlIssuerField<'a>,
 >;
 
-const DISTRIBUTION_POINT: [&str; 3] = [
-    "DistributionPoint::distribution_point",
-    "DistributionPoint::reasons",
-    "DistributionPoint::crl_issuer",
-];
-
-/// The names of the fields.
-struct DistributionPointNames;
-
-impl FieldNames for DistributionPointNames {
-    ghost names = { map (λ s. s.now) DISTRIBUTION_POINT };
-
-    fn names() -> Names {
-        Names::new(&DISTRIBUTION_POINT)
-    }
-}
-
-/// DistributionPoint (RFC 5280, 4.2.1.13), a SEQUENCE: where a revocation list is, and what it is for.
-#[derive(Clone, PartialEq, Eq, Drop)]
-pub struct DistributionPoint<'a>(DistributionPointFields<'a>);
-
-impl<'a> DistributionPoint<'a> {
-    /// Of these fields.
-    pub fn new(
-        distribution_point: Option<DistributionPointName<'a>>,
-        reasons: Option<NamedBits<'a>>,
-        crl_issuer: Option<GeneralNames<'a>>,
-    ) -> DistributionPoint<'a>
-        ensures distribution_point { option_meaning explicit_inner result.0.fields.value
-            ≡ option_meaning (λ v. v) distribution_point.entry }
-        ensures reasons { option_meaning implicit_inner result.0.fields.rest.value
-            ≡ option_meaning (λ v. v) reasons.entry }
-        ensures crl_issuer { option_meaning implicit_inner result.0.fields.rest.rest.value
-            ≡ option_meaning (λ v. v) crl_issuer.entry }
-    {
-        let distribution_point = distribution_point.map(Explicit::new);
-        let reasons = reasons.map(Implicit::new);
-        let crl_issuer = crl_issuer.map(Implicit::new);
-        let fields = Last::new(crl_issuer);
-        let fields = Field::new(reasons, fields);
-        let fields = Field::new(distribution_point, fields);
-        DistributionPoint(Structure::new(fields))
-    }
-
-    /// Where the list is.
-    pub fn distribution_point(&self) -> Option<&DistributionPointName<'a>>
-        ensures { option_meaning (λ v. v.now) result
-            ≡ option_meaning explicit_inner self.now.0.fields.value }
-    {
-        self.0.fields.value.as_ref().map(Explicit::as_inner)
-    }
-
-    /// The reasons that the list has; all of them where there are none here.
-    pub fn reasons(&self) -> Option<&NamedBits<'a>>
-        ensures { option_meaning (λ v. v.now) result
-            ≡ option_meaning implicit_inner self.now.0.fields.rest.value }
-    {
-        self.0.fields.rest.value.as_ref().map(Implicit::as_inner)
-    }
-
-    /// Who issues the list, where that isn't the certificate's issuer.
-    pub fn crl_issuer(&self) -> Option<&GeneralNames<'a>>
-        ensures { option_meaning (λ v. v.now) result
-            ≡ option_meaning implicit_inner self.now.0.fields.rest.rest.value }
-    {
-        let value = &self.0.fields.rest.rest.value;
-        value.as_ref().map(Implicit::as_inner)
-    }
-}
-
 impl<'a> Asn1Type for DistributionPoint<'a> {
-    ghost der = { seen (λ v. v.0) ⟦<DistributionPointFields<'a> as Asn1Type>⟧.der };
+    ghost der = { structure (λ v. fields3 (option_meaning explicit v.distribution_point)
+        (option_meaning implicit v.reasons) (option_meaning implicit v.crl_issuer))
+        ⟦<DistributionPointFields<'a> as Row>⟧.list (codes "DistributionPoint::distribution_point" ∷
+        codes "DistributionPoint::reasons" ∷ codes "DistributionPoint::crl_issuer" ∷ []) };
 
     fn known(&self) {
-        self.0.known()
+        known_fields!(self;
+            distribution_point: DistributionPointDistributionPointField<'a>,
+            reasons: DistributionPointReasonsField<'a>,
+            crl_issuer: DistributionPointCrlIssuerField<'a>)
     }
 }
 
@@ -183,10 +155,11 @@ impl<'a> SimpleAsn1Readable<'a> for DistributionPoint<'a> {
     fn parse_data(alloc: Global, data: &'a [u8]) -> ParseResult<DistributionPoint<'a>>
         ensures { ReadsContents ⟦<DistributionPoint<'a> as Asn1Type>⟧.der «data».entry.now result }
     {
-        match <DistributionPointFields<'a> as SimpleAsn1Readable<'a>>::parse_data(alloc, data) {
-            Ok(fields) => Ok(DistributionPoint(fields)),
-            Err(error) => Err(error),
-        }
+        read_fields!(DistributionPointFields<'a>, alloc, data => DistributionPoint {
+            distribution_point: DistributionPointDistributionPointField<'a>,
+            reasons: DistributionPointReasonsField<'a>,
+            crl_issuer: DistributionPointCrlIssuerField<'a>
+        })
     }
 }
 
@@ -203,92 +176,45 @@ impl<'a> SimpleAsn1Writable for DistributionPoint<'a> {
     }
 
     fn write_data(&self, dest: &mut WriteBuf) -> WriteResult<()> {
-        self.0.write_data(dest)
+        write_fields!(self, dest;
+            distribution_point: DistributionPointDistributionPointField<'a>,
+            reasons: DistributionPointReasonsField<'a>,
+            crl_issuer: DistributionPointCrlIssuerField<'a>)
     }
 
     fn data_length(&self) -> Option<usize> {
-        self.0.data_length()
+        fields_length!(self;
+            distribution_point: DistributionPointDistributionPointField<'a>,
+            reasons: DistributionPointReasonsField<'a>,
+            crl_issuer: DistributionPointCrlIssuerField<'a>)
     }
 }
-
-/// The items.
-type CrlDistributionPointsItems<'a> = SequenceOf<'a, DistributionPoint<'a>, 1, { usize::MAX }>;
 
 /// CRLDistributionPoints (RFC 5280, 4.2.1.13), a SEQUENCE of at least one DistributionPoint; identifier 2.5.29.31.
-#[derive(Clone, PartialEq, Eq, Drop)]
-pub struct CrlDistributionPoints<'a>(CrlDistributionPointsItems<'a>);
+pub type CrlDistributionPoints<'a> = SequenceOf<'a, DistributionPoint<'a>, 1, { usize::MAX }>;
 
-impl<'a> CrlDistributionPoints<'a> {
-    /// Of these items.
-    pub fn new(items: CrlDistributionPointsItems<'a>) -> CrlDistributionPoints<'a>
-        ensures { result.0 ≡ items.entry }
-    {
-        CrlDistributionPoints(items)
-    }
-
-    /// The items.
-    pub fn items(&self) -> &CrlDistributionPointsItems<'a>
-        ensures { result.now ≡ self.now.0 }
-    {
-        &self.0
-    }
-}
-
-impl<'a> Asn1Type for CrlDistributionPoints<'a> {
-    ghost der = { seen (λ v. v.0) ⟦<CrlDistributionPointsItems<'a> as Asn1Type>⟧.der };
-
-    fn known(&self) {
-        self.0.known()
-    }
-}
-
-impl<'a> SimpleAsn1Readable<'a> for CrlDistributionPoints<'a> {
-    fn tag() -> Tag
-        ensures value { result ≡ ⟦<CrlDistributionPoints<'a> as Asn1Type>⟧.der.content.tag }
-        ensures simple { ⟦<CrlDistributionPoints<'a> as Asn1Type>⟧.der.is_simple }
-        ensures plain { ⟦<CrlDistributionPoints<'a> as Asn1Type>⟧.der.plain }
-    {
-        Tag::constructed(0x10)
-    }
-
-    fn parse_data(alloc: Global, data: &'a [u8]) -> ParseResult<CrlDistributionPoints<'a>>
-        ensures { ReadsContents ⟦<CrlDistributionPoints<'a> as Asn1Type>⟧.der «data».entry.now
-            result }
-    {
-        match <CrlDistributionPointsItems<'a> as SimpleAsn1Readable<'a>>::parse_data(alloc, data) {
-            Ok(items) => Ok(CrlDistributionPoints(items)),
-            Err(error) => Err(error),
-        }
-    }
-}
-
-impl<'a> SimpleAsn1Writable for CrlDistributionPoints<'a> {
-    type Error = WriteError;
-
-    ghost write_errors = { λ _ _. ⊥ };
-
-    fn tag() -> Tag
-        ensures value { result ≡ ⟦<CrlDistributionPoints<'a> as Asn1Type>⟧.der.content.tag }
-        ensures simple { ⟦<CrlDistributionPoints<'a> as Asn1Type>⟧.der.is_simple }
-    {
-        Tag::constructed(0x10)
-    }
-
-    fn write_data(&self, dest: &mut WriteBuf) -> WriteResult<()> {
-        self.0.write_data(dest)
-    }
-
-    fn data_length(&self) -> Option<usize> {
-        self.0.data_length()
-    }
-}
-
-/// These types are lawful: what is written is read back, and each value has one encoding.
+/// Each value of `DistributionPointName` has one encoding, which is read back.
 #[tactic(auto, using(asn1::specs::Lemmas::Fields::tags_differ))]
-pub fn distribution_points_are_lawful()
-    ensures name { HasOneEncoding ⟦<DistributionPointName<'static> as Asn1Type>⟧.der }
-    ensures point { HasOneEncoding ⟦<DistributionPoint<'static> as Asn1Type>⟧.der }
-    ensures points { HasOneEncoding ⟦<CrlDistributionPoints<'static> as Asn1Type>⟧.der }
+pub fn distribution_point_name_is_lawful()
+    ensures { HasOneEncoding ⟦<DistributionPointName<'static> as Asn1Type>⟧.der }
 {
-    general_names_are_lawful();
+    general_names_is_lawful();
+    attribute_type_and_value_is_lawful();
+}
+
+/// Each value of `DistributionPoint` has one encoding, which is read back.
+#[tactic(auto, using(asn1::specs::Lemmas::Fields::tags_differ))]
+pub fn distribution_point_is_lawful()
+    ensures { HasOneEncoding ⟦<DistributionPoint<'static> as Asn1Type>⟧.der }
+{
+    distribution_point_name_is_lawful();
+    named_bits_is_lawful();
+    general_names_is_lawful();
+}
+
+/// Each value of `CrlDistributionPoints` has one encoding, which is read back.
+pub fn crl_distribution_points_is_lawful()
+    ensures { HasOneEncoding ⟦<CrlDistributionPoints<'static> as Asn1Type>⟧.der }
+{
+    distribution_point_is_lawful();
 }

@@ -1,69 +1,41 @@
 //! Certificates (RFC 5280, 4.1).
+// Printed by scripts/derive from declarations/certificate/whole.rs, with the sum 6bcc3914.
 
-ghost use Rattle.std.specs.Prelude.{◌≡◌, map};
-ghost use Rattle.asn1.specs.Der.{seen};
-ghost use Rattle.asn1.specs.InHand.{defaulted_inner, explicit_inner, implicit_inner};
+ghost use Rattle.std.specs.Prelude.{◌≡◌, ◌∷◌, [], codes};
 ghost use Rattle.asn1.specs.Options.{option_meaning};
-ghost use Rattle.asn1.specs.Reads.{ReadsContents};
-ghost use Rattle.pkix.specs.declared.certificate.whole.TheConstants.{VALIDITY, TBS_CERTIFICATE, CERTIFICATE};
+ghost use Rattle.asn1.specs.Reads.{HasOneEncoding, ReadsContents};
+ghost use Rattle.asn1.specs.Structures.{defaulted, explicit, implicit, structure, fields2, fields3, fields10};
 
-use crate::common::{AlgorithmIdentifier, Extensions, Name, SubjectPublicKeyInfo, Time};
-use asn1::fields::{Field, FieldNames, Fields2, Fields3, Fields10, Last, Names, Structure};
+use crate::common::{
+    AlgorithmIdentifier, Extensions, Name, SubjectPublicKeyInfo, Time,
+    algorithm_identifier_is_lawful, extensions_is_lawful, name_is_lawful,
+    subject_public_key_info_is_lawful, time_is_lawful,
+};
+use asn1::fields::{Fields2, Fields3, Fields10, Row};
 use asn1::{
     Asn1Type, BigInt, BitString, DefaultValue, Defaulted, Explicit, Implicit, ParseResult,
-    SimpleAsn1Readable, SimpleAsn1Writable, Tag, WriteBuf, WriteError, WriteResult,
+    SimpleAsn1Readable, SimpleAsn1Writable, Tag, WriteBuf, WriteError, WriteResult, fields_length,
+    known_fields, read_fields, write_fields,
 };
 use std::alloc::Global;
 
-/// The fields.
-type ValidityFields = Structure<ValidityNames, Fields2<Time, Time>>;
-
-const VALIDITY: [&str; 2] = ["Validity::not_before", "Validity::not_after"];
-
-/// The names of the fields.
-struct ValidityNames;
-
-impl FieldNames for ValidityNames {
-    ghost names = { map (λ s. s.now) VALIDITY };
-
-    fn names() -> Names {
-        Names::new(&VALIDITY)
-    }
-}
-
 /// Validity (RFC 5280, 4.1.2.5), a SEQUENCE: when a certificate is valid, both ends included.
 #[derive(Debug, Clone, PartialEq, Eq, Drop)]
-pub struct Validity(ValidityFields);
-
-impl Validity {
-    /// Of these fields.
-    pub fn new(not_before: Time, not_after: Time) -> Validity
-        ensures not_before { result.0.fields.value ≡ not_before }
-        ensures not_after { result.0.fields.rest.value ≡ not_after }
-    {
-        Validity(Structure::new(Field::new(not_before, Last::new(not_after))))
-    }
-
+pub struct Validity {
     /// The first second.
-    pub fn not_before(&self) -> &Time
-        ensures { result.now ≡ self.now.0.fields.value }
-    {
-        &self.0.fields.value
-    }
-
+    pub not_before: Time,
     /// The last second.
-    pub fn not_after(&self) -> &Time
-        ensures { result.now ≡ self.now.0.fields.rest.value }
-    {
-        &self.0.fields.rest.value
-    }
+    pub not_after: Time,
 }
 
+type ValidityFields = Fields2<Time, Time>;
+
 impl Asn1Type for Validity {
-    ghost der = { seen (λ v. v.0) ⟦<ValidityFields as Asn1Type>⟧.der };
+    ghost der = { structure (λ v. fields2 v.not_before v.not_after) ⟦<ValidityFields as Row>⟧.list
+        (codes "Validity::not_before" ∷ codes "Validity::not_after" ∷ []) };
 
     fn known(&self) {
-        self.0.known()
+        known_fields!(self; not_before, not_after)
     }
 }
 
@@ -73,10 +45,7 @@ impl<'a> SimpleAsn1Readable<'a> for Validity {
     }
 
     fn parse_data(alloc: Global, data: &'a [u8]) -> ParseResult<Validity> {
-        match <ValidityFields as SimpleAsn1Readable<'a>>::parse_data(alloc, data) {
-            Ok(fields) => Ok(Validity(fields)),
-            Err(error) => Err(error),
-        }
+        read_fields!(ValidityFields, alloc, data => Validity { not_before, not_after })
     }
 }
 
@@ -90,19 +59,44 @@ impl SimpleAsn1Writable for Validity {
     }
 
     fn write_data(&self, dest: &mut WriteBuf) -> WriteResult<()> {
-        self.0.write_data(dest)
+        write_fields!(self, dest; not_before, not_after)
     }
 
     fn data_length(&self) -> Option<usize> {
-        self.0.data_length()
+        fields_length!(self; not_before, not_after)
     }
 }
 
-/// The default of `TbsCertificate::version`: 0.
+/// TBSCertificate (RFC 5280, 4.1.2), a SEQUENCE: the part of a certificate that is signed.
 #[derive(Debug, Clone, PartialEq, Eq, Drop)]
-pub struct V1;
+pub struct TbsCertificate<'a> {
+    /// The version, which is the number less one: 0 is v1. Any from 0 to 255 is read.
+    pub version: u8,
+    /// The serial number. It may be negative.
+    pub serial_number: BigInt<'a>,
+    /// The algorithm of the signature.
+    pub signature: AlgorithmIdentifier<'a>,
+    /// Who signs.
+    pub issuer: Name<'a>,
+    /// When the certificate is valid.
+    pub validity: Validity,
+    /// Whose key is signed.
+    pub subject: Name<'a>,
+    /// The key.
+    pub subject_public_key_info: SubjectPublicKeyInfo<'a>,
+    /// A UniqueIdentifier of the issuer.
+    pub issuer_unique_id: Option<BitString<'a>>,
+    /// A UniqueIdentifier of the subject.
+    pub subject_unique_id: Option<BitString<'a>>,
+    /// The extensions.
+    pub extensions: Option<Extensions<'a>>,
+}
 
-impl DefaultValue<Explicit<u8, 0>> for V1 {
+/// What `version` is where it is left out.
+#[derive(Debug, PartialEq, Eq, Drop)]
+pub struct TbsCertificateVersion;
+
+impl DefaultValue<Explicit<u8, 0>> for TbsCertificateVersion {
     ghost default = { record { inner = 0 } };
 
     fn value() -> Explicit<u8, 0> {
@@ -110,191 +104,45 @@ impl DefaultValue<Explicit<u8, 0>> for V1 {
     }
 }
 
-/// The fields.
-type TbsCertificateFields<'a> = Structure<
-    TbsCertificateNames,
-    Fields10<
-        Defaulted<Explicit<u8, 0>, V1>,
-        BigInt<'a>,
-        AlgorithmIdentifier<'a>,
-        Name<'a>,
-        Validity,
-        Name<'a>,
-        SubjectPublicKeyInfo<'a>,
-        Option<Implicit<BitString<'a>, 1>>,
-        Option<Implicit<BitString<'a>, 2>>,
-        Option<Explicit<Extensions<'a>, 3>>,
-    >,
+type TbsCertificateVersionField = Defaulted<Explicit<u8, 0>, TbsCertificateVersion>;
+
+type TbsCertificateIssuerUniqueIdField<'a> = Option<Implicit<BitString<'a>, 1>>;
+
+type TbsCertificateSubjectUniqueIdField<'a> = Option<Implicit<BitString<'a>, 2>>;
+
+type TbsCertificateExtensionsField<'a> = Option<Explicit<Extensions<'a>, 3>>;
+
+type TbsCertificateFields<'a> = Fields10<
+    TbsCertificateVersionField,
+    BigInt<'a>,
+    AlgorithmIdentifier<'a>,
+    Name<'a>,
+    Validity,
+    Name<'a>,
+    SubjectPublicKeyInfo<'a>,
+    TbsCertificateIssuerUniqueIdField<'a>,
+    TbsCertificateSubjectUniqueIdField<'a>,
+    TbsCertificateExtensionsField<'a>,
 >;
 
-const TBS_CERTIFICATE: [&str; 10] = [
-    "TbsCertificate::version",
-    "TbsCertificate::serial_number",
-    "TbsCertificate::signature",
-    "TbsCertificate::issuer",
-    "TbsCertificate::validity",
-    "TbsCertificate::subject",
-    "TbsCertificate::subject_public_key_info",
-    "TbsCertificate::issuer_unique_id",
-    "TbsCertificate::subject_unique_id",
-    "TbsCertificate::extensions",
-];
-
-/// The names of the fields.
-struct TbsCertificateNames;
-
-impl FieldNames for TbsCertificateNames {
-    ghost names = { map (λ s. s.now) TBS_CERTIFICATE };
-
-    fn names() -> Names {
-        Names::new(&TBS_CERTIFICATE)
-    }
-}
-
-/// TBSCertificate (RFC 5280, 4.1.2), a SEQUENCE: the part of a certificate that is signed.
-#[derive(Clone, PartialEq, Eq, Drop)]
-pub struct TbsCertificate<'a>(TbsCertificateFields<'a>);
-
-impl<'a> TbsCertificate<'a> {
-    /// Of these fields.
-    pub fn new(
-        version: u8,
-        serial_number: BigInt<'a>,
-        signature: AlgorithmIdentifier<'a>,
-        issuer: Name<'a>,
-        validity: Validity,
-        subject: Name<'a>,
-        subject_public_key_info: SubjectPublicKeyInfo<'a>,
-        issuer_unique_id: Option<BitString<'a>>,
-        subject_unique_id: Option<BitString<'a>>,
-        extensions: Option<Extensions<'a>>,
-    ) -> TbsCertificate<'a>
-        ensures version { explicit_inner (defaulted_inner result.0.fields.value) ≡ version }
-        ensures serial_number { result.0.fields.rest.value ≡ serial_number.entry }
-        ensures signature { result.0.fields.rest.rest.value ≡ signature.entry }
-        ensures issuer { result.0.fields.rest.rest.rest.value ≡ issuer.entry }
-        ensures validity { result.0.fields.rest.rest.rest.rest.value ≡ validity }
-        ensures subject { result.0.fields.rest.rest.rest.rest.rest.value ≡ subject.entry }
-        ensures subject_public_key_info { result.0.fields.rest.rest.rest.rest.rest.rest.value
-            ≡ subject_public_key_info.entry }
-        ensures issuer_unique_id { option_meaning implicit_inner
-            result.0.fields.rest.rest.rest.rest.rest.rest.rest.value
-            ≡ option_meaning (λ v. v) issuer_unique_id.entry }
-        ensures subject_unique_id { option_meaning implicit_inner
-            result.0.fields.rest.rest.rest.rest.rest.rest.rest.rest.value
-            ≡ option_meaning (λ v. v) subject_unique_id.entry }
-        ensures extensions { option_meaning explicit_inner
-            result.0.fields.rest.rest.rest.rest.rest.rest.rest.rest.rest.value
-            ≡ option_meaning (λ v. v) extensions.entry }
-    {
-        let issuer_unique_id = match issuer_unique_id {
-            Some(value) => Some(Implicit::new(value)),
-            None => None,
-        };
-        let subject_unique_id = match subject_unique_id {
-            Some(value) => Some(Implicit::new(value)),
-            None => None,
-        };
-        let extensions = match extensions {
-            Some(value) => Some(Explicit::new(value)),
-            None => None,
-        };
-        let fields = Last::new(extensions);
-        let fields = Field::new(subject_unique_id, fields);
-        let fields = Field::new(issuer_unique_id, fields);
-        let fields = Field::new(subject_public_key_info, fields);
-        let fields = Field::new(subject, fields);
-        let fields = Field::new(validity, fields);
-        let fields = Field::new(issuer, fields);
-        let fields = Field::new(signature, fields);
-        let fields = Field::new(serial_number, fields);
-        let fields = Field::new(Defaulted::new(Explicit::new(version)), fields);
-        TbsCertificate(Structure::new(fields))
-    }
-
-    /// The version, which is the number less one: 0 is v1.
-    pub fn version(&self) -> u8
-        ensures { result ≡ explicit_inner (defaulted_inner self.now.0.fields.value) }
-    {
-        *self.0.fields.value.as_inner().as_inner()
-    }
-
-    /// The serial number. It may be negative.
-    pub fn serial_number(&self) -> BigInt<'a>
-        ensures { result ≡ self.now.0.fields.rest.value }
-    {
-        self.0.fields.rest.value
-    }
-
-    /// The algorithm of the signature.
-    pub fn signature(&self) -> &AlgorithmIdentifier<'a>
-        ensures { result.now ≡ self.now.0.fields.rest.rest.value }
-    {
-        &self.0.fields.rest.rest.value
-    }
-
-    /// Who signs.
-    pub fn issuer(&self) -> &Name<'a>
-        ensures { result.now ≡ self.now.0.fields.rest.rest.rest.value }
-    {
-        &self.0.fields.rest.rest.rest.value
-    }
-
-    /// When the certificate is valid.
-    pub fn validity(&self) -> &Validity
-        ensures { result.now ≡ self.now.0.fields.rest.rest.rest.rest.value }
-    {
-        &self.0.fields.rest.rest.rest.rest.value
-    }
-
-    /// Whose key is signed.
-    pub fn subject(&self) -> &Name<'a>
-        ensures { result.now ≡ self.now.0.fields.rest.rest.rest.rest.rest.value }
-    {
-        &self.0.fields.rest.rest.rest.rest.rest.value
-    }
-
-    /// The key.
-    pub fn subject_public_key_info(&self) -> &SubjectPublicKeyInfo<'a>
-        ensures { result.now ≡ self.now.0.fields.rest.rest.rest.rest.rest.rest.value }
-    {
-        &self.0.fields.rest.rest.rest.rest.rest.rest.value
-    }
-
-    /// A UniqueIdentifier of the issuer.
-    pub fn issuer_unique_id(&self) -> Option<&BitString<'a>>
-        ensures { option_meaning (λ v. v.now) result ≡ option_meaning implicit_inner
-            self.now.0.fields.rest.rest.rest.rest.rest.rest.rest.value }
-    {
-        let value = &self.0.fields.rest.rest.rest.rest.rest.rest.rest.value;
-        value.as_ref().map(Implicit::as_inner)
-    }
-
-    /// A UniqueIdentifier of the subject.
-    pub fn subject_unique_id(&self) -> Option<&BitString<'a>>
-        ensures { option_meaning (λ v. v.now) result ≡ option_meaning implicit_inner
-            self.now.0.fields.rest.rest.rest.rest.rest.rest.rest.rest.value }
-    {
-        let value = &self.0.fields.rest.rest.rest.rest.rest.rest.rest.rest.value;
-        value.as_ref().map(Implicit::as_inner)
-    }
-
-    /// The extensions.
-    pub fn extensions(&self) -> Option<&Extensions<'a>>
-        ensures { option_meaning (λ v. v.now) result ≡ option_meaning explicit_inner
-            self.now.0.fields.rest.rest.rest.rest.rest.rest.rest.rest.rest.value }
-    {
-        let fields = &self.0.fields.rest.rest.rest.rest.rest;
-        let value = &fields.rest.rest.rest.rest.value;
-        value.as_ref().map(Explicit::as_inner)
-    }
-}
-
 impl<'a> Asn1Type for TbsCertificate<'a> {
-    ghost der = { seen (λ v. v.0) ⟦<TbsCertificateFields<'a> as Asn1Type>⟧.der };
+    ghost der = { structure (λ v. fields10 (defaulted (explicit v.version)) v.serial_number
+        v.signature v.issuer v.validity v.subject v.subject_public_key_info (option_meaning implicit
+        v.issuer_unique_id) (option_meaning implicit v.subject_unique_id) (option_meaning explicit
+        v.extensions)) ⟦<TbsCertificateFields<'a> as Row>⟧.list (codes "TbsCertificate::version" ∷
+        codes "TbsCertificate::serial_number" ∷ codes "TbsCertificate::signature" ∷
+        codes "TbsCertificate::issuer" ∷ codes "TbsCertificate::validity" ∷
+        codes "TbsCertificate::subject" ∷ codes "TbsCertificate::subject_public_key_info" ∷
+        codes "TbsCertificate::issuer_unique_id" ∷ codes "TbsCertificate::subject_unique_id" ∷
+        codes "TbsCertificate::extensions" ∷ []) };
 
     fn known(&self) {
-        self.0.known()
+        known_fields!(self;
+            version: TbsCertificateVersionField, serial_number, signature, issuer, validity,
+            subject, subject_public_key_info,
+            issuer_unique_id: TbsCertificateIssuerUniqueIdField<'a>,
+            subject_unique_id: TbsCertificateSubjectUniqueIdField<'a>,
+            extensions: TbsCertificateExtensionsField<'a>)
     }
 }
 
@@ -310,10 +158,13 @@ impl<'a> SimpleAsn1Readable<'a> for TbsCertificate<'a> {
     fn parse_data(alloc: Global, data: &'a [u8]) -> ParseResult<TbsCertificate<'a>>
         ensures { ReadsContents ⟦<TbsCertificate<'a> as Asn1Type>⟧.der «data».entry.now result }
     {
-        match <TbsCertificateFields<'a> as SimpleAsn1Readable<'a>>::parse_data(alloc, data) {
-            Ok(fields) => Ok(TbsCertificate(fields)),
-            Err(error) => Err(error),
-        }
+        read_fields!(TbsCertificateFields<'a>, alloc, data => TbsCertificate {
+            version: TbsCertificateVersionField, serial_number, signature, issuer, validity,
+            subject, subject_public_key_info,
+            issuer_unique_id: TbsCertificateIssuerUniqueIdField<'a>,
+            subject_unique_id: TbsCertificateSubjectUniqueIdField<'a>,
+            extensions: TbsCertificateExtensionsField<'a>
+        })
     }
 }
 
@@ -330,85 +181,44 @@ impl<'a> SimpleAsn1Writable for TbsCertificate<'a> {
     }
 
     fn write_data(&self, dest: &mut WriteBuf) -> WriteResult<()> {
-        self.0.write_data(dest)
+        write_fields!(self, dest;
+            version: TbsCertificateVersionField, serial_number, signature, issuer, validity,
+            subject, subject_public_key_info,
+            issuer_unique_id: TbsCertificateIssuerUniqueIdField<'a>,
+            subject_unique_id: TbsCertificateSubjectUniqueIdField<'a>,
+            extensions: TbsCertificateExtensionsField<'a>)
     }
 
     fn data_length(&self) -> Option<usize> {
-        self.0.data_length()
-    }
-}
-
-/// The fields.
-type CertificateFields<'a> = Structure<
-    CertificateNames,
-    Fields3<TbsCertificate<'a>, AlgorithmIdentifier<'a>, BitString<'a>>,
->;
-
-const CERTIFICATE: [&str; 3] = [
-    "Certificate::tbs_certificate",
-    "Certificate::signature_algorithm",
-    "Certificate::signature_value",
-];
-
-/// The names of the fields.
-struct CertificateNames;
-
-impl FieldNames for CertificateNames {
-    ghost names = { map (λ s. s.now) CERTIFICATE };
-
-    fn names() -> Names {
-        Names::new(&CERTIFICATE)
+        fields_length!(self;
+            version: TbsCertificateVersionField, serial_number, signature, issuer, validity,
+            subject, subject_public_key_info,
+            issuer_unique_id: TbsCertificateIssuerUniqueIdField<'a>,
+            subject_unique_id: TbsCertificateSubjectUniqueIdField<'a>,
+            extensions: TbsCertificateExtensionsField<'a>)
     }
 }
 
 /// Certificate (RFC 5280, 4.1.1), a SEQUENCE.
-#[derive(Clone, PartialEq, Eq, Drop)]
-pub struct Certificate<'a>(CertificateFields<'a>);
-
-impl<'a> Certificate<'a> {
-    /// Of these fields.
-    pub fn new(
-        tbs_certificate: TbsCertificate<'a>,
-        signature_algorithm: AlgorithmIdentifier<'a>,
-        signature_value: BitString<'a>,
-    ) -> Certificate<'a>
-        ensures tbs_certificate { result.0.fields.value ≡ tbs_certificate.entry }
-        ensures signature_algorithm { result.0.fields.rest.value ≡ signature_algorithm.entry }
-        ensures signature_value { result.0.fields.rest.rest.value ≡ signature_value.entry }
-    {
-        let fields = Last::new(signature_value);
-        let fields = Field::new(signature_algorithm, fields);
-        let fields = Field::new(tbs_certificate, fields);
-        Certificate(Structure::new(fields))
-    }
-
+#[derive(Debug, Clone, PartialEq, Eq, Drop)]
+pub struct Certificate<'a> {
     /// The part that is signed.
-    pub fn tbs_certificate(&self) -> &TbsCertificate<'a>
-        ensures { result.now ≡ self.now.0.fields.value }
-    {
-        &self.0.fields.value
-    }
-
+    pub tbs_certificate: TbsCertificate<'a>,
     /// The algorithm of the signature.
-    pub fn signature_algorithm(&self) -> &AlgorithmIdentifier<'a>
-        ensures { result.now ≡ self.now.0.fields.rest.value }
-    {
-        &self.0.fields.rest.value
-    }
-
+    pub signature_algorithm: AlgorithmIdentifier<'a>,
     /// The signature.
-    pub fn signature_value(&self) -> &BitString<'a>
-        ensures { result.now ≡ self.now.0.fields.rest.rest.value }
-    {
-        &self.0.fields.rest.rest.value
-    }
+    pub signature_value: BitString<'a>,
 }
 
+type CertificateFields<'a> = Fields3<TbsCertificate<'a>, AlgorithmIdentifier<'a>, BitString<'a>>;
+
 impl<'a> Asn1Type for Certificate<'a> {
-    ghost der = { seen (λ v. v.0) ⟦<CertificateFields<'a> as Asn1Type>⟧.der };
+    ghost der = { structure (λ v. fields3 v.tbs_certificate v.signature_algorithm v.signature_value)
+        ⟦<CertificateFields<'a> as Row>⟧.list (codes "Certificate::tbs_certificate" ∷
+        codes "Certificate::signature_algorithm" ∷ codes "Certificate::signature_value" ∷ []) };
 
     fn known(&self) {
-        self.0.known()
+        known_fields!(self; tbs_certificate, signature_algorithm, signature_value)
     }
 }
 
@@ -424,10 +234,9 @@ impl<'a> SimpleAsn1Readable<'a> for Certificate<'a> {
     fn parse_data(alloc: Global, data: &'a [u8]) -> ParseResult<Certificate<'a>>
         ensures { ReadsContents ⟦<Certificate<'a> as Asn1Type>⟧.der «data».entry.now result }
     {
-        match <CertificateFields<'a> as SimpleAsn1Readable<'a>>::parse_data(alloc, data) {
-            Ok(fields) => Ok(Certificate(fields)),
-            Err(error) => Err(error),
-        }
+        read_fields!(CertificateFields<'a>, alloc, data => Certificate {
+            tbs_certificate, signature_algorithm, signature_value
+        })
     }
 }
 
@@ -444,10 +253,37 @@ impl<'a> SimpleAsn1Writable for Certificate<'a> {
     }
 
     fn write_data(&self, dest: &mut WriteBuf) -> WriteResult<()> {
-        self.0.write_data(dest)
+        write_fields!(self, dest; tbs_certificate, signature_algorithm, signature_value)
     }
 
     fn data_length(&self) -> Option<usize> {
-        self.0.data_length()
+        fields_length!(self; tbs_certificate, signature_algorithm, signature_value)
     }
+}
+
+/// Each value of `Validity` has one encoding, which is read back.
+pub fn validity_is_lawful()
+    ensures { HasOneEncoding ⟦<Validity as Asn1Type>⟧.der }
+{
+    time_is_lawful();
+}
+
+/// Each value of `TbsCertificate` has one encoding, which is read back.
+#[tactic(auto, using(asn1::specs::Lemmas::Fields::tags_differ))]
+pub fn tbs_certificate_is_lawful()
+    ensures { HasOneEncoding ⟦<TbsCertificate<'static> as Asn1Type>⟧.der }
+{
+    algorithm_identifier_is_lawful();
+    name_is_lawful();
+    validity_is_lawful();
+    subject_public_key_info_is_lawful();
+    extensions_is_lawful();
+}
+
+/// Each value of `Certificate` has one encoding, which is read back.
+pub fn certificate_is_lawful()
+    ensures { HasOneEncoding ⟦<Certificate<'static> as Asn1Type>⟧.der }
+{
+    tbs_certificate_is_lawful();
+    algorithm_identifier_is_lawful();
 }

@@ -4,7 +4,7 @@ ghost use Rattle.std.specs.Prelude.{◌≡◌, true, ⊤, MatchOption};
 ghost use Rattle.asn1.specs.BitStrings.{bits_of};
 ghost use Rattle.asn1.specs.Bits.{has_bit};
 ghost use Rattle.asn1.specs.Der.{simple_der};
-ghost use Rattle.asn1.specs.Reads.{ReadsContents};
+ghost use Rattle.asn1.specs.Reads.{HasOneEncoding, ReadsContents};
 ghost use Rattle.pkix.specs.NamedBits.{ends_with_one, named_bits_content};
 
 use asn1::{
@@ -119,3 +119,8 @@ impl<'a> SimpleAsn1Writable for NamedBits<'a> {
         self.bits.data_length()
     }
 }
+
+/// Each value has one encoding, which is read back.
+pub fn named_bits_is_lawful()
+    ensures { HasOneEncoding ⟦<NamedBits<'static> as Asn1Type>⟧.der }
+{}

@@ -1,77 +1,44 @@
 //! Who signed (RFC 5652, 5.3).
+// Printed by scripts/derive from declarations/signatures/signer.rs, with the sum c1fe0884.
 
-ghost use Rattle.std.specs.Prelude.{◌≡◌, map};
-ghost use Rattle.asn1.specs.Der.{seen};
-ghost use Rattle.asn1.specs.InHand.{implicit_inner};
+ghost use Rattle.std.specs.Prelude.{◌≡◌, ◌∷◌, [], codes, OnErr};
+ghost use Rattle.std.proofs.Common.{inl, inr};
+ghost use Rattle.asn1.specs.Choices.{choice_der, only, or};
 ghost use Rattle.asn1.specs.Options.{option_meaning};
-ghost use Rattle.asn1.specs.declared.wrappers.choices.Choice2.TheVariants.{ChoiceA, ChoiceB};
-ghost use Rattle.asn1.specs.Reads.{HasOneEncoding, ReadsContents};
-ghost use Rattle.pkix.specs.declared.signatures.signer.SignerIdentifier.TheVariants.{IssuerAndSerialNumber, SubjectKeyIdentifier};
-ghost use Rattle.pkix.specs.declared.signatures.signer.TheConstants.{ISSUER_AND_SERIAL_NUMBER, SIGNER_INFO};
+ghost use Rattle.asn1.specs.Reading.{EndsWith};
+ghost use Rattle.asn1.specs.Reads.{HasOneEncoding, ReadsContents, ReadsPrefix};
+ghost use Rattle.asn1.specs.Structures.{implicit, structure, fields2, fields7};
 
-use crate::common::{AlgorithmIdentifier, Attributes, Name};
-use asn1::fields::{Field, FieldNames, Fields2, Fields7, Last, Names, Structure};
+use crate::common::{
+    AlgorithmIdentifier, Attributes, Name, algorithm_identifier_is_lawful, attributes_is_lawful,
+    name_is_lawful,
+};
+use asn1::fields::{Fields2, Fields7, Row};
 use asn1::{
     Asn1Readable, Asn1Type, Asn1Writable, BigInt, Choice2, Implicit, ParseResult, Parser,
     SimpleAsn1Readable, SimpleAsn1Writable, Tag, WriteBuf, WriteError, WriteResult, Writer,
+    fields_length, known_fields, read_fields, write_fields,
 };
 use std::alloc::Global;
 
-/// The fields.
-type IssuerAndSerialNumberFields<'a> = Structure<
-    IssuerAndSerialNumberNames,
-    Fields2<Name<'a>, BigInt<'a>>,
->;
-
-const ISSUER_AND_SERIAL_NUMBER: [&str; 2] = [
-    "IssuerAndSerialNumber::issuer",
-    "IssuerAndSerialNumber::serial_number",
-];
-
-/// The names of the fields.
-struct IssuerAndSerialNumberNames;
-
-impl FieldNames for IssuerAndSerialNumberNames {
-    ghost names = { map (λ s. s.now) ISSUER_AND_SERIAL_NUMBER };
-
-    fn names() -> Names {
-        Names::new(&ISSUER_AND_SERIAL_NUMBER)
-    }
-}
-
 /// IssuerAndSerialNumber (RFC 5652, 10.2.4), a SEQUENCE: a certificate's issuer and serial number.
-#[derive(Clone, PartialEq, Eq, Drop)]
-pub struct IssuerAndSerialNumber<'a>(IssuerAndSerialNumberFields<'a>);
-
-impl<'a> IssuerAndSerialNumber<'a> {
-    /// Of these fields.
-    pub fn new(issuer: Name<'a>, serial_number: BigInt<'a>) -> IssuerAndSerialNumber<'a>
-        ensures issuer { result.0.fields.value ≡ issuer.entry }
-        ensures serial_number { result.0.fields.rest.value ≡ serial_number.entry }
-    {
-        IssuerAndSerialNumber(Structure::new(Field::new(issuer, Last::new(serial_number))))
-    }
-
+#[derive(Debug, Clone, PartialEq, Eq, Drop)]
+pub struct IssuerAndSerialNumber<'a> {
     /// The issuer.
-    pub fn issuer(&self) -> &Name<'a>
-        ensures { result.now ≡ self.now.0.fields.value }
-    {
-        &self.0.fields.value
-    }
-
+    pub issuer: Name<'a>,
     /// The serial number.
-    pub fn serial_number(&self) -> BigInt<'a>
-        ensures { result ≡ self.now.0.fields.rest.value }
-    {
-        self.0.fields.rest.value
-    }
+    pub serial_number: BigInt<'a>,
 }
+
+type IssuerAndSerialNumberFields<'a> = Fields2<Name<'a>, BigInt<'a>>;
 
 impl<'a> Asn1Type for IssuerAndSerialNumber<'a> {
-    ghost der = { seen (λ v. v.0) ⟦<IssuerAndSerialNumberFields<'a> as Asn1Type>⟧.der };
+    ghost der = { structure (λ v. fields2 v.issuer v.serial_number)
+        ⟦<IssuerAndSerialNumberFields<'a> as Row>⟧.list (codes "IssuerAndSerialNumber::issuer" ∷
+        codes "IssuerAndSerialNumber::serial_number" ∷ []) };
 
     fn known(&self) {
-        self.0.known()
+        known_fields!(self; issuer, serial_number)
     }
 }
 
@@ -88,10 +55,9 @@ impl<'a> SimpleAsn1Readable<'a> for IssuerAndSerialNumber<'a> {
         ensures { ReadsContents ⟦<IssuerAndSerialNumber<'a> as Asn1Type>⟧.der «data».entry.now
             result }
     {
-        match <IssuerAndSerialNumberFields<'a> as SimpleAsn1Readable<'a>>::parse_data(alloc, data) {
-            Ok(fields) => Ok(IssuerAndSerialNumber(fields)),
-            Err(error) => Err(error),
-        }
+        read_fields!(IssuerAndSerialNumberFields<'a>, alloc, data => IssuerAndSerialNumber {
+            issuer, serial_number
+        })
     }
 }
 
@@ -108,46 +74,55 @@ impl<'a> SimpleAsn1Writable for IssuerAndSerialNumber<'a> {
     }
 
     fn write_data(&self, dest: &mut WriteBuf) -> WriteResult<()> {
-        self.0.write_data(dest)
+        write_fields!(self, dest; issuer, serial_number)
     }
 
     fn data_length(&self) -> Option<usize> {
-        self.0.data_length()
+        fields_length!(self; issuer, serial_number)
     }
 }
 
-/// The alternatives.
 type SignerIdentifierChoice<'a> = Choice2<IssuerAndSerialNumber<'a>, Implicit<&'a [u8], 0>>;
 
 /// SignerIdentifier (RFC 5652, 5.3), a CHOICE.
-#[derive(Clone, PartialEq, Eq, Drop)]
+#[derive(Debug, Clone, PartialEq, Eq, Drop)]
 pub enum SignerIdentifier<'a> {
     /// The certificate's issuer and serial number.
     IssuerAndSerialNumber(IssuerAndSerialNumber<'a>),
     /// The identifier of the certificate's key.
-    SubjectKeyIdentifier(Implicit<&'a [u8], 0>),
+    SubjectKeyIdentifier(&'a [u8]),
 }
 
 impl<'a> Asn1Type for SignerIdentifier<'a> {
-    ghost der = { seen (elim [
-      | IssuerAndSerialNumber x ↦ ChoiceA x
-      | SubjectKeyIdentifier x ↦
-          ChoiceB x
-    ]) ⟦<SignerIdentifierChoice<'a> as Asn1Type>⟧.der };
+    ghost use Rattle.pkix.specs.declared.signatures.signer.SignerIdentifier.TheVariants.{IssuerAndSerialNumber, SubjectKeyIdentifier};
+
+    ghost der = { choice_der (elim [
+      | IssuerAndSerialNumber x ↦ inl
+          (⟦<IssuerAndSerialNumber<'a> as Asn1Type>⟧.der.meaning x)
+      | SubjectKeyIdentifier x ↦ inr (⟦<&'a [u8] as Asn1Type>⟧.der.meaning x)
+    ]) (or
+        ⟦<IssuerAndSerialNumber<'a> as Asn1Type>⟧.der (only
+        ⟦<Implicit<&'a [u8], 0> as Asn1Type>⟧.der)) };
 
     fn known(&self) {
         match self {
-            SignerIdentifier::IssuerAndSerialNumber(value) => value.known(),
-            SignerIdentifier::SubjectKeyIdentifier(value) => value.known(),
+            SignerIdentifier::IssuerAndSerialNumber(x) => x.known(),
+            SignerIdentifier::SubjectKeyIdentifier(x) => x.known(),
         }
     }
 }
 
 impl<'a> Asn1Readable<'a> for SignerIdentifier<'a> {
-    fn parse(parser: &mut Parser<'a>) -> ParseResult<SignerIdentifier<'a>> {
+    fn parse(parser: &mut Parser<'a>) -> ParseResult<SignerIdentifier<'a>>
+        ensures answers { ReadsPrefix ⟦<SignerIdentifier<'a> as Asn1Type>⟧.der parser.old parser.new
+            result }
+        ensures rest { EndsWith parser.old parser.new }
+        ensures stops { OnErr result (⟦<SignerIdentifier<'a> as Asn1Type>⟧.der.stops parser.old
+            parser.new) }
+    {
         match parser.read_element::<SignerIdentifierChoice<'a>>()? {
-            Choice2::ChoiceA(value) => Ok(SignerIdentifier::IssuerAndSerialNumber(value)),
-            Choice2::ChoiceB(value) => Ok(SignerIdentifier::SubjectKeyIdentifier(value)),
+            Choice2::ChoiceA(x) => Ok(SignerIdentifier::IssuerAndSerialNumber(x)),
+            Choice2::ChoiceB(x) => Ok(SignerIdentifier::SubjectKeyIdentifier(x.into_inner())),
         }
     }
 
@@ -166,152 +141,67 @@ impl<'a> Asn1Writable for SignerIdentifier<'a> {
 
     fn write(&self, dest: &mut Writer<'_>) -> WriteResult<()> {
         match self {
-            SignerIdentifier::IssuerAndSerialNumber(value) => dest.write_element(value),
-            SignerIdentifier::SubjectKeyIdentifier(value) => dest.write_element(value),
+            SignerIdentifier::IssuerAndSerialNumber(x) => dest.write_element(x),
+            SignerIdentifier::SubjectKeyIdentifier(x) => dest.write_implicit_element(x, 0),
         }
     }
 
     fn encoded_length(&self) -> Option<usize> {
         match self {
-            SignerIdentifier::IssuerAndSerialNumber(value) => value.encoded_length(),
-            SignerIdentifier::SubjectKeyIdentifier(value) => value.encoded_length(),
+            SignerIdentifier::IssuerAndSerialNumber(x) => x.encoded_length(),
+            SignerIdentifier::SubjectKeyIdentifier(x) => Implicit::<&&'a [u8], 0>::new(
+                x,
+            ).encoded_length(),
         }
     }
 }
 
-/// The fields.
-type SignerInfoFields<'a> = Structure<
-    SignerInfoNames,
-    Fields7<
-        u8,
-        SignerIdentifier<'a>,
-        AlgorithmIdentifier<'a>,
-        Option<Implicit<Attributes<'a>, 0>>,
-        AlgorithmIdentifier<'a>,
-        &'a [u8],
-        Option<Implicit<Attributes<'a>, 1>>,
-    >,
+/// SignerInfo (RFC 5652, 5.3), a SEQUENCE. Of both sets of attributes the RFC says `SIZE (1..MAX)`, which isn't looked
+/// at.
+#[derive(Debug, Clone, PartialEq, Eq, Drop)]
+pub struct SignerInfo<'a> {
+    /// The version: 1 or 3. Any from 0 to 255 is read.
+    pub version: u8,
+    /// Who signed.
+    pub sid: SignerIdentifier<'a>,
+    /// The algorithm of the digest.
+    pub digest_algorithm: AlgorithmIdentifier<'a>,
+    /// What is signed beside the content.
+    pub signed_attrs: Option<Attributes<'a>>,
+    /// The algorithm of the signature.
+    pub signature_algorithm: AlgorithmIdentifier<'a>,
+    /// The signature.
+    pub signature: &'a [u8],
+    /// What isn't signed.
+    pub unsigned_attrs: Option<Attributes<'a>>,
+}
+
+type SignerInfoSignedAttrsField<'a> = Option<Implicit<Attributes<'a>, 0>>;
+
+type SignerInfoUnsignedAttrsField<'a> = Option<Implicit<Attributes<'a>, 1>>;
+
+type SignerInfoFields<'a> = Fields7<
+    u8,
+    SignerIdentifier<'a>,
+    AlgorithmIdentifier<'a>,
+    SignerInfoSignedAttrsField<'a>,
+    AlgorithmIdentifier<'a>,
+    &'a [u8],
+    SignerInfoUnsignedAttrsField<'a>,
 >;
 
-const SIGNER_INFO: [&str; 7] = [
-    "SignerInfo::version",
-    "SignerInfo::sid",
-    "SignerInfo::digest_algorithm",
-    "SignerInfo::signed_attrs",
-    "SignerInfo::signature_algorithm",
-    "SignerInfo::signature",
-    "SignerInfo::unsigned_attrs",
-];
-
-/// The names of the fields.
-struct SignerInfoNames;
-
-impl FieldNames for SignerInfoNames {
-    ghost names = { map (λ s. s.now) SIGNER_INFO };
-
-    fn names() -> Names {
-        Names::new(&SIGNER_INFO)
-    }
-}
-
-/// SignerInfo (RFC 5652, 5.3), a SEQUENCE.
-#[derive(Clone, PartialEq, Eq, Drop)]
-pub struct SignerInfo<'a>(SignerInfoFields<'a>);
-
-impl<'a> SignerInfo<'a> {
-    /// Of these fields.
-    pub fn new(
-        version: u8,
-        sid: SignerIdentifier<'a>,
-        digest_algorithm: AlgorithmIdentifier<'a>,
-        signed_attrs: Option<Attributes<'a>>,
-        signature_algorithm: AlgorithmIdentifier<'a>,
-        signature: &'a [u8],
-        unsigned_attrs: Option<Attributes<'a>>,
-    ) -> SignerInfo<'a>
-        ensures version { result.0.fields.value ≡ version }
-        ensures sid { result.0.fields.rest.value ≡ sid.entry }
-        ensures digest_algorithm { result.0.fields.rest.rest.value ≡ digest_algorithm.entry }
-        ensures signed_attrs { option_meaning implicit_inner result.0.fields.rest.rest.rest.value
-            ≡ option_meaning (λ v. v) signed_attrs.entry }
-        ensures signature_algorithm { result.0.fields.rest.rest.rest.rest.value
-            ≡ signature_algorithm.entry }
-        ensures signature { result.0.fields.rest.rest.rest.rest.rest.value ≡ signature.entry }
-        ensures unsigned_attrs { option_meaning implicit_inner
-            result.0.fields.rest.rest.rest.rest.rest.rest.value
-            ≡ option_meaning (λ v. v) unsigned_attrs.entry }
-    {
-        let signed_attrs = signed_attrs.map(Implicit::new);
-        let unsigned_attrs = unsigned_attrs.map(Implicit::new);
-        let fields = Last::new(unsigned_attrs);
-        let fields = Field::new(signature, fields);
-        let fields = Field::new(signature_algorithm, fields);
-        let fields = Field::new(signed_attrs, fields);
-        let fields = Field::new(digest_algorithm, fields);
-        let fields = Field::new(sid, fields);
-        let fields = Field::new(version, fields);
-        SignerInfo(Structure::new(fields))
-    }
-
-    /// The version: 1 or 3.
-    pub fn version(&self) -> u8
-        ensures { result ≡ self.now.0.fields.value }
-    {
-        self.0.fields.value
-    }
-
-    /// Who signed.
-    pub fn sid(&self) -> &SignerIdentifier<'a>
-        ensures { result.now ≡ self.now.0.fields.rest.value }
-    {
-        &self.0.fields.rest.value
-    }
-
-    /// The algorithm of the digest.
-    pub fn digest_algorithm(&self) -> &AlgorithmIdentifier<'a>
-        ensures { result.now ≡ self.now.0.fields.rest.rest.value }
-    {
-        &self.0.fields.rest.rest.value
-    }
-
-    /// What is signed beside the content.
-    pub fn signed_attrs(&self) -> Option<&Attributes<'a>>
-        ensures { option_meaning (λ v. v.now) result
-            ≡ option_meaning implicit_inner self.now.0.fields.rest.rest.rest.value }
-    {
-        let value = &self.0.fields.rest.rest.rest.value;
-        value.as_ref().map(Implicit::as_inner)
-    }
-
-    /// The algorithm of the signature.
-    pub fn signature_algorithm(&self) -> &AlgorithmIdentifier<'a>
-        ensures { result.now ≡ self.now.0.fields.rest.rest.rest.rest.value }
-    {
-        &self.0.fields.rest.rest.rest.rest.value
-    }
-
-    /// The signature.
-    pub fn signature(&self) -> &'a [u8]
-        ensures { result ≡ self.now.0.fields.rest.rest.rest.rest.rest.value }
-    {
-        self.0.fields.rest.rest.rest.rest.rest.value
-    }
-
-    /// What isn't signed.
-    pub fn unsigned_attrs(&self) -> Option<&Attributes<'a>>
-        ensures { option_meaning (λ v. v.now) result
-            ≡ option_meaning implicit_inner self.now.0.fields.rest.rest.rest.rest.rest.rest.value }
-    {
-        let value = &self.0.fields.rest.rest.rest.rest.rest.rest.value;
-        value.as_ref().map(Implicit::as_inner)
-    }
-}
-
 impl<'a> Asn1Type for SignerInfo<'a> {
-    ghost der = { seen (λ v. v.0) ⟦<SignerInfoFields<'a> as Asn1Type>⟧.der };
+    ghost der = { structure (λ v. fields7 v.version v.sid v.digest_algorithm (option_meaning
+        implicit v.signed_attrs) v.signature_algorithm v.signature (option_meaning implicit
+        v.unsigned_attrs)) ⟦<SignerInfoFields<'a> as Row>⟧.list (codes "SignerInfo::version" ∷
+        codes "SignerInfo::sid" ∷ codes "SignerInfo::digest_algorithm" ∷
+        codes "SignerInfo::signed_attrs" ∷ codes "SignerInfo::signature_algorithm" ∷
+        codes "SignerInfo::signature" ∷ codes "SignerInfo::unsigned_attrs" ∷ []) };
 
     fn known(&self) {
-        self.0.known()
+        known_fields!(self;
+            version, sid, digest_algorithm, signed_attrs: SignerInfoSignedAttrsField<'a>,
+            signature_algorithm, signature, unsigned_attrs: SignerInfoUnsignedAttrsField<'a>)
     }
 }
 
@@ -327,10 +217,10 @@ impl<'a> SimpleAsn1Readable<'a> for SignerInfo<'a> {
     fn parse_data(alloc: Global, data: &'a [u8]) -> ParseResult<SignerInfo<'a>>
         ensures { ReadsContents ⟦<SignerInfo<'a> as Asn1Type>⟧.der «data».entry.now result }
     {
-        match <SignerInfoFields<'a> as SimpleAsn1Readable<'a>>::parse_data(alloc, data) {
-            Ok(fields) => Ok(SignerInfo(fields)),
-            Err(error) => Err(error),
-        }
+        read_fields!(SignerInfoFields<'a>, alloc, data => SignerInfo {
+            version, sid, digest_algorithm, signed_attrs: SignerInfoSignedAttrsField<'a>,
+            signature_algorithm, signature, unsigned_attrs: SignerInfoUnsignedAttrsField<'a>
+        })
     }
 }
 
@@ -347,19 +237,39 @@ impl<'a> SimpleAsn1Writable for SignerInfo<'a> {
     }
 
     fn write_data(&self, dest: &mut WriteBuf) -> WriteResult<()> {
-        self.0.write_data(dest)
+        write_fields!(self, dest;
+            version, sid, digest_algorithm, signed_attrs: SignerInfoSignedAttrsField<'a>,
+            signature_algorithm, signature, unsigned_attrs: SignerInfoUnsignedAttrsField<'a>)
     }
 
     fn data_length(&self) -> Option<usize> {
-        self.0.data_length()
+        fields_length!(self;
+            version, sid, digest_algorithm, signed_attrs: SignerInfoSignedAttrsField<'a>,
+            signature_algorithm, signature, unsigned_attrs: SignerInfoUnsignedAttrsField<'a>)
     }
 }
 
-/// The types here are lawful: what is written is read back, and each value has one encoding.
+/// Each value of `IssuerAndSerialNumber` has one encoding, which is read back.
+pub fn issuer_and_serial_number_is_lawful()
+    ensures { HasOneEncoding ⟦<IssuerAndSerialNumber<'static> as Asn1Type>⟧.der }
+{
+    name_is_lawful();
+}
+
+/// Each value of `SignerIdentifier` has one encoding, which is read back.
 #[tactic(auto, using(asn1::specs::Lemmas::Fields::tags_differ))]
-pub fn signers_are_lawful()
-    ensures issuer_and_serial_number { HasOneEncoding
-        ⟦<IssuerAndSerialNumber<'static> as Asn1Type>⟧.der }
-    ensures signer_identifier { HasOneEncoding ⟦<SignerIdentifier<'static> as Asn1Type>⟧.der }
-    ensures signer_info { HasOneEncoding ⟦<SignerInfo<'static> as Asn1Type>⟧.der }
-{}
+pub fn signer_identifier_is_lawful()
+    ensures { HasOneEncoding ⟦<SignerIdentifier<'static> as Asn1Type>⟧.der }
+{
+    issuer_and_serial_number_is_lawful();
+}
+
+/// Each value of `SignerInfo` has one encoding, which is read back.
+#[tactic(auto, using(asn1::specs::Lemmas::Fields::tags_differ))]
+pub fn signer_info_is_lawful()
+    ensures { HasOneEncoding ⟦<SignerInfo<'static> as Asn1Type>⟧.der }
+{
+    signer_identifier_is_lawful();
+    algorithm_identifier_is_lawful();
+    attributes_is_lawful();
+}

@@ -1,0 +1,16 @@
+//! Where other data of an issuer is (RFC 5280, 4.2.2.1).
+
+use crate::common::{GeneralName, general_name_is_lawful};
+
+/// AccessDescription (RFC 5280, 4.2.2.1), a SEQUENCE.
+#[derive(asn1::Asn1Read, asn1::Asn1Write, Debug, Clone, PartialEq, Eq)]
+pub struct AccessDescription<'a> {
+    /// What is to be had.
+    pub access_method: asn1::ObjectIdentifier,
+    /// Where.
+    pub access_location: GeneralName<'a>,
+}
+
+/// AuthorityInfoAccessSyntax (RFC 5280, 4.2.2.1), a SEQUENCE of at least one AccessDescription; identifier
+/// 1.3.6.1.5.5.7.1.1.
+pub type AuthorityInfoAccess<'a> = asn1::SequenceOf<'a, AccessDescription<'a>, 1>;

@@ -1,0 +1,36 @@
+//! Where revocation lists are found: the CRL distribution points of a certificate (RFC 5280, 4.2.1.13).
+
+use crate::common::{
+    AttributeTypeAndValue, GeneralNames, NamedBits, attribute_type_and_value_is_lawful,
+    general_names_is_lawful, named_bits_is_lawful,
+};
+
+/// DistributionPointName (RFC 5280, 4.2.1.13), a CHOICE.
+#[derive(asn1::Asn1Read, asn1::Asn1Write, Debug, Clone, PartialEq, Eq)]
+pub enum DistributionPointName<'a> {
+    /// The names of the list, each by itself.
+    #[implicit(0)]
+    FullName(GeneralNames<'a>),
+    /// The attributes that follow the name of the list's issuer. Of this set the RFC says `SIZE (1..MAX)`, which isn't
+    /// looked at.
+    #[implicit(1)]
+    NameRelativeToCrlIssuer(asn1::SetOf<'a, AttributeTypeAndValue<'a>>),
+}
+
+/// DistributionPoint (RFC 5280, 4.2.1.13), a SEQUENCE: where a revocation list is, and what it is for. That it has a
+/// place or an issuer isn't looked at.
+#[derive(asn1::Asn1Read, asn1::Asn1Write, Debug, Clone, PartialEq, Eq)]
+pub struct DistributionPoint<'a> {
+    /// Where the list is.
+    #[explicit(0)]
+    pub distribution_point: Option<DistributionPointName<'a>>,
+    /// The reasons that the list has; all of them where there are none here.
+    #[implicit(1)]
+    pub reasons: Option<NamedBits<'a>>,
+    /// Who issues the list, where that isn't the certificate's issuer.
+    #[implicit(2)]
+    pub crl_issuer: Option<GeneralNames<'a>>,
+}
+
+/// CRLDistributionPoints (RFC 5280, 4.2.1.13), a SEQUENCE of at least one DistributionPoint; identifier 2.5.29.31.
+pub type CrlDistributionPoints<'a> = asn1::SequenceOf<'a, DistributionPoint<'a>, 1>;

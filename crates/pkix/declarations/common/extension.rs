@@ -1,0 +1,16 @@
+//! Extensions (RFC 5280, 4.1.2.9).
+
+/// Extension (RFC 5280, 4.1), a SEQUENCE.
+#[derive(asn1::Asn1Read, asn1::Asn1Write, Debug, Clone, PartialEq, Eq)]
+pub struct Extension<'a> {
+    /// Which extension it is.
+    pub extn_id: asn1::ObjectIdentifier,
+    /// Whether who doesn't know it has to reject what carries it.
+    #[default(false)]
+    pub critical: bool,
+    /// The encoding of its value, whose type `extn_id` defines.
+    pub extn_value: &'a [u8],
+}
+
+/// Extensions (RFC 5280, 4.1), a SEQUENCE of at least one Extension.
+pub type Extensions<'a> = asn1::SequenceOf<'a, Extension<'a>, 1>;

@@ -1,0 +1,27 @@
+//! Names and attributes (RFC 5280, 4.1.2.4; RFC 2986, 4.1; RFC 5652, 5.3).
+
+/// AttributeTypeAndValue (RFC 5280, 4.1.2.4), a SEQUENCE: a part of a name.
+#[derive(asn1::Asn1Read, asn1::Asn1Write, Debug, Clone, PartialEq, Eq)]
+pub struct AttributeTypeAndValue<'a> {
+    /// The attribute's type.
+    pub type_id: asn1::ObjectIdentifier,
+    /// Its value: an element of the type that `type_id` defines.
+    pub value: asn1::Tlv<'a>,
+}
+
+/// Name (RFC 5280, 4.1.2.4), an RDNSequence: a SEQUENCE of sets of attributes. Of a set the RFC says `SIZE (1..MAX)`,
+/// which isn't looked at.
+pub type Name<'a> = asn1::SequenceOf<'a, asn1::SetOf<'a, AttributeTypeAndValue<'a>>>;
+
+/// Attribute (RFC 2986, 4.1; RFC 5652, 5.3), a SEQUENCE: a type and a set of values. Of the set RFC 2986 says
+/// `SIZE (1..MAX)`, which isn't looked at; RFC 5652 allows it to be empty.
+#[derive(asn1::Asn1Read, asn1::Asn1Write, Debug, Clone, PartialEq, Eq)]
+pub struct Attribute<'a> {
+    /// The attribute's type.
+    pub type_id: asn1::ObjectIdentifier,
+    /// Its values: elements of the type that `type_id` defines.
+    pub values: asn1::SetOf<'a, asn1::Tlv<'a>>,
+}
+
+/// Attributes (RFC 2986, 4.1), a SET OF Attribute.
+pub type Attributes<'a> = asn1::SetOf<'a, Attribute<'a>>;

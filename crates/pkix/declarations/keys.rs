@@ -1,0 +1,72 @@
+//! Keys (RFC 5958, 8017, 5915 and 5480).
+
+use crate::common::{
+    AlgorithmIdentifier, Attributes, algorithm_identifier_is_lawful, attributes_is_lawful,
+};
+
+/// OneAsymmetricKey (RFC 5958, 2), a SEQUENCE: a private key, and the public key where it is told. Fields behind these,
+/// which later versions may have, are rejected.
+#[derive(asn1::Asn1Read, asn1::Asn1Write, Debug, Clone, PartialEq, Eq)]
+pub struct OneAsymmetricKey<'a> {
+    /// The version, which is the number less one: 0 is v1, and 1 is v2, which has a public key. Any from 0 to 255 is
+    /// read.
+    pub version: u8,
+    /// The algorithm that the key is for.
+    pub private_key_algorithm: AlgorithmIdentifier<'a>,
+    /// The private key, whose octets the algorithm defines.
+    pub private_key: &'a [u8],
+    /// What else is told of it.
+    #[implicit(0)]
+    pub attributes: Option<Attributes<'a>>,
+    /// The public key, whose bits the algorithm defines.
+    #[implicit(1)]
+    pub public_key: Option<asn1::BitString<'a>>,
+}
+
+/// RSAPublicKey (RFC 8017, A.1.1), a SEQUENCE. Its numbers aren't negative.
+#[derive(asn1::Asn1Read, asn1::Asn1Write, Debug, Clone, PartialEq, Eq)]
+pub struct RsaPublicKey<'a> {
+    /// The modulus.
+    pub modulus: asn1::BigUint<'a>,
+    /// The exponent.
+    pub public_exponent: asn1::BigUint<'a>,
+}
+
+/// RSAPrivateKey (RFC 8017, A.1.2) of two primes, a SEQUENCE. Its numbers aren't negative, and one of more primes is
+/// rejected.
+#[derive(asn1::Asn1Read, asn1::Asn1Write, Debug, Clone, PartialEq, Eq)]
+pub struct RsaPrivateKey<'a> {
+    /// The version: 0, as there are two primes. Any from 0 to 255 is read.
+    pub version: u8,
+    /// The modulus, the product of the primes.
+    pub modulus: asn1::BigUint<'a>,
+    /// The exponent of the public key.
+    pub public_exponent: asn1::BigUint<'a>,
+    /// The exponent of the private key.
+    pub private_exponent: asn1::BigUint<'a>,
+    /// The first prime, p.
+    pub prime1: asn1::BigUint<'a>,
+    /// The second prime, q.
+    pub prime2: asn1::BigUint<'a>,
+    /// The private exponent modulo p - 1.
+    pub exponent1: asn1::BigUint<'a>,
+    /// The private exponent modulo q - 1.
+    pub exponent2: asn1::BigUint<'a>,
+    /// The inverse of q modulo p.
+    pub coefficient: asn1::BigUint<'a>,
+}
+
+/// ECPrivateKey (RFC 5915, 3), a SEQUENCE.
+#[derive(asn1::Asn1Read, asn1::Asn1Write, Debug, Clone, PartialEq, Eq)]
+pub struct EcPrivateKey<'a> {
+    /// The version, which is 1. Any from 0 to 255 is read.
+    pub version: u8,
+    /// The private key, a number of as many octets as the curve's order has.
+    pub private_key: &'a [u8],
+    /// ECParameters (RFC 5480, 2.1.1): the curve's identifier.
+    #[explicit(0)]
+    pub parameters: Option<asn1::ObjectIdentifier>,
+    /// The public key, a point.
+    #[explicit(1)]
+    pub public_key: Option<asn1::BitString<'a>>,
+}

@@ -1,0 +1,7 @@
+//! Values of extensions of revocation lists and of their entries (RFC 5280, 5.2.3 and 5.3.1).
+
+/// CRLNumber (RFC 5280, 5.2.3), an INTEGER from 0; identifier 2.5.29.20.
+pub type CrlNumber<'a> = asn1::BigUint<'a>;
+
+/// CRLReason (RFC 5280, 5.3.1), an ENUMERATED of 0 to 6 and 8 to 10, which isn't looked at; identifier 2.5.29.21.
+pub type CrlReason = asn1::Enumerated;
