@@ -1,16 +1,18 @@
 //! Each attribute of the original's derives, once.
-// Printed by scripts/derive from declarations/page.rs, with the sum d4e61c77.
+// Printed by scripts/derive from declarations/page.rs, with the sum b2d01ff1.
 
 ghost use Rattle.std.specs.Prelude.{◌≡◌, ◌⊎◌, ◌∷◌, [], codes, negsuc, true, false, ⊤, MatchOption, OnErr};
 ghost use Rattle.std.specs.Str.{bytes_eq};
-ghost use Rattle.std.proofs.Common.{inl, inr};
+ghost use Rattle.std.proofs.Common.{inl, inr, refl, sym};
+ghost use Rattle.std.proofs.lemmas.Slice.Eq.{bytes_eq-Decides};
 ghost use Rattle.asn1.specs.Choices.{choice_der, only, or};
 ghost use Rattle.asn1.specs.IdentifierValues.{identifier_of};
-ghost use Rattle.asn1.specs.ItemsAndValues.{word_for_word};
+ghost use Rattle.asn1.specs.ItemsAndValues.{by_item, word_for_word};
 ghost use Rattle.asn1.specs.Options.{option_meaning};
 ghost use Rattle.asn1.specs.Reading.{EndsWith};
 ghost use Rattle.asn1.specs.Reads.{HasOneEncoding, ReadsContents, ReadsDefined, ReadsPrefix};
 ghost use Rattle.asn1.specs.Structures.{defaulted, explicit, implicit, structure, fields0, fields1, fields2, fields7};
+ghost use Rattle.asn1.specs.Variants.{any_variant, or_variant, variant};
 ghost use Rattle.derived.specs.declared.page.TheConstants.{OTHER_OID_NUMBERS, SHA256_WITH_RSA_NUMBERS, SOME_OID_NUMBERS};
 
 use asn1::fields::{
