@@ -299,8 +299,7 @@ def write_arm(part):
 
 
 def length_arm(part):
-    value = f"{part.tag.capitalize()}::<&{part.base}, {part.form.args[1]}>::new(x)" if part.tag else "x"
-    return f"{value}.encoded_length()"
+    return f"plain_length::<{part.form}, _>(x)" if part.tag else "x.encoded_length()"
 
 
 def choice(item, specs):

@@ -1,5 +1,5 @@
 //! Each attribute of the original's derives, once.
-// Printed by scripts/derive from declarations/page.rs, with the sum b2d01ff1.
+// Printed by scripts/derive from declarations/page.rs, with the sum f2d75879.
 
 ghost use Rattle.std.specs.Prelude.{◌≡◌, ◌⊎◌, ◌∷◌, [], codes, negsuc, true, false, ⊤, MatchOption, OnErr};
 ghost use Rattle.std.specs.Str.{bytes_eq};
@@ -17,6 +17,7 @@ ghost use Rattle.derived.specs.declared.page.TheConstants.{OTHER_OID_NUMBERS, SH
 
 use asn1::fields::{
     Before, DefinedField, Field, Fields2, Fields7, Item, Last, LastValue, NoFields, Row, Value,
+    plain_length,
 };
 use asn1::laws::identifiers_compare;
 use asn1::{
@@ -460,19 +461,18 @@ impl<'a> Asn1Writable for GeneralName<'a> {
 
     fn encoded_length(&self) -> Option<usize> {
         match self {
-            GeneralName::OtherName(x) => Implicit::<&Signature, 0>::new(x).encoded_length(),
-            GeneralName::Rfc822Name(x) => Implicit::<&IA5String<'a>, 1>::new(x).encoded_length(),
-            GeneralName::DNSName(x) => Implicit::<&IA5String<'a>, 2>::new(x).encoded_length(),
-            GeneralName::X400Address(x) => Implicit::<&Sequence<'a>, 3>::new(x).encoded_length(),
-            GeneralName::DirectoryName(x) => Explicit::<&Strings<'a>, 4>::new(x).encoded_length(),
-            GeneralName::EDIPartyName(x) => Implicit::<&Sequence<'a>, 5>::new(x).encoded_length(),
-            GeneralName::UniformResourceIdentifier(x) => Implicit::<&IA5String<'a>, 6>::new(
-                x,
-            ).encoded_length(),
-            GeneralName::IPAddress(x) => Implicit::<&&'a [u8], 7>::new(x).encoded_length(),
-            GeneralName::RegisteredID(x) => Implicit::<&ObjectIdentifier, 8>::new(
-                x,
-            ).encoded_length(),
+            GeneralName::OtherName(x) => plain_length::<Implicit<Signature, 0>, _>(x),
+            GeneralName::Rfc822Name(x) => plain_length::<Implicit<IA5String<'a>, 1>, _>(x),
+            GeneralName::DNSName(x) => plain_length::<Implicit<IA5String<'a>, 2>, _>(x),
+            GeneralName::X400Address(x) => plain_length::<Implicit<Sequence<'a>, 3>, _>(x),
+            GeneralName::DirectoryName(x) => plain_length::<Explicit<Strings<'a>, 4>, _>(x),
+            GeneralName::EDIPartyName(x) => plain_length::<Implicit<Sequence<'a>, 5>, _>(x),
+            GeneralName::UniformResourceIdentifier(x) => plain_length::<
+                Implicit<IA5String<'a>, 6>,
+                _,
+            >(x),
+            GeneralName::IPAddress(x) => plain_length::<Implicit<&'a [u8], 7>, _>(x),
+            GeneralName::RegisteredID(x) => plain_length::<Implicit<ObjectIdentifier, 8>, _>(x),
         }
     }
 }
@@ -545,8 +545,8 @@ impl<'a> Asn1Writable for ResponderId<'a> {
 
     fn encoded_length(&self) -> Option<usize> {
         match self {
-            ResponderId::ByName(x) => Explicit::<&Strings<'a>, 1>::new(x).encoded_length(),
-            ResponderId::ByKey(x) => Explicit::<&&'a [u8], 2>::new(x).encoded_length(),
+            ResponderId::ByName(x) => plain_length::<Explicit<Strings<'a>, 1>, _>(x),
+            ResponderId::ByKey(x) => plain_length::<Explicit<&'a [u8], 2>, _>(x),
         }
     }
 }
@@ -943,7 +943,7 @@ impl<'a> Asn1DefinedByWritable<ObjectIdentifier> for AnyContent<'a> {
     fn encoded_length(&self) -> Option<usize> {
         match self {
             AnyContent::Octets(x) => x.encoded_length(),
-            AnyContent::Number(x) => Explicit::<&u32, 1>::new(x).encoded_length(),
+            AnyContent::Number(x) => plain_length::<Explicit<u32, 1>, _>(x),
             AnyContent::Flag(x) => x.encoded_length(),
             AnyContent::Unknown(x) => x.value.encoded_length(),
         }

@@ -91,6 +91,13 @@ pub fn known_plain<W: Wraps<P>, P>(value: &P)
     W::known_plain(value)
 }
 
+/// How many octets the encoding of a field's value has, where that is known.
+pub fn plain_length<W: WrapsWritable<P>, P>(value: &P) -> Option<usize>
+    ensures { KnowsLength (W.der.texts (W.der.meaning (W.wrap value.now))) result }
+{
+    W::plain_length(value)
+}
+
 impl<T: MeaningEq, D: DefaultValue<T>> Wraps<T> for Defaulted<T, D> {
     ghost wrap = { defaulted };
 
