@@ -244,3 +244,20 @@ def readable(item):
     )
     one_text = method(item, "fn one_text()", "", f"{{ {by(item)}.means.plain }}")
     return impl(item, f"Asn1DefinedByReadable<{life}, {ITEM}> ", parse, one_text, life=life)
+
+
+def write_answer(item, module, crate, path):
+    """The proofs that the write of large variants owes: their types have one encoding, so that nothing more is asked."""
+    calls = {part.name: f"write_{part.tag}_element" if part.tag else "write_element" for part in item.parts}
+    large = [part.name for part in item.known if holds(module, part.base)]
+    goals = [f"{calls[name]}-requires" + (f"-in-{name}" if [*calls.values()].count(calls[name]) > 1 else "") for name in large]
+    lines = "".join(f"\npub {goal} : goal.{goal}\n{goal} c = inl (search rules)\n" for goal in goals)
+    function = f"{item.name}Asn1DefinedByWritable{ITEM}.write"
+    return goals and f"""use Rattle.std.proofs.Common.{{inl, rules}}
+use Rattle.{crate}.proofs.{path}{function}.Goals as goal
+{lines}"""
+
+
+def holds(module, type):
+    """Whether a type is a struct or an enum that is declared beside it, or holds one."""
+    return type.name in module.items or any(holds(module, inner) for inner in type.inner)
