@@ -248,9 +248,9 @@ def readable(item):
 
 def write_answer(item, module, crate, path):
     """The proofs that the write of large variants owes: their types have one encoding, so that nothing more is asked."""
-    calls = {part.name: f"write_{part.tag}_element" if part.tag else "write_element" for part in item.parts}
-    large = [part.name for part in item.known if holds(module, part.base)]
-    goals = [f"{calls[name]}-requires" + (f"-in-{name}" if [*calls.values()].count(calls[name]) > 1 else "") for name in large]
+    plain = [part for part in item.parts if not part.tag]
+    large = [part.name for part in plain if part is not item.other and holds(module, part.base)]
+    goals = [f"write_element-requires-in-{name}" if plain[1:] else "write_element-requires" for name in large]
     lines = "".join(f"\npub {goal} : goal.{goal}\n{goal} c = inl (search rules)\n" for goal in goals)
     function = f"{item.name}Asn1DefinedByWritable{ITEM}.write"
     return goals and f"""use Rattle.std.proofs.Common.{{inl, rules}}

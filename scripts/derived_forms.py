@@ -295,7 +295,7 @@ def writes(item, other=""):
 
 
 def write_arm(part):
-    return f"dest.write_{part.tag}_element(x, {part.form.args[1]})" if part.tag else "dest.write_element(x)"
+    return f"write_plain::<{part.form}, _>(x, dest)" if part.tag else "dest.write_element(x)"
 
 
 def length_arm(part):

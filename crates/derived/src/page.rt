@@ -1,5 +1,5 @@
 //! Each attribute of the original's derives, once.
-// Printed by scripts/derive from declarations/page.rs, with the sum f2d75879.
+// Printed by scripts/derive from declarations/page.rs, with the sum 1317b7ba.
 
 ghost use Rattle.std.specs.Prelude.{◌≡◌, ◌⊎◌, ◌∷◌, [], codes, negsuc, true, false, ⊤, MatchOption, OnErr};
 ghost use Rattle.std.specs.Str.{bytes_eq};
@@ -17,7 +17,7 @@ ghost use Rattle.derived.specs.declared.page.TheConstants.{OTHER_OID_NUMBERS, SH
 
 use asn1::fields::{
     Before, DefinedField, Field, Fields2, Fields7, Item, Last, LastValue, NoFields, Row, Value,
-    plain_length,
+    plain_length, write_plain,
 };
 use asn1::laws::identifiers_compare;
 use asn1::{
@@ -447,15 +447,20 @@ impl<'a> Asn1Writable for GeneralName<'a> {
 
     fn write(&self, dest: &mut Writer<'_>) -> WriteResult<()> {
         match self {
-            GeneralName::OtherName(x) => dest.write_implicit_element(x, 0),
-            GeneralName::Rfc822Name(x) => dest.write_implicit_element(x, 1),
-            GeneralName::DNSName(x) => dest.write_implicit_element(x, 2),
-            GeneralName::X400Address(x) => dest.write_implicit_element(x, 3),
-            GeneralName::DirectoryName(x) => dest.write_explicit_element(x, 4),
-            GeneralName::EDIPartyName(x) => dest.write_implicit_element(x, 5),
-            GeneralName::UniformResourceIdentifier(x) => dest.write_implicit_element(x, 6),
-            GeneralName::IPAddress(x) => dest.write_implicit_element(x, 7),
-            GeneralName::RegisteredID(x) => dest.write_implicit_element(x, 8),
+            GeneralName::OtherName(x) => write_plain::<Implicit<Signature, 0>, _>(x, dest),
+            GeneralName::Rfc822Name(x) => write_plain::<Implicit<IA5String<'a>, 1>, _>(x, dest),
+            GeneralName::DNSName(x) => write_plain::<Implicit<IA5String<'a>, 2>, _>(x, dest),
+            GeneralName::X400Address(x) => write_plain::<Implicit<Sequence<'a>, 3>, _>(x, dest),
+            GeneralName::DirectoryName(x) => write_plain::<Explicit<Strings<'a>, 4>, _>(x, dest),
+            GeneralName::EDIPartyName(x) => write_plain::<Implicit<Sequence<'a>, 5>, _>(x, dest),
+            GeneralName::UniformResourceIdentifier(x) => write_plain::<
+                Implicit<IA5String<'a>, 6>,
+                _,
+            >(x, dest),
+            GeneralName::IPAddress(x) => write_plain::<Implicit<&'a [u8], 7>, _>(x, dest),
+            GeneralName::RegisteredID(x) => write_plain::<Implicit<ObjectIdentifier, 8>, _>(
+                x, dest,
+            ),
         }
     }
 
@@ -538,8 +543,8 @@ impl<'a> Asn1Writable for ResponderId<'a> {
 
     fn write(&self, dest: &mut Writer<'_>) -> WriteResult<()> {
         match self {
-            ResponderId::ByName(x) => dest.write_explicit_element(x, 1),
-            ResponderId::ByKey(x) => dest.write_explicit_element(x, 2),
+            ResponderId::ByName(x) => write_plain::<Explicit<Strings<'a>, 1>, _>(x, dest),
+            ResponderId::ByKey(x) => write_plain::<Explicit<&'a [u8], 2>, _>(x, dest),
         }
     }
 
@@ -934,7 +939,7 @@ impl<'a> Asn1DefinedByWritable<ObjectIdentifier> for AnyContent<'a> {
     fn write(&self, dest: &mut Writer<'_>) -> WriteResult<()> {
         match self {
             AnyContent::Octets(x) => dest.write_element(x),
-            AnyContent::Number(x) => dest.write_explicit_element(x, 1),
+            AnyContent::Number(x) => write_plain::<Explicit<u32, 1>, _>(x, dest),
             AnyContent::Flag(x) => dest.write_element(x),
             AnyContent::Unknown(x) => dest.write_element(&x.value),
         }
