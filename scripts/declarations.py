@@ -6,11 +6,16 @@ from dataclasses import dataclass, field
 WORD, LIFE, NUMBER = r"[A-Za-z_]\w*", r"'[A-Za-z_]\w*", r"\d\w*"
 SKIP = r"\s+|//(?!/)[^\n]*|/\*.*?\*/"
 TOKEN = re.compile(rf"///[^\n]*|{SKIP}|{LIFE}(?!')|{WORD}|{NUMBER}|\"(?:\\.|[^\"\\])*\"|::|->|.", re.S)
-# Words of Rust and of Rattle, which no item, field or variant may have as its name.
+# Words of Rust and of Rattle, which no item, field or variant may have as its name; and those of clauses, which no
+# function may have.
 WORDS = (
-    "Self abstract as async await become box break const continue crate do dyn else ensures enum extern false final fn "
+    "Self Type abstract as async await become box break const continue crate do dyn else ensures enum extern false final fn "
     "for gen ghost if impl in let loop macro match mod move mut override priv pub ref requires return self static struct "
     "super trait true try type typeof unsafe unsized use virtual where while yield"
+).split()
+OF_CLAUSES = (
+    "abbrev axiom coe com data deriving elim fcoe hcom infix infixl infixr module mutual open package record ruleset tcoe "
+    "unfold unfoldable unfolding"
 ).split()
 ATTRIBUTES = ("derive", "implicit", "explicit", "default", "defined_by")
 ORIGINAL = ("asn1", "std", "core", "alloc")
@@ -217,6 +222,8 @@ class Reader:
         return found
 
     def constant(self, found):
+        is_word = found.name.lower() in (*WORDS, *OF_CLAUSES)
+        reject(is_word, found.line, f"`{found.name.lower()}` is a word, and a function's name here: name it otherwise")
         self.expect(":")
         reject(self.type().name != "ObjectIdentifier", found.line, f"`{found.name}` isn't an object identifier")
         self.expect("=")

@@ -114,19 +114,20 @@ def defined(module, item, specs):
     item.known = [part for part in item.parts if "defined_by" in part.attributes]
     item.other = next((part for part in item.parts if "default" in part.attributes), None)
     check(module, item)
-    types = [part.base for part in item.known] + ([other_type(item)] if item.other else [])
+    types = [part.base for part in item.known]
+    types += [item.name + item.other.name + angle(item.life)] if item.other else []
     text = other_struct(item) if item.other else ""
     text += stated(item, "This alternative.", [f"{part.name}({type})" for part, type in zip(item.parts, types)])
-    means = ghost("by", f"by_item (record {{ item = {der(ITEM)}; value = {alternatives(item)} }})")
+    means = ghost("by", f"by_item (record {{\nitem = {der(ITEM)};\nvalue = {alternatives(item)};\n}})")
     known = function("fn known_by(&self)", match(item, lambda part: "x.known()", item.other and "x.value.known()"))
     text += impl(item, f"Asn1DefinedBy<{ITEM}> ", variants_of(item, specs), means, known)
-    both = ghost("both", f"record {{ item = {der(ITEM)}; value = {by(item)}.means }}")
-    told = match(item, lambda part: f"{call(part)}.known()", item.other and "x.item.known()", "_")
+    both = ghost("both", f"record {{\nitem = {der(ITEM)};\nvalue = {by(item)}.means;\n}}")
+    told = match(item, lambda part: f"{part.call}.known()", item.other and "x.item.known()", "_")
     agrees = ghost("agrees", "word_for_word _")
     text += impl(item, f"DefinedField<{ITEM}> ", both, function("fn known_item(&self)", told), agrees)
     text += readable(item) if item.reads else ""
     if item.writes:
-        body = match(item, call, item.other and "x.item.clone().unwrap()", "_")
+        body = match(item, lambda part: part.call, item.other and "x.item.clone().unwrap()", "_")
         members = ghost("write_errors_by", "λ _ _. ⊥"), function(f"fn item(&self) -> {ITEM}", body)
         text += impl(item, f"Asn1DefinedByWritable<{ITEM}> ", ERROR, *members, *writes(item, item.other and "x.value"))
     return text
@@ -140,6 +141,7 @@ def check(module, item):
         part.identifier = module.items.get(name)
         is_known = part.identifier and part.identifier.kind == "const"
         reject(not is_known, part.line, f"`{name}` is no identifier that is declared here")
+        part.call, part.numbers = f"{name.lower()}()", f"{name}_NUMBERS"
         first = numbers.setdefault(tuple(octets_of(part.identifier)[0]), part)
         reject(first is not part, part.line, f"`{part.name}` has the identifier of `{first.name}`")
     reject(not item.known, item.line, f"`{item.name}` has no variant of an identifier")
@@ -154,32 +156,21 @@ def by(item):
     return quoted(own(item), f"Asn1DefinedBy<{ITEM}>") + ".by"
 
 
-def call(part):
-    """The call that returns the variant's identifier."""
-    return f"{part.identifier.name.lower()}()"
-
-
-def numbers_of(part):
-    return f"{part.identifier.name}_NUMBERS"
-
-
 def is_known(part, value):
-    return f"bytes_eq (identifier_of item) {numbers_of(part)} ≡ {value}"
-
-
-def other_type(item):
-    return item.name + item.other.name + angle(item.life)
+    """Whether the item is the variant's, as a fact."""
+    return f"bytes_eq (identifier_of item) {part.numbers} ≡ {value}"
 
 
 def other_struct(item):
     """What the default keeps: an identifier that no other variant is for, and the value."""
-    type, tlv, name = other_type(item), f"Tlv{angle(item.life)}", item.name + item.other.name
-    facts = lines_of(f"    pub ghost is_not_{call(part)[:-2]}: {{ {is_known(part, 'false')} }}," for part in item.known)
+    name, tlv = item.name + item.other.name, f"Tlv{angle(item.life)}"
+    type = name + angle(item.life)
+    facts = lines_of(f"    pub ghost is_not_{part.call[:-2]}: {{ {is_known(part, 'false')} }}," for part in item.known)
     *first, served = [f"({is_known(part, 'true')})" for part in item.known]
     for fact in reversed(first):
         served = f"({fact} ⊎ {served})"
     kept = f"{{ MatchOption result {served} (λ v. (v.item ≡ item) × (v.value ≡ value.entry)) }}"
-    tests = " || ".join(f"is_identifier(&item, {call(part)})" for part in item.known)
+    tests = " || ".join(f"is_identifier(&item, {part.call})" for part in item.known)
     body = f"if {tests} {{ return None; }}\n        Some({name} {{ item, value }})"
     text = f"""
 /// An identifier that no other variant of `{item.name}` is for, and the value.
@@ -226,11 +217,11 @@ def alternatives(item):
     first, view = f"(elim [ {' | '.join(cases)} ])", "(λ m. m)"
     text = f"(any_variant {der(item.other.base)} {view}) " if item.other else ""
     for part in reversed(item.known):
-        numbers = numbers_of(part)
+        numbers = part.numbers
         alone = f"λ n e. sym ((bytes_eq-Decides n {numbers}).0 e)"
-        known = f"(record {{ item = {numbers}; is = λ n. bytes_eq n {numbers}; itself = refl; alone = {alone} }})"
+        known = f"item = {numbers};\nis = λ n. bytes_eq n {numbers};\nitself = refl;\nalone = {alone};"
         view = first if part is item.known[0] else view
-        text = f"({'or_variant' if text else 'variant'} {known} {der(part.form)} {text}{view}) "
+        text = f"({'or_variant' if text else 'variant'} (record {{\n{known}\n}}) {der(part.form)} {text}{view}) "
     return text[1:-2]
 
 
@@ -238,7 +229,7 @@ def readable(item):
     life, tests, other = item.life or "'a", [], item.other
     for part in item.known:
         value = f"parser.read_element::<{part.form}>()?{'.into_inner()' if part.tag else ''}"
-        tests.append(f"if is_identifier(&item, {call(part)}) {{ return Ok({item.name}::{part.name}({value})); }}")
+        tests.append(f"if is_identifier(&item, {part.call}) {{ return Ok({item.name}::{part.name}({value})); }}")
     last = "Err(ParseError::new(ParseErrorKind::UnknownDefinedBy))"
     if other:
         value = f"{item.name}{other.name} {{ item, value: parser.read_element::<Tlv<{life}>>()? }}"
@@ -253,3 +244,20 @@ def readable(item):
     )
     one_text = method(item, "fn one_text()", "", f"{{ {by(item)}.means.plain }}")
     return impl(item, f"Asn1DefinedByReadable<{life}, {ITEM}> ", parse, one_text, life=life)
+
+
+def write_answer(item, module, crate, path):
+    """The proofs that the write of large variants owes: their types have one encoding, so that nothing more is asked."""
+    plain = [part for part in item.parts if not part.tag]
+    large = [part.name for part in plain if part is not item.other and holds(module, part.base)]
+    goals = [f"write_element-requires-in-{name}" if plain[1:] else "write_element-requires" for name in large]
+    lines = "".join(f"\npub {goal} : goal.{goal}\n{goal} c = inl (search rules)\n" for goal in goals)
+    function = f"{item.name}Asn1DefinedByWritable{ITEM}.write"
+    return goals and f"""use Rattle.std.proofs.Common.{{inl, rules}}
+use Rattle.{crate}.proofs.{path}{function}.Goals as goal
+{lines}"""
+
+
+def holds(module, type):
+    """Whether a type is a struct or an enum that is declared beside it, or holds one."""
+    return type.name in module.items or any(holds(module, inner) for inner in type.inner)

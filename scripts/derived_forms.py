@@ -134,14 +134,14 @@ def row_of(item, parts, is_inside=False):
     return f"{'Before' if is_inside else 'Field'}<{form}, {row_of(item, rest, is_inside)}>"
 
 
-def view_of(parts, is_inside=False, indent=" " * 6):
+def view_of(parts, is_inside=False):
     """A struct's values as values of the row."""
     if is_plain(parts, is_inside):
         return " ".join([f"fields{len(parts)}", *(group(field_value(part)) for part in parts)])
-    first, rest, lines = parts[0], parts[1:], ["record {", f"{indent}value = {field_value(parts[0])};"]
+    first, rest = parts[0], parts[1:]
     is_inside = not first.item and (is_inside or bool(first.value))
-    lines += [f"{indent}rest = {view_of(rest, is_inside, indent + '  ')};"] if rest else []
-    return lines_of([*lines, indent[2:] + "}"])
+    behind = f"\nrest = {view_of(rest, is_inside)};" if rest else ""
+    return f"record {{\nvalue = {field_value(first)};{behind}\n}}"
 
 
 def entry(item, part):
@@ -295,12 +295,11 @@ def writes(item, other=""):
 
 
 def write_arm(part):
-    return f"dest.write_{part.tag}_element(x, {part.form.args[1]})" if part.tag else "dest.write_element(x)"
+    return f"write_plain::<{part.form}, _>(x, dest)" if part.tag else "dest.write_element(x)"
 
 
 def length_arm(part):
-    value = f"{part.tag.capitalize()}::<&{part.base}, {part.form.args[1]}>::new(x)" if part.tag else "x"
-    return f"{value}.encoded_length()"
+    return f"plain_length::<{part.form}, _>(x)" if part.tag else "x.encoded_length()"
 
 
 def choice(item, specs):

@@ -17,7 +17,6 @@ test: CRATE::PATH   the test that fails with it: where the function has a proof 
                     finds a step without a proof and not a clause; or
 no test: REASON     why none can
 must: WORDS         in a folder canaries alone: what has to come out in place of a refusal
-impl: HEADER        passed over
 
 A list such as {i8,i16} stands for each of its words in turn. In must-fail a file holds one body, with old and new texts
 and no list.
@@ -31,7 +30,7 @@ from sources import CRATES, TOP, clauses_of, functions, functions_in, uses
 
 LIST = re.compile(r"\{(\w+(?:,\w+)+)\}")
 FOLDERS = ["must-fail", "wrong-bodies/first", "wrong-bodies"]
-KEYS = {"function", "body", "first", "file", "old", "new", "clause", "test", "no test", "must", "impl"}
+KEYS = {"function", "body", "first", "file", "old", "new", "clause", "test", "no test", "must"}
 PLANTED = TOP / "scripts/planted.txt"
 Wrong = namedtuple("Wrong", "function name changes clauses tests must reason", defaults=[None])
 Change = namedtuple("Change", "file start end text")

@@ -447,3 +447,10 @@ struct FlagBehindFlag {
     value: Flagged,
     flag: bool, //~ a tag of `flag` is one of `value` too, from which it is told by its tag
 }
+
+const DATA: asn1::ObjectIdentifier = asn1::oid!(1, 2, 840, 113549, 1, 7, 1); //~ `data` is a word, and a function's name here: name it otherwise
+
+#[derive(asn1::Asn1Read)]
+enum OfTypes {
+    Type(u8), //~ `Type` is a word of Rust or Rattle: name it otherwise
+}

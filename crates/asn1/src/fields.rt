@@ -20,7 +20,9 @@ pub use defined::{
     Before, DefinedField, Item, ItemOf, LastValue, RowBehind, RowBehindReadable, Value, ValueOf,
     known_item, known_value,
 };
-pub use plain::{Wrapped, Wraps, WrapsWritable, into_plain, known_plain};
+pub use plain::{
+    Wrapped, Wraps, WrapsWritable, into_plain, known_plain, plain_length, write_plain,
+};
 pub use writes::{
     length_1, length_2, length_3, length_4, length_5, length_6, length_7, length_8, length_9,
     length_10, length_11, length_12, length_13, length_14, length_15, length_16, write_1, write_2,

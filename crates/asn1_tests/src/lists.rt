@@ -11,9 +11,9 @@ ghost use Rattle.asn1_tests.specs.declared.lists.Custom.TheVariants.{Memory, Ref
 
 use asn1::{
     Asn1Type, Asn1Writable, Choice2, ParseError, ParseErrorKind, ParseLocation, ParseResult,
-    Parser, Sequence, SequenceOf, SequenceOfWriter, SequenceWriter, SimpleAsn1Readable,
-    SimpleAsn1Writable, Tag, WriteBuf, WriteError, WriteResult, Writer, parse_single, strip_tlv,
-    write, write_single,
+    Parser, Sequence, SequenceOf, SequenceOfWriter, SequenceWriter, SetOf, SetOfWriter,
+    SimpleAsn1Readable, SimpleAsn1Writable, Tag, WriteBuf, WriteError, WriteResult, Writer,
+    parse_single, strip_tlv, write, write_single,
 };
 use std::alloc::Global;
 use std::test::Fail;
@@ -473,4 +473,20 @@ fn lengths_that_pass_the_largest() -> Result<(), Fail> {
         (items[0].encoded_length(), Some(usize::MAX)),
         (SequenceOfWriter::new(&items).data_length(), None),
     ])
+}
+
+#[test]
+fn lists_and_sets_are_shown(rt: HostRuntime) -> Result<(), Fail> {
+    let alloc = rt.alloc();
+    let octets: &[u8] = &[0x30, 6, 2, 1, 5, 2, 1, 7];
+    let list = parse_single::<SequenceOf<'_, i64, 0, { usize::MAX }>>(alloc, octets)?;
+    is_shown(alloc, &list, "[5, 7]")?;
+    let octets: &[u8] = &[0x31, 6, 2, 1, 5, 2, 1, 7];
+    let set = parse_single::<SetOf<'_, i64>>(alloc, octets)?;
+    is_shown(alloc, &set, "[5, 7]")?;
+    let numbers: &[i64] = &[7, 5];
+    let slice = SequenceOfWriter::new(numbers);
+    is_shown(alloc, &slice, "SequenceOfWriter { items: [7, 5] }")?;
+    let slice = SetOfWriter::new(numbers);
+    is_shown(alloc, &slice, "SetOfWriter { items: [7, 5] }")
 }

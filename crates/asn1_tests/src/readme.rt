@@ -65,7 +65,7 @@ fn one_encoding(rt: HostRuntime) -> Result<(), Fail> {
     // BER would read this as true. DER has one encoding of true, so it is rejected.
     match parse_single::<bool>(alloc, &[1u8, 1, 1]) {
         Ok(_) => return Err(Fail::new(format_args!("a second encoding of true"))),
-        Err(error) => assert!(rt; *error.kind() == ParseErrorKind::InvalidValue),
+        Err(error) => assert!(rt; error.kind() == ParseErrorKind::InvalidValue),
     }
     Ok(())
 }

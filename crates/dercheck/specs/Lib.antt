@@ -13,5 +13,4 @@ pub mod FrameLines
 pub mod Pending
 pub mod Laws
 pub mod Reason
-pub mod Time
 pub mod MySequence

@@ -1,5 +1,7 @@
 //! Values of the printed types are read, looked at, and written back as the same octets.
 
+mod ec_private_key;
+
 use asn1::{
     Asn1Readable, Asn1Writable, DefinedByMarker, Explicit, ObjectIdentifier, OctetStringEncoded,
     ParseError, ParseErrorKind, ParseLocation, SetOfWriter, Tlv, WriteError, parse_single,
@@ -7,8 +9,8 @@ use asn1::{
 };
 use derived::page::{
     Alternative, AnyContent, AnyContentUnknown, AnySequence, Bag, Content, Entry, GeneralName,
-    Letter, Listed, MySequence, Nothing, Notice, Signature, Tagged, other_oid, sha256_with_rsa,
-    some_oid,
+    Letter, Listed, MySequence, Nothing, Notice, ResponderId, Signature, Tagged, other_oid,
+    sha256_with_rsa, some_oid,
 };
 use std::alloc::Global;
 use std::test::Fail;
@@ -141,6 +143,18 @@ fn names_of_each_form(rt: HostRuntime) -> Result<(), Fail> {
     }
     let nobody = refused::<GeneralName<'_>>(alloc, &[5, 0]);
     assert!(rt; matches!(nobody, Some(ParseErrorKind::UnexpectedTag { .. })));
+    Ok(())
+}
+
+#[test]
+fn who_answers(rt: HostRuntime) -> Result<(), Fail> {
+    let alloc = rt.alloc();
+    are_both_ways(
+        alloc,
+        &[(ResponderId::ByKey(b"ab"), &[0xa2, 4, 4, 2, b'a', b'b'])],
+    )?;
+    let name: &[u8] = &[0xa1, 7, 0x31, 5, 0x13, 3, b'a', b'b', b'c'];
+    assert!(rt; is_written_back::<ResponderId<'_>>(alloc, name)?);
     Ok(())
 }
 

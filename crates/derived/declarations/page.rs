@@ -87,6 +87,17 @@ pub enum GeneralName<'a> {
 /// Strings, in the order of a set.
 pub type Strings<'a> = asn1::SetOf<'a, asn1::PrintableString<'a>>;
 
+/// Who answers (RFC 6960, 4.2.1).
+#[derive(asn1::Asn1Read, asn1::Asn1Write, Debug, Clone, PartialEq, Eq, Hash)]
+pub enum ResponderId<'a> {
+    /// By name.
+    #[explicit(1)]
+    ByName(Strings<'a>),
+    /// By the hash of a key.
+    #[explicit(2)]
+    ByKey(&'a [u8]),
+}
+
 /// A choice that stands in a structure, where it may be missing.
 #[derive(asn1::Asn1Read, asn1::Asn1Write, Debug, PartialEq, Eq)]
 pub struct Alternative<'a> {

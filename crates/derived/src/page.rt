@@ -1,5 +1,5 @@
 //! Each attribute of the original's derives, once.
-// Printed by scripts/derive from declarations/page.rs, with the sum 42c34124.
+// Printed by scripts/derive from declarations/page.rs, with the sum 1317b7ba.
 
 ghost use Rattle.std.specs.Prelude.{◌≡◌, ◌⊎◌, ◌∷◌, [], codes, negsuc, true, false, ⊤, MatchOption, OnErr};
 ghost use Rattle.std.specs.Str.{bytes_eq};
@@ -17,13 +17,14 @@ ghost use Rattle.derived.specs.declared.page.TheConstants.{OTHER_OID_NUMBERS, SH
 
 use asn1::fields::{
     Before, DefinedField, Field, Fields2, Fields7, Item, Last, LastValue, NoFields, Row, Value,
+    plain_length, write_plain,
 };
 use asn1::laws::identifiers_compare;
 use asn1::{
     Asn1DefinedBy, Asn1DefinedByReadable, Asn1DefinedByWritable, Asn1Readable, Asn1Type,
-    Asn1Writable, Choice3, DefaultValue, Defaulted, DefinedByMarker, Explicit, IA5String, Implicit,
-    Null, ObjectIdentifier, OctetStringEncoded, ParseError, ParseErrorKind, ParseResult, Parser,
-    PrintableString, Sequence, SequenceOf, SetOf, SetOfWriter, SimpleAsn1Readable,
+    Asn1Writable, Choice2, Choice3, DefaultValue, Defaulted, DefinedByMarker, Explicit, IA5String,
+    Implicit, Null, ObjectIdentifier, OctetStringEncoded, ParseError, ParseErrorKind, ParseResult,
+    Parser, PrintableString, Sequence, SequenceOf, SetOf, SetOfWriter, SimpleAsn1Readable,
     SimpleAsn1Writable, Tag, Tlv, WriteBuf, WriteError, WriteResult, Writer, fields_length,
     known_fields, read_fields, write_fields,
 };
@@ -446,39 +447,114 @@ impl<'a> Asn1Writable for GeneralName<'a> {
 
     fn write(&self, dest: &mut Writer<'_>) -> WriteResult<()> {
         match self {
-            GeneralName::OtherName(x) => dest.write_implicit_element(x, 0),
-            GeneralName::Rfc822Name(x) => dest.write_implicit_element(x, 1),
-            GeneralName::DNSName(x) => dest.write_implicit_element(x, 2),
-            GeneralName::X400Address(x) => dest.write_implicit_element(x, 3),
-            GeneralName::DirectoryName(x) => dest.write_explicit_element(x, 4),
-            GeneralName::EDIPartyName(x) => dest.write_implicit_element(x, 5),
-            GeneralName::UniformResourceIdentifier(x) => dest.write_implicit_element(x, 6),
-            GeneralName::IPAddress(x) => dest.write_implicit_element(x, 7),
-            GeneralName::RegisteredID(x) => dest.write_implicit_element(x, 8),
+            GeneralName::OtherName(x) => write_plain::<Implicit<Signature, 0>, _>(x, dest),
+            GeneralName::Rfc822Name(x) => write_plain::<Implicit<IA5String<'a>, 1>, _>(x, dest),
+            GeneralName::DNSName(x) => write_plain::<Implicit<IA5String<'a>, 2>, _>(x, dest),
+            GeneralName::X400Address(x) => write_plain::<Implicit<Sequence<'a>, 3>, _>(x, dest),
+            GeneralName::DirectoryName(x) => write_plain::<Explicit<Strings<'a>, 4>, _>(x, dest),
+            GeneralName::EDIPartyName(x) => write_plain::<Implicit<Sequence<'a>, 5>, _>(x, dest),
+            GeneralName::UniformResourceIdentifier(x) => write_plain::<
+                Implicit<IA5String<'a>, 6>,
+                _,
+            >(x, dest),
+            GeneralName::IPAddress(x) => write_plain::<Implicit<&'a [u8], 7>, _>(x, dest),
+            GeneralName::RegisteredID(x) => write_plain::<Implicit<ObjectIdentifier, 8>, _>(
+                x, dest,
+            ),
         }
     }
 
     fn encoded_length(&self) -> Option<usize> {
         match self {
-            GeneralName::OtherName(x) => Implicit::<&Signature, 0>::new(x).encoded_length(),
-            GeneralName::Rfc822Name(x) => Implicit::<&IA5String<'a>, 1>::new(x).encoded_length(),
-            GeneralName::DNSName(x) => Implicit::<&IA5String<'a>, 2>::new(x).encoded_length(),
-            GeneralName::X400Address(x) => Implicit::<&Sequence<'a>, 3>::new(x).encoded_length(),
-            GeneralName::DirectoryName(x) => Explicit::<&Strings<'a>, 4>::new(x).encoded_length(),
-            GeneralName::EDIPartyName(x) => Implicit::<&Sequence<'a>, 5>::new(x).encoded_length(),
-            GeneralName::UniformResourceIdentifier(x) => Implicit::<&IA5String<'a>, 6>::new(
-                x,
-            ).encoded_length(),
-            GeneralName::IPAddress(x) => Implicit::<&&'a [u8], 7>::new(x).encoded_length(),
-            GeneralName::RegisteredID(x) => Implicit::<&ObjectIdentifier, 8>::new(
-                x,
-            ).encoded_length(),
+            GeneralName::OtherName(x) => plain_length::<Implicit<Signature, 0>, _>(x),
+            GeneralName::Rfc822Name(x) => plain_length::<Implicit<IA5String<'a>, 1>, _>(x),
+            GeneralName::DNSName(x) => plain_length::<Implicit<IA5String<'a>, 2>, _>(x),
+            GeneralName::X400Address(x) => plain_length::<Implicit<Sequence<'a>, 3>, _>(x),
+            GeneralName::DirectoryName(x) => plain_length::<Explicit<Strings<'a>, 4>, _>(x),
+            GeneralName::EDIPartyName(x) => plain_length::<Implicit<Sequence<'a>, 5>, _>(x),
+            GeneralName::UniformResourceIdentifier(x) => plain_length::<
+                Implicit<IA5String<'a>, 6>,
+                _,
+            >(x),
+            GeneralName::IPAddress(x) => plain_length::<Implicit<&'a [u8], 7>, _>(x),
+            GeneralName::RegisteredID(x) => plain_length::<Implicit<ObjectIdentifier, 8>, _>(x),
         }
     }
 }
 
 /// Strings, in the order of a set.
 pub type Strings<'a> = SetOf<'a, PrintableString<'a>>;
+
+type ResponderIdChoice<'a> = Choice2<Explicit<Strings<'a>, 1>, Explicit<&'a [u8], 2>>;
+
+/// Who answers (RFC 6960, 4.2.1).
+#[derive(Debug, Clone, PartialEq, Eq, Hash, Drop)]
+pub enum ResponderId<'a> {
+    /// By name.
+    ByName(Strings<'a>),
+    /// By the hash of a key.
+    ByKey(&'a [u8]),
+}
+
+impl<'a> Asn1Type for ResponderId<'a> {
+    ghost use Rattle.derived.specs.declared.page.ResponderId.TheVariants.{ByName, ByKey};
+
+    ghost der = { choice_der (elim [
+      | ByName x ↦ inl (⟦<Strings<'a> as Asn1Type>⟧.der.meaning x)
+      | ByKey x ↦ inr (⟦<&'a [u8] as Asn1Type>⟧.der.meaning x)
+    ]) (or
+        ⟦<Explicit<Strings<'a>, 1> as Asn1Type>⟧.der (only
+        ⟦<Explicit<&'a [u8], 2> as Asn1Type>⟧.der)) };
+
+    fn known(&self) {
+        match self {
+            ResponderId::ByName(x) => x.known(),
+            ResponderId::ByKey(x) => x.known(),
+        }
+    }
+}
+
+impl<'a> Asn1Readable<'a> for ResponderId<'a> {
+    fn parse(parser: &mut Parser<'a>) -> ParseResult<ResponderId<'a>>
+        ensures answers { ReadsPrefix ⟦<ResponderId<'a> as Asn1Type>⟧.der parser.old parser.new
+            result }
+        ensures rest { EndsWith parser.old parser.new }
+        ensures stops { OnErr result (⟦<ResponderId<'a> as Asn1Type>⟧.der.stops parser.old
+            parser.new) }
+    {
+        match parser.read_element::<ResponderIdChoice<'a>>()? {
+            Choice2::ChoiceA(x) => Ok(ResponderId::ByName(x.into_inner())),
+            Choice2::ChoiceB(x) => Ok(ResponderId::ByKey(x.into_inner())),
+        }
+    }
+
+    fn can_parse(tag: Tag) -> bool
+        ensures value { result ≡ ⟦<ResponderId<'a> as Asn1Type>⟧.der.accepts tag }
+        ensures plain { ⟦<ResponderId<'a> as Asn1Type>⟧.der.plain }
+    {
+        <ResponderIdChoice<'a> as Asn1Readable<'a>>::can_parse(tag)
+    }
+}
+
+impl<'a> Asn1Writable for ResponderId<'a> {
+    type Error = WriteError;
+
+    ghost write_errors = { λ _ _. ⊥ };
+
+    fn write(&self, dest: &mut Writer<'_>) -> WriteResult<()> {
+        match self {
+            ResponderId::ByName(x) => write_plain::<Explicit<Strings<'a>, 1>, _>(x, dest),
+            ResponderId::ByKey(x) => write_plain::<Explicit<&'a [u8], 2>, _>(x, dest),
+        }
+    }
+
+    fn encoded_length(&self) -> Option<usize> {
+        match self {
+            ResponderId::ByName(x) => plain_length::<Explicit<Strings<'a>, 1>, _>(x),
+            ResponderId::ByKey(x) => plain_length::<Explicit<&'a [u8], 2>, _>(x),
+        }
+    }
+}
 
 /// A choice that stands in a structure, where it may be missing.
 #[derive(Debug, PartialEq, Eq, Drop)]
@@ -603,25 +679,21 @@ impl Asn1DefinedBy<ObjectIdentifier> for Content {
 
     ghost by = { by_item (record {
       item = ⟦<ObjectIdentifier as Asn1Type>⟧.der;
-      value = or_variant
-          (record {
-            item = SOME_OID_NUMBERS;
-            is = λ n. bytes_eq n SOME_OID_NUMBERS;
-            itself = refl;
-            alone = λ n e. sym ((bytes_eq-Decides n SOME_OID_NUMBERS).0 e);
-          }) ⟦<i32 as Asn1Type>⟧.der
-          (variant (record {
-            item = SHA256_WITH_RSA_NUMBERS;
-            is = λ n. bytes_eq n
-                SHA256_WITH_RSA_NUMBERS;
-            itself = refl;
-            alone = λ n e. sym ((bytes_eq-Decides n
-                SHA256_WITH_RSA_NUMBERS).0 e);
-          }) ⟦<Null as Asn1Type>⟧.der (λ m. m)) (elim [
-            | SomeVariant x ↦
-                inl (⟦<i32 as Asn1Type>⟧.der.meaning x)
-            | RsaParameters x ↦ inr (⟦<Null as Asn1Type>⟧.der.meaning x)
-          ]);
+      value = or_variant (record {
+        item = SOME_OID_NUMBERS;
+        is = λ n. bytes_eq n SOME_OID_NUMBERS;
+        itself = refl;
+        alone = λ n e. sym ((bytes_eq-Decides n SOME_OID_NUMBERS).0 e);
+      }) ⟦<i32 as Asn1Type>⟧.der (variant (record {
+        item = SHA256_WITH_RSA_NUMBERS;
+        is = λ n. bytes_eq n SHA256_WITH_RSA_NUMBERS;
+        itself = refl;
+        alone = λ n e. sym ((bytes_eq-Decides n SHA256_WITH_RSA_NUMBERS).0 e);
+      }) ⟦<Null as Asn1Type>⟧.der (λ m. m)) (elim [
+        | SomeVariant x ↦ inl
+            (⟦<i32 as Asn1Type>⟧.der.meaning x)
+        | RsaParameters x ↦ inr (⟦<Null as Asn1Type>⟧.der.meaning x)
+      ]);
     }) };
 
     fn known_by(&self) {
@@ -635,8 +707,7 @@ impl Asn1DefinedBy<ObjectIdentifier> for Content {
 impl DefinedField<ObjectIdentifier> for Content {
     ghost both = { record {
       item = ⟦<ObjectIdentifier as Asn1Type>⟧.der;
-      value =
-          ⟦<Content as Asn1DefinedBy<ObjectIdentifier>>⟧.by.means;
+      value = ⟦<Content as Asn1DefinedBy<ObjectIdentifier>>⟧.by.means;
     } };
 
     fn known_item(&self) {
@@ -764,35 +835,30 @@ impl<'a> Asn1DefinedBy<ObjectIdentifier> for AnyContent<'a> {
 
     ghost by = { by_item (record {
       item = ⟦<ObjectIdentifier as Asn1Type>⟧.der;
-      value = or_variant
-          (record {
-            item = SOME_OID_NUMBERS;
-            is = λ n. bytes_eq n SOME_OID_NUMBERS;
-            itself = refl;
-            alone = λ n e. sym ((bytes_eq-Decides n SOME_OID_NUMBERS).0 e);
-          })
-          ⟦<&'a [u8] as Asn1Type>⟧.der (or_variant (record {
-            item = OTHER_OID_NUMBERS;
-            is = λ n.
-                bytes_eq n OTHER_OID_NUMBERS;
-            itself = refl;
-            alone = λ n e. sym ((bytes_eq-Decides n
-                OTHER_OID_NUMBERS).0 e);
-          }) ⟦<Explicit<u32, 1> as Asn1Type>⟧.der (or_variant (record {
-            item =
-                SHA256_WITH_RSA_NUMBERS;
-            is = λ n. bytes_eq n SHA256_WITH_RSA_NUMBERS;
-            itself = refl;
-            alone
-                = λ n e. sym ((bytes_eq-Decides n SHA256_WITH_RSA_NUMBERS).0 e);
-          })
-          ⟦<Option<bool> as Asn1Type>⟧.der (any_variant ⟦<Tlv<'a> as Asn1Type>⟧.der (λ m. m)) (λ m.
-          m)) (λ m. m)) (elim [
-            | Octets x ↦ inl (⟦<&'a [u8] as Asn1Type>⟧.der.meaning x)
+      value = or_variant (record {
+        item = SOME_OID_NUMBERS;
+        is = λ n. bytes_eq n SOME_OID_NUMBERS;
+        itself = refl;
+        alone = λ n e. sym ((bytes_eq-Decides n SOME_OID_NUMBERS).0 e);
+      }) ⟦<&'a [u8] as Asn1Type>⟧.der (or_variant (record {
+        item = OTHER_OID_NUMBERS;
+        is = λ n. bytes_eq n OTHER_OID_NUMBERS;
+        itself = refl;
+        alone = λ n e. sym ((bytes_eq-Decides n OTHER_OID_NUMBERS).0 e);
+      }) ⟦<Explicit<u32, 1> as Asn1Type>⟧.der (or_variant (record {
+        item = SHA256_WITH_RSA_NUMBERS;
+        is = λ n. bytes_eq n SHA256_WITH_RSA_NUMBERS;
+        itself = refl;
+        alone = λ n e. sym ((bytes_eq-Decides n SHA256_WITH_RSA_NUMBERS).0 e);
+      }) ⟦<Option<bool> as Asn1Type>⟧.der (any_variant ⟦<Tlv<'a> as Asn1Type>⟧.der (λ m.
+          m)) (λ m. m)) (λ m. m)) (elim [
+            | Octets x ↦ inl
+                (⟦<&'a [u8] as Asn1Type>⟧.der.meaning x)
             | Number x ↦ inr (inl (⟦<u32 as Asn1Type>⟧.der.meaning x))
             | Flag x ↦ inr (inr (inl (⟦<Option<bool> as Asn1Type>⟧.der.meaning x)))
             | Unknown x ↦ inr (inr (inr (
-              ⟦<ObjectIdentifier as Asn1Type>⟧.der.meaning x.item,
+              ⟦<ObjectIdentifier as Asn1Type>⟧.der.meaning
+                  x.item,
               ⟦<Tlv<'a> as Asn1Type>⟧.der.meaning x.value,
             )))
           ]);
@@ -811,8 +877,7 @@ impl<'a> Asn1DefinedBy<ObjectIdentifier> for AnyContent<'a> {
 impl<'a> DefinedField<ObjectIdentifier> for AnyContent<'a> {
     ghost both = { record {
       item = ⟦<ObjectIdentifier as Asn1Type>⟧.der;
-      value =
-          ⟦<AnyContent<'a> as Asn1DefinedBy<ObjectIdentifier>>⟧.by.means;
+      value = ⟦<AnyContent<'a> as Asn1DefinedBy<ObjectIdentifier>>⟧.by.means;
     } };
 
     fn known_item(&self) {
@@ -874,7 +939,7 @@ impl<'a> Asn1DefinedByWritable<ObjectIdentifier> for AnyContent<'a> {
     fn write(&self, dest: &mut Writer<'_>) -> WriteResult<()> {
         match self {
             AnyContent::Octets(x) => dest.write_element(x),
-            AnyContent::Number(x) => dest.write_explicit_element(x, 1),
+            AnyContent::Number(x) => write_plain::<Explicit<u32, 1>, _>(x, dest),
             AnyContent::Flag(x) => dest.write_element(x),
             AnyContent::Unknown(x) => dest.write_element(&x.value),
         }
@@ -883,7 +948,7 @@ impl<'a> Asn1DefinedByWritable<ObjectIdentifier> for AnyContent<'a> {
     fn encoded_length(&self) -> Option<usize> {
         match self {
             AnyContent::Octets(x) => x.encoded_length(),
-            AnyContent::Number(x) => Explicit::<&u32, 1>::new(x).encoded_length(),
+            AnyContent::Number(x) => plain_length::<Explicit<u32, 1>, _>(x),
             AnyContent::Flag(x) => x.encoded_length(),
             AnyContent::Unknown(x) => x.value.encoded_length(),
         }
@@ -1202,26 +1267,23 @@ impl<'a> Asn1DefinedBy<ObjectIdentifier> for Listed<'a> {
 
     ghost by = { by_item (record {
       item = ⟦<ObjectIdentifier as Asn1Type>⟧.der;
-      value = or_variant
+      value = or_variant (record {
+        item = OTHER_OID_NUMBERS;
+        is = λ n. bytes_eq n OTHER_OID_NUMBERS;
+        itself = refl;
+        alone = λ n e. sym ((bytes_eq-Decides n OTHER_OID_NUMBERS).0 e);
+      }) ⟦<SequenceOf<'a, u64, 0, 18446744073709551615> as Asn1Type>⟧.der (or_variant
           (record {
-            item = OTHER_OID_NUMBERS;
-            is = λ n. bytes_eq n OTHER_OID_NUMBERS;
-            itself = refl;
-            alone = λ n e. sym ((bytes_eq-Decides n OTHER_OID_NUMBERS).0 e);
-          })
-          ⟦<SequenceOf<'a, u64, 0, 18446744073709551615> as Asn1Type>⟧.der (or_variant (record {
-            item
-                = SOME_OID_NUMBERS;
+            item = SOME_OID_NUMBERS;
             is = λ n. bytes_eq n SOME_OID_NUMBERS;
             itself = refl;
-            alone = λ n e. sym
-                ((bytes_eq-Decides n SOME_OID_NUMBERS).0 e);
-          })
-          ⟦<OctetStringEncoded<Tagged<'a>> as Asn1Type>⟧.der (any_variant ⟦<Tlv<'a> as Asn1Type>⟧.der
-          (λ m. m)) (λ m. m)) (elim [
+            alone = λ n e. sym ((bytes_eq-Decides n SOME_OID_NUMBERS).0 e);
+          }) ⟦<OctetStringEncoded<Tagged<'a>> as Asn1Type>⟧.der (any_variant
+          ⟦<Tlv<'a> as Asn1Type>⟧.der (λ m. m)) (λ m. m)) (elim [
             | Numbers x ↦ inl
                 (⟦<SequenceOf<'a, u64, 0, 18446744073709551615> as Asn1Type>⟧.der.meaning x)
-            | Tagged x ↦ inr (inl (⟦<OctetStringEncoded<Tagged<'a>> as Asn1Type>⟧.der.meaning x))
+            | Tagged x ↦ inr (inl
+                (⟦<OctetStringEncoded<Tagged<'a>> as Asn1Type>⟧.der.meaning x))
             | Unknown x ↦ inr (inr (
               ⟦<ObjectIdentifier as Asn1Type>⟧.der.meaning x.item,
               ⟦<Tlv<'a> as Asn1Type>⟧.der.meaning x.value,
@@ -1241,8 +1303,7 @@ impl<'a> Asn1DefinedBy<ObjectIdentifier> for Listed<'a> {
 impl<'a> DefinedField<ObjectIdentifier> for Listed<'a> {
     ghost both = { record {
       item = ⟦<ObjectIdentifier as Asn1Type>⟧.der;
-      value =
-          ⟦<Listed<'a> as Asn1DefinedBy<ObjectIdentifier>>⟧.by.means;
+      value = ⟦<Listed<'a> as Asn1DefinedBy<ObjectIdentifier>>⟧.by.means;
     } };
 
     fn known_item(&self) {
@@ -1477,6 +1538,14 @@ pub fn general_name_is_lawful()
 pub fn strings_is_lawful()
     ensures { HasOneEncoding ⟦<Strings<'static> as Asn1Type>⟧.der }
 {}
+
+/// Each value of `ResponderId` has one encoding, which is read back.
+#[tactic(auto, using(asn1::specs::Lemmas::Fields::tags_differ))]
+pub fn responder_id_is_lawful()
+    ensures { HasOneEncoding ⟦<ResponderId<'static> as Asn1Type>⟧.der }
+{
+    strings_is_lawful();
+}
 
 /// Each value of `Alternative` has one encoding, which is read back.
 pub fn alternative_is_lawful()

@@ -1,4 +1,4 @@
-//! The example of the README that reads a certificate.
+//! The example of docs/PKIX.md that reads a certificate.
 
 use crate::objects::{CURVE, FULL, RSA};
 use asn1::parse_single;

@@ -91,6 +91,27 @@ pub fn known_plain<W: Wraps<P>, P>(value: &P)
     W::known_plain(value)
 }
 
+/// Appends the encoding of a field's value. Errors and what the caller has to prove are those of
+/// [`Asn1Writable::write`].
+pub fn write_plain<W: WrapsWritable<P>, P>(value: &P, dest: &mut Writer<'_>) -> Result<(), W::Error>
+    requires { W.der.closures (W.der.meaning (W.wrap value.now)) }
+    ensures same_buffer { buffer_name dest.new ≡ buffer_name dest.old }
+    ensures ok { OnOk result (Appends (W.der.texts (W.der.meaning (W.wrap value.now)))
+        (octets_of dest.old) (octets_of dest.new)) }
+    ensures err { OnErr result (KeepsFront (octets_of dest.old) (octets_of dest.new)) }
+    ensures error { IfErr result (Refuses W.Error.from_gives
+        (W.write_errors (W.wrap value.now))) }
+{
+    W::write_plain(value, dest)
+}
+
+/// How many octets the encoding of a field's value has, where that is known.
+pub fn plain_length<W: WrapsWritable<P>, P>(value: &P) -> Option<usize>
+    ensures { KnowsLength (W.der.texts (W.der.meaning (W.wrap value.now))) result }
+{
+    W::plain_length(value)
+}
+
 impl<T: MeaningEq, D: DefaultValue<T>> Wraps<T> for Defaulted<T, D> {
     ghost wrap = { defaulted };
 

@@ -42,8 +42,13 @@ type Version = Defaulted<Explicit<u8, 0>, One>;
 type Fields = Item<ObjectIdentifier, Value<Content, Fields2<Option<bool>, Version>>>;
 
 impl Asn1Type for Entry {
-    ghost der = { structure (λ v. record { value = v.content_type; rest = record { value =
-        v.content; rest = fields2 v.note (defaulted (explicit v.version)); };
+    ghost der = { structure (λ v. record {
+      value = v.content_type;
+      rest = record {
+        value =
+            v.content;
+        rest = fields2 v.note (defaulted (explicit v.version));
+      };
     })
         ⟦<Fields as Row>⟧.list (codes "Entry::content_type" ∷ codes "Entry::content" ∷ codes
         "Entry::note" ∷ codes "Entry::version" ∷ []) };

@@ -109,8 +109,12 @@ pub struct MySequence {
 type Fields = Item<ObjectIdentifier, LastValue<Content>>;
 
 impl Asn1Type for MySequence {
-    ghost der = { structure (λ v. record { value = v.content_type; rest = record { value =
-        v.content; };
+    ghost der = { structure (λ v. record {
+      value = v.content_type;
+      rest = record {
+        value =
+            v.content;
+      };
     }) ⟦<Fields as Row>⟧.list (codes "MySequence::content_type" ∷ codes "MySequence::content"
         ∷ []) };
 

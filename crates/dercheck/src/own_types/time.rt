@@ -1,7 +1,7 @@
 //! A choice: a time of either form.
 
+ghost use Rattle.std.proofs.Common.{inl, inr};
 ghost use Rattle.asn1.specs.Choices.{choice_der, only, or};
-ghost use Rattle.dercheck.specs.Time.{time_meaning};
 
 use asn1::{
     Asn1Readable, Asn1Type, Asn1Writable, Choice2, ParseResult, Parser, Tag, UtcTime, WriteError,
@@ -18,8 +18,12 @@ pub enum Time {
 }
 
 impl Asn1Type for Time {
-    ghost der = { choice_der time_meaning
-        (or ⟦<UtcTime as Asn1Type>⟧.der (only ⟦<X509GeneralizedTime as Asn1Type>⟧.der)) };
+    ghost use Rattle.dercheck.specs.declared.own_types.time.Time.TheVariants.{UTCTime, X509GeneralizedTime};
+
+    ghost der = { choice_der (elim [
+      | UTCTime x ↦ inl (⟦<UtcTime as Asn1Type>⟧.der.meaning x)
+      | X509GeneralizedTime x ↦ inr (⟦<X509GeneralizedTime as Asn1Type>⟧.der.meaning x)
+    ]) (or ⟦<UtcTime as Asn1Type>⟧.der (only ⟦<X509GeneralizedTime as Asn1Type>⟧.der)) };
 
     fn known(&self) {
         match self {

@@ -177,7 +177,7 @@ fn notices(rt: HostRuntime) -> Result<(), Fail> {
         alloc,
         &[
             (
-                notice(true),
+                notice_of_seven(true),
                 &[0x30, 12, 6, 2, 0x2a, 3, 1, 1, 0xff, 0xa0, 3, 2, 1, 7],
             ),
             (

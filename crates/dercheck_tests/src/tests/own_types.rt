@@ -14,7 +14,9 @@ use dercheck::own_types::some_sequence::SomeSequence;
 use dercheck::own_types::time::Time;
 use std::alloc::Global;
 use std::test::Fail;
-use testing::{are_both_ways, are_refused_with, both_ways, error_of, is_written, same, same_at};
+use testing::{
+    are_both_ways, are_refused_with, both_ways, error_of, is_shown, is_written, same, same_at,
+};
 
 /// Why the octets are no value of the type.
 pub fn refused<'a, T: Asn1Readable<'a>>(alloc: Global, octets: &'a [u8]) -> Option<ParseError> {
@@ -295,4 +297,16 @@ fn errors_of_its_own(rt: HostRuntime) -> Result<(), Fail> {
     }
     let error = SealError::from(WriteError::AllocationError);
     same(&error, &SealError::Write(WriteError::AllocationError))
+}
+
+#[test]
+fn structures_are_shown(rt: HostRuntime) -> Result<(), Fail> {
+    let alloc = rt.alloc();
+    let signature = Signature { r: 1, s: 2 };
+    is_shown(alloc, &signature, "Signature { r: 1, s: 2 }")?;
+    let some = SomeSequence {
+        a: Some(b"ab"),
+        b: None,
+    };
+    is_shown(alloc, &some, "SomeSequence { a: Some([97, 98]), b: None }")
 }

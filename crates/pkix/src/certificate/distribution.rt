@@ -1,5 +1,5 @@
 //! Where revocation lists are found: the CRL distribution points of a certificate (RFC 5280, 4.2.1.13).
-// Printed by scripts/derive from declarations/certificate/distribution.rs, with the sum dffe0ae6.
+// Printed by scripts/derive from declarations/certificate/distribution.rs, with the sum a760bab2.
 
 ghost use Rattle.std.specs.Prelude.{◌≡◌, ◌∷◌, [], codes, OnErr};
 ghost use Rattle.std.proofs.Common.{inl, inr};
@@ -13,7 +13,7 @@ use crate::common::{
     AttributeTypeAndValue, GeneralNames, NamedBits, attribute_type_and_value_is_lawful,
     general_names_is_lawful, named_bits_is_lawful,
 };
-use asn1::fields::{Fields3, Row};
+use asn1::fields::{Fields3, Row, plain_length, write_plain};
 use asn1::{
     Asn1Readable, Asn1Type, Asn1Writable, Choice2, Explicit, Implicit, ParseResult, Parser,
     SequenceOf, SetOf, SimpleAsn1Readable, SimpleAsn1Writable, Tag, WriteBuf, WriteError,
@@ -87,20 +87,25 @@ impl<'a> Asn1Writable for DistributionPointName<'a> {
 
     fn write(&self, dest: &mut Writer<'_>) -> WriteResult<()> {
         match self {
-            DistributionPointName::FullName(x) => dest.write_implicit_element(x, 0),
-            DistributionPointName::NameRelativeToCrlIssuer(x) => dest.write_implicit_element(x, 1),
+            DistributionPointName::FullName(x) => write_plain::<Implicit<GeneralNames<'a>, 0>, _>(
+                x, dest,
+            ),
+            DistributionPointName::NameRelativeToCrlIssuer(x) => write_plain::<
+                Implicit<SetOf<'a, AttributeTypeAndValue<'a>>, 1>,
+                _,
+            >(x, dest),
         }
     }
 
     fn encoded_length(&self) -> Option<usize> {
         match self {
-            DistributionPointName::FullName(x) => Implicit::<&GeneralNames<'a>, 0>::new(
+            DistributionPointName::FullName(x) => plain_length::<Implicit<GeneralNames<'a>, 0>, _>(
                 x,
-            ).encoded_length(),
-            DistributionPointName::NameRelativeToCrlIssuer(x) => Implicit::<
-                &SetOf<'a, AttributeTypeAndValue<'a>>,
-                1,
-            >::new(x).encoded_length(),
+            ),
+            DistributionPointName::NameRelativeToCrlIssuer(x) => plain_length::<
+                Implicit<SetOf<'a, AttributeTypeAndValue<'a>>, 1>,
+                _,
+            >(x),
         }
     }
 }

@@ -1,5 +1,5 @@
 //! General names (RFC 5280, 4.2.1.6).
-// Printed by scripts/derive from declarations/common/general_name.rs, with the sum d4b38a1a.
+// Printed by scripts/derive from declarations/common/general_name.rs, with the sum ef8cb838.
 
 ghost use Rattle.std.specs.Prelude.{◌≡◌, ◌∷◌, [], codes, OnErr};
 ghost use Rattle.std.proofs.Common.{inl, inr};
@@ -10,7 +10,7 @@ ghost use Rattle.asn1.specs.Reads.{HasOneEncoding, ReadsContents, ReadsPrefix};
 ghost use Rattle.asn1.specs.Structures.{explicit, structure, fields2};
 
 use crate::common::{Name, name_is_lawful};
-use asn1::fields::{Fields2, Row};
+use asn1::fields::{Fields2, Row, plain_length, write_plain};
 use asn1::{
     Asn1Readable, Asn1Type, Asn1Writable, Choice3, Explicit, IA5String, Implicit, ObjectIdentifier,
     ParseResult, Parser, Sequence, SequenceOf, SimpleAsn1Readable, SimpleAsn1Writable, Tag, Tlv,
@@ -286,35 +286,39 @@ impl<'a> Asn1Writable for GeneralName<'a> {
 
     fn write(&self, dest: &mut Writer<'_>) -> WriteResult<()> {
         match self {
-            GeneralName::OtherName(x) => dest.write_implicit_element(x, 0),
-            GeneralName::Rfc822Name(x) => dest.write_implicit_element(x, 1),
-            GeneralName::DnsName(x) => dest.write_implicit_element(x, 2),
-            GeneralName::X400Address(x) => dest.write_implicit_element(x, 3),
-            GeneralName::DirectoryName(x) => dest.write_explicit_element(x, 4),
-            GeneralName::EdiPartyName(x) => dest.write_implicit_element(x, 5),
-            GeneralName::UniformResourceIdentifier(x) => dest.write_implicit_element(x, 6),
-            GeneralName::IpAddress(x) => dest.write_implicit_element(x, 7),
-            GeneralName::RegisteredId(x) => dest.write_implicit_element(x, 8),
+            GeneralName::OtherName(x) => write_plain::<Implicit<OtherName<'a>, 0>, _>(x, dest),
+            GeneralName::Rfc822Name(x) => write_plain::<Implicit<IA5String<'a>, 1>, _>(x, dest),
+            GeneralName::DnsName(x) => write_plain::<Implicit<IA5String<'a>, 2>, _>(x, dest),
+            GeneralName::X400Address(x) => write_plain::<Implicit<Sequence<'a>, 3>, _>(x, dest),
+            GeneralName::DirectoryName(x) => write_plain::<Explicit<Name<'a>, 4>, _>(x, dest),
+            GeneralName::EdiPartyName(x) => write_plain::<Implicit<EdiPartyName<'a>, 5>, _>(
+                x, dest,
+            ),
+            GeneralName::UniformResourceIdentifier(x) => write_plain::<
+                Implicit<IA5String<'a>, 6>,
+                _,
+            >(x, dest),
+            GeneralName::IpAddress(x) => write_plain::<Implicit<&'a [u8], 7>, _>(x, dest),
+            GeneralName::RegisteredId(x) => write_plain::<Implicit<ObjectIdentifier, 8>, _>(
+                x, dest,
+            ),
         }
     }
 
     fn encoded_length(&self) -> Option<usize> {
         match self {
-            GeneralName::OtherName(x) => Implicit::<&OtherName<'a>, 0>::new(x).encoded_length(),
-            GeneralName::Rfc822Name(x) => Implicit::<&IA5String<'a>, 1>::new(x).encoded_length(),
-            GeneralName::DnsName(x) => Implicit::<&IA5String<'a>, 2>::new(x).encoded_length(),
-            GeneralName::X400Address(x) => Implicit::<&Sequence<'a>, 3>::new(x).encoded_length(),
-            GeneralName::DirectoryName(x) => Explicit::<&Name<'a>, 4>::new(x).encoded_length(),
-            GeneralName::EdiPartyName(x) => Implicit::<&EdiPartyName<'a>, 5>::new(
-                x,
-            ).encoded_length(),
-            GeneralName::UniformResourceIdentifier(x) => Implicit::<&IA5String<'a>, 6>::new(
-                x,
-            ).encoded_length(),
-            GeneralName::IpAddress(x) => Implicit::<&&'a [u8], 7>::new(x).encoded_length(),
-            GeneralName::RegisteredId(x) => Implicit::<&ObjectIdentifier, 8>::new(
-                x,
-            ).encoded_length(),
+            GeneralName::OtherName(x) => plain_length::<Implicit<OtherName<'a>, 0>, _>(x),
+            GeneralName::Rfc822Name(x) => plain_length::<Implicit<IA5String<'a>, 1>, _>(x),
+            GeneralName::DnsName(x) => plain_length::<Implicit<IA5String<'a>, 2>, _>(x),
+            GeneralName::X400Address(x) => plain_length::<Implicit<Sequence<'a>, 3>, _>(x),
+            GeneralName::DirectoryName(x) => plain_length::<Explicit<Name<'a>, 4>, _>(x),
+            GeneralName::EdiPartyName(x) => plain_length::<Implicit<EdiPartyName<'a>, 5>, _>(x),
+            GeneralName::UniformResourceIdentifier(x) => plain_length::<
+                Implicit<IA5String<'a>, 6>,
+                _,
+            >(x),
+            GeneralName::IpAddress(x) => plain_length::<Implicit<&'a [u8], 7>, _>(x),
+            GeneralName::RegisteredId(x) => plain_length::<Implicit<ObjectIdentifier, 8>, _>(x),
         }
     }
 }

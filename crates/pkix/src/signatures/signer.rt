@@ -1,5 +1,5 @@
 //! Who signed (RFC 5652, 5.3).
-// Printed by scripts/derive from declarations/signatures/signer.rs, with the sum c1fe0884.
+// Printed by scripts/derive from declarations/signatures/signer.rs, with the sum 495c2997.
 
 ghost use Rattle.std.specs.Prelude.{◌≡◌, ◌∷◌, [], codes, OnErr};
 ghost use Rattle.std.proofs.Common.{inl, inr};
@@ -13,7 +13,7 @@ use crate::common::{
     AlgorithmIdentifier, Attributes, Name, algorithm_identifier_is_lawful, attributes_is_lawful,
     name_is_lawful,
 };
-use asn1::fields::{Fields2, Fields7, Row};
+use asn1::fields::{Fields2, Fields7, Row, plain_length, write_plain};
 use asn1::{
     Asn1Readable, Asn1Type, Asn1Writable, BigInt, Choice2, Implicit, ParseResult, Parser,
     SimpleAsn1Readable, SimpleAsn1Writable, Tag, WriteBuf, WriteError, WriteResult, Writer,
@@ -142,16 +142,18 @@ impl<'a> Asn1Writable for SignerIdentifier<'a> {
     fn write(&self, dest: &mut Writer<'_>) -> WriteResult<()> {
         match self {
             SignerIdentifier::IssuerAndSerialNumber(x) => dest.write_element(x),
-            SignerIdentifier::SubjectKeyIdentifier(x) => dest.write_implicit_element(x, 0),
+            SignerIdentifier::SubjectKeyIdentifier(x) => write_plain::<Implicit<&'a [u8], 0>, _>(
+                x, dest,
+            ),
         }
     }
 
     fn encoded_length(&self) -> Option<usize> {
         match self {
             SignerIdentifier::IssuerAndSerialNumber(x) => x.encoded_length(),
-            SignerIdentifier::SubjectKeyIdentifier(x) => Implicit::<&&'a [u8], 0>::new(
+            SignerIdentifier::SubjectKeyIdentifier(x) => plain_length::<Implicit<&'a [u8], 0>, _>(
                 x,
-            ).encoded_length(),
+            ),
         }
     }
 }

@@ -1,0 +1,102 @@
+//! Private keys of elliptic curves (RFC 5915, 3).
+// Printed by scripts/derive from declarations/ec_private_key.rs, with the sum be8e47a2.
+
+ghost use Rattle.std.specs.Prelude.{◌≡◌, ◌∷◌, [], codes};
+ghost use Rattle.asn1.specs.Options.{option_meaning};
+ghost use Rattle.asn1.specs.Reads.{HasOneEncoding, ReadsContents};
+ghost use Rattle.asn1.specs.Structures.{explicit, structure, fields4};
+
+use asn1::fields::{Fields4, Row};
+use asn1::{
+    Asn1Type, BitString, Explicit, ObjectIdentifier, ParseResult, SimpleAsn1Readable,
+    SimpleAsn1Writable, Tag, WriteBuf, WriteError, WriteResult, fields_length, known_fields,
+    read_fields, write_fields,
+};
+use std::alloc::Global;
+
+/// A private key.
+#[derive(Debug, Clone, PartialEq, Eq, Hash, Drop)]
+pub struct EcPrivateKey<'a> {
+    /// The version, 1.
+    pub version: u8,
+    /// The key.
+    pub private_key: &'a [u8],
+    /// The curve, by its identifier.
+    pub parameters: Option<ObjectIdentifier>,
+    /// The public key.
+    pub public_key: Option<BitString<'a>>,
+}
+
+type EcPrivateKeyParametersField = Option<Explicit<ObjectIdentifier, 0>>;
+
+type EcPrivateKeyPublicKeyField<'a> = Option<Explicit<BitString<'a>, 1>>;
+
+type EcPrivateKeyFields<'a> = Fields4<
+    u8,
+    &'a [u8],
+    EcPrivateKeyParametersField,
+    EcPrivateKeyPublicKeyField<'a>,
+>;
+
+impl<'a> Asn1Type for EcPrivateKey<'a> {
+    ghost der = { structure (λ v. fields4 v.version v.private_key (option_meaning explicit
+        v.parameters) (option_meaning explicit v.public_key)) ⟦<EcPrivateKeyFields<'a> as Row>⟧.list
+        (codes "EcPrivateKey::version" ∷ codes "EcPrivateKey::private_key" ∷
+        codes "EcPrivateKey::parameters" ∷ codes "EcPrivateKey::public_key" ∷ []) };
+
+    fn known(&self) {
+        known_fields!(self;
+            version, private_key, parameters: EcPrivateKeyParametersField,
+            public_key: EcPrivateKeyPublicKeyField<'a>)
+    }
+}
+
+impl<'a> SimpleAsn1Readable<'a> for EcPrivateKey<'a> {
+    fn tag() -> Tag
+        ensures value { result ≡ ⟦<EcPrivateKey<'a> as Asn1Type>⟧.der.content.tag }
+        ensures simple { ⟦<EcPrivateKey<'a> as Asn1Type>⟧.der.is_simple }
+        ensures plain { ⟦<EcPrivateKey<'a> as Asn1Type>⟧.der.plain }
+    {
+        Tag::constructed(0x10)
+    }
+
+    fn parse_data(alloc: Global, data: &'a [u8]) -> ParseResult<EcPrivateKey<'a>>
+        ensures { ReadsContents ⟦<EcPrivateKey<'a> as Asn1Type>⟧.der «data».entry.now result }
+    {
+        read_fields!(EcPrivateKeyFields<'a>, alloc, data => EcPrivateKey {
+            version, private_key, parameters: EcPrivateKeyParametersField,
+            public_key: EcPrivateKeyPublicKeyField<'a>
+        })
+    }
+}
+
+impl<'a> SimpleAsn1Writable for EcPrivateKey<'a> {
+    type Error = WriteError;
+
+    ghost write_errors = { λ _ _. ⊥ };
+
+    fn tag() -> Tag
+        ensures value { result ≡ ⟦<EcPrivateKey<'a> as Asn1Type>⟧.der.content.tag }
+        ensures simple { ⟦<EcPrivateKey<'a> as Asn1Type>⟧.der.is_simple }
+    {
+        Tag::constructed(0x10)
+    }
+
+    fn write_data(&self, dest: &mut WriteBuf) -> WriteResult<()> {
+        write_fields!(self, dest;
+            version, private_key, parameters: EcPrivateKeyParametersField,
+            public_key: EcPrivateKeyPublicKeyField<'a>)
+    }
+
+    fn data_length(&self) -> Option<usize> {
+        fields_length!(self;
+            version, private_key, parameters: EcPrivateKeyParametersField,
+            public_key: EcPrivateKeyPublicKeyField<'a>)
+    }
+}
+
+/// Each value of `EcPrivateKey` has one encoding, which is read back.
+#[tactic(auto, using(asn1::specs::Lemmas::Fields::tags_differ))]
+pub fn ec_private_key_is_lawful()
+    ensures { HasOneEncoding ⟦<EcPrivateKey<'static> as Asn1Type>⟧.der }
+{}
