@@ -130,12 +130,24 @@ def function_in(item, start, path, is_public, trait="", indent=""):
 
 
 def functions(crate):
-    """The functions of a crate, those of its traits that have no body too."""
-    source = CRATES / crate / "src"
+    """The functions of a crate, those of its traits that have no body too. A method of no trait has the path of its type,
+    wherever its impl stands."""
+    source, texts = CRATES / crate / "src", {}
     for file in sorted(source.rglob("*.rt")):
         path = [crate, *(part for part in file.relative_to(source).with_suffix("").parts if part != "lib")]
-        for function in functions_in(file.read_text(), path):
+        texts[file] = path, file.read_text()
+    homes = {name: path for path, text in texts.values() for name in types_in(text)}
+    for file, (path, text) in texts.items():
+        for function in functions_in(text, path):
+            *_, block, name = function.name.split("::")
+            if not function.trait and block in homes and block not in types_in(text):
+                function = function._replace(name="::".join([*homes[block], block, name]))
             yield function._replace(file=file.relative_to(CRATES / crate))
+
+
+def types_in(text):
+    """The structs and enums of a file."""
+    return re.findall(r"^(?:pub )?(?:struct|enum) (\w+)", text, re.MULTILINE)
 
 
 @cache
