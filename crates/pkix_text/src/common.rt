@@ -58,7 +58,7 @@ impl Show for AttributeTypeAndValue<'_> {
 }
 
 /// The attributes of a set, which is a part of a name: each in the set's own place.
-impl Show for SetOf<'_, AttributeTypeAndValue<'_>> {
+impl<'a> Show for SetOf<'a, AttributeTypeAndValue<'a>> {
     fn show(&self, alloc: Global, place: &str, out: &mut String) -> Result<(), Fault> {
         let mut count = 0usize;
         for attribute in self.clone()? {
