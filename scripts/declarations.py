@@ -8,15 +8,13 @@ SKIP = r"\s+|//(?!/)[^\n]*|/\*.*?\*/"
 TOKEN = re.compile(rf"///[^\n]*|{SKIP}|{LIFE}(?!')|{WORD}|{NUMBER}|\"(?:\\.|[^\"\\])*\"|::|->|.", re.S)
 # Words of Rust and of Rattle, which no item, field or variant may have as its name; and those of clauses, which no
 # function may have.
-WORDS = (
-    "Self Type abstract as async await become box break const continue crate do dyn else ensures enum extern false final fn "
-    "for gen ghost if impl in let loop macro match mod move mut override priv pub ref requires return self static struct "
-    "super trait true try type typeof unsafe unsized use virtual where while yield"
-).split()
-OF_CLAUSES = (
-    "abbrev axiom coe com data deriving elim fcoe hcom infix infixl infixr module mutual open package record ruleset tcoe "
-    "unfold unfoldable unfolding"
-).split()
+WORDS = """
+    _ Self Type abstract as async await become box break const continue crate do dyn else ensures enum extern false final
+    fn for gen ghost if impl in let loop macro match mod move mut override priv pub ref requires return self static
+    struct super trait true try type typeof unsafe unsized use virtual where while yield""".split()
+OF_CLAUSES = """
+    abbrev axiom coe com data deriving elim fcoe hcom infix infixl infixr module mutual open package record ruleset
+    tcoe unfold unfoldable unfolding""".split()
 ATTRIBUTES = ("derive", "implicit", "explicit", "default", "defined_by")
 ORIGINAL = ("asn1", "std", "core", "alloc")
 
@@ -58,17 +56,26 @@ class Type:
 
 @dataclass
 class Item:
-    """A declaration, or a field or a variant of one."""
+    """A declaration, or a field or a variant of one. The parts of a variant are the types in its brackets."""
 
-    kind: str
-    name: str
-    line: int
-    doc: list
-    attributes: dict
-    type: Type = None
+    line: int = 0
+    kind: str = ""
+    name: str = ""
     life: str = ""
+    type: Type = None
+    doc: list = field(default_factory=list)
+    attributes: dict = field(default_factory=dict)
     parts: list = field(default_factory=list)
     arcs: list = field(default_factory=list)
+
+    def reject(self, wrong, reason):
+        """Rejects what is wrong with the item, by a reason that begins with its name."""
+        reject(wrong, self.line, f"`{self.name}` {reason}")
+
+    @property
+    def own(self):
+        """The item's type."""
+        return str(Type(self.name, [self.life] if self.life else []))
 
     @property
     def wanted(self):
@@ -110,12 +117,6 @@ class Reader:
         reject(not found, self.line, f"{what} was expected, and `{stands}` stands here")
         return found
 
-    def name(self, what):
-        """A name that is declared."""
-        line, name = self.line, self.expect(WORD, what)
-        reject(name in WORDS, line, f"`{name}` is a word of Rust or Rattle: name it otherwise")
-        return name
-
     def until(self, end):
         """The tokens up to this one, which is left out; brackets are passed over as a whole."""
         words, depth = [], 0
@@ -125,27 +126,36 @@ class Reader:
             words.append(word)
         return words
 
-    def head(self):
-        """The doc comment and the attributes in front of an item, and its visibility, which isn't kept."""
-        doc, attributes = [], {}
-        while line := self.takes("///.*") or self.takes("#"):
-            if line != "#":
-                doc.append(line)
-                continue
-            line = self.line
-            self.expect(r"\[")
-            name, words = self.expect(WORD, "an attribute"), self.until("]")
-            if name == "doc" and words[:1] == ["="]:
-                doc.append("///" + words[1][1:-1])
-            elif name in ATTRIBUTES:
-                reject(name in attributes and name != "derive", line, f"the attribute `{name}` stands here twice")
-                attributes[name] = attributes.get(name, []) + [*words[1:-1], ","]
+    def item(self, what, is_part=True):
+        """A declaration, or a field or a variant, up to its name. Its visibility isn't kept."""
+        found = Item()
+        while word := self.takes("///.*") or self.takes("#"):
+            if word == "#":
+                self.attribute(found)
             else:
-                reject(name != "allow", line, f"the attribute `{name}` isn't known")
+                found.doc.append(word)
         if self.takes("pub", r"\("):
             self.until(r"\)")
         self.takes("pub")
-        return doc, attributes
+        found.line, found.kind = self.line, "" if is_part else self.expect(WORD, "a declaration")
+        is_other = found.kind not in ("", "struct", "enum", "type", "const")
+        reject(is_other, found.line, f"`{found.kind}` isn't a struct, an enum, an alias or an identifier's constant")
+        line, found.name = self.line, self.expect(WORD, what)
+        reject(found.name in WORDS, line, f"`{found.name}` is a word of Rust or Rattle: name it otherwise")
+        return found
+
+    def attribute(self, item):
+        line = self.line
+        self.expect(r"\[")
+        name, words = self.expect(WORD, "an attribute"), self.until("]")
+        if name == "doc" and len(words) == 2 and words[0] == "=":
+            item.doc.append("///" + words[1][1:-1])
+        elif name in ATTRIBUTES:
+            is_twice = name in item.attributes and name != "derive"
+            reject(is_twice, line, f"the attribute `{name}` stands here twice")
+            item.attributes[name] = item.attributes.get(name, []) + [*words[1:-1], ","]
+        else:
+            reject(name != "allow", line, f"the attribute `{name}` isn't known")
 
     def path(self):
         """A path's last name, with what stands in front of it unless this is the crate `asn1` or a part of std."""
@@ -179,19 +189,19 @@ class Reader:
         return found
 
     def field(self):
-        doc, attributes = self.head()
-        line, name = self.line, self.name("a field's name")
+        found = self.item("a field's name")
         self.expect(":")
-        return Item("field", name, line, doc, attributes, self.type())
+        found.type = self.type()
+        return found
 
     def variant(self):
-        doc, attributes = self.head()
-        line, name = self.line, self.name("a variant's name")
-        types = self.parts(self.type, r"\)") if self.takes(r"\(") else []
-        reject(not types, line, f"`{name}` has no unnamed field: a variant has exactly one")
-        is_one = len(types) == 1 or "default" in attributes
-        reject(not is_one, line, f"`{name}` has more than one field: a variant has exactly one")
-        return Item("variant", name, line, doc, attributes, types[-1], parts=types)
+        found = self.item("a variant's name")
+        found.parts = self.parts(self.type, r"\)") if self.takes(r"\(") else []
+        found.reject(not found.parts, "has no unnamed field: a variant has exactly one")
+        is_one = len(found.parts) == 1 or "default" in found.attributes
+        found.reject(not is_one, "has more than one field: a variant has exactly one")
+        found.type = found.parts[-1]
+        return found
 
     def parts(self, read, end):
         """What stands between brackets, with commas between."""
@@ -204,33 +214,30 @@ class Reader:
         return found
 
     def declaration(self):
-        doc, attributes = self.head()
-        line, kind = self.line, self.expect(WORD, "a declaration")
-        kinds = ("struct", "enum", "type", "const")
-        reject(kind not in kinds, line, f"`{kind}` isn't a struct, an enum, an alias or an identifier's constant")
-        found = Item(kind, self.name("a name"), line, doc, attributes)
-        if kind == "const":
+        found = self.item("a name", is_part=False)
+        if found.kind == "const":
             return self.constant(found)
         found.life = self.life()
-        if kind == "type":
+        if found.kind == "type":
             self.expect("=")
             found.type = self.type()
             self.expect(";")
             return found
-        reject(not self.takes("{"), line, f"`{found.name}` has no named fields")
-        found.parts = self.parts(self.field if kind == "struct" else self.variant, "}")
+        found.reject(not self.takes("{"), "has no named fields")
+        found.parts = self.parts(self.field if found.kind == "struct" else self.variant, "}")
         return found
 
     def constant(self, found):
-        is_word = found.name.lower() in (*WORDS, *OF_CLAUSES)
-        reject(is_word, found.line, f"`{found.name.lower()}` is a word, and a function's name here: name it otherwise")
+        function = found.name.lower()
+        is_word = function in (*WORDS, *OF_CLAUSES)
+        reject(is_word, found.line, f"`{function}` is a word, and a function's name here: name it otherwise")
         self.expect(":")
-        reject(self.type().name != "ObjectIdentifier", found.line, f"`{found.name}` isn't an object identifier")
+        found.reject(self.type().name != "ObjectIdentifier", "isn't an object identifier")
         self.expect("=")
-        reject(self.path() != "oid" or not self.takes("!", r"\("), found.line, f"`{found.name}` isn't made by `oid!`")
+        found.reject(self.path() != "oid" or not self.takes("!", r"\("), "isn't made by `oid!`")
         found.arcs = [word for word in self.until(r"\)") if word != ","]
-        are_numbers = all(re.fullmatch(r"\d[\d_]*", arc) for arc in found.arcs) and len(found.arcs) > 1
-        reject(not are_numbers, found.line, f"`{found.name}` isn't written as two or more numbers")
+        are_numbers = all(re.fullmatch(r"\d[\d_]*", arc) for arc in found.arcs)
+        found.reject(not are_numbers or len(found.arcs) < 2, "isn't written as two or more numbers")
         self.expect(";")
         return found
 

@@ -27,8 +27,8 @@ ANY = "any"
 
 @dataclass(frozen=True)
 class Known:
-    """What is known of a type: its tags, its derives, whether a field of it may be missing, whether it has one tag of its
-    own, and whether its writes fail as those of a list that is made in code."""
+    """What is known of a type: its tags, its derives, whether a field of it may be missing, whether it has one tag of
+    its own, and whether its writes fail as those of a list that is made in code."""
 
     tags: object = None
     derives: frozenset = COPY
@@ -41,34 +41,22 @@ def tagged(number, is_constructed=False, kind="universal"):
     return frozenset({(kind, number, is_constructed)})
 
 
-# Types by the number of their tag, their derives, and their names.
+# Types by their derives and by what stands in their brackets, each name behind the number of its tag.
 LIBRARY = {
-    name: (Known(tagged(number, number in (16, 17)), derives), shape)
-    for number, derives, shape, names in (
-        (1, COPY, "", "bool"),
-        (2, COPY, "", " ".join(BITS)),
-        (2, COPY, "'", "BigInt BigUint"),
-        (2, ALL, "", "OwnedBigInt OwnedBigUint"),
-        (3, ALL, "'", "BitString"),
-        (3, ALL, "", "OwnedBitString"),
-        (4, COPY, "", "[u8]"),
-        (5, COPY, "", "() Null"),
-        (6, ALL, "", "ObjectIdentifier"),
-        (10, frozenset({"Debug", "PartialEq", "Eq"}), "", "Enumerated"),
-        (12, ALL, "'", "Utf8String"),
-        (16, COPY, "'", "Sequence"),
-        (17, ALL, "'", "Set"),
-        (19, ALL, "'", "PrintableString"),
-        (22, ALL - {"Hash"}, "'", "IA5String"),
-        (23, ALL, "", "UtcTime"),
-        (24, ALL, "", "GeneralizedTime X509GeneralizedTime"),
-        (26, ALL - {"Hash"}, "'", "VisibleString"),
-        (28, ALL, "'", "UniversalString"),
-        (30, ALL, "'", "BMPString"),
+    name: (Known(tagged(int(number), number in ("16", "17")), derives), shape)
+    for derives, shape, types in (
+        (COPY, "", "1 bool, 4 [u8], 5 (), 5 Null, " + ", ".join(f"2 {name}" for name in BITS)),
+        (COPY, "'", "2 BigInt, 2 BigUint, 16 Sequence"),
+        (COPY, "n", "4 [u8; N]"),
+        (ALL, "", "2 OwnedBigInt, 2 OwnedBigUint, 3 OwnedBitString, 6 ObjectIdentifier"),
+        (ALL, "", "23 UtcTime, 24 GeneralizedTime, 24 X509GeneralizedTime"),
+        (ALL, "'", "3 BitString, 12 Utf8String, 17 Set, 19 PrintableString, 28 UniversalString, 30 BMPString"),
+        (ALL - {"Hash"}, "'", "22 IA5String, 26 VisibleString"),
+        (frozenset({"Debug", "PartialEq", "Eq"}), "", "10 Enumerated"),
     )
-    for name in names.split()
+    for number, name in (type.split(" ", 1) for type in types.split(", "))
 }
-LIBRARY |= {"[u8; N]": (Known(tagged(4)), "n"), "Tlv": (Known(ANY, is_simple=False), "'")}
+LIBRARY["Tlv"] = (Known(ANY, is_simple=False), "'")
 
 
 class Module:
@@ -76,17 +64,16 @@ class Module:
 
     def __init__(self, items, imported):
         self.items, self.imported, self.seen = {item.name: item for item in items}, imported, {}
-        for names in (items, *(item.parts for item in items)):
-            for at, other in enumerate(names):
-                is_twice = other.name in [before.name for before in names[:at]]
-                reject(is_twice, other.line, f"`{other.name}` is declared twice")
+        for named in (items, *(item.parts for item in items)):
+            for at, one in enumerate(named):
+                one.reject(one.name in [before.name for before in named[:at]], "is declared twice")
         for item in items:
             self.check_item(item)
             for part in item.parts:
                 set_form(item, part)
         for item in items:
             if item.kind != "const":
-                self.known(Type(item.name, [item.life][: bool(item.life)], item.line))
+                self.known(Type(item.name, [item.life] if item.life else [], item.line))
         for item in items:
             for at, part in enumerate(item.parts):
                 self.check_part(item, part)
@@ -95,16 +82,15 @@ class Module:
     def check_item(self, item):
         """A declaration is none of a type of the library, of a size that has a form, and of one lifetime."""
         is_other = item.name in SHAPES or item.name in self.imported
-        reject(is_other, item.line, f"`{item.name}` is imported, or a type of the library: name it otherwise")
-        is_large = item.kind == "struct" and len(item.parts) > MOST_FIELDS
-        reject(is_large, item.line, f"`{item.name}` has more than {MOST_FIELDS} fields")
+        item.reject(is_other, "is imported, or a type of the library: name it otherwise")
+        item.reject(item.kind == "struct" and len(item.parts) > MOST_FIELDS, f"has more than {MOST_FIELDS} fields")
         has_no_form = item.kind == "enum" and not 0 < len(item.parts) <= MOST_VARIANTS
-        reject(has_no_form, item.line, f"`{item.name}` has no variant, or more than {MOST_VARIANTS}")
+        item.reject(has_no_form, f"has no variant, or more than {MOST_VARIANTS}")
         types = [item.type] if item.type else [type for part in item.parts for type in part.parts or [part.type]]
         for type in types:
             reject(set(type.lives()) - {item.life}, type.line, f"a lifetime that `{item.name}` doesn't declare")
         is_unused = item.life and not any(type.lives() for type in types)
-        reject(is_unused, item.line, f"`{item.name}` declares a lifetime, and nothing in it has one")
+        item.reject(is_unused, "declares a lifetime, and nothing in it has one")
 
     def known(self, type):
         """What is known of a type; nothing where it is declared elsewhere."""
@@ -113,14 +99,13 @@ class Module:
         if item:
             shape = "'" if item.life else ""
         is_known = shape is not None or name in ("&", "Defaulted", *self.imported) or "::" in name
-        why = f"`{name}` is no type of the library, and neither declared nor imported here"
-        reject(not is_known, type.line, why)
+        reject(not is_known, type.line, f"`{name}` is no type of the library, and neither declared nor imported here")
         kinds = "".join("T" if isinstance(arg, Type) else "'" if arg.startswith("'") else "n" for arg in type.args)
         is_wrong = shape is not None and not re.fullmatch(shape, kinds)
         reject(is_wrong, type.line, f"`{name}` lacks its lifetime, its type or its number, or has another")
         if not item:
             return found or self.known_around(type, *map(self.known, type.inner))
-        reject(self.seen.get(name, item) is None, item.line, f"`{name}` is recursive: it has no form")
+        item.reject(self.seen.get(name, item) is None, "is recursive: it has no form")
         if name not in self.seen:
             self.seen[name] = None
             self.seen[name] = self.known_item(item)
@@ -157,9 +142,8 @@ class Module:
         by = "DefinedBy" if any("DefinedBy" in name for name in item.wanted) else ""
         item.reads, item.writes = f"Asn1{by}Read" in item.wanted, f"Asn1{by}Write" in item.wanted
         is_both = by and ("Asn1Read" in item.wanted or "Asn1Write" in item.wanted or item.kind == "struct")
-        reject(is_both, item.line, f"`{item.name}` is defined by an item: an enum with no other derive of `asn1`")
-        why = f"`{item.name}` derives neither `Asn1Read` nor `Asn1Write`"
-        reject(not (item.reads or item.writes), item.line, why)
+        item.reject(is_both, "is defined by an item: an enum with no other derive of `asn1`")
+        item.reject(not (item.reads or item.writes), "derives neither `Asn1Read` nor `Asn1Write`")
         parts = [(part.name, self.known(type)) for part in item.parts for type in [*part.parts[:-1], part.form]]
         set_derives(item, parts)
         tags = [known.tags for _, known in parts]
@@ -172,33 +156,31 @@ class Module:
     def check_part(self, item, part):
         """A value that an item defines stands behind it, and under an explicit tag at most."""
         type, known = self.known(part.type), self.known(part.form)
-        declared = self.items.get((part.type.inner[0] if part.is_option else part.type).name)
-        by, is_value = "defined_by" in part.attributes and item.kind == "struct", bool(declared and declared.is_defined)
         is_choice = item.kind == "enum" and part.tag and not type.is_simple and type.tags != ANY
-        reject(is_choice, part.line, f"`{part.name}` is a choice or an option under a tag: put a struct around it")
-        why = f"`{part.name}` is defined by an item: it follows that, with `#[defined_by(..)]`"
-        reject(is_value and not by, part.line, why)
-        why = f"`{part.name}` is defined by an item: it is there, with an explicit tag or none"
-        reject(by and part.form.name in ("Option", "Implicit", "Defaulted"), part.line, why)
-        is_other = by and not is_value and (declared or part.base.name in LIBRARY or part.base.name in SHAPES)
-        reject(is_other, part.line, f"`{part.name}` is defined by an item, and its type is not")
+        part.reject(is_choice, "is a choice or an option under a tag: put a struct around it")
+        declared = self.items.get((part.type.inner[0] if part.is_option else part.type).name)
+        by, is_value = item.kind == "struct" and "defined_by" in part.attributes, declared and declared.is_defined
+        part.reject(is_value and not by, "is defined by an item: it follows that, with `#[defined_by(..)]`")
+        is_wrapped = part.form.name in ("Option", "Implicit", "Defaulted")
+        part.reject(by and is_wrapped, "is defined by an item: it is there, with an explicit tag or none")
+        is_other = not is_value and (declared or part.base.name in LIBRARY or part.base.name in SHAPES)
+        part.reject(by and is_other, "is defined by an item, and its type is not")
         # The trait whose impl says which errors a write returns, where these are not none.
         part.fails = known.fails and ("SimpleAsn1Writable" if known.is_simple else "Asn1Writable")
-        why = f"`{part.name}` is a list made in code: it stands only in a struct that isn't read"
-        reject(part.fails and (item.reads or item.kind == "enum"), part.line, why)
+        is_read = item.reads or item.kind == "enum"
+        part.reject(part.fails and is_read, "is a list made in code: it stands only in a struct that isn't read")
 
     def check_tags(self, item, part, others):
         """A field that may be missing is told from what may follow it, and a variant from the others."""
         is_choice, one = item.kind == "enum" and not item.is_defined, self.known(part.form)
-        why = f"`{part.name}` may be missing, and is an alternative of a choice"
-        reject(is_choice and one.is_missing, part.line, why)
+        part.reject(is_choice and one.is_missing, "may be missing, and is an alternative of a choice")
         if not is_choice and (item.kind == "enum" or not one.is_missing):
             return
         for other in others:
             two = self.known(other.form)
-            are_known = None not in (one.tags, two.tags)
+            is_same = None not in (one.tags, two.tags) and (ANY in (one.tags, two.tags) or one.tags & two.tags)
             why = f"a tag of `{other.name}` is one of `{part.name}` too, from which it is told by its tag"
-            reject(are_known and (ANY in (one.tags, two.tags) or one.tags & two.tags), other.line, why)
+            reject(is_same, other.line, why)
             if not is_choice and not two.is_missing:
                 return
 
@@ -207,47 +189,48 @@ def set_derives(item, parts):
     """The derives that all parts have; and what is said of the others."""
     lacks, left = {name: next((part for part, known in parts if name not in known.derives), "") for name in KEPT}, {}
     item.derives = [name for name in KEPT if name in item.wanted and not lacks[name]]
-    for name in [name for name in item.wanted if name not in (*item.derives, *ASN1)]:
-        left.setdefault(f"which `{lacks[name]}` lacks" if name in KEPT else "which isn't kept", []).append(f"`{name}`")
+    for name in item.wanted:
+        if name not in (*item.derives, *ASN1):
+            why = f"which `{lacks[name]}` lacks" if name in KEPT else "which isn't kept"
+            left.setdefault(why, []).append(f"`{name}`")
     said = "; ".join(f"{', '.join(names)}, {why}" for why, names in left.items())
     item.note = f"`{item.name}` is printed without {said}" if left else ""
 
 
 def set_form(item, part):
     """Gives a field or a variant its type in the row, and what is said of it by its attributes."""
-    in_struct, attributes, line = item.kind == "struct", part.attributes, part.line
+    in_struct, attributes, is_option = item.kind == "struct", part.attributes, part.type.name == "Option"
     tags = [name for name in ("implicit", "explicit") if name in attributes]
-    reject(len(tags) > 1, line, f"`{part.name}` is both implicit and explicit")
-    part.tag = tags[0] if tags else ""
-    others, is_option = set(attributes) - {part.tag}, part.type.name == "Option"
+    part.reject(len(tags) > 1, "is both implicit and explicit")
+    part.tag = "".join(tags)
+    others = set(attributes) - {part.tag}
     is_by = others == {"defined_by"} or set(attributes) == {"default"}
-    reject(item.is_defined and not is_by, line, f"`{part.name}` has neither `#[defined_by(..)]` nor `#[default]` alone")
+    part.reject(item.is_defined and not is_by, "has neither `#[defined_by(..)]` nor `#[default]` alone")
     is_wrong = not in_struct and not item.is_defined and others or "derive" in attributes
-    reject(is_wrong, line, f"an attribute that `{part.name}` can't have")
-    count, required = number_of(part) if part.tag else ("", False)
+    reject(is_wrong, part.line, f"an attribute that `{part.name}` can't have")
+    number, required = number_of(part) if part.tag else ("", False)
     has_default = in_struct and "default" in attributes
-    why = f"`{part.name}` has a default, so it is neither an option nor required"
-    reject(has_default and (is_option or required), line, why)
-    is_either = not in_struct or has_default or not part.tag or is_option != required
-    reject(not is_either, line, f"`{part.name}` has a tag: either it is an option, or the tag says `required = true`")
+    part.reject(has_default and (is_option or required), "has a default, so it is neither an option nor required")
+    is_unclear = in_struct and part.tag and not has_default and is_option == required
+    part.reject(is_unclear, "has a tag: either it is an option, or the tag says `required = true`")
     is_around = is_option and part.tag and in_struct and part.type.inner
     part.is_option, part.base = is_option, part.type.inner[0] if is_around else part.type
-    part.form = Type(part.tag.capitalize(), [part.base, count], line) if part.tag else part.base
-    part.form = Type("Option", [part.form], line) if is_around else part.form
+    part.form = Type(part.tag.capitalize(), [part.base, number], part.line) if part.tag else part.base
+    part.form = Type("Option", [part.form], part.line) if is_around else part.form
     part.default = literal(part) if has_default else None
-    part.form = Type("Defaulted", [part.form, item.name + camel(part.name)], line) if has_default else part.form
+    part.form = Type("Defaulted", [part.form, item.name + camel(part.name)], part.line) if has_default else part.form
     # Whether the type in the row is another than the field's.
     part.is_wrapped = in_struct and part.form is not part.type and "defined_by" not in attributes
 
 
 def number_of(part):
     """The number of an item's tag, and whether the field is there always."""
-    words = part.attributes[part.tag]
-    reject(not re.fullmatch(r"\d[\d_]*", words[0]), part.line, f"`{part.tag}` without a number")
-    said = "".join(words[1:]).strip(",")
+    number, *others = part.attributes[part.tag]
+    reject(not re.fullmatch(r"\d[\d_]*", number), part.line, f"`{part.tag}` without a number")
+    said = "".join(others).strip(",")
     is_known = said in ("", "required=true", "required=false")
     reject(not is_known, part.line, f"`{part.tag}` takes a number and `required = true`")
-    return words[0].replace("_", ""), said == "required=true"
+    return number.replace("_", ""), said == "required=true"
 
 
 def literal(part):
@@ -259,8 +242,7 @@ def literal(part):
     value, bits = re.sub(r"_|[ui]\d+$", "", value), BITS.get(type, 0)
     least, most = (0, 2**bits) if type[0] == "u" else (-(2**bits) // 2, 2**bits // 2)
     fits = is_boolean if type == "bool" else bits and not is_boolean and least <= int(value) < most
-    why = f"`{value}` is no value of `{type}`: a default is of a Boolean or an integer type"
-    reject(not fits, part.line, why)
+    reject(not fits, part.line, f"`{value}` is no value of `{type}`: a default is of a Boolean or an integer type")
     return value
 
 

@@ -2,7 +2,8 @@
 
 from declarations import reject
 from derived_forms import (
-    ERROR, angle, comment, der, function, ghost, impl, lines_of, match, method, own, quoted, side, stated, variants_of, writes
+    ERROR, NO_ERRORS, angle, comment, der, function, ghost, impl, match, method, parse_method, quoted, side, stated,
+    variants_of, writes,
 )
 
 ITEM = "ObjectIdentifier"
@@ -21,6 +22,7 @@ fn is_identifier(item: &ObjectIdentifier, known: ObjectIdentifier) -> bool
 
 def is_identifier_answer(crate, path):
     """The proof that equal identifiers have the same numbers."""
+    numbers = "(identifier_of c.args.item.now) (identifier_of c.args.known)"
     return f"""use Rattle.std.proofs.Common.{{◌≡◌, sym, ◌∙◌}}
 use Rattle.std.specs.Bool.{{Decides}}
 use Rattle.std.specs.Str.{{bytes_eq}}
@@ -36,8 +38,8 @@ returns c =
       λ e. same.0 (sym c.eq.ensures ∙ e),
       λ e. c.eq.ensures ∙ same.1 e,
     ) in
-    let same_numbers = bytes_eq-Decides (identifier_of c.args.item.now) (identifier_of c.args.known) in
-    same_from_decides c.eq.result (bytes_eq (identifier_of c.args.item.now) (identifier_of c.args.known)) told same_numbers
+    let same_numbers = bytes_eq-Decides {numbers} in
+    same_from_decides c.eq.result (bytes_eq {numbers}) told same_numbers
 """
 
 
@@ -48,7 +50,7 @@ def octets_of(item):
     """The encoded numbers of an identifier (X.690 8.19.4), and its contents octets."""
     first, second, *others = [int(arc.replace("_", "")) for arc in item.arcs]
     is_wrong = first > 2 or first < 2 and second > 39
-    reject(is_wrong, item.line, f"`{item.name}` is no identifier: its second number is below 40 after 0 and 1")
+    item.reject(is_wrong, "is no identifier: its second number is below 40 after 0 and 1")
     numbers, octets = [40 * first + second, *others], []
     for number in numbers:
         digits = [number & 127]
@@ -56,7 +58,7 @@ def octets_of(item):
             digits.insert(0, number & 127 | 128)
         octets += digits
     is_large = len(octets) > 63 or max(numbers) >= 2**128
-    reject(is_large, item.line, f"`{item.name}` has more than 63 octets, or a number from 2^128 on")
+    item.reject(is_large, "has more than 63 octets, or a number from 2^128 on")
     return numbers, octets
 
 
@@ -119,17 +121,17 @@ def defined(module, item, specs):
     text = other_struct(item) if item.other else ""
     text += stated(item, "This alternative.", [f"{part.name}({type})" for part, type in zip(item.parts, types)])
     means = ghost("by", f"by_item (record {{\nitem = {der(ITEM)};\nvalue = {alternatives(item)};\n}})")
-    known = function("fn known_by(&self)", match(item, lambda part: "x.known()", item.other and "x.value.known()"))
+    known = function("fn known_by(&self)", match(item, "x.known()", "x.value.known()"))
     text += impl(item, f"Asn1DefinedBy<{ITEM}> ", variants_of(item, specs), means, known)
     both = ghost("both", f"record {{\nitem = {der(ITEM)};\nvalue = {by(item)}.means;\n}}")
-    told = match(item, lambda part: f"{part.call}.known()", item.other and "x.item.known()", "_")
+    told = match(item, "{call}.known()", "x.item.known()", "_")
     agrees = ghost("agrees", "word_for_word _")
     text += impl(item, f"DefinedField<{ITEM}> ", both, function("fn known_item(&self)", told), agrees)
     text += readable(item) if item.reads else ""
     if item.writes:
-        body = match(item, lambda part: part.call, item.other and "x.item.clone().unwrap()", "_")
-        members = ghost("write_errors_by", "λ _ _. ⊥"), function(f"fn item(&self) -> {ITEM}", body)
-        text += impl(item, f"Asn1DefinedByWritable<{ITEM}> ", ERROR, *members, *writes(item, item.other and "x.value"))
+        body = match(item, "{call}", "x.item.clone().unwrap()", "_")
+        members = ghost("write_errors_by", NO_ERRORS), function(f"fn item(&self) -> {ITEM}", body)
+        text += impl(item, f"Asn1DefinedByWritable<{ITEM}> ", ERROR, *members, *writes(item, "x.value"))
     return text
 
 
@@ -143,67 +145,68 @@ def check(module, item):
         reject(not is_known, part.line, f"`{name}` is no identifier that is declared here")
         part.call, part.numbers = f"{name.lower()}()", f"{name}_NUMBERS"
         first = numbers.setdefault(tuple(octets_of(part.identifier)[0]), part)
-        reject(first is not part, part.line, f"`{part.name}` has the identifier of `{first.name}`")
-    reject(not item.known, item.line, f"`{item.name}` has no variant of an identifier")
+        part.reject(first is not part, f"has the identifier of `{first.name}`")
+    item.reject(not item.known, "has no variant of an identifier")
     if other:
-        why = f"`{other.name}` is the default, and not the last variant"
-        reject(other is not item.parts[-1], other.line, why)
-        why = f"`{other.name}` is the default, and not of an `{ITEM}` and a `Tlv`"
-        reject([str(type) for type in other.parts] != [ITEM, f"Tlv<{item.life}>"], other.line, why)
+        other.reject(other is not item.parts[-1], "is the default, and not the last variant")
+        types = [str(type) for type in other.parts]
+        other.reject(types != [ITEM, f"Tlv<{item.life}>"], f"is the default, and not of an `{ITEM}` and a `Tlv`")
 
 
 def by(item):
-    return quoted(own(item), f"Asn1DefinedBy<{ITEM}>") + ".by"
-
-
-def is_known(part, value):
-    """Whether the item is the variant's, as a fact."""
-    return f"bytes_eq (identifier_of item) {part.numbers} ≡ {value}"
+    return quoted(item.own, f"Asn1DefinedBy<{ITEM}>") + ".by"
 
 
 def other_struct(item):
     """What the default keeps: an identifier that no other variant is for, and the value."""
-    name, tlv = item.name + item.other.name, f"Tlv{angle(item.life)}"
-    type = name + angle(item.life)
-    facts = lines_of(f"    pub ghost is_not_{part.call[:-2]}: {{ {is_known(part, 'false')} }}," for part in item.known)
-    *first, served = [f"({is_known(part, 'true')})" for part in item.known]
-    for fact in reversed(first):
-        served = f"({fact} ⊎ {served})"
-    kept = f"{{ MatchOption result {served} (λ v. (v.item ≡ item) × (v.value ≡ value.entry)) }}"
-    tests = " || ".join(f"is_identifier(&item, {part.call})" for part in item.known)
-    body = f"if {tests} {{ return None; }}\n        Some({name} {{ item, value }})"
+    name, life = item.name + item.other.name, angle(item.life)
+    is_known = [(part.call, f"bytes_eq (identifier_of item) {part.numbers} ≡") for part in item.known]
+    facts = "\n".join(f"    pub ghost is_not_{call[:-2]}: {{ {fact} false }}," for call, fact in is_known)
+    served = f"({is_known[-1][1]} true)"
+    for _, fact in reversed(is_known[:-1]):
+        served = f"(({fact} true) ⊎ {served})"
+    tests = " || ".join(f"is_identifier(&item, {call})" for call, _ in is_known)
     text = f"""
 /// An identifier that no other variant of `{item.name}` is for, and the value.
 #[derive({', '.join([*[each for each in item.derives if each != "Clone"], 'Drop'])})]
-pub struct {type} {{
+pub struct {name}{life} {{
     item: {ITEM},
-    value: {tlv},
+    value: Tlv{life},
 {facts}
 }}
 
-impl{angle(item.life)} {type} {{
+impl{life} {name}{life} {{
     /// Of this identifier and this value; `None` where another variant is for the identifier.
-{function(f"pub fn new(item: {ITEM}, value: {tlv}) -> Option<{type}>", body, kept)}
+    pub fn new(item: {ITEM}, value: Tlv{life}) -> Option<{name}{life}>
+        ensures {{ MatchOption result {served} (λ v. (v.item ≡ item) × (v.value ≡ value.entry)) }}
+    {{
+        if {tests} {{ return None; }}
+        Some({name} {{ item, value }})
+    }}
 
     /// The identifier.
-{function(f"pub fn item(&self) -> &{ITEM}", "&self.item", "{ result.now ≡ self.now.item }")}
+    pub fn item(&self) -> &{ITEM}
+        ensures {{ result.now ≡ self.now.item }}
+    {{ &self.item }}
 
     /// The value.
-{function(f"pub fn value(&self) -> {tlv}", "self.value", "{ result ≡ self.now.value }")}
+    pub fn value(&self) -> Tlv{life}
+        ensures {{ result ≡ self.now.value }}
+    {{ self.value }}
 }}
 """
-    if "Clone" not in item.derives:
-        return text
-    # It isn't derived where a ghost field stands.
-    same = "λ x y. (identifier_of y.item ≡ identifier_of x.item) × (y.value ≡ x.value)"
-    body = f"Ok({name} {{ item: self.item.clone()?, value: self.value }})"
-    return f"""{text}
-impl{angle(item.life)} Clone for {type} {{
-{ghost("is_clone", same)}
+    return text + clone_of(name, life) if "Clone" in item.derives else text
 
-{ghost("is_infallible", "λ _. ⊤")}
 
-{function(f"fn clone(&self) -> Result<{type}, AllocError>", body)}
+def clone_of(name, life):
+    """The impl of `Clone` for what the default keeps: it isn't derived where a ghost field stands."""
+    return f"""
+impl{life} Clone for {name}{life} {{
+    ghost is_clone = {{ λ x y. (identifier_of y.item ≡ identifier_of x.item) × (y.value ≡ x.value) }};
+    ghost is_infallible = {{ λ _. ⊤ }};
+    fn clone(&self) -> Result<{name}{life}, AllocError> {{
+        Ok({name} {{ item: self.item.clone()?, value: self.value }})
+    }}
 }}
 """
 
@@ -234,27 +237,20 @@ def readable(item):
     if other:
         value = f"{item.name}{other.name} {{ item, value: parser.read_element::<Tlv<{life}>>()? }}"
         last = f"Ok({item.name}::{other.name}({value}))"
-    parse = method(
-        item,
-        f"fn parse(item: {ITEM}, parser: &mut Parser<{life}>) -> ParseResult<{own(item)}>",
-        " ".join([*tests, last]),
-        f"answers {{ ReadsDefined {by(item)} item parser.old parser.new result }}",
-        "rest { EndsWith parser.old parser.new }",
-        f"stops {{ OnErr result ({by(item)}.means.stops ({by(item)}.seen item) parser.old parser.new) }}",
-    )
+    body, stops = " ".join([*tests, last]), f"{by(item)}.means.stops ({by(item)}.seen item)"
+    parse = parse_method(item, f"item: {ITEM}, ", body, f"ReadsDefined {by(item)} item", stops)
     one_text = method(item, "fn one_text()", "", f"{{ {by(item)}.means.plain }}")
     return impl(item, f"Asn1DefinedByReadable<{life}, {ITEM}> ", parse, one_text, life=life)
 
 
 def write_answer(item, module, crate, path):
-    """The proofs that the write of large variants owes: their types have one encoding, so that nothing more is asked."""
+    """The proofs that the write of large variants owes: their types have one encoding, so nothing more is asked."""
     plain = [part for part in item.parts if not part.tag]
     large = [part.name for part in plain if part is not item.other and holds(module, part.base)]
     goals = [f"write_element-requires-in-{name}" if plain[1:] else "write_element-requires" for name in large]
     lines = "".join(f"\npub {goal} : goal.{goal}\n{goal} c = inl (search rules)\n" for goal in goals)
-    function = f"{item.name}Asn1DefinedByWritable{ITEM}.write"
     return goals and f"""use Rattle.std.proofs.Common.{{inl, rules}}
-use Rattle.{crate}.proofs.{path}{function}.Goals as goal
+use Rattle.{crate}.proofs.{path}{item.name}Asn1DefinedByWritable{ITEM}.write.Goals as goal
 {lines}"""
 
 

@@ -2,20 +2,15 @@
 
 import textwrap
 
-from declarations import reject
 from declared_types import camel, snake
 
 WIDTH = 100
 BY_TAGS = "#[tactic(auto, using(asn1::specs::Lemmas::Fields::tags_differ))]\n"
-ERROR = "    type Error = WriteError;"
+ERROR, NO_ERRORS = "    type Error = WriteError;", "λ _ _. ⊥"
 
 
 def angle(life):
     return f"<{life}>" if life else ""
-
-
-def own(item):
-    return item.name + angle(item.life)
 
 
 def quoted(type, trait="Asn1Type"):
@@ -36,10 +31,6 @@ def group(words):
     return f"({words})" if " " in words else words
 
 
-def lines_of(texts):
-    return "\n".join(texts)
-
-
 def function(head, body, *clauses):
     said = "".join(f"\n        ensures {clause}" for clause in clauses)
     return f"    {head}{said}\n    {{\n        {body}\n    }}"
@@ -56,15 +47,15 @@ def ghost(name, term):
 
 def impl(item, trait, *members, life=""):
     """An impl of a trait, which may name a lifetime where the type has none."""
-    return f"\nimpl{angle(item.life or life)} {trait}for {own(item)} {{\n" + "\n\n".join(members) + "\n}\n"
+    return f"\nimpl{angle(item.life or life)} {trait}for {item.own} {{\n" + "\n".join(members) + "\n}\n"
 
 
 def stated(item, default, fields):
     """The struct or the enum, with its comments and its derives."""
     derives = item.derives + ([] if "Copy" in item.derives else ["Drop"])
-    parts = lines_of(f"    {comment(part, default)}\n    {field}," for part, field in zip(item.parts, fields))
+    parts = "\n".join(f"    {comment(part, default)}\n    {field}," for part, field in zip(item.parts, fields))
     text = f"\n{comment(item, f'`{item.name}`.')}\n#[derive({', '.join(derives)})]\n"
-    return f"{text}pub {item.kind} {own(item)} {{\n{parts}\n}}\n"
+    return f"{text}pub {item.kind} {item.own} {{\n{parts}\n}}\n"
 
 
 def call(head, entries, tail):
@@ -81,24 +72,25 @@ def call(head, entries, tail):
 
 
 def pair_items(item):
-    """Gives each marker the value that its item defines, and each such value the item's type."""
+    """Gives each marker its value, each such value the type of its item, and each field its word in the row."""
     marker = None
     for part in item.parts:
-        part.value, part.item, by = None, None, part.attributes.get("defined_by")
-        if by:
-            reject(not marker or by != [marker.name, ","], part.line, f"`{part.name}` doesn't stand after the marker of its item")
-            marker.value, part.item, marker = part, marker.type.inner[0], None
+        part.value, part.item, part.word = None, None, "Before" if marker else "Field"
+        if "defined_by" in part.attributes:
+            is_behind = marker and part.attributes["defined_by"] == [marker.name, ","]
+            part.reject(not is_behind, "doesn't stand after the marker of its item")
+            marker.value, part.item, part.word, marker = part, marker.type.inner[0], "Value", None
         elif part.type.name == "DefinedByMarker":
             check_marker(marker)
-            marker = part
+            part.word, marker = "Item", part
     check_marker(marker)
 
 
 def check_marker(marker):
     """There is no marker before whose value no other stands."""
-    name = marker and marker.name
-    why = f"`{name}` marks an item: `#[defined_by({name})]` has to follow, with no other marker between"
-    reject(marker, marker and marker.line, why)
+    if marker:
+        follows = f"`#[defined_by({marker.name})]` has to follow, with no other marker between"
+        marker.reject(True, f"marks an item: {follows}")
 
 
 def field_type(item, part):
@@ -115,33 +107,19 @@ def field_value(part):
     return f"defaulted {group(value)}" if part.default is not None else value
 
 
-def is_plain(parts, is_inside):
-    """Whether no field stands between an item and the value that it defines, or is such."""
-    return not is_inside and not any(part.value for part in parts)
-
-
-def row_of(item, parts, is_inside=False):
-    """The row's type: of the fields in order."""
-    if is_plain(parts, is_inside):
-        types = [field_type(item, part) for part in parts]
-        name = "Last" if len(types) == 1 else f"Fields{len(types)}"
-        return f"{name}<{', '.join(types)}>" if types else "NoFields"
-    first, rest, form = parts[0], parts[1:], field_type(item, parts[0])
-    if first.item:
-        return f"Value<{form}, {row_of(item, rest)}>" if rest else f"LastValue<{form}>"
-    if first.value:
-        return f"Item<{first.type.inner[0]}, {row_of(item, rest, True)}>"
-    return f"{'Before' if is_inside else 'Field'}<{form}, {row_of(item, rest, is_inside)}>"
-
-
-def view_of(parts, is_inside=False):
-    """A struct's values as values of the row."""
-    if is_plain(parts, is_inside):
-        return " ".join([f"fields{len(parts)}", *(group(field_value(part)) for part in parts)])
-    first, rest = parts[0], parts[1:]
-    is_inside = not first.item and (is_inside or bool(first.value))
-    behind = f"\nrest = {view_of(rest, is_inside)};" if rest else ""
-    return f"record {{\nvalue = {field_value(first)};{behind}\n}}"
+def row_of(item):
+    """The row's type, and a struct's value as one of the row: nested up to the last value that an item defines."""
+    end = max([at for at, part in enumerate(item.parts, 1) if part.item], default=0)
+    types = [field_type(item, part) for part in item.parts[end:]]
+    name = "Last" if len(types) == 1 else f"Fields{len(types)}"
+    row = f"{name}<{', '.join(types)}>" if types else "NoFields"
+    view = " ".join([f"fields{len(types)}", *(group(field_value(part)) for part in item.parts[end:])])
+    for part in reversed(item.parts[:end]):
+        form, is_last = part.type.inner[0] if part.value else field_type(item, part), part is item.parts[-1]
+        row = f"LastValue<{form}>" if is_last else f"{part.word}<{form}, {row}>"
+        rest = "" if is_last else f"\nrest = {view};"
+        view = f"record {{\nvalue = {field_value(part)};{rest}\n}}"
+    return row, view
 
 
 def entry(item, part):
@@ -155,32 +133,30 @@ def entry(item, part):
 def structure(item):
     """A struct with its fields as they were declared, and its impls, which go by a row of them."""
     pair_items(item)
-    row, life, means = f"{item.name}Fields{angle(item.life)}", item.life or "'a", der(own(item))
+    row, life, means = f"{item.name}Fields{angle(item.life)}", item.life or "'a", der(item.own)
+    row_type, view = row_of(item)
     types = [part.form if part.item else part.type for part in item.parts]
     text = stated(item, "The field.", [f"pub {part.name}: {type}" for part, type in zip(item.parts, types)])
     text += "".join(default(item, part) for part in item.parts if part.default is not None)
-    wrapped = [part for part in item.parts if part.is_wrapped]
-    text += "".join(f"\ntype {field_type(item, part)} = {part.form};\n" for part in wrapped)
-    text += f"\ntype {row} = {row_of(item, item.parts)};\n"
-    names = " ∷ ".join([*(f'codes "{item.name}::{part.name}"' for part in item.parts), "[]"])
-    view = f"structure (λ v. {view_of(item.parts)}) {quoted(row, 'Row')}.list ({names})"
+    text += "".join(f"\ntype {field_type(item, part)} = {part.form};\n" for part in item.parts if part.is_wrapped)
+    text += f"\ntype {row} = {row_type};\n"
+    names = "".join(f'codes "{item.name}::{part.name}" ∷ ' for part in item.parts)
+    view = ghost("der", f"structure (λ v. {view}) {quoted(row, 'Row')}.list ({names}[])")
     fields = [entry(item, part) for part in item.parts]
-    known = call("known_fields!(self; ", fields, ")")
-    text += impl(item, "Asn1Type ", ghost("der", view), method(item, "fn known(&self)", known))
+    text += impl(item, "Asn1Type ", view, function("fn known(&self)", call("known_fields!(self; ", fields, ")")))
     value, simple = f"value {{ result ≡ {means}.content.tag }}", f"simple {{ {means}.is_simple }}"
     tag = ("fn tag() -> Tag", "Tag::constructed(0x10)", value, simple)
     if item.reads:
         read = [part.name if part.value or part.item else field for part, field in zip(item.parts, fields)]
-        head = f"fn parse_data(alloc: Global, data: &{life} [u8]) -> ParseResult<{own(item)}>"
+        head = f"fn parse_data(alloc: Global, data: &{life} [u8]) -> ParseResult<{item.own}>"
         body = call(f"read_fields!({row}, alloc, data => {item.name} {{ ", read, " })")
         parse = method(item, head, body, f"{{ ReadsContents {means} «data».entry.now result }}")
         plain = f"plain {{ {means}.plain }}"
         text += impl(item, f"SimpleAsn1Readable<{life}> ", method(item, *tag, plain), parse, life=life)
     if item.writes:
         body = call("write_fields!(self, dest; ", fields, ")")
-        write = method(item, "fn write_data(&self, dest: &mut WriteBuf) -> WriteResult<()>", body)
-        body = call("fields_length!(self; ", fields, ")")
-        length = method(item, "fn data_length(&self) -> Option<usize>", body)
+        write = function("fn write_data(&self, dest: &mut WriteBuf) -> WriteResult<()>", body)
+        length = function("fn data_length(&self) -> Option<usize>", call("fields_length!(self; ", fields, ")"))
         fails = ghost("write_errors", errors(item))
         text += impl(item, "SimpleAsn1Writable ", ERROR, fails, method(item, *tag), write, length)
     return text
@@ -190,60 +166,49 @@ def errors(item):
     """Which errors a write may return: those of lists that are made in code."""
     failing = [part for part in item.parts if part.fails]
     found = [f"{quoted(part.form, part.fails)}.write_errors {group(field_value(part))}" for part in failing]
-    if len(found) < 2:
-        return f"λ v. {found[0]}" if found else "λ _ _. ⊥"
-    return f"λ v e. {' ⊎ '.join(f'{errors} e' for errors in found)}"
+    if len(found) == 1:
+        return f"λ v. {found[0]}"
+    return f"λ v e. {' ⊎ '.join(f'{each} e' for each in found)}" if found else NO_ERRORS
 
 
 def default(item, part):
     """The type that says a field's default."""
     name, inner, value = item.name + camel(part.name), part.form.inner[0], part.default
-    term = value
+    term = made = value
     if str(part.base).startswith("i"):
         term = f"negsuc {-int(value) - 1}" if value.startswith("-") else f"pos {value}"
-    term, made = (f"record {{ inner = {term} }}", f"{part.tag.capitalize()}::new({value})") if part.tag else (term, value)
+    if part.tag:
+        term, made = f"record {{ inner = {term} }}", f"{part.tag.capitalize()}::new({value})"
     return f"""
 /// What `{part.name}` is where it is left out.
 #[derive(Debug, PartialEq, Eq, Drop)]
 pub struct {name};
 
 impl DefaultValue<{inner}> for {name} {{
-{ghost("default", term)}
-
-{function(f"fn value() -> {inner}", made)}
+    ghost default = {{ {term} }};
+    fn value() -> {inner} {{ {made} }}
 }}
 """
-
-
-def list_alias(item):
-    return f"\n{comment(item, 'A list.')}\npub type {own(item)} = {item.type};\n"
 
 
 # ---- choices
 
 
-def tree_of(parts):
-    """The variants as choices of at most three: up to eighteen each third one is a choice of the others, and more are
-    three such choices, since the compiler follows no longer chain."""
-    if len(parts) <= 3:
-        return parts
-    if len(parts) <= 18:
-        return [*parts[:2], tree_of(parts[2:])]
-    third = -(-len(parts) // 3)
-    return [tree_of(parts[start : start + third]) for start in range(0, len(parts), third)]
+def branches_of(parts):
+    """The variants as at most three branches: the third of up to eighteen is a choice of all others, and more are three
+    choices, since the compiler follows no longer chain."""
+    size = -(-len(parts) // 3) if len(parts) > 18 else 1
+    return [branch for branch in (parts[:size], parts[size : 2 * size], parts[2 * size :]) if branch]
 
 
-def choices_of(item, tree, life, name="Choice"):
+def choices_of(item, parts, life, name="Choice"):
     """The library's choices of the variants, the whole one first: the name of each, and its alternatives."""
-    found, types = [], []
-    for branch in tree:
-        first = branch
-        while isinstance(first, list):
-            first = first[0]
+    types, inner = [], []
+    for first, *others in branches_of(parts):
         at = f"From{item.parts.index(first) + 1}"
-        types.append(first.form if branch is first else item.name + at + angle(life))
-        found += [] if branch is first else choices_of(item, branch, life, at)
-    return [(item.name + name + angle(life), types), *found]
+        types.append(item.name + at + angle(life) if others else first.form)
+        inner += choices_of(item, [first, *others], life, at) if others else []
+    return [(item.name + name + angle(life), types), *inner]
 
 
 def side(at, count):
@@ -251,15 +216,13 @@ def side(at, count):
     return "(inr " * at + ("(inl {})" if at < count - 1 else "{}") + ")" * at
 
 
-def places_of(tree, pattern="{}", place="{}"):
+def places_of(parts, pattern="{}", place="{}"):
     """Of each variant: the pattern of the library's choice, and where its meaning stands in the sum of all."""
-    for at, branch in enumerate(tree):
-        inner = pattern.format(f"Choice{len(tree)}::Choice{'ABC'[at]}({{}})")
-        within = place.format(side(at, len(tree)))
-        if isinstance(branch, list):
-            yield from places_of(branch, inner, within)
-        else:
-            yield inner, within
+    branches = branches_of(parts)
+    for at, branch in enumerate(branches):
+        inner = pattern.format(f"Choice{len(branches)}::Choice{'ABC'[at]}({{}})")
+        within = place.format(side(at, len(branches)))
+        yield from places_of(branch, inner, within) if len(branch) > 1 else [(inner, within)]
 
 
 def sum_of(forms):
@@ -275,62 +238,62 @@ def variants_of(item, specs):
     return f"    ghost use {specs}{item.name}.TheVariants.{{{', '.join(part.name for part in item.parts)}}};"
 
 
-def match(item, body, other="", name="x"):
-    """A match with an arm for each variant, of which the default may be another."""
-    found = [f"{item.name}::{part.name}({name}) => {body(part)}," for part in item.parts if "default" not in part.attributes]
-    found += [f"{item.name}::{item.parts[-1].name}(x) => {other},"] if other else []
-    return f"match self {{ {lines_of(found)} }}"
+def match(item, body, other="", name="x", tagged=""):
+    """A match with an arm for each variant: of the default, and of those under a tag, it may be another."""
+    arms = []
+    for part in item.parts:
+        is_other = "default" in part.attributes
+        form = other if is_other else tagged if tagged and part.tag else body
+        arms.append(f"{item.name}::{part.name}({'x' if is_other else name}) => {form.format(**vars(part))},")
+    lines = "\n".join(arms)
+    return f"match self {{ {lines} }}"
 
 
 def writes(item, other=""):
     """The methods that write a variant's value, and tell its length."""
-    length = f"{other}.encoded_length()" if other else ""
-    return (
-        function(
-            "fn write(&self, dest: &mut Writer<'_>) -> WriteResult<()>",
-            match(item, write_arm, f"dest.write_element(&{other})" if other else ""),
-        ),
-        function("fn encoded_length(&self) -> Option<usize>", match(item, length_arm, length)),
+    tagged = "write_plain::<{form}, _>(x, dest)"
+    body = match(item, "dest.write_element(x)", f"dest.write_element(&{other})", tagged=tagged)
+    write = function("fn write(&self, dest: &mut Writer<'_>) -> WriteResult<()>", body)
+    body = match(item, "x.encoded_length()", f"{other}.encoded_length()", tagged="plain_length::<{form}, _>(x)")
+    return write, function("fn encoded_length(&self) -> Option<usize>", body)
+
+
+def parse_method(item, known, body, reads, stops):
+    """The method that reads a value, of which this is known before."""
+    life = item.life or "'a"
+    return method(
+        item,
+        f"fn parse({known}parser: &mut Parser<{life}>) -> ParseResult<{item.own}>",
+        body,
+        f"answers {{ {reads} parser.old parser.new result }}",
+        "rest { EndsWith parser.old parser.new }",
+        f"stops {{ OnErr result ({stops} parser.old parser.new) }}",
     )
-
-
-def write_arm(part):
-    return f"write_plain::<{part.form}, _>(x, dest)" if part.tag else "dest.write_element(x)"
-
-
-def length_arm(part):
-    return f"plain_length::<{part.form}, _>(x)" if part.tag else "x.encoded_length()"
 
 
 def choice(item, specs):
     """An enum whose variants are told by their tags."""
-    life, tree, means = item.life or "'a", tree_of(item.parts), der(own(item))
-    choices, places = choices_of(item, tree, item.life), [*places_of(tree)]
+    life, means, choices = item.life or "'a", der(item.own), choices_of(item, item.parts, item.life)
     alias, forms = choices[0]
     text = "".join(f"\ntype {name} = Choice{len(forms)}<{', '.join(map(str, forms))}>;\n" for name, forms in choices)
     text += stated(item, "This alternative.", [f"{part.name}({part.base})" for part in item.parts])
     cases, arms = [], []
-    for part, (pattern, place) in zip(item.parts, places):
+    for part, (pattern, place) in zip(item.parts, places_of(item.parts)):
         cases.append(f"{part.name} x ↦ {place.format(f'({der(part.base)}.meaning x)')[1:-1]}")
         arms.append(f"{pattern.format('x')} => Ok({item.name}::{part.name}({'x.into_inner()' if part.tag else 'x'})),")
     view = ghost("der", f"choice_der (elim [ {' | '.join(cases)} ]) ({sum_of(forms)})")
-    known = function("fn known(&self)", match(item, lambda part: "x.known()"))
+    known = function("fn known(&self)", match(item, "x.known()"))
     text += impl(item, "Asn1Type ", variants_of(item, specs), view, known)
     if item.reads:
-        parse = method(
-            item,
-            f"fn parse(parser: &mut Parser<{life}>) -> ParseResult<{own(item)}>",
-            f"match parser.read_element::<{alias}>()? {{ {' '.join(arms)} }}",
-            f"answers {{ ReadsPrefix {means} parser.old parser.new result }}",
-            "rest { EndsWith parser.old parser.new }",
-            f"stops {{ OnErr result ({means}.stops parser.old parser.new) }}",
-        )
-        body = f"<{alias} as Asn1Readable<{item.life or chr(39) + '_'}>>::can_parse(tag)"
+        body = f"match parser.read_element::<{alias}>()? {{ {' '.join(arms)} }}"
+        parse = parse_method(item, "", body, f"ReadsPrefix {means}", f"{means}.stops")
+        any_life = item.life or "'_"
+        body = f"<{alias} as Asn1Readable<{any_life}>>::can_parse(tag)"
         clauses = f"value {{ result ≡ {means}.accepts tag }}", f"plain {{ {means}.plain }}"
         can_parse = method(item, "fn can_parse(tag: Tag) -> bool", body, *clauses)
         text += impl(item, f"Asn1Readable<{life}> ", parse, can_parse, life=life)
     if item.writes:
-        text += impl(item, "Asn1Writable ", ERROR, ghost("write_errors", "λ _ _. ⊥"), *writes(item))
+        text += impl(item, "Asn1Writable ", ERROR, ghost("write_errors", NO_ERRORS), *writes(item))
     return text
 
 
@@ -341,23 +304,24 @@ def lawful(module, item):
     """The functions that say that each value of the type has one encoding: first those of the choices in a choice."""
     if item.kind == "const" or item.is_defined or item.kind != "type" and not item.reads:
         return ""
-    life = item.life and "'static"
-    if item.kind != "enum":
-        return law(module, item.name, life, [item.type] if item.type else [part.form for part in item.parts])
-    (_, types), *inner = choices_of(item, tree_of(item.parts), life)
-    text = "".join(law(module, name.split("<")[0], life, types, "") for name, types in reversed(inner))
-    return text + law(module, item.name, life, types)
+    life, inner = item.life and "'static", []
+    types = [item.type] if item.type else [part.form for part in item.parts]
+    if item.kind == "enum":
+        (_, types), *inner = choices_of(item, item.parts, life)
+    return "".join(law(module, *each) for each in [*reversed(inner), (item.name + angle(life), types)])
 
 
-def law(module, name, life, types, visible="pub "):
+def law(module, own, types):
     """The law of a type of these types, whose laws it calls. Where one may be missing, or for a choice, tags differ."""
-    names = dict.fromkeys(name for part in types for name in laws_of(module, part))
+    name = own.split("<")[0]
     declared = module.items.get(name)
     is_choice = not declared or declared.kind == "enum"
     by_tags = BY_TAGS if is_choice or any(module.known(part).is_missing for part in types[:-1]) else ""
-    head, calls = f"{visible}fn {snake(name)}_is_lawful()", " ".join(f"{name}_is_lawful();" for name in names)
-    says = f"{{ HasOneEncoding {der(name + angle(life))} }}"
-    return f"\n/// Each value of `{name}` has one encoding, which is read back.\n{by_tags}{function(head, calls, says).strip()}\n"
+    called = dict.fromkeys(name for part in types for name in laws_of(module, part))
+    calls = " ".join(f"{name}_is_lawful();" for name in called)
+    head = f"{'pub ' if declared else ''}fn {snake(name)}_is_lawful()"
+    says = function(head, calls, f"{{ HasOneEncoding {der(own)} }}").strip()
+    return f"\n/// Each value of `{name}` has one encoding, which is read back.\n{by_tags}{says}\n"
 
 
 def laws_of(module, type):

@@ -1,5 +1,5 @@
 """Reads the sources of the repository's crates: what each crate uses, and its functions as a check names them, each with
-its clauses and its body."""
+its clauses and its body. Reports what a script of the gate found."""
 
 import re
 from collections import namedtuple
@@ -14,6 +14,17 @@ Function = namedtuple("Function", "name file is_public trait clauses start end i
 KINDS = "fn|struct|enum|trait|impl|mod|type|const|static|ghost|use"
 START = rf"(pub )?(?:pub\(\w+\) )?(?:const |unsafe )*({KINDS})\b ?(\w*)"
 CLAUSE = re.compile(r"\b(?:requires|(ensures))(?:\s+(\w+))?\s+\{|\bghost (\w+)(?: =|:)\s+\{")
+
+
+def report(results, tells_all=False):
+    """Prints each result that isn't well, or all, and how many are; the status is 1 where one isn't, or none is."""
+    counts = {True: 0, False: 0}
+    for is_well, said in results:
+        counts[is_well] += 1
+        if tells_all or not is_well:
+            print(said, flush=True)
+    print(f"{counts[True]} passed, {counts[False]} failed")
+    return counts[False] > 0 or counts[True] == 0
 
 
 def uses():

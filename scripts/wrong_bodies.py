@@ -28,8 +28,10 @@ from collections import namedtuple
 
 from sources import CRATES, TOP, clauses_of, functions, functions_in, uses
 
+COMMENT = re.compile(r"^\s*//.*\n", re.MULTILINE)
 LIST = re.compile(r"\{(\w+(?:,\w+)+)\}")
 FOLDERS = ["must-fail", "wrong-bodies/first", "wrong-bodies"]
+ALL_FOLDERS = [*FOLDERS, "canaries"]
 KEYS = {"function", "body", "first", "file", "old", "new", "clause", "test", "no test", "must"}
 PLANTED = TOP / "scripts/planted.txt"
 Wrong = namedtuple("Wrong", "function name changes clauses tests must reason", defaults=[None])
@@ -104,6 +106,11 @@ def wrong_bodies(name, *folders):
     return [body for file in files for body in wrong_bodies_in(file, name, known)]
 
 
+def crates_with_bodies():
+    """The crates that have wrong bodies."""
+    return [name for name in uses() if any((CRATES / name / folder).is_dir() for folder in FOLDERS)]
+
+
 def has_own_proof(function):
     """Whether the function of this name has a proof written by hand."""
     crate, *path = function.split("::")
@@ -127,27 +134,26 @@ def below(name):
 
 
 def without_comments(file):
-    return re.sub(r"^\s*//.*\n", "", file.read_text(), flags=re.MULTILINE) if file.suffix == ".rt" else file.read_text()
+    """The text of a file; a source's without lines of comments, which change no proof."""
+    return COMMENT.sub("", file.read_text()) if file.suffix == ".rt" else file.read_text()
 
 
 def without_bodies(file):
     """What a crate above sees of a source: its text without comments and without what the functions do."""
     text = file.read_text()
-    for function in sorted(functions_in(text, []), key=lambda it: -(it.start or 0)):
-        text = text if function.start is None else text[: function.start] + text[function.end :]
-    return re.sub(r"^\s*//.*\n", "", text, flags=re.MULTILINE)
+    bodies = [Change(file, it.start, it.end, "") for it in functions_in(text, []) if it.start is not None]
+    return COMMENT.sub("", with_changes(text, bodies))
 
 
 def state_of(name):
     """A hash of all that decides whether a crate's wrong bodies are refused: its sources, specs, proofs and wrong bodies,
     and of the crates below the specs and the contracts, which its own cite; their bodies and proofs show nowhere above.
     """
-    read = [(folder, without_comments) for folder in ["src", "specs", "proofs", *FOLDERS, "canaries"]]
-    places = [(name, *it) for it in read]
+    places = [(name, folder, without_comments) for folder in ["src", "specs", "proofs", *ALL_FOLDERS]]
     places += [(crate, *it) for crate in below(name) for it in (("src", without_bodies), ("specs", without_comments))]
     found = hashlib.sha256()
     for crate, folder, text in places:
-        pattern = "*.edit" if folder in (*FOLDERS, "canaries") else "**/*.*"
+        pattern = "*.edit" if folder in ALL_FOLDERS else "**/*.*"
         for file in sorted((CRATES / crate / folder).glob(pattern)):
             found.update(f"{file.relative_to(CRATES)}\n{text(file)}\n".encode())
     return found.hexdigest()[:32]

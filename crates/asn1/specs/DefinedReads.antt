@@ -1,5 +1,5 @@
 -- What reading a value returns whose type an item defines: an element, or a variant that a test of the item knows.
-use Rattle.std.proofs.Common.{◌≡◌, ℕ, Bool, List, Result, Ok, inr, true, cond, Err, ◌⊎◌, inl}
+use Rattle.std.proofs.Common.{◌≡◌, ℕ, Bool, List, Result, Ok, inr, true, if◌then◌else◌, Err, ◌⊎◌, inl}
 use Rattle.asn1_core.specs.Element.{element_text, ◌>>=◌}
 use Rattle.asn1_core.specs.Fault.{Fault, fault}
 use Rattle.asn1_core.specs.Reading.{stands, element_front, whole}
@@ -17,14 +17,14 @@ pub record Known (I : Type 0) : Type 0 where
   pub alone : (i : I) → is i ≡ true → item ≡ i
 
 abbrev pub variant_read : {M : Type 0} → Bool → (List ℕ → Result (M × List ℕ) Fault) → List ℕ → Result (M × List ℕ) Fault
-variant_read known read t = cond known (read t) (Err (fault UnknownDefinedBy))
+variant_read known read t = if known then read t else Err (fault UnknownDefinedBy)
 
 abbrev pub or_item : {I M N : Type 0} → I → (N → I) → M ⊎ N → I
 or_item i items (inl m) = i
 or_item i items (inr n) = items n
 
 abbrev pub or_known : {M N : Type 0} → Bool → (List ℕ → Result (M × List ℕ) Fault) → (List ℕ → Result (N × List ℕ) Fault) → List ℕ → Result ((M ⊎ N) × List ℕ) Fault
-or_known known read others t = cond known (read t >>= λ x. Ok (inl x.0, x.1)) (others t >>= λ x. Ok (inr x.0, x.1))
+or_known known read others t = if known then (read t >>= λ x. Ok (inl x.0, x.1)) else others t >>= λ x. Ok (inr x.0, x.1)
 
 -- A value of every item, which keeps the item.
 abbrev pub with_item : {I M : Type 0} → I → M × List ℕ → Result ((I × M) × List ℕ) Fault

@@ -1,6 +1,6 @@
 -- An item and a value that it defines, said together: for fields, which need what both mean, where each type says its
 -- own part alone.
-use Rattle.std.specs.Prelude.{ℕ, ◌≡◌, ◌↔◌, List, [], ◌∷◌, Option, Some, None, Result, Ok, Err, OnOk, Bool, true, false, cond}
+use Rattle.std.specs.Prelude.{ℕ, ◌≡◌, ◌↔◌, List, [], ◌∷◌, Option, Some, None, Result, Ok, Err, OnOk, Bool, true, false, if◌then◌else◌}
 use Rattle.std.proofs.Common.{refl, ap, ◌∙◌, inl, inr}
 use Rattle.asn1_core.specs.declared.tag.Tag.{Tag}
 use Rattle.asn1_core.specs.declared.parser.Place.{Place}
@@ -115,7 +115,7 @@ module _ {M N : Type 0} (f : M → N) (read : List ℕ → Result (M × List ℕ
   behind_seen (Ok m) rest = refl
   behind_seen (Err e) rest = refl
 
-  chosen_seen : (b : Bool) (x : Result (M × List ℕ) Fault) (e : Fault) → cond b (seen_front f x) (Err e) ≡ seen_front f (cond b x (Err e))
+  chosen_seen : (b : Bool) (x : Result (M × List ℕ) Fault) (e : Fault) → (if b then seen_front f x else Err e) ≡ seen_front f (if b then x else Err e)
   chosen_seen true x e = refl
   chosen_seen false x e = refl
 

@@ -1,5 +1,5 @@
 -- The number of a text's first octets, and the order of texts.
-use Rattle.std.proofs.Common.{◌≡◌, ℕ, zero, suc, ◌+◌, ◌-◌, ◌*◌, ◌^◌, min, ◌<◌, ◌≤◌, ◌++◌, Bool, true, false, List, [], ◌∷◌, length, take, drop, get_or, cond, nat_le, replicate, refl, sym, ap, subst, ◌∙◌, ⊎_elim, arith, lit<}
+use Rattle.std.proofs.Common.{◌≡◌, ℕ, zero, suc, ◌+◌, ◌-◌, ◌*◌, ◌^◌, min, ◌<◌, ◌≤◌, ◌++◌, Bool, true, false, List, [], ◌∷◌, length, take, drop, get_or, if◌then◌else◌, nat_le, replicate, refl, sym, ap, subst, ◌∙◌, ⊎_elim, arith, lit<}
 use Rattle.std.proofs.lemmas.Bool.{lt-ltb, le-ltb, eq-eqb, cases_lt, cases_eq}
 use Rattle.std.proofs.lemmas.List.{length-take-le, length-append, length-replicate, take_all, take-replicate, drop-replicate}
 use Rattle.std.proofs.lemmas.Grind.{common_steps}
@@ -110,7 +110,7 @@ drop_text zero t is = is
 drop_text (suc k) [] is = tt
 drop_text (suc k) (x ∷ xs) is = drop_text k xs is.1
 
-either_text : (b : Bool) (t : List ℕ) → IsText t → IsText (cond b t [])
+either_text : (b : Bool) (t : List ℕ) → IsText t → IsText (if b then t else [])
 either_text true t is = is
 either_text false t is = tt
 

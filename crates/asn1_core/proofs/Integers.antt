@@ -1,5 +1,5 @@
 -- Integers as the code reads and writes them: sixteen octets, of which a content is the last.
-use Rattle.std.proofs.Common.{◌≡◌, ℕ, zero, suc, ◌+◌, ◌-◌, ◌*◌, ◌/◌, ◌%◌, ◌^◌, ◌<◌, ◌≤◌, ◌⊎◌, Bool, true, false, cond, leb, Ok, Err, List, [], ◌∷◌, ◌++◌, length, get_or, take, drop, replicate, refl, sym, ap, subst, ◌∙◌, inl, inr, arith, lit<, lit≤}
+use Rattle.std.proofs.Common.{◌≡◌, ℕ, zero, suc, ◌+◌, ◌-◌, ◌*◌, ◌/◌, ◌%◌, ◌^◌, ◌<◌, ◌≤◌, ◌⊎◌, Bool, true, false, if◌then◌else◌, leb, Ok, Err, List, [], ◌∷◌, ◌++◌, length, get_or, take, drop, replicate, refl, sym, ap, subst, ◌∙◌, inl, inr, arith, lit<, lit≤}
 use Rattle.std.specs.Prelude.{ℤ, pos, negsuc, neg_ℤ, ◌≤ℤ◌, ◌<ℤ◌, int_lt, unsigned_abs, FitsSigned}
 use Rattle.std.specs.Int.Digits.{digits_of}
 use Rattle.std.specs.Int.{w128, to_be_bytes, from_be_bytes, bytes_high_first, byte_worth, sum_through, cast_unsigned, cast_signed}
@@ -323,15 +323,15 @@ put_at_end : (s n : ℕ) (ys : List ℕ) → n ≤ 16 → put_mid (16 - n) (16 -
 put_at_end s n ys h =
     rw (take-replicate {X = ℕ} (16 - n) 16 s (omega arith), drop-replicate {X = ℕ} (16 - n) 16 s, drop_all {X = ℕ} (16 - (16 - n)) (replicate (16 - (16 - n)) s) (omega (arith, length-replicate {A = ℕ} (16 - (16 - n)) s)), append-nil) refl
 
-sign_same : (k s : ℕ) (c : List ℕ) → IsText c → s ≡ cond (leb 128 (get_or c 0 0)) 255 0 → (s < 256) × (signed_number (replicate k s ++ c) ≡ signed_number c)
+sign_same : (k s : ℕ) (c : List ℕ) → IsText c → s ≡ (if leb 128 (get_or c 0 0) then 255 else 0) → (s < 256) × (signed_number (replicate k s ++ c) ≡ signed_number c)
 sign_same k s c is e =
     let P : ℕ → Type 0 = λ x. (x < 256) × (signed_number (replicate k x ++ c) ≡ signed_number c) in
     elim (cases_lt (get_or c 0 0) 128) [
-      | inl h ↦ subst P (sym (e ∙ ap (λ (b : Bool). cond b 255 0) (lt-leb 128 (get_or c 0 0) h))) (lit< tt, zeros_same k c h)
-      | inr h ↦ subst P (sym (e ∙ ap (λ (b : Bool). cond b 255 0) (le-leb 128 (get_or c 0 0) h))) (lit< tt, ones_same k c is h)
+      | inl h ↦ subst P (sym (e ∙ ap (λ (b : Bool). if b then 255 else 0) (lt-leb 128 (get_or c 0 0) h))) (lit< tt, zeros_same k c h)
+      | inr h ↦ subst P (sym (e ∙ ap (λ (b : Bool). if b then 255 else 0) (le-leb 128 (get_or c 0 0) h))) (lit< tt, ones_same k c is h)
     ]
 
-pub extended : (s : ℕ) (c ys : List ℕ) (z : ℤ) → IsText c → length c ≤ 9 → s ≡ cond (leb 128 (get_or c 0 0)) 255 0 → ys ≡ c →
+pub extended : (s : ℕ) (c ys : List ℕ) (z : ℤ) → IsText c → length c ≤ 9 → s ≡ (if leb 128 (get_or c 0 0) then 255 else 0) → ys ≡ c →
     z ≡ cast_signed w128 (from_be_bytes w128 (put_mid (16 - length c) (16 - (16 - length c)) (replicate 16 s) ys)) → z ≡ signed_number c
 extended s c ys z is few sign same value =
     let k : ℕ = 16 - length c in
@@ -346,7 +346,7 @@ extended s c ys z is few sign same value =
 pub refused_content : (low high : ℤ) (c : List ℕ) (f : Fault) → is_minimal c ≡ false → f ≡ fault InvalidValue → read_sized low high c ≡ Err f
 refused_content low high c f e same = sized_refused low high c e ∙ ap Err (sym same)
 
-pub refused_number : (low high : ℤ) (c : List ℕ) (f : Fault) (b : Bool) → is_minimal c ≡ true → f ≡ fault (cond b (below low) IntegerOverflow) →
+pub refused_number : (low high : ℤ) (c : List ℕ) (f : Fault) (b : Bool) → is_minimal c ≡ true → f ≡ fault (if b then below low else IntegerOverflow) →
     (b ≡ true → signed_number c <ℤ low) → (b ≡ false → (low ≤ℤ signed_number c) × (high <ℤ signed_number c)) → read_sized low high c ≡ Err f
 refused_number low high c f true e same lower upper = sized_ok low high c (Err f) e (range_below low high (signed_number c) (lower refl) ∙ ap Err (sym same))
 refused_number low high c f false e same lower upper = sized_ok low high c (Err f) e (range_above low high (signed_number c) (upper refl).0 (upper refl).1 ∙ ap Err (sym same))
@@ -355,21 +355,21 @@ pub answered_number : (low high : ℤ) (c : List ℕ) (z : ℤ) → is_minimal c
 answered_number low high c z e same a b = sized_ok low high c (Ok z) e (ap (within_range low high) (sym same) ∙ range_ok low high z a b)
 
 pub long_refused : (low high : ℤ) (c : List ℕ) (f : Fault) → IsText c → is_minimal c ≡ true → 9 < length c → neg_ℤ (pos (2 ^ 71)) ≤ℤ low → high <ℤ pos (2 ^ 71) → low ≤ℤ high →
-    f ≡ fault (cond (leb 128 (get_or c 0 0)) (below low) IntegerOverflow) → read_sized low high c ≡ Err f
+    f ≡ fault (if leb 128 (get_or c 0 0) then below low else IntegerOverflow) → read_sized low high c ≡ Err f
 long_refused low high c f is e long least greatest ordered same =
     refused_number low high c f (leb 128 (get_or c 0 0)) e same
     (λ t. long_below c low is e long (leb-true 128 (get_or c 0 0) t) least)
     (λ t. let over : high <ℤ signed_number c = long_above c high e long (leb-false 128 (get_or c 0 0) t) greatest in (omega (arith, ints), over))
 
-pub beyond_refused : (low high z : ℤ) (c : List ℕ) (f : Fault) → is_minimal c ≡ true → z ≡ signed_number c → f ≡ fault (cond (int_lt z low) (below low) IntegerOverflow) →
+pub beyond_refused : (low high z : ℤ) (c : List ℕ) (f : Fault) → is_minimal c ≡ true → z ≡ signed_number c → f ≡ fault (if int_lt z low then below low else IntegerOverflow) →
     low ≤ℤ high → (z <ℤ low) ⊎ (high <ℤ z) → read_sized low high c ≡ Err f
 beyond_refused low high z c f e value same ordered (inl h) =
     let test : int_lt z low ≡ true = grind (arith, ints) in
-    refused_number low high c f true e (same ∙ ap (λ (b : Bool). fault (cond b (below low) IntegerOverflow)) test) (λ t. subst (λ (x : ℤ). x <ℤ low) value h) (λ t. absurd cc)
+    refused_number low high c f true e (same ∙ ap (λ (b : Bool). fault (if b then below low else IntegerOverflow)) test) (λ t. subst (λ (x : ℤ). x <ℤ low) value h) (λ t. absurd cc)
 beyond_refused low high z c f e value same ordered (inr h) =
     let test : int_lt z low ≡ false = grind (arith, ints) in
     let above : low ≤ℤ z = omega (arith, ints) in
-    refused_number low high c f false e (same ∙ ap (λ (b : Bool). fault (cond b (below low) IntegerOverflow)) test) (λ t. absurd cc) (λ t. subst (λ (x : ℤ). (low ≤ℤ x) × (high <ℤ x)) value (above, h))
+    refused_number low high c f false e (same ∙ ap (λ (b : Bool). fault (if b then below low else IntegerOverflow)) test) (λ t. absurd cc) (λ t. subst (λ (x : ℤ). (low ≤ℤ x) × (high <ℤ x)) value (above, h))
 
 pub sixteen_length : (t : List ℕ) (z : ℤ) → t ≡ to_be_bytes w128 (cast_unsigned w128 z) → length t ≡ 16
 sixteen_length t z e = ap length e ∙ high_length 16 (cast_unsigned w128 z)

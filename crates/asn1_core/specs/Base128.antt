@@ -1,5 +1,5 @@
 -- Numbers in base 128, as tags and identifiers have them (X.690 8.1.2.4, 8.19.2).
-use Rattle.std.specs.Prelude.{◌≡◌, ℕ, ◌+◌, ◌*◌, ◌/◌, ◌%◌, ◌^◌, ◌<◌, ◌≤◌, ◌⊎◌, cond, ◌==◌, ◌||◌, nat_le, List, [], ◌∷◌, ◌++◌, length, slice_index, take, drop, map, Result, Ok, Err}
+use Rattle.std.specs.Prelude.{◌≡◌, ℕ, ◌+◌, ◌*◌, ◌/◌, ◌%◌, ◌^◌, ◌<◌, ◌≤◌, ◌⊎◌, if◌then◌else◌, ◌==◌, ◌||◌, nat_le, List, [], ◌∷◌, ◌++◌, length, slice_index, take, drop, map, Result, Ok, Err}
 use Rattle.std.specs.List.{AllByRecursion, prefix_len}
 use Rattle.std.specs.Int.Digits.{digits_of}
 use Rattle.asn1_core.specs.declared.parser.ParseErrorKind.{ParseErrorKind}
@@ -52,7 +52,7 @@ unfoldable pub number_front : List ℕ → Result (ℕ × List ℕ) ParseErrorKi
 number_front text =
     let open_octets = prefix_len (λ octet. nat_le 128 octet) text in
     let octets = take (open_octets + 1) text in
-    cond (slice_index text 0 == 0x80 || nat_le 19 open_octets) (Err InvalidValue)
-    (cond (open_octets == length text) (Err (ShortData 1))
-    (cond (nat_le (2 ^ 128) (digits_number octets)) (Err InvalidValue)
-    (Ok (digits_number octets, drop (open_octets + 1) text))))
+    if slice_index text 0 == 0x80 || nat_le 19 open_octets then Err InvalidValue
+    else if open_octets == length text then Err (ShortData 1)
+    else if nat_le (2 ^ 128) (digits_number octets) then Err InvalidValue
+    else Ok (digits_number octets, drop (open_octets + 1) text)

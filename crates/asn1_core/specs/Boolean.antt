@@ -1,5 +1,5 @@
 -- BOOLEAN (X.690 8.2).
-use Rattle.std.specs.Prelude.{ℕ, List, [], ◌∷◌, nat_eq, cond, Result, Ok, Err, Bool, true, false}
+use Rattle.std.specs.Prelude.{ℕ, List, [], ◌∷◌, nat_eq, if◌then◌else◌, Result, Ok, Err, Bool, true, false}
 use Rattle.asn1_core.specs.declared.parser.ParseErrorKind.TheVariants.{InvalidValue}
 use Rattle.asn1_core.specs.Fault.{Fault, fault}
 
@@ -11,5 +11,5 @@ bool_content_text true = 0xff ∷ []
 -- What reading contents octets returns.
 abbrev pub read_bool : List ℕ → Result Bool Fault
 read_bool [] = Err (fault InvalidValue)
-read_bool (octet ∷ []) = cond (nat_eq octet 0x00) (Ok false) (cond (nat_eq octet 0xff) (Ok true) (Err (fault InvalidValue)))
+read_bool (octet ∷ []) = if nat_eq octet 0x00 then Ok false else if nat_eq octet 0xff then Ok true else Err (fault InvalidValue)
 read_bool (octet ∷ next ∷ octets) = Err (fault InvalidValue)

@@ -1,5 +1,5 @@
 -- Elements, and what stands in front of a text (X.690 8.1.1).
-use Rattle.std.specs.Prelude.{◌≡◌, ℕ, ◌-◌, ◌^◌, ◌<◌, ◌⊎◌, cond, nat_lt, List, ◌++◌, length, take, drop, Result, Ok, Err}
+use Rattle.std.specs.Prelude.{◌≡◌, ℕ, ◌-◌, ◌^◌, ◌<◌, ◌⊎◌, if◌then◌else◌, nat_lt, List, ◌++◌, length, take, drop, Result, Ok, Err}
 use Rattle.asn1_core.specs.declared.parser.ParseErrorKind.{ParseErrorKind}
 use Rattle.asn1_core.specs.declared.parser.ParseErrorKind.TheVariants.{ShortData}
 use Rattle.asn1_core.specs.declared.tag.Tag.{Tag}
@@ -39,8 +39,7 @@ abbrev pub ◌>>=◌ : {A B E : Type 0} → Result A E → (A → Result B E) �
 (Err e) >>= f = Err e
 
 abbrev pub content_front : Tag → ℕ → List ℕ → Result (Element × List ℕ) ParseErrorKind
-content_front tag n rest = cond (nat_lt (length rest) n) (Err (ShortData (n - length rest)))
-    (Ok (element tag (take n rest), drop n rest))
+content_front tag n rest = if nat_lt (length rest) n then Err (ShortData (n - length rest)) else Ok (element tag (take n rest), drop n rest)
 
 -- What stands in front of a text, as a function: the tag, the length, the content.
 unfoldable pub front : List ℕ → Result (Element × List ℕ) ParseErrorKind

@@ -1,5 +1,5 @@
 -- Integers and their contents octets (X.690 8.3).
-use Rattle.std.specs.Prelude.{ℕ, ◌+◌, ◌-◌, ◌*◌, ◌/◌, ◌<◌, ◌≡◌, ◌↔◌, ℤ, pos, negsuc, Bool, true, false, not, ◌||◌, ◌==◌, cond, nat_le, int_lt, List, [], ◌∷◌, length, map, Result, Ok, Err}
+use Rattle.std.specs.Prelude.{ℕ, ◌+◌, ◌-◌, ◌*◌, ◌/◌, ◌<◌, ◌≡◌, ◌↔◌, ℤ, pos, negsuc, Bool, true, false, not, ◌||◌, ◌==◌, if◌then◌else◌, nat_le, int_lt, List, [], ◌∷◌, length, map, Result, Ok, Err}
 use Rattle.std.specs.Int.Digits.{digits_of}
 use Rattle.asn1_core.specs.declared.parser.ParseErrorKind.{ParseErrorKind}
 use Rattle.asn1_core.specs.declared.parser.ParseErrorKind.TheVariants.{InvalidValue, IntegerOverflow}
@@ -28,7 +28,7 @@ is_minimal (octet ∷ next ∷ octets) = not (nine_bits octet next == 0 || nine_
 -- Digits with a zero octet in front where there is none or the top bit is set, which would be the sign.
 abbrev pub with_sign : List ℕ → List ℕ
 with_sign [] = 0x00 ∷ []
-with_sign (octet ∷ octets) = cond (nat_le 0x80 octet) (0x00 ∷ octet ∷ octets) (octet ∷ octets)
+with_sign (octet ∷ octets) = if nat_le 0x80 octet then 0x00 ∷ octet ∷ octets else octet ∷ octets
 
 -- Octets with each bit turned.
 abbrev pub turned : List ℕ → List ℕ
@@ -42,7 +42,7 @@ integer_content (negsuc n) = turned (with_sign (digits_of 256 n))
 
 -- The number of a content, or the fault of what is none.
 unfoldable pub read_integer : List ℕ → Result ℤ Fault
-read_integer c = cond (is_minimal c) (Ok (signed_number c)) (Err (fault InvalidValue))
+read_integer c = if is_minimal c then Ok (signed_number c) else Err (fault InvalidValue)
 
 -- The fault of a number below the lowest of a type: an unsigned type, whose lowest is 0, has no sign.
 abbrev pub below : ℤ → ParseErrorKind
@@ -51,7 +51,7 @@ below (negsuc low) = IntegerOverflow
 
 -- A number of a type that has those from low to high.
 abbrev pub within_range : ℤ → ℤ → ℤ → Result ℤ Fault
-within_range low high z = cond (int_lt z low) (Err (fault (below low))) (cond (int_lt high z) (Err (fault IntegerOverflow)) (Ok z))
+within_range low high z = if int_lt z low then Err (fault (below low)) else if int_lt high z then Err (fault IntegerOverflow) else Ok z
 
 -- The number of a content, for such a type.
 unfoldable pub read_sized : ℤ → ℤ → List ℕ → Result ℤ Fault

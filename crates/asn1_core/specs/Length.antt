@@ -1,5 +1,5 @@
 -- Lengths in the definite form, in the fewest octets (X.690 8.1.3, 10.1).
-use Rattle.std.specs.Prelude.{◌≡◌, ℕ, ◌+◌, ◌-◌, ◌^◌, ◌<◌, ◌≤◌, ◌⊎◌, cond, ◌==◌, ◌||◌, nat_le, nat_lt, List, [], ◌∷◌, ◌++◌, length, slice_index, take, drop, Result, Ok, Err}
+use Rattle.std.specs.Prelude.{◌≡◌, ℕ, ◌+◌, ◌-◌, ◌^◌, ◌<◌, ◌≤◌, ◌⊎◌, if◌then◌else◌, ◌==◌, ◌||◌, nat_le, nat_lt, List, [], ◌∷◌, ◌++◌, length, slice_index, take, drop, Result, Ok, Err}
 use Rattle.std.specs.Int.Digits.{digits_of}
 use Rattle.asn1_core.specs.declared.parser.ParseErrorKind.{ParseErrorKind}
 use Rattle.asn1_core.specs.declared.parser.ParseErrorKind.TheVariants.{InvalidLength, ShortData}
@@ -19,7 +19,7 @@ IsLengthText text n = (n < 128) × (text ≡ n ∷ [])
 
 -- The text of the length n, as a function: the digits of n in base 256 are the shortest text of n.
 unfoldable pub length_text : ℕ → List ℕ
-length_text n = cond (nat_lt n 128) (n ∷ []) ((0x80 + length (digits_of 256 n)) ∷ digits_of 256 n)
+length_text n = if nat_lt n 128 then n ∷ [] else (0x80 + length (digits_of 256 n)) ∷ digits_of 256 n
 
 -- What stands in front of a text, where a length is wanted: a readable length and the rest; a first octet that
 -- no readable length has, or further octets that are all there and aren't a length's text; or too little. That a
@@ -37,13 +37,13 @@ IsLengthFront text (Err _) = ⊥
 -- The same, as functions.
 abbrev pub long_length : ℕ → List ℕ → Result (ℕ × List ℕ) ParseErrorKind
 long_length count rest =
-    cond (nat_lt (length rest) count) (Err (ShortData (count - length rest)))
-    (cond (slice_index rest 0 == 0 || nat_lt (number (take count rest)) 128) (Err InvalidLength)
-    (Ok (number (take count rest), drop count rest)))
+    if nat_lt (length rest) count then Err (ShortData (count - length rest))
+    else if slice_index rest 0 == 0 || nat_lt (number (take count rest)) 128 then Err InvalidLength
+    else Ok (number (take count rest), drop count rest)
 
 unfoldable pub length_front : List ℕ → Result (ℕ × List ℕ) ParseErrorKind
 length_front [] = Err (ShortData 1)
 length_front (first ∷ rest) =
-    cond (nat_lt first 0x80) (Ok (first, rest))
-    (cond (first == 0x80 || nat_le 0x85 first) (Err InvalidLength)
-    (long_length (first - 0x80) rest))
+    if nat_lt first 0x80 then Ok (first, rest)
+    else if first == 0x80 || nat_le 0x85 first then Err InvalidLength
+    else long_length (first - 0x80) rest

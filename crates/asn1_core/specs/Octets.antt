@@ -1,5 +1,5 @@
 -- What is read from the contents octets of octet strings and of null.
-use Rattle.std.specs.Prelude.{ℕ, List, [], ◌∷◌, length, nat_eq, cond, Result, Ok, Err}
+use Rattle.std.specs.Prelude.{ℕ, List, [], ◌∷◌, length, nat_eq, if◌then◌else◌, Result, Ok, Err}
 use Rattle.asn1_core.specs.declared.parser.ParseErrorKind.TheVariants.{InvalidValue}
 use Rattle.asn1_core.specs.Fault.{Fault, fault}
 
@@ -9,7 +9,7 @@ read_octets c = Ok c
 
 -- The same, of one size.
 abbrev pub read_sized_octets : ℕ → List ℕ → Result (List ℕ) Fault
-read_sized_octets size c = cond (nat_eq (length c) size) (Ok c) (Err (fault InvalidValue))
+read_sized_octets size c = if nat_eq (length c) size then Ok c else Err (fault InvalidValue)
 
 -- The content of null has no octets. (X.690 8.8)
 abbrev pub read_null : List ℕ → Result (Unit {0}) Fault

@@ -1,5 +1,5 @@
 -- Options: a value of the type, or nothing.
-use Rattle.std.specs.Prelude.{ℕ, ◌≡◌, List, [], cond, Result, Ok, Bool, true, Option, Some, None}
+use Rattle.std.specs.Prelude.{ℕ, ◌≡◌, List, [], if◌then◌else◌, Result, Ok, Bool, true, Option, Some, None}
 use Rattle.std.specs.Option.{option_map, option_map_or, IfSome, IsSomeAnd}
 use Rattle.asn1_core.specs.declared.tag.Tag.{Tag}
 use Rattle.asn1_core.specs.declared.parser.Place.{Place}
@@ -25,7 +25,7 @@ option_texts texts (Some m) t = texts m t
 
 -- Where an accepted tag stands in front, a value is read; elsewhere nothing.
 abbrev pub option_read : {M : Type 0} → (Tag → Bool) → (List ℕ → Result (M × List ℕ) Fault) → List ℕ → Result (Option M × List ℕ) Fault
-option_read accepts read t = cond (stands accepts t) (read t >>= λ x. Ok (Some x.0, x.1)) (Ok (None, t))
+option_read accepts read t = if stands accepts t then (read t >>= λ x. Ok (Some x.0, x.1)) else Ok (None, t)
 
 -- Memory may run out where a value is read.
 abbrev pub option_out : (Tag → Bool) → (List ℕ → List Place → Type 0) → List ℕ → List Place → Type 0

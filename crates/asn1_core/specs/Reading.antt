@@ -1,5 +1,5 @@
 -- What readings answer.
-use Rattle.std.specs.Prelude.{ℕ, ◌<◌, ◌^◌, ◌≡◌, ◌⊎◌, List, [], ◌∷◌, ◌++◌, nat_eq, cond, Result, Ok, Err, Bool, true, false, IsErrAnd}
+use Rattle.std.specs.Prelude.{ℕ, ◌<◌, ◌^◌, ◌≡◌, ◌⊎◌, List, [], ◌∷◌, ◌++◌, nat_eq, if◌then◌else◌, Result, Ok, Err, Bool, true, false, IsErrAnd}
 use Rattle.asn1_core.specs.declared.parser.ParseErrorKind.{ParseErrorKind}
 use Rattle.asn1_core.specs.declared.parser.ParseErrorKind.TheVariants.{AllocationError, ExtraData, InvalidValue, UnexpectedTag}
 use Rattle.asn1_core.specs.declared.parser.Place.{Place}
@@ -43,7 +43,7 @@ abbrev pub element_front : List ℕ → Result (Element × List ℕ) Fault
 element_front t = framed (front t)
 
 abbrev pub expected : {M : Type 0} → Tag → (List ℕ → Result M Fault) → Element × List ℕ → Result (M × List ℕ) Fault
-expected tag read f = cond (tag_eq f.0.tag tag) (read f.0.content >>= λ m. Ok (m, f.1)) (Err (fault (UnexpectedTag f.0.tag)))
+expected tag read f = if tag_eq f.0.tag tag then (read f.0.content >>= λ m. Ok (m, f.1)) else Err (fault (UnexpectedTag f.0.tag))
 
 -- A simple type: the element, then its tag, then its content.
 abbrev pub simple : {M : Type 0} → Tag → (List ℕ → Result M Fault) → List ℕ → Result (M × List ℕ) Fault
@@ -51,7 +51,7 @@ simple tag read t = element_front t >>= expected tag read
 
 -- The contents octets of the element in front, where it has this tag, and the rest.
 abbrev pub content_of : Tag → Element × List ℕ → Result (List ℕ × List ℕ) ParseErrorKind
-content_of tag f = cond (tag_eq f.0.tag tag) (Ok (f.0.content, f.1)) (Err (UnexpectedTag f.0.tag))
+content_of tag f = if tag_eq f.0.tag tag then Ok (f.0.content, f.1) else Err (UnexpectedTag f.0.tag)
 
 abbrev pub expected_front : Tag → List ℕ → Result (List ℕ × List ℕ) ParseErrorKind
 expected_front tag t = front t >>= content_of tag

@@ -1,5 +1,5 @@
 -- Integers of any length (X.690 8.3).
-use Rattle.std.specs.Prelude.{ℕ, ◌-◌, ◌^◌, ◌<◌, ◌≡◌, ◌⊎◌, Bool, true, false, ℤ, pos, ◌≤ℤ◌, int_lt, unsigned_abs, cond, List, length, slice_index, Result, Ok, Err}
+use Rattle.std.specs.Prelude.{ℕ, ◌-◌, ◌^◌, ◌<◌, ◌≡◌, ◌⊎◌, Bool, true, false, ℤ, pos, ◌≤ℤ◌, int_lt, unsigned_abs, if◌then◌else◌, List, length, slice_index, Result, Ok, Err}
 use Rattle.std.specs.Int.Digits.{digits_of}
 use Rattle.asn1_core.specs.declared.parser.ParseErrorKind.TheVariants.{InvalidValue}
 use Rattle.asn1_core.specs.Text.{IsText, number, signed_number}
@@ -28,7 +28,7 @@ bit_count z = length (digits_of 2 (unsigned_abs z))
 
 -- A number, unless it is negative.
 abbrev pub not_negative : ℤ → Result ℤ Fault
-not_negative z = cond (int_lt z (pos 0)) (Err (fault InvalidValue)) (Ok z)
+not_negative z = if int_lt z (pos 0) then Err (fault InvalidValue) else Ok z
 
 unfoldable pub read_unsigned : List ℕ → Result ℤ Fault
 read_unsigned c = read_integer c >>= not_negative

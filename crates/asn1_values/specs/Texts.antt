@@ -1,6 +1,6 @@
 -- Texts of characters (X.690 8.23): a content is the octets of its characters, and a rule says which octets these are
 -- (X.680 41).
-use Rattle.std.specs.Prelude.{ℕ, ◌%◌, ◌≡◌, Bool, true, not, cond, ◌&&◌, ◌||◌, nat_eq, List, [], ◌∷◌, length, codes, Result, Ok, Err}
+use Rattle.std.specs.Prelude.{ℕ, ◌%◌, ◌≡◌, Bool, true, not, if◌then◌else◌, ◌&&◌, ◌||◌, nat_eq, List, [], ◌∷◌, length, codes, Result, Ok, Err}
 use Rattle.std.specs.Char.{is_ascii, is_ascii_alphanumeric}
 use Rattle.std.specs.Char.Utf16.{has_unpaired_surrogate}
 use Rattle.std.specs.Int.{is_in_range}
@@ -58,4 +58,4 @@ IsTextOf rule octets = rule octets ≡ true
 
 -- A content that follows the rule is read as it stands.
 abbrev pub read_text : (List ℕ → Bool) → List ℕ → Result (List ℕ) Fault
-read_text rule octets = cond (rule octets) (Ok octets) (Err (fault InvalidValue))
+read_text rule octets = if rule octets then Ok octets else Err (fault InvalidValue)

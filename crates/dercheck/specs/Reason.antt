@@ -1,12 +1,12 @@
 -- A reason: an enumerated value (X.690 8.4) of one of two numbers.
-use Rattle.std.proofs.Common.{ℕ, ◌≡◌, List, [], ◌∷◌, nat_eq, cond, Result, Ok, Err, IfErr, refl, subst, inl, inr}
+use Rattle.std.proofs.Common.{ℕ, ◌≡◌, List, [], ◌∷◌, nat_eq, if◌then◌else◌, Result, Ok, Err, IfErr, refl, subst, inl, inr}
 use Rattle.std.proofs.lemmas.Bool.{eqb-true}
 use Rattle.asn1.specs.declared.ParseErrorKind.TheVariants.{InvalidValue}
 use Rattle.asn1.specs.Tag.{universal}
 use Rattle.asn1.specs.Fault.{Fault, fault, IsOfText}
 use Rattle.asn1.specs.Der.{Content, basic}
 use Rattle.asn1.specs.Lemmas.Results.{ok_is, chosen, passed}
-use Rattle.asn1.specs.Lemmas.Faults.{cond_faults, passed_faults}
+use Rattle.asn1.specs.Lemmas.Faults.{if_faults, passed_faults}
 use Rattle.dercheck.specs.declared.own_types.reason.Reason.{Reason}
 use Rattle.dercheck.specs.declared.own_types.reason.Reason.TheVariants.{Unspecified, Superseded}
 
@@ -18,7 +18,7 @@ reason_text Superseded = 4 ∷ []
 -- What reading contents octets answers.
 abbrev pub read_reason : List ℕ → Result Reason Fault
 read_reason [] = Err (fault InvalidValue)
-read_reason (octet ∷ []) = cond (nat_eq octet 0) (Ok Unspecified) (cond (nat_eq octet 4) (Ok Superseded) (Err (fault InvalidValue)))
+read_reason (octet ∷ []) = if nat_eq octet 0 then Ok Unspecified else if nat_eq octet 4 then Ok Superseded else Err (fault InvalidValue)
 read_reason (octet ∷ next ∷ octets) = Err (fault InvalidValue)
 
 -- What is read is the content of the value that is answered.
@@ -42,7 +42,7 @@ reason_again Superseded = refl
 -- A refusal is a fault of the text, never want of memory.
 pub reason_faults : (c : List ℕ) → IfErr (read_reason c) IsOfText
 reason_faults [] = λ e. cc
-reason_faults (octet ∷ []) = cond_faults (nat_eq octet 0) (Ok Unspecified) _ tt (passed_faults (nat_eq octet 4) (Ok Superseded) InvalidValue tt (λ e. cc))
+reason_faults (octet ∷ []) = if_faults (nat_eq octet 0) (Ok Unspecified) _ tt (passed_faults (nat_eq octet 4) (Ok Superseded) InvalidValue tt (λ e. cc))
 reason_faults (octet ∷ next ∷ octets) = λ e. cc
 
 abbrev pub reason_content : Content Reason

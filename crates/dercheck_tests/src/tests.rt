@@ -13,7 +13,6 @@ mod notice;
 mod own_types;
 mod parcel;
 mod set_pair;
-mod tagged_content;
 mod ticket;
 
 use asn1::{

@@ -379,11 +379,11 @@ fn contents_that_are_made(rt: HostRuntime) -> Result<(), Fail> {
 /// Entries: of numbers with a note, of an identifier that no other variant is for, and of fields with tags.
 const ENTRIES: [&[u8]; 3] = [
     &[
-        0x30, 17, 6, 2, 0x2a, 4, 0xa0, 8, 0x30, 6, 2, 1, 1, 2, 1, 2, 1, 1, 0xff,
+        0x30, 17, 6, 2, 0x2a, 4, 0xa3, 8, 0x30, 6, 2, 1, 1, 2, 1, 2, 1, 1, 0xff,
     ],
-    &[0x30, 8, 6, 2, 0x2a, 5, 0xa0, 2, 5, 0],
+    &[0x30, 8, 6, 2, 0x2a, 5, 0xa3, 2, 5, 0],
     &[
-        0x30, 25, 6, 2, 0x2a, 3, 0xa0, 19, 4, 17, 0x30, 15, 0xa3, 3, 2, 1, 1, 0xa4, 8, 0x30, 6, 2,
+        0x30, 25, 6, 2, 0x2a, 3, 0xa3, 19, 4, 17, 0x30, 15, 0xa3, 3, 2, 1, 1, 0xa4, 8, 0x30, 6, 2,
         1, 7, 2, 1, 9,
     ],
 ];
@@ -414,8 +414,12 @@ fn contents_under_a_tag(rt: HostRuntime) -> Result<(), Fail> {
         note: None,
     };
     both_ways(alloc, made, ENTRIES[2])?;
-    let no_list = &[0x30, 8, 6, 2, 0x2a, 4, 0xa0, 2, 5, 0];
+    let no_list = &[0x30, 8, 6, 2, 0x2a, 4, 0xa3, 2, 5, 0];
     let refusal = refused::<Entry<'_>>(alloc, no_list);
     assert!(rt; matches!(refusal, Some(ParseErrorKind::UnexpectedTag { .. })));
-    Ok(())
+    let two: &[u8] = &[0x30, 10, 6, 2, 0x2a, 5, 0xa3, 4, 5, 0, 5, 0];
+    are_refused_with::<Entry<'_>>(
+        alloc,
+        &[(two, at("Entry::listed", ParseErrorKind::ExtraData))],
+    )
 }

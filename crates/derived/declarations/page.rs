@@ -208,7 +208,7 @@ pub struct Entry<'a> {
     /// The identifier, which the list tells.
     pub kind: asn1::DefinedByMarker<asn1::ObjectIdentifier>,
     /// The list, or another content.
-    #[explicit(0, required = true)]
+    #[explicit(3, required = true)]
     #[defined_by(kind)]
     pub listed: Listed<'a>,
     /// A note, which may be unsaid.

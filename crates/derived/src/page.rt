@@ -1,5 +1,5 @@
 //! Each attribute of the original's derives, once.
-// Printed by scripts/derive from declarations/page.rs, with the sum 1317b7ba.
+// Printed by scripts/derive from declarations/page.rs, with the sum c8c04951.
 
 ghost use Rattle.std.specs.Prelude.{◌≡◌, ◌⊎◌, ◌∷◌, [], codes, negsuc, true, false, ⊤, MatchOption, OnErr};
 ghost use Rattle.std.specs.Str.{bytes_eq};
@@ -1382,12 +1382,12 @@ pub struct Entry<'a> {
     /// The identifier, which the list tells.
     pub kind: DefinedByMarker<ObjectIdentifier>,
     /// The list, or another content.
-    pub listed: Explicit<Listed<'a>, 0>,
+    pub listed: Explicit<Listed<'a>, 3>,
     /// A note, which may be unsaid.
     pub note: Option<bool>,
 }
 
-type EntryFields<'a> = Item<ObjectIdentifier, Value<Explicit<Listed<'a>, 0>, Last<Option<bool>>>>;
+type EntryFields<'a> = Item<ObjectIdentifier, Value<Explicit<Listed<'a>, 3>, Last<Option<bool>>>>;
 
 impl<'a> Asn1Type for Entry<'a> {
     ghost der = { structure (λ v. record {

@@ -1,5 +1,5 @@
 -- Bit strings whose bits have names: zero bits at the end are removed before they are encoded (X.690 11.2.2).
-use Rattle.std.specs.Prelude.{ℕ, ◌-◌, ◌/◌, ◌%◌, ◌^◌, ◌≡◌, Bool, true, cond, nat_eq, List, length, slice_index, Result, Ok, Err, IfErr}
+use Rattle.std.specs.Prelude.{ℕ, ◌-◌, ◌/◌, ◌%◌, ◌^◌, ◌≡◌, Bool, true, if◌then◌else◌, nat_eq, List, length, slice_index, Result, Ok, Err, IfErr}
 use Rattle.std.proofs.Common.{refl, subst}
 use Rattle.asn1.specs.declared.ParseErrorKind.TheVariants.{InvalidValue}
 use Rattle.asn1.specs.Fault.{Fault, fault, IsOfText}
@@ -14,13 +14,13 @@ use Rattle.asn1.specs.Lemmas.Faults.{bind_faults, passed_faults}
 
 -- The last bit is a one, or there is none.
 abbrev pub ends_with_one : Bits → Bool
-ends_with_one b = cond (nat_eq (length b.octets) 0) true (nat_eq (slice_index b.octets (length b.octets - 1) / 2 ^ b.padding % 2) 1)
+ends_with_one b = if nat_eq (length b.octets) 0 then true else nat_eq (slice_index b.octets (length b.octets - 1) / 2 ^ b.padding % 2) 1
 
 abbrev pub IsNamedBits : Bits → Type 0
 IsNamedBits b = IsBits b × (ends_with_one b ≡ true)
 
 abbrev pub named_bits : Bits → Result Bits Fault
-named_bits b = cond (ends_with_one b) (Ok b) (Err (fault InvalidValue))
+named_bits b = if ends_with_one b then Ok b else Err (fault InvalidValue)
 
 -- What reading contents octets returns.
 abbrev pub read_named_bits : List ℕ → Result Bits Fault

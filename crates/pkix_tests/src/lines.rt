@@ -182,6 +182,41 @@ fn objects_in_pem(rt: HostRuntime) -> Result<(), Fail> {
     )
 }
 
+/// The text with other line ends, empty lines and spaces around its lines.
+fn laid_out(alloc: Global, text: &str) -> Result<Vec<u8>, Fail> {
+    let mut laid = Vec::from_slice(alloc, b"\xef\xbb\xbf \t")?;
+    for octet in text.as_bytes() {
+        match octet {
+            b'\n' => laid.extend_from_slice(b" \r\r\n  ")?,
+            octet => laid.push(*octet)?,
+        }
+    }
+    Ok(laid)
+}
+
+#[test]
+fn objects_in_pem_as_files_have_them(rt: HostRuntime) -> Result<(), Fail> {
+    let alloc = rt.alloc();
+    let end = "-----END CERTIFICATE-----\n";
+    let text = pem(alloc, objects::FULL, "CERTIFICATE", end)?;
+    let octets = hex::decode(alloc, objects::FULL)?;
+    let wanted = lines(alloc, Kind::Certificate, octets.as_slice())?;
+    let laid = laid_out(alloc, text.as_str())?;
+    let before = "Bag Attributes\n\tfriendlyName: me\n-----\n\n";
+    let behind = format!(in alloc; "{before}{}", text.as_str())?;
+    for input in [laid.as_slice(), behind.as_bytes()] {
+        same(
+            lines(alloc, Kind::Certificate, input)?.as_str(),
+            wanted.as_str(),
+        )?;
+    }
+    let no_text = reason(alloc, Kind::Certificate, b"\x00\n-----BEGIN CERTIFICATE-----\n")?;
+    same(
+        no_text.as_str().starts_with("ASN.1 parsing error"),
+        true,
+    )
+}
+
 #[test]
 fn pem_is_rejected(rt: HostRuntime) -> Result<(), Fail> {
     let alloc = rt.alloc();

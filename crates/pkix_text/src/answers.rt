@@ -5,7 +5,7 @@ ghost use Rattle.asn1.specs.Reading.{whole};
 ghost use Rattle.pkix_text.specs.Answers.{IsReadIfShown};
 
 use crate::kinds::Kind;
-use crate::pem::{BEGIN, PemError, decode};
+use crate::pem::{PemError, decode, is_pem};
 use crate::show::Show;
 use asn1::{
     Asn1Readable, Asn1Writable, ParseError, Tag, WriteError, parse_single, strip_tlv, write_single,
@@ -193,10 +193,10 @@ fn answer_der(alloc: Global, kind: Kind, octets: &[u8]) -> Result<Answer, Fault>
     }
 }
 
-/// The lines of the value of this kind whose encoding the input is, in DER, or in PEM where it begins with
-/// `-----BEGIN `; or why it is rejected. `Memory` where out of memory.
+/// The lines of the value of this kind whose encoding the input is, in DER, or in PEM if it has a line that begins with
+/// `-----BEGIN ` and only text before that; or why it is rejected. `Memory` where out of memory.
 pub fn answer_to(alloc: Global, kind: Kind, input: &[u8]) -> Result<Answer, Fault> {
-    if !input.starts_with(BEGIN) {
+    if !is_pem(input) {
         return answer_der(alloc, kind, input);
     }
     match decode(alloc, input) {

@@ -1,5 +1,5 @@
 -- What the code of a field with a default answers at each step: for the answers of proofs.
-use Rattle.std.proofs.Common.{◌≡◌, ℕ, ◌⊎◌, Bool, true, false, cond, List, Option, Some, None, Result, Ok, Err, OnErr, refl, sym, ap, subst, ◌∙◌, inl, inr}
+use Rattle.std.proofs.Common.{◌≡◌, ℕ, ◌⊎◌, Bool, true, false, if◌then◌else◌, List, Option, Some, None, Result, Ok, Err, OnErr, refl, sym, ap, subst, ◌∙◌, inl, inr}
 use Rattle.std.proofs.lemmas.Bool.Decides.{same_from_decides}
 use Rattle.std.proofs.lemmas.Slice.Eq.{bytes_eq-Decides}
 use Rattle.asn1_core.specs.declared.tag.Tag.{Tag}
@@ -17,7 +17,7 @@ either_answer : (b : Bool) → (b ≡ true) ⊎ (b ≡ false)
 either_answer true = inl refl
 either_answer false = inr refl
 
-chosen_seen : {V M : Type 0} (view : V → M) (b : Bool) (v : V) → cond b (Err (fault EncodedDefault)) (Ok (view v)) ≡ seen_ok view (cond b (Err (fault EncodedDefault)) (Ok v))
+chosen_seen : {V M : Type 0} (view : V → M) (b : Bool) (v : V) → (if b then Err (fault EncodedDefault) else Ok (view v)) ≡ seen_ok view (if b then Err (fault EncodedDefault) else Ok v)
 chosen_seen view true v = refl
 chosen_seen view false v = refl
 
@@ -68,7 +68,7 @@ module _ {V M : Type 0} (meaning : V → M) (text : M → List ℕ) (same : V �
 
     value_told : (o : Option V) → read_default (same_text text) (option_meaning meaning o) default ≡ seen_ok meaning (read_default same o b)
     value_told None = ap (λ (m : M). seen_ok (λ (x : M). x) (Ok m)) (sym default_is)
-    value_told (Some a) = ap (λ (s : Bool). cond s (Err (fault EncodedDefault)) (Ok (meaning a))) (sym (same_default a)) ∙ chosen_seen meaning (same a b) a
+    value_told (Some a) = ap (λ (s : Bool). if s then Err (fault EncodedDefault) else Ok (meaning a)) (sym (same_default a)) ∙ chosen_seen meaning (same a b) a
 
     read_as : (accepts : Tag → Bool) (read : List ℕ → Result (M × List ℕ) Fault) (t rest : List ℕ) (o : Option V) → option_read accepts read t ≡ Ok (option_meaning meaning o, rest) →
         (r : Result V Fault) → r ≡ read_default same o b → default_read accepts text read default t ≡ (seen_ok meaning r >>= gave rest)

@@ -1,5 +1,5 @@
 -- The laws of values that are left out where they equal a default, from those of the type.
-use Rattle.std.proofs.Common.{◌≡◌, ℕ, Bool, true, false, cond, List, [], ◌++◌, Option, Some, None, Result, Ok, Err, IfErr, refl, sym, ap, subst, ◌∙◌, ◌⊎◌, inl, inr}
+use Rattle.std.proofs.Common.{◌≡◌, ℕ, Bool, true, false, if◌then◌else◌, List, [], ◌++◌, Option, Some, None, Result, Ok, Err, IfErr, refl, sym, ap, subst, ◌∙◌, ◌⊎◌, inl, inr}
 use Rattle.std.proofs.lemmas.Slice.Eq.{bytes_eq-Decides}
 use Rattle.asn1_core.specs.declared.tag.Tag.{Tag}
 use Rattle.asn1_core.specs.declared.parser.ParseErrorKind.TheVariants.{EncodedDefault}
@@ -26,7 +26,7 @@ apart_is b holds fails = absurd cc
 abbrev gave : {M : Type 0} → List ℕ → M → Result (M × List ℕ) Fault
 gave rest m = Ok (m, rest)
 
-some_is : {M : Type 0} (b : Bool) (v m : M) (rest1 rest : List ℕ) → (cond b (Err (fault EncodedDefault)) (Ok v) >>= gave rest1) ≡ Ok (m, rest) → (b ≡ false) × (◌≡◌ {A = M × List ℕ} (v, rest1) (m, rest))
+some_is : {M : Type 0} (b : Bool) (v m : M) (rest1 rest : List ℕ) → ((if b then Err (fault EncodedDefault) else Ok v) >>= gave rest1) ≡ Ok (m, rest) → (b ≡ false) × (◌≡◌ {A = M × List ℕ} (v, rest1) (m, rest))
 some_is true v m rest1 rest e = absurd cc
 some_is false v m rest1 rest e = (refl, ok_is _ _ e)
 

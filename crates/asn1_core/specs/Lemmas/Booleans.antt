@@ -5,7 +5,7 @@ use Rattle.asn1_core.specs.declared.parser.ParseErrorKind.TheVariants.{InvalidVa
 use Rattle.asn1_core.specs.Fault.{IsOfText}
 use Rattle.asn1_core.specs.Boolean.{bool_content_text, read_bool}
 use Rattle.asn1_core.specs.Lemmas.Results.{ok_is, chosen, passed}
-use Rattle.asn1_core.specs.Lemmas.Faults.{cond_faults, passed_faults}
+use Rattle.asn1_core.specs.Lemmas.Faults.{if_faults, passed_faults}
 
 pub bool_takes : (c : List ℕ) (m : Bool) → read_bool c ≡ Ok m → c ≡ bool_content_text m
 bool_takes [] m e = absurd cc
@@ -25,5 +25,5 @@ bool_again true = refl
 
 pub bool_faults : (c : List ℕ) → IfErr (read_bool c) IsOfText
 bool_faults [] = λ e. cc
-bool_faults (octet ∷ []) = cond_faults (eqb octet 0) (Ok false) _ tt (passed_faults (eqb octet 255) (Ok true) InvalidValue tt (λ e. cc))
+bool_faults (octet ∷ []) = if_faults (eqb octet 0) (Ok false) _ tt (passed_faults (eqb octet 255) (Ok true) InvalidValue tt (λ e. cc))
 bool_faults (octet ∷ next ∷ octets) = λ e. cc

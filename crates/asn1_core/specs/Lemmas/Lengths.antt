@@ -1,5 +1,5 @@
 -- Lengths: what stands in front of a text.
-use Rattle.std.proofs.Common.{◌≡◌, ℕ, zero, suc, ◌+◌, ◌-◌, ◌*◌, ◌/◌, ◌%◌, ◌^◌, ◌<◌, ◌≤◌, ◌⊎◌, true, cond, eqb, List, [], ◌∷◌, ◌++◌, length, get_or, take, drop, set, bit_and, bit_or, Result, Ok, Err, refl, sym, ap, subst, ◌∙◌, inl, inr, ⊎_elim, append_assoc, arith, lit<, lit≤}
+use Rattle.std.proofs.Common.{◌≡◌, ℕ, zero, suc, ◌+◌, ◌-◌, ◌*◌, ◌/◌, ◌%◌, ◌^◌, ◌<◌, ◌≤◌, ◌⊎◌, true, if◌then◌else◌, eqb, List, [], ◌∷◌, ◌++◌, length, get_or, take, drop, set, bit_and, bit_or, Result, Ok, Err, refl, sym, ap, subst, ◌∙◌, inl, inr, ⊎_elim, append_assoc, arith, lit<, lit≤}
 use Rattle.std.specs.Prelude.{OnOk, is_ok}
 use Rattle.std.proofs.lemmas.Bool.{le-leb, lt-leb, le-ltb, lt-ltb, eq-eqb, ne_eqb, cases_lt, cases_eq, or_right}
 use Rattle.std.proofs.lemmas.Nat.{mul-add-lt, or_shifted, and_mask}
@@ -296,6 +296,6 @@ write_end n i octets l small some in_octets place whole =
     let top : bit_or 128 (9 - i) ≡ 128 + length (digits_of 256 n) = rw count (numeral_or 127 (length (digits_of 256 n)) refl few) in
     rw (drop-set octets (i - 1) (bit_or 128 (9 - i)), same, top, whole) (sym (length_text_high n l))
 
-pub appended : {T E : Type 0} (r : Result T E) (new old xs ys : List ℕ) → new ≡ cond (is_ok r) (old ++ xs) old → xs ≡ ys → OnOk r (new ≡ old ++ ys)
+pub appended : {T E : Type 0} (r : Result T E) (new old xs ys : List ℕ) → new ≡ (if is_ok r then old ++ xs else old) → xs ≡ ys → OnOk r (new ≡ old ++ ys)
 appended (Ok x) new old xs ys e same = e ∙ ap (λ (s : List ℕ). old ++ s) same
 appended (Err x) new old xs ys e same = tt

@@ -1,5 +1,5 @@
 -- Numbers in base 128: what stands in front of a text.
-use Rattle.std.proofs.Common.{◌≡◌, ℕ, zero, suc, ◌+◌, ◌-◌, ◌*◌, ◌/◌, ◌%◌, ◌^◌, ◌<◌, ◌≤◌, ◌⊎◌, Bool, true, false, cond, eqb, leb, ◌||◌, List, [], ◌∷◌, ◌++◌, length, get_or, take, drop, set, map, bit_or, bit_and, Result, Ok, Err, refl, sym, ap, subst, ◌∙◌, inl, inr, ⊎_elim, append_assoc, arith, lit<, lit≤}
+use Rattle.std.proofs.Common.{◌≡◌, ℕ, zero, suc, ◌+◌, ◌-◌, ◌*◌, ◌/◌, ◌%◌, ◌^◌, ◌<◌, ◌≤◌, ◌⊎◌, Bool, true, false, if◌then◌else◌, eqb, leb, ◌||◌, List, [], ◌∷◌, ◌++◌, length, get_or, take, drop, set, map, bit_or, bit_and, Result, Ok, Err, refl, sym, ap, subst, ◌∙◌, inl, inr, ⊎_elim, append_assoc, arith, lit<, lit≤}
 use Rattle.std.specs.List.{prefix_len}
 use Rattle.std.specs.Int.Digits.{digits_of}
 use Rattle.std.proofs.lemmas.Int.Digits.{length-digits_of-le, digits_of_step}
@@ -84,9 +84,9 @@ get_front_not (x ∷ xs) rest l z = z
 abbrev pub Front : Type 0
 Front = Result (ℕ × List ℕ) ParseErrorKind
 
-cond_same : (b : Bool) (x : Front) → cond b x x ≡ x
-cond_same true x = refl
-cond_same false x = refl
+if_same : (b : Bool) (x : Front) → (if b then x else x) ≡ x
+if_same true x = refl
+if_same false x = refl
 
 front_zero : (text : List ℕ) → get_or text 0 0 ≡ 128 → number_front text ≡ Err InvalidValue
 unfolding number_front
@@ -106,7 +106,7 @@ front_done text k z e l h small = rw (ne_eqb (get_or text 0 0) 128 z, e, lt-leb 
 
 front_big : (text : List ℕ) (k : ℕ) → prefix_len passes text ≡ k → k < length text → 2 ^ 128 ≤ digits_number (take (k + 1) text) → number_front text ≡ Err InvalidValue
 unfolding number_front
-front_big text k e l big = rw (e, ne_eqb k (length text) (λ (w : k ≡ length text). absurd (omega arith)), le-leb (2 ^ 128) (digits_number (take (k + 1) text)) big) (cond_same (eqb (get_or text 0 0) 128 || leb 19 k) (Err InvalidValue))
+front_big text k e l big = rw (e, ne_eqb k (length text) (λ (w : k ≡ length text). absurd (omega arith)), le-leb (2 ^ 128) (digits_number (take (k + 1) text)) big) (if_same (eqb (get_or text 0 0) 128 || leb 19 k) (Err InvalidValue))
 
 finished_some : (t : List ℕ) → IsFinished t → 0 < length t
 finished_some [] f = absurd f

@@ -1,5 +1,5 @@
 -- Results of readings, taken apart.
-use Rattle.std.proofs.Common.{◌≡◌, ℕ, List, [], Bool, true, false, cond, Result, Ok, Err, refl, sym, ap, ◌⊎◌, inl, inr}
+use Rattle.std.proofs.Common.{◌≡◌, ℕ, List, [], Bool, true, false, if◌then◌else◌, Result, Ok, Err, refl, sym, ap, ◌⊎◌, inl, inr}
 use Rattle.asn1_core.specs.declared.parser.ParseErrorKind.{ParseErrorKind}
 use Rattle.asn1_core.specs.declared.parser.ParseErrorKind.TheVariants.{UnexpectedTag}
 use Rattle.asn1_core.specs.declared.parser.Place.{Place}
@@ -25,12 +25,12 @@ framed_ok (Ok y) x e = cc
 framed_ok (Err kind) x e = absurd cc
 
 -- a test with one answer
-pub chosen : {A : Type 0} (b : Bool) (x y z : A) → cond b x y ≡ z → ((b ≡ true) × (x ≡ z)) ⊎ ((b ≡ false) × (y ≡ z))
+pub chosen : {A : Type 0} (b : Bool) (x y z : A) → (if b then x else y) ≡ z → ((b ≡ true) × (x ≡ z)) ⊎ ((b ≡ false) × (y ≡ z))
 chosen true x y z e = inl (refl, e)
 chosen false x y z e = inr (refl, e)
 
 -- a test with a fault in its second place
-pub passed : {A : Type 0} (b : Bool) (x : Result A Fault) (d : Fault) (y : A) → cond b x (Err d) ≡ Ok y → (b ≡ true) × (x ≡ Ok y)
+pub passed : {A : Type 0} (b : Bool) (x : Result A Fault) (d : Fault) (y : A) → (if b then x else Err d) ≡ Ok y → (b ≡ true) × (x ≡ Ok y)
 passed true x d y e = (refl, e)
 passed false x d y e = absurd cc
 
@@ -44,7 +44,7 @@ given view (Err f) answer e = inl (rw (e.0, no_place f e.1) refl)
 
 -- a refusal of the element with an expected tag is that of the simple type
 other_tag : {M : Type 0} (b : Bool) (tag : Tag) (found : List ℕ × List ℕ) (read : Result (M × List ℕ) Fault) (kind : ParseErrorKind) →
-    cond b (Ok found) (Err (UnexpectedTag tag)) ≡ Err kind → cond b read (Err (fault (UnexpectedTag tag))) ≡ Err (fault kind)
+    (if b then Ok found else Err (UnexpectedTag tag)) ≡ Err kind → (if b then read else Err (fault (UnexpectedTag tag))) ≡ Err (fault kind)
 other_tag true tag found read kind e = absurd cc
 other_tag false tag found read kind e = let same : UnexpectedTag tag ≡ kind = cc in rw same refl
 

@@ -1,6 +1,6 @@
 //! INTEGER (X.690 8.3): its contents octets, and the types of fixed width.
 
-ghost use Rattle.std.specs.Prelude.{◌≡◌, ℕ, ◌+◌, ◌-◌, ◌^◌, ◌<◌, ◌≤◌, ◌||◌, ◌==◌, ◌++◌, cond, length, pos, neg_ℤ, ◌≤ℤ◌, ◌<ℤ◌, IfOk, OnOk, OnErr, IsOkUnless, Some};
+ghost use Rattle.std.specs.Prelude.{◌≡◌, ℕ, ◌+◌, ◌-◌, ◌^◌, ◌<◌, ◌≤◌, ◌||◌, ◌==◌, ◌++◌, if◌then◌else◌, length, pos, neg_ℤ, ◌≤ℤ◌, ◌<ℤ◌, IfOk, OnOk, OnErr, IsOkUnless, Some};
 ghost use Rattle.asn1_core.specs.Text.{signed_number};
 ghost use Rattle.asn1_core.specs.Integer.{nine_bits, is_minimal, integer_content, below, read_sized};
 ghost use Rattle.asn1_core.specs.Fault.{framed};
@@ -45,7 +45,7 @@ pub fn is_integer_content(octets: &[u8]) -> bool
 
 /// The octet that extends a sign: its bits are all one for a negative number, and else all zero.
 fn sign_octet(is_negative: bool) -> u8
-    ensures { result ≡ cond is_negative 0xff 0x00 }
+    ensures { result ≡ (if is_negative then 0xff else 0x00) }
 {
     if is_negative { 0xff } else { 0x00 }
 }
@@ -71,7 +71,7 @@ fn signed_number(octets: &[u8]) -> i128
 
 /// Why a number outside the range of a type is rejected: it is below, or above.
 fn beyond(is_below: bool, low: i128) -> ParseErrorKind
-    ensures { result ≡ cond is_below (below low) IntegerOverflow }
+    ensures { result ≡ (if is_below then below low else IntegerOverflow) }
 {
     if is_below && low >= 0 {
         ParseErrorKind::InvalidValue

@@ -1,5 +1,5 @@
 -- Integers of any length: what is read is a content, and a content is read.
-use Rattle.std.proofs.Common.{◌≡◌, ℕ, zero, suc, ◌<◌, ◌≤◌, Bool, true, false, cond, leb, ltb, List, [], ◌∷◌, ◌++◌, length, get_or, Result, Ok, Err, IfErr, refl, sym, ap, subst, ◌∙◌, inl, inr, ⊎_elim, ◌↔◌, arith, lit<}
+use Rattle.std.proofs.Common.{◌≡◌, ℕ, zero, suc, ◌<◌, ◌≤◌, Bool, true, false, if◌then◌else◌, leb, ltb, List, [], ◌∷◌, ◌++◌, length, get_or, Result, Ok, Err, IfErr, refl, sym, ap, subst, ◌∙◌, inl, inr, ⊎_elim, ◌↔◌, arith, lit<}
 use Rattle.std.specs.Prelude.{ℤ, pos, ◌≤ℤ◌, ◌<ℤ◌, int_lt, OnOk}
 use Rattle.std.proofs.lemmas.Int.{ints, by_lt_z}
 use Rattle.std.proofs.lemmas.Bool.{cases_Bool, cases_lt, both_ways, lt-leb, le-leb, lt-ltb, ltb-true}
@@ -35,7 +35,7 @@ refused z h =
     let test : int_lt z (pos 0) ≡ true = grind (arith, ints) in
     rw test refl
 
-kept_is : (b : Bool) (z m : ℤ) → cond b (Err (fault InvalidValue)) (Ok z) ≡ Ok m → (b ≡ false) × (z ≡ m)
+kept_is : (b : Bool) (z m : ℤ) → (if b then Err (fault InvalidValue) else Ok z) ≡ Ok m → (b ≡ false) × (z ≡ m)
 kept_is true z m e = absurd cc
 kept_is false z m e = (refl, ok_is z m e)
 

@@ -4,7 +4,7 @@ use Rattle.std.proofs.lemmas.List.{get_or_past}
 use Rattle.asn1_core.specs.Text.{IsText}
 use Rattle.asn1_values.specs.Bits.{Bits, IsBits, is_padded, bits, has_bit}
 use Rattle.asn1_values.specs.BitLists.{bit_at, octet_bits, all_bits, IsBitsOf, BitsAreAList, OneBitString, SetBits, FilledOctetsAreBits, EachListHasBits}
-use Rattle.std.proofs.Common.{◌≡◌, ◌∙◌, ℕ, zero, suc, ◌+◌, ◌-◌, ◌*◌, ◌/◌, ◌%◌, ◌^◌, ◌<◌, ◌≤◌, inl, inr, Bool, true, false, cond, ◌&&◌, eqb, nat_eq, nat_lt, nat_le, List, [], ◌∷◌, ◌++◌, length, replicate, take, get_or, slice_index, refl, sym, ap, subst, arith}
+use Rattle.std.proofs.Common.{◌≡◌, ◌∙◌, ℕ, zero, suc, ◌+◌, ◌-◌, ◌*◌, ◌/◌, ◌%◌, ◌^◌, ◌<◌, ◌≤◌, inl, inr, Bool, true, false, if◌then◌else◌, ◌&&◌, eqb, nat_eq, nat_lt, nat_le, List, [], ◌∷◌, ◌++◌, length, replicate, take, get_or, slice_index, refl, sym, ap, subst, arith}
 
 -- ---- which bit is set
 
@@ -138,7 +138,7 @@ bits_filled (o ∷ octets) p h =
     let few = leb-true p 7 parts.0 in
     let last = slice_index (o ∷ octets) (length (o ∷ octets) - 1) in
     let some : nat_eq (length (o ∷ octets)) 0 ≡ false = ne_eqb (length (o ∷ octets)) 0 (λ e. omega (arith, e)) in
-    let clear : nat_eq (last % 2 ^ p) 0 ≡ true = sym (ap (λ (b : Bool). cond b (nat_eq p 0) (nat_eq (last % 2 ^ p) 0)) some) ∙ parts.1 in
+    let clear : nat_eq (last % 2 ^ p) 0 ≡ true = sym (ap (λ (b : Bool). if b then nat_eq p 0 else nat_eq (last % 2 ^ p) 0) some) ∙ parts.1 in
     (list_from (o ∷ octets) p few (omega arith) (eqb-true (last % 2 ^ p) 0 clear), omega (arith, few))
 
 pub bits_are_a_list : BitsAreAList
@@ -149,7 +149,7 @@ bits_are_a_list b h =
 -- ---- the bit string of a list
 
 abbrev weight : Bool → ℕ → ℕ
-weight b n = cond b n 0
+weight b n = if b then n else 0
 
 abbrev octet_of : Bool → Bool → Bool → Bool → Bool → Bool → Bool → Bool → ℕ
 octet_of a b c d e f g h = weight a 128 + weight b 64 + weight c 32 + weight d 16 + weight e 8 + weight f 4 + weight g 2 + weight h 1
@@ -237,8 +237,8 @@ filled_padded list (o ∷ octets) p h =
     let last = slice_index (o ∷ octets) (length (o ∷ octets) - 1) in
     let some : nat_eq (length (o ∷ octets)) 0 ≡ false = ne_eqb (length (o ∷ octets)) 0 (λ e. omega (arith, e)) in
     let clear : nat_eq (last % 2 ^ p) 0 ≡ true = eq-eqb (last % 2 ^ p) 0 (clear_low p last h.few (padding_bit list (bits (o ∷ octets) p) h)) in
-    ap (λ (x : Bool). x && cond (nat_eq (length (o ∷ octets)) 0) (nat_eq p 0) (nat_eq (last % 2 ^ p) 0)) (le-leb p 7 (omega (arith, h.few)))
-    ∙ ap (λ (x : Bool). cond x (nat_eq p 0) (nat_eq (last % 2 ^ p) 0)) some
+    ap (λ (x : Bool). x && (if nat_eq (length (o ∷ octets)) 0 then nat_eq p 0 else nat_eq (last % 2 ^ p) 0)) (le-leb p 7 (omega (arith, h.few)))
+    ∙ ap (λ (x : Bool). if x then nat_eq p 0 else nat_eq (last % 2 ^ p) 0) some
     ∙ clear
 
 pub filled_octets_are_bits : FilledOctetsAreBits
@@ -263,7 +263,7 @@ each_at p e false = (and_parts (p true) (p false) e).1
 
 abbrev alike : Bool → Bool → Bool
 alike true y = y
-alike false y = cond y false true
+alike false y = if y then false else true
 
 alike_is : (x y : Bool) → alike x y ≡ true → x ≡ y
 alike_is true true e = refl

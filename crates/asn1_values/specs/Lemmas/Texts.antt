@@ -11,7 +11,7 @@ use Rattle.asn1_core.specs.Text.{IsText}
 use Rattle.asn1_core.specs.Lemmas.Faults.{passed_faults}
 use Rattle.asn1_core.specs.Lemmas.Results.{ok_is, passed}
 use Rattle.asn1_values.specs.Texts.{IsTextOf, read_text, is_printable, is_printable_text, is_ia5_text, is_visible_text, is_utf8_text}
-use Rattle.std.proofs.Common.{◌≡◌, ◌∙◌, ℕ, zero, suc, ◌+◌, ◌-◌, ◌<◌, ◌≤◌, ◌/◌, ◌%◌, ◌^◌, Bool, true, false, cond, not, ◌&&◌, ◌||◌, eqb, nat_eq, codes, List, [], ◌∷◌, Ok, Err, IfErr, IsUtf8, IsAscii, MatchBool, refl, sym, ap, subst, inl, inr, arith}
+use Rattle.std.proofs.Common.{◌≡◌, ◌∙◌, ℕ, zero, suc, ◌+◌, ◌-◌, ◌<◌, ◌≤◌, ◌/◌, ◌%◌, ◌^◌, Bool, true, false, if◌then◌else◌, not, ◌&&◌, ◌||◌, eqb, nat_eq, codes, List, [], ◌∷◌, Ok, Err, IfErr, IsUtf8, IsAscii, MatchBool, refl, sym, ap, subst, inl, inr, arith}
 
 pub text_takes : (rule : List ℕ → Bool) (c t : List ℕ) → IsText c → read_text rule c ≡ Ok t → (c ≡ t) × IsTextOf rule t
 text_takes rule c t is e =
@@ -103,7 +103,7 @@ below_at p (suc n) k e h = elim (cases_eq k n) [
   | inr apart ↦ below_at p n k (and_parts _ _ e).1 (omega (arith, h, apart))
 ]
 
-same_answer : (a b : Bool) → cond a b (not b) ≡ true → a ≡ b
+same_answer : (a b : Bool) → (if a then b else not b) ≡ true → a ≡ b
 same_answer true true e = refl
 same_answer false false e = refl
 same_answer true false e = absurd (true≢false (sym e))
@@ -114,7 +114,7 @@ abbrev bit_of : ℕ → ℕ → Bool
 bit_of mask k = eqb (mask / 2 ^ (k % 64) % 2) 1
 
 abbrev is_right_bit : ℕ → ℕ → ℕ → Bool
-is_right_bit mask first k = cond (bit_of mask k) (is_printable (first + k)) (not (is_printable (first + k)))
+is_right_bit mask first k = if bit_of mask k then is_printable (first + k) else not (is_printable (first + k))
 
 low_agree : below (is_right_bit 0xa7fffb8100000000 0) 64 ≡ true
 unfolding below

@@ -7,7 +7,7 @@ use Rattle.std.proofs.lemmas.List.{drop_more, length-drop}
 use Rattle.std.proofs.lemmas.Str.{utf16_chars-nil, utf16_chars_lone, utf16_chars_pair}
 use Rattle.asn1_core.specs.Text.{number}
 use Rattle.asn1_values.specs.Texts.{pairs, is_paired, is_utf16_text}
-use Rattle.std.proofs.Common.{◌≡◌, ◌∙◌, ℕ, ◌+◌, ◌-◌, ◌*◌, ◌%◌, ◌<◌, ◌≤◌, ◌⊎◌, inl, inr, Bool, true, false, not, cond, nat_eq, nat_le, nat_lt, is_some, List, [], ◌∷◌, length, get_or, drop, Option, Some, None, refl, sym, ap, arith}
+use Rattle.std.proofs.Common.{◌≡◌, ◌∙◌, ℕ, ◌+◌, ◌-◌, ◌*◌, ◌%◌, ◌<◌, ◌≤◌, ◌⊎◌, inl, inr, Bool, true, false, not, if◌then◌else◌, nat_eq, nat_le, nat_lt, is_some, List, [], ◌∷◌, length, get_or, drop, Option, Some, None, refl, sym, ap, arith}
 
 -- ---- units
 
@@ -16,11 +16,11 @@ abbrev pub IsPair : ℕ → ℕ → Type 0
 IsPair u v = (0xD800 ≤ u) × (u < 0xDC00) × (0xDC00 ≤ v) × (v < 0xE000)
 
 lone_is_char : (u : ℕ) → (u < 0xD800) ⊎ (0xE000 ≤ u) → lone_unit_char u ≡ Some u
-lone_is_char u (inl low) = ap (λ (b : Bool). cond b None (Some u)) (and_left (nat_le 0xD800 u) (nat_lt u 0xE000) (lt-leb 0xD800 u low))
-lone_is_char u (inr high) = ap (λ (b : Bool). cond b None (Some u)) (and_right (nat_le 0xD800 u) (nat_lt u 0xE000) (le-ltb u 0xE000 high))
+lone_is_char u (inl low) = ap (λ (b : Bool). if b then None else Some u) (and_left (nat_le 0xD800 u) (nat_lt u 0xE000) (lt-leb 0xD800 u low))
+lone_is_char u (inr high) = ap (λ (b : Bool). if b then None else Some u) (and_right (nat_le 0xD800 u) (nat_lt u 0xE000) (le-ltb u 0xE000 high))
 
 lone_is_none : (u : ℕ) → 0xD800 ≤ u → u < 0xE000 → lone_unit_char u ≡ None
-lone_is_none u low high = ap (λ (b : Bool). cond b None (Some u)) (and_from (nat_le 0xD800 u) (nat_lt u 0xE000) (le-leb 0xD800 u low) (lt-ltb u 0xE000 high))
+lone_is_none u low high = ap (λ (b : Bool). if b then None else Some u) (and_from (nat_le 0xD800 u) (nat_lt u 0xE000) (le-leb 0xD800 u low) (lt-ltb u 0xE000 high))
 
 -- no surrogate has no partner among these characters
 abbrev all_chars : List (Option ℕ) → Bool
