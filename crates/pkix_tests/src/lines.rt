@@ -210,11 +210,12 @@ fn objects_in_pem_as_files_have_them(rt: HostRuntime) -> Result<(), Fail> {
             wanted.as_str(),
         )?;
     }
-    let no_text = reason(alloc, Kind::Certificate, b"\x00\n-----BEGIN CERTIFICATE-----\n")?;
-    same(
-        no_text.as_str().starts_with("ASN.1 parsing error"),
-        true,
-    )
+    let no_text = reason(
+        alloc,
+        Kind::Certificate,
+        b"\x00\n-----BEGIN CERTIFICATE-----\n",
+    )?;
+    same(no_text.as_str().starts_with("ASN.1 parsing error"), true)
 }
 
 #[test]

@@ -53,7 +53,10 @@ pub(crate) fn is_pem(input: &[u8]) -> bool {
         if line.trim_ascii().starts_with(BEGIN) {
             return true;
         }
-        if line.iter().any(|octet| octet.is_ascii_control() && *octet != b'\t') {
+        if line
+            .iter()
+            .any(|octet| octet.is_ascii_control() && *octet != b'\t')
+        {
             return false;
         }
     }
