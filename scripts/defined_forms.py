@@ -244,14 +244,28 @@ def readable(item):
 
 
 def write_answer(item, module, crate, path):
-    """The proofs that the write of large variants owes: their types have one encoding, so nothing more is asked."""
+    """The proofs that the write of large variants owes: their types have one encoding, so nothing more is asked, and an
+    error leaves the buffer as it was."""
     plain = [part for part in item.parts if not part.tag]
     large = [part.name for part in plain if part is not item.other and holds(module, part.base)]
-    goals = [f"write_element-requires-in-{name}" if plain[1:] else "write_element-requires" for name in large]
-    lines = "".join(f"\npub {goal} : goal.{goal}\n{goal} c = inl (search rules)\n" for goal in goals)
-    return goals and f"""use Rattle.std.proofs.Common.{{inl, rules}}
+    # The first call's goals and results have no more than its name, and those of each further one tell where it is.
+    at = {part.name: f"-in-{part.name}" if part is not plain[0] else "" for part in plain}
+    goals = [f"write_element-requires{at[name]}" for name in large]
+    lines = [f"pub {goal} : goal.{goal}\n{goal} c = inl (search rules)\n" for goal in goals]
+    for name, where in at.items():
+        goal, call = f"returns-in-{name}-clause-err", f"c.write_element{where}"
+        proof = f"on_err_weaker {call}.result keeps_front {call}.ensures.err"
+        lines.append(f"pub {goal} : goal.{goal}\n{goal} c = {proof}\n")
+    return goals and f"""use Rattle.std.proofs.Common.{{◌≡◌, ℕ, List, arith, inl, rules}}
+use Rattle.std.proofs.lemmas.Grind.{{common_steps}}
+use Rattle.std.proofs.lemmas.Result.{{on_err_weaker}}
+use Rattle.asn1.specs.Buffer.{{KeepsFront}}
 use Rattle.{crate}.proofs.{path}{item.name}Asn1DefinedByWritable{ITEM}.write.Goals as goal
-{lines}"""
+
+keeps_front : {{old new : List ℕ}} → new ≡ old → KeepsFront old new
+keeps_front e = record {{ joined = grind (arith, common_steps) }}
+
+{chr(10).join(lines)}"""
 
 
 def holds(module, type):

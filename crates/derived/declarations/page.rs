@@ -191,12 +191,12 @@ pub struct Letter {
 /// Numbers, or any other content, before a note.
 #[derive(asn1::Asn1DefinedByRead, asn1::Asn1DefinedByWrite, Debug, Clone, PartialEq, Eq)]
 pub enum Listed<'a> {
-    /// Numbers.
-    #[defined_by(OTHER_OID)]
-    Numbers(asn1::SequenceOf<'a, u64>),
     /// Fields with tags, whose encoding stands in octets.
     #[defined_by(SOME_OID)]
     Tagged(asn1::OctetStringEncoded<Tagged<'a>>),
+    /// Numbers.
+    #[defined_by(OTHER_OID)]
+    Numbers(asn1::SequenceOf<'a, u64>),
     /// Every other identifier, and its value.
     #[default]
     Unknown(asn1::ObjectIdentifier, asn1::Tlv<'a>),

@@ -1,5 +1,5 @@
 //! Each attribute of the original's derives, once.
-// Printed by scripts/derive from declarations/page.rs, with the sum c8c04951.
+// Printed by scripts/derive from declarations/page.rs, with the sum d6eafbb5.
 
 ghost use Rattle.std.specs.Prelude.{◌≡◌, ◌⊎◌, ◌∷◌, [], codes, negsuc, true, false, ⊤, MatchOption, OnErr};
 ghost use Rattle.std.specs.Str.{bytes_eq};
@@ -1206,18 +1206,18 @@ impl SimpleAsn1Writable for Letter {
 pub struct ListedUnknown<'a> {
     item: ObjectIdentifier,
     value: Tlv<'a>,
-    pub ghost is_not_other_oid: { bytes_eq (identifier_of item) OTHER_OID_NUMBERS ≡ false },
     pub ghost is_not_some_oid: { bytes_eq (identifier_of item) SOME_OID_NUMBERS ≡ false },
+    pub ghost is_not_other_oid: { bytes_eq (identifier_of item) OTHER_OID_NUMBERS ≡ false },
 }
 
 impl<'a> ListedUnknown<'a> {
     /// Of this identifier and this value; `None` where another variant is for the identifier.
     pub fn new(item: ObjectIdentifier, value: Tlv<'a>) -> Option<ListedUnknown<'a>>
-        ensures { MatchOption result ((bytes_eq (identifier_of item) OTHER_OID_NUMBERS ≡ true) ⊎
-            (bytes_eq (identifier_of item) SOME_OID_NUMBERS ≡ true)) (λ v. (v.item ≡ item) ×
+        ensures { MatchOption result ((bytes_eq (identifier_of item) SOME_OID_NUMBERS ≡ true) ⊎
+            (bytes_eq (identifier_of item) OTHER_OID_NUMBERS ≡ true)) (λ v. (v.item ≡ item) ×
             (v.value ≡ value.entry)) }
     {
-        if is_identifier(&item, other_oid()) || is_identifier(&item, some_oid()) {
+        if is_identifier(&item, some_oid()) || is_identifier(&item, other_oid()) {
             return None;
         }
         Some(ListedUnknown { item, value })
@@ -1254,36 +1254,35 @@ impl<'a> Clone for ListedUnknown<'a> {
 /// Numbers, or any other content, before a note.
 #[derive(Debug, Clone, PartialEq, Eq, Drop)]
 pub enum Listed<'a> {
-    /// Numbers.
-    Numbers(SequenceOf<'a, u64, 0, { usize::MAX }>),
     /// Fields with tags, whose encoding stands in octets.
     Tagged(OctetStringEncoded<Tagged<'a>>),
+    /// Numbers.
+    Numbers(SequenceOf<'a, u64, 0, { usize::MAX }>),
     /// Every other identifier, and its value.
     Unknown(ListedUnknown<'a>),
 }
 
 impl<'a> Asn1DefinedBy<ObjectIdentifier> for Listed<'a> {
-    ghost use Rattle.derived.specs.declared.page.Listed.TheVariants.{Numbers, Tagged, Unknown};
+    ghost use Rattle.derived.specs.declared.page.Listed.TheVariants.{Tagged, Numbers, Unknown};
 
     ghost by = { by_item (record {
       item = ⟦<ObjectIdentifier as Asn1Type>⟧.der;
       value = or_variant (record {
+        item = SOME_OID_NUMBERS;
+        is = λ n. bytes_eq n SOME_OID_NUMBERS;
+        itself = refl;
+        alone = λ n e. sym ((bytes_eq-Decides n SOME_OID_NUMBERS).0 e);
+      }) ⟦<OctetStringEncoded<Tagged<'a>> as Asn1Type>⟧.der (or_variant (record {
         item = OTHER_OID_NUMBERS;
         is = λ n. bytes_eq n OTHER_OID_NUMBERS;
         itself = refl;
         alone = λ n e. sym ((bytes_eq-Decides n OTHER_OID_NUMBERS).0 e);
-      }) ⟦<SequenceOf<'a, u64, 0, 18446744073709551615> as Asn1Type>⟧.der (or_variant
-          (record {
-            item = SOME_OID_NUMBERS;
-            is = λ n. bytes_eq n SOME_OID_NUMBERS;
-            itself = refl;
-            alone = λ n e. sym ((bytes_eq-Decides n SOME_OID_NUMBERS).0 e);
-          }) ⟦<OctetStringEncoded<Tagged<'a>> as Asn1Type>⟧.der (any_variant
+      }) ⟦<SequenceOf<'a, u64, 0, 18446744073709551615> as Asn1Type>⟧.der (any_variant
           ⟦<Tlv<'a> as Asn1Type>⟧.der (λ m. m)) (λ m. m)) (elim [
-            | Numbers x ↦ inl
-                (⟦<SequenceOf<'a, u64, 0, 18446744073709551615> as Asn1Type>⟧.der.meaning x)
-            | Tagged x ↦ inr (inl
-                (⟦<OctetStringEncoded<Tagged<'a>> as Asn1Type>⟧.der.meaning x))
+            | Tagged x ↦ inl
+                (⟦<OctetStringEncoded<Tagged<'a>> as Asn1Type>⟧.der.meaning x)
+            | Numbers x ↦ inr (inl
+                (⟦<SequenceOf<'a, u64, 0, 18446744073709551615> as Asn1Type>⟧.der.meaning x))
             | Unknown x ↦ inr (inr (
               ⟦<ObjectIdentifier as Asn1Type>⟧.der.meaning x.item,
               ⟦<Tlv<'a> as Asn1Type>⟧.der.meaning x.value,
@@ -1293,8 +1292,8 @@ impl<'a> Asn1DefinedBy<ObjectIdentifier> for Listed<'a> {
 
     fn known_by(&self) {
         match self {
-            Listed::Numbers(x) => x.known(),
             Listed::Tagged(x) => x.known(),
+            Listed::Numbers(x) => x.known(),
             Listed::Unknown(x) => x.value.known(),
         }
     }
@@ -1308,8 +1307,8 @@ impl<'a> DefinedField<ObjectIdentifier> for Listed<'a> {
 
     fn known_item(&self) {
         match self {
-            Listed::Numbers(_) => other_oid().known(),
             Listed::Tagged(_) => some_oid().known(),
+            Listed::Numbers(_) => other_oid().known(),
             Listed::Unknown(x) => x.item.known(),
         }
     }
@@ -1327,13 +1326,13 @@ impl<'a> Asn1DefinedByReadable<'a, ObjectIdentifier> for Listed<'a> {
             (⟦<Listed<'a> as Asn1DefinedBy<ObjectIdentifier>>⟧.by.seen item) parser.old
             parser.new) }
     {
+        if is_identifier(&item, some_oid()) {
+            return Ok(Listed::Tagged(parser.read_element::<OctetStringEncoded<Tagged<'a>>>()?));
+        }
         if is_identifier(&item, other_oid()) {
             return Ok(Listed::Numbers(parser.read_element::<
                 SequenceOf<'a, u64, 0, { usize::MAX }>,
             >()?));
-        }
-        if is_identifier(&item, some_oid()) {
-            return Ok(Listed::Tagged(parser.read_element::<OctetStringEncoded<Tagged<'a>>>()?));
         }
         Ok(Listed::Unknown(ListedUnknown {
             item,
@@ -1353,24 +1352,24 @@ impl<'a> Asn1DefinedByWritable<ObjectIdentifier> for Listed<'a> {
 
     fn item(&self) -> ObjectIdentifier {
         match self {
-            Listed::Numbers(_) => other_oid(),
             Listed::Tagged(_) => some_oid(),
+            Listed::Numbers(_) => other_oid(),
             Listed::Unknown(x) => x.item.clone().unwrap(),
         }
     }
 
     fn write(&self, dest: &mut Writer<'_>) -> WriteResult<()> {
         match self {
-            Listed::Numbers(x) => dest.write_element(x),
             Listed::Tagged(x) => dest.write_element(x),
+            Listed::Numbers(x) => dest.write_element(x),
             Listed::Unknown(x) => dest.write_element(&x.value),
         }
     }
 
     fn encoded_length(&self) -> Option<usize> {
         match self {
-            Listed::Numbers(x) => x.encoded_length(),
             Listed::Tagged(x) => x.encoded_length(),
+            Listed::Numbers(x) => x.encoded_length(),
             Listed::Unknown(x) => x.value.encoded_length(),
         }
     }
