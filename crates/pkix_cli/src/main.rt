@@ -2,7 +2,7 @@
 //! with it is in the library `pkix_text`.
 #![tactic(auto)]
 
-use pkix_text::{Answer, Fault, Kind, answer_to, kind, status};
+use pkix_text::{Asked, Fault, HELP, Kind, Report, ask, report_on, status};
 use std::env;
 use std::io::Read;
 use std::process::ExitCode;
@@ -12,29 +12,35 @@ fn words(rt: &HostRuntime) -> Option<Vec<String>> {
     env::args(rt).ok()?.skip(1).collect(rt.alloc()).ok()
 }
 
-/// Answers standard input on standard output.
-fn run(rt: &HostRuntime) -> Option<Result<Answer, Fault>> {
-    let kind = kind(&words(rt)?)?;
+/// What standard input is answered with, whose objects are of this kind.
+fn answer(rt: &HostRuntime, kind: Option<Kind>) -> Result<Report, Fault> {
     let mut input = Vec::new(rt.alloc());
     if rt.reader().read_to_end(&mut input).is_err() {
-        return Some(Err(Fault::Read));
+        return Err(Fault::Read);
     }
-    let answer = answer_to(rt.alloc(), kind, &input);
-    if let Ok(Answer::Shown(text)) = &answer {
-        if print!(rt; "{text}").is_err() {
-            return Some(Err(Fault::Write));
-        }
+    let report = report_on(rt.alloc(), kind, &input)?;
+    if print!(rt; "{}", report.lines).is_err() {
+        return Err(Fault::Write);
     }
-    Some(answer)
+    Ok(report)
 }
 
-/// Where nothing is shown, the reason goes to standard error.
+/// The lines of objects go to standard output, and why others are rejected to standard error.
 fn main(rt: HostRuntime) -> ExitCode {
-    let answer = run(&rt);
+    let answer = match words(&rt).and_then(|words| ask(&words)) {
+        Some(Asked::Help) => {
+            let is_written = print!(rt; "{HELP}").is_ok();
+            return ExitCode::from(if is_written { 0 } else { 2 });
+        }
+        Some(Asked::Objects(kind)) => Some(answer(&rt, kind)),
+        None => None,
+    };
     let _ = match &answer {
-        None => eprintln!(rt; "pkix: the argument has to be one of {}", Kind::NAMES),
-        Some(Ok(Answer::Shown(_))) => Ok(()),
-        Some(Ok(Answer::Rejected(reason))) => eprintln!(rt; "pkix: {reason}"),
+        None => eprintln!(rt;
+            "pkix: the argument has to be a file, or one of {}",
+            Kind::NAMES
+        ),
+        Some(Ok(report)) => eprint!(rt; "{}", report.reasons),
         Some(Err(fault)) => eprintln!(rt; "pkix: {fault}"),
     };
     ExitCode::from(status(&answer))

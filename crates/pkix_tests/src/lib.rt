@@ -11,6 +11,8 @@ mod extension_values;
 #[cfg(test)]
 mod extensions;
 #[cfg(test)]
+mod files;
+#[cfg(test)]
 mod keys;
 #[cfg(test)]
 mod lines;
@@ -28,6 +30,8 @@ mod readme;
 mod requests;
 #[cfg(test)]
 mod revocation;
+#[cfg(test)]
+mod shown;
 #[cfg(test)]
 mod signatures;
 #[cfg(test)]

@@ -1,7 +1,6 @@
 //! Objects as lines of text.
 
 use crate::{listings, objects};
-use base64::engine::general_purpose::STANDARD;
 use pkix_text::{Answer, Kind, answer_to};
 use std::alloc::Global;
 use std::test::Fail;
@@ -48,7 +47,7 @@ const SHOWN: [(Kind, &str, &str); 20] = [
 ];
 
 /// The lines of what is shown.
-fn lines(alloc: Global, kind: Kind, octets: &[u8]) -> Result<String, Fail> {
+pub(crate) fn lines(alloc: Global, kind: Kind, octets: &[u8]) -> Result<String, Fail> {
     match answer_to(alloc, kind, octets)? {
         Answer::Shown(text) => Ok(text),
         Answer::Rejected(reason) => Err(Fail::new(format_args!("rejected: {reason}"))),
@@ -89,7 +88,7 @@ fn with_octets(alloc: Global, object: &str, place: usize, others: &[u8]) -> Resu
 }
 
 /// The line that begins so, where there is one.
-fn line<'a>(text: &'a str, start: &str) -> Option<&'a str> {
+pub(crate) fn line<'a>(text: &'a str, start: &str) -> Option<&'a str> {
     text.lines().find(|line| line.starts_with(start))
 }
 
@@ -151,99 +150,6 @@ fn values_of_extensions_that_are_not_der(rt: HostRuntime) -> Result<(), Fail> {
     let wanted = "extensions.0.rejected: ASN.1 parsing error: DEFAULT value was explicitly encoded \
         (ParseError { kind: EncodedDefault, location: [\"BasicConstraints::ca\"] })";
     same(line(text.as_str(), "extensions.0.rejected"), Some(wanted))
-}
-
-/// The object between lines that name it.
-fn pem(alloc: Global, object: &str, label: &str, end: &str) -> Result<String, Fail> {
-    let octets = hex::decode(alloc, object)?;
-    let symbols = STANDARD.encode(alloc, octets.as_slice())?;
-    let mut text = format!(in alloc; "-----BEGIN {label}-----\n")?;
-    for line in symbols.as_bytes().chunks(64) {
-        text.push_str(str::from_utf8(line)?)?;
-        text.push_str("\r\n")?;
-    }
-    text.push_str(end)?;
-    Ok(text)
-}
-
-#[test]
-fn objects_in_pem(rt: HostRuntime) -> Result<(), Fail> {
-    let alloc = rt.alloc();
-    let text = pem(
-        alloc,
-        objects::FULL,
-        "CERTIFICATE",
-        "-----END CERTIFICATE-----\n \n",
-    )?;
-    let octets = hex::decode(alloc, objects::FULL)?;
-    same(
-        lines(alloc, Kind::Certificate, text.as_bytes())?.as_str(),
-        lines(alloc, Kind::Certificate, octets.as_slice())?.as_str(),
-    )
-}
-
-/// The text with other line ends, empty lines and spaces around its lines.
-fn laid_out(alloc: Global, text: &str) -> Result<Vec<u8>, Fail> {
-    let mut laid = Vec::from_slice(alloc, b"\xef\xbb\xbf \t")?;
-    for octet in text.as_bytes() {
-        match octet {
-            b'\n' => laid.extend_from_slice(b" \r\r\n  ")?,
-            octet => laid.push(*octet)?,
-        }
-    }
-    Ok(laid)
-}
-
-#[test]
-fn objects_in_pem_as_files_have_them(rt: HostRuntime) -> Result<(), Fail> {
-    let alloc = rt.alloc();
-    let end = "-----END CERTIFICATE-----\n";
-    let text = pem(alloc, objects::FULL, "CERTIFICATE", end)?;
-    let octets = hex::decode(alloc, objects::FULL)?;
-    let wanted = lines(alloc, Kind::Certificate, octets.as_slice())?;
-    let laid = laid_out(alloc, text.as_str())?;
-    let before = "Bag Attributes\n\tfriendlyName: me\n-----\n\n";
-    let behind = format!(in alloc; "{before}{}", text.as_str())?;
-    for input in [laid.as_slice(), behind.as_bytes()] {
-        same(
-            lines(alloc, Kind::Certificate, input)?.as_str(),
-            wanted.as_str(),
-        )?;
-    }
-    let no_text = reason(
-        alloc,
-        Kind::Certificate,
-        b"\x00\n-----BEGIN CERTIFICATE-----\n",
-    )?;
-    same(no_text.as_str().starts_with("ASN.1 parsing error"), true)
-}
-
-#[test]
-fn pem_is_rejected(rt: HostRuntime) -> Result<(), Fail> {
-    let alloc = rt.alloc();
-    let rows = [
-        ("", "PEM: no line ends what the first one begins"),
-        (
-            "-----END KEY-----\n",
-            "PEM: no line ends what the first one begins",
-        ),
-        (
-            "-----END CERTIFICATE-----\nmore",
-            "PEM: extra data behind the last line",
-        ),
-        (
-            "!\n-----END CERTIFICATE-----\n",
-            "PEM: Invalid symbol 33, offset 1132.",
-        ),
-    ];
-    for (end, wanted) in rows {
-        let text = pem(alloc, objects::FULL, "CERTIFICATE", end)?;
-        same(
-            reason(alloc, Kind::Certificate, text.as_bytes())?.as_str(),
-            wanted,
-        )?;
-    }
-    Ok(())
 }
 
 #[test]

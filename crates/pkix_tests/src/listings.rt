@@ -80,7 +80,7 @@ extensions.1.keyUsage.digitalSignature: true\n\
 extensions.2.extnID: 2.5.29.17 (subjectAltName)\n\
 extensions.2.critical: false\n\
 extensions.2.subjectAltName.0.dNSName: leaf.example\n\
-extensions.2.subjectAltName.1.iPAddress: c0000201\n\
+extensions.2.subjectAltName.1.iPAddress: 192.0.2.1\n\
 extensions.3.extnID: 2.5.29.14 (subjectKeyIdentifier)\n\
 extensions.3.critical: false\n\
 extensions.3.subjectKeyIdentifier: 6f4fec44e0ec0c16602e2e8650438c38b9f20595\n\
@@ -130,7 +130,7 @@ extensions.3.authorityKeyIdentifier.authorityCertSerialNumber: 1234\n\
 extensions.4.extnID: 2.5.29.17 (subjectAltName)\n\
 extensions.4.critical: false\n\
 extensions.4.subjectAltName.0.dNSName: full.example\n\
-extensions.4.subjectAltName.1.iPAddress: c0000201\n\
+extensions.4.subjectAltName.1.iPAddress: 192.0.2.1\n\
 extensions.4.subjectAltName.2.rfc822Name: a@full.example\n\
 extensions.4.subjectAltName.3.uniformResourceIdentifier: http://full.example/\n\
 extensions.4.subjectAltName.4.registeredID: 1.2.3.4\n\

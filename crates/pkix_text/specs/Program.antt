@@ -1,13 +1,13 @@
 -- What the program does with its arguments, and how it ends.
-use Rattle.std.specs.Prelude.{ℕ, List, [], ◌∷◌, codes, String, string_bytes, Option, Some, None, Result, Ok, Err}
+use Rattle.std.specs.Prelude.{ℕ, if◌then◌else◌, List, [], ◌∷◌, codes, String, string_bytes, Option, Some, None, Result, Ok, Err}
 use Rattle.std.specs.List.{find}
 use Rattle.std.specs.Str.{bytes_eq}
-use Rattle.pkix_text.specs.declared.answers.Answer.{Answer}
-use Rattle.pkix_text.specs.declared.answers.Answer.TheVariants.{Shown, Rejected}
 use Rattle.pkix_text.specs.declared.answers.Fault.{Fault}
+use Rattle.pkix_text.specs.declared.answers.Report.{Report}
 use Rattle.pkix_text.specs.declared.kinds.Kind.{Kind}
 use Rattle.pkix_text.specs.declared.kinds.Kind.TheVariants as kinds
-use Rattle.pkix_text.specs.declared.kinds.TheConstants.Kind.{ALL}
+use Rattle.pkix_text.specs.declared.program.Asked.{Asked}
+use Rattle.pkix_text.specs.declared.program.Asked.TheVariants.{Help, Objects}
 
 abbrev pub kind_name : Kind → List ℕ
 kind_name kinds.Certificate = codes "certificate"
@@ -18,19 +18,32 @@ kind_name kinds.Signature = codes "signature"
 kind_name kinds.TimestampRequest = codes "timestamp-request"
 kind_name kinds.TimestampResponse = codes "timestamp-response"
 
+abbrev pub every_kind : List Kind
+every_kind = kinds.Certificate ∷ kinds.Crl ∷ kinds.Request ∷ kinds.Key ∷ kinds.Signature ∷ kinds.TimestampRequest ∷
+    kinds.TimestampResponse ∷ []
+
 -- the kind with that name
 abbrev pub kind_named : List ℕ → Option Kind
-kind_named name = find (λ kind. bytes_eq (kind_name kind) name) ALL.now
+kind_named name = find (λ kind. bytes_eq (kind_name kind) name) every_kind
 
--- the kind that arguments ask for: one word, its name
-abbrev pub kind_of : {A : Type 0} → List (String A) → Option Kind
-kind_of [] = None
-kind_of (word ∷ []) = kind_named (string_bytes word)
-kind_of (first ∷ second ∷ more) = None
+-- the objects of one kind, where a name names one
+abbrev pub objects_of : Option Kind → Option Asked
+objects_of (Some kind) = Some (Objects (Some kind))
+objects_of None = None
 
--- 0 where the input was shown, 1 where it was rejected, 2 where there was no answer
-abbrev pub status_of : Option (Result Answer Fault) → ℕ
-status_of (Some (Ok (Shown text))) = 0
-status_of (Some (Ok (Rejected refusal))) = 1
+-- what arguments ask for: none for the objects of any kind, one for help or for those of the kind that it names
+abbrev pub ask_of : {A : Type 0} → List (String A) → Option Asked
+ask_of [] = Some (Objects None)
+ask_of (word ∷ []) = if bytes_eq (string_bytes word) (codes "--help") then Some Help else
+    objects_of (kind_named (string_bytes word))
+ask_of (first ∷ second ∷ more) = None
+
+-- 0 where each object was shown, 1 where there is a reason why one was rejected, 2 where there was no answer
+abbrev pub status_by : List ℕ → ℕ
+status_by [] = 0
+status_by (code ∷ reasons) = 1
+
+abbrev pub status_of : Option (Result Report Fault) → ℕ
+status_of (Some (Ok report)) = status_by (string_bytes report.reasons)
 status_of (Some (Err fault)) = 2
 status_of None = 2

@@ -5,8 +5,8 @@ ghost use Rattle.asn1.specs.Reading.{whole};
 ghost use Rattle.pkix_text.specs.Answers.{IsReadIfShown};
 
 use crate::kinds::Kind;
-use crate::pem::{PemError, decode, is_pem};
-use crate::show::Show;
+use crate::pem::{Object, PemError, is_pem, objects};
+use crate::show::{Show, push_escaped};
 use asn1::{
     Asn1Readable, Asn1Writable, ParseError, Tag, WriteError, parse_single, strip_tlv, write_single,
 };
@@ -56,10 +56,14 @@ impl From<ParseError> for Fault {
     }
 }
 
-/// Why an input is rejected.
+/// Why an object is rejected.
 #[derive(Debug, Drop)]
 pub enum Refusal {
-    /// It begins as PEM does, and isn't that.
+    /// No kind was named, and there is no label that tells one.
+    NoKind,
+    /// Its label is of another kind, or of none that is known.
+    Label(String),
+    /// It is between the lines of PEM, and has no octets.
     Pem(PemError),
     /// It isn't the encoding of what it should be.
     Der(ParseError),
@@ -69,13 +73,15 @@ pub enum Refusal {
 impl fmt::Display for Refusal {
     fn fmt<W: fmt::Write>(&self, f: &mut fmt::Formatter<W>) -> fmt::Result {
         match self {
+            Refusal::NoKind => write!(f, "DER has no label: name one of {}", Kind::NAMES),
+            Refusal::Label(label) => write!(f, "the label {label} is of another kind, or of none"),
             Refusal::Pem(error) => write!(f, "{error}"),
             Refusal::Der(error) => write!(f, "{error} ({error:?})"),
         }
     }
 }
 
-/// What an input is answered with.
+/// What an object is answered with.
 #[derive(Debug, Drop)]
 pub enum Answer {
     /// The lines of its fields, and `same` or `different`: whether it is written back as the same octets.
@@ -181,7 +187,7 @@ fn signature(alloc: Global, octets: &[u8]) -> Result<Answer, Fault> {
 }
 
 /// The lines of the value of this kind whose encoding the octets are.
-fn answer_der(alloc: Global, kind: Kind, octets: &[u8]) -> Result<Answer, Fault> {
+pub fn answer_to(alloc: Global, kind: Kind, octets: &[u8]) -> Result<Answer, Fault> {
     match kind {
         Kind::Certificate => shown::<Certificate<'_>>(alloc, octets),
         Kind::Crl => shown::<CertificateList<'_>>(alloc, octets),
@@ -193,15 +199,91 @@ fn answer_der(alloc: Global, kind: Kind, octets: &[u8]) -> Result<Answer, Fault>
     }
 }
 
-/// The lines of the value of this kind whose encoding the input is, in DER, or in PEM if it has a line that begins with
-/// `-----BEGIN ` and only text before that; or why it is rejected. `Memory` where out of memory.
-pub fn answer_to(alloc: Global, kind: Kind, input: &[u8]) -> Result<Answer, Fault> {
+/// Whether objects with this label are of no kind, though they may have the form of one: parameters that of a key.
+fn is_of_no_kind(label: &[u8]) -> bool {
+    label.ends_with(b"PARAMETERS") || label.starts_with(b"DSA")
+}
+
+/// The label as characters, with those escaped that can't be printed.
+fn text_of(alloc: Global, label: &[u8]) -> Result<String, AllocError> {
+    let mut text = String::new(alloc);
+    push_escaped(&mut text, str::from_utf8(label).unwrap_or("?"))?;
+    Ok(text)
+}
+
+/// The lines of an object in PEM, of the kind that is asked for or that its label tells. A label that is not known may
+/// be of any kind.
+fn answer_to_object(
+    alloc: Global,
+    asked: Option<Kind>,
+    object: &Object<'_>,
+) -> Result<Answer, Fault> {
+    let octets = match &object.octets {
+        Ok(octets) => octets.as_slice(),
+        Err(error) => return Ok(Answer::Rejected(Refusal::Pem(*error))),
+    };
+    if object.label.starts_with(b"ENCRYPTED") {
+        return Ok(Answer::Rejected(Refusal::Pem(PemError::Encrypted)));
+    }
+    let kind = match (Kind::labelled(object.label), asked) {
+        (Some(told), Some(asked)) if told != asked => None,
+        (None, _) if is_of_no_kind(object.label) => None,
+        (told, asked) => told.or(asked),
+    };
+    match kind {
+        Some(kind) => answer_to(alloc, kind, octets),
+        None => {
+            let label = text_of(alloc, object.label)?;
+            Ok(Answer::Rejected(Refusal::Label(label)))
+        }
+    }
+}
+
+/// What an input is answered with.
+#[derive(Debug, Drop)]
+pub struct Report {
+    /// The lines of its objects. Where it has several, a line with the number and the label comes before each.
+    pub lines: String,
+    /// A line for each object that is rejected: why.
+    pub reasons: String,
+}
+
+impl Report {
+    /// Adds what an object is answered with, which has this name where it isn't the only one.
+    fn add(&mut self, name: &str, answer: Answer) -> Result<(), AllocError> {
+        let dots = if name.is_empty() { "" } else { ": " };
+        match answer {
+            Answer::Shown(lines) if name.is_empty() => self.lines.push_str(lines.as_str()),
+            Answer::Shown(lines) => write!(self.lines, "{name}\n{lines}"),
+            Answer::Rejected(refusal) => writeln!(self.reasons, "pkix: {name}{dots}{refusal}"),
+        }
+    }
+}
+
+/// The lines of the objects of an input, and why others are rejected. The input is in PEM if it has a line that begins
+/// with `-----BEGIN ` and only text before that, and else one object in DER, whose kind has to be named. `Memory` where
+/// out of memory.
+pub fn report_on(alloc: Global, kind: Option<Kind>, input: &[u8]) -> Result<Report, Fault> {
+    let mut report = Report {
+        lines: String::new(alloc),
+        reasons: String::new(alloc),
+    };
     if !is_pem(input) {
-        return answer_der(alloc, kind, input);
+        let answer = match kind {
+            Some(kind) => answer_to(alloc, kind, input)?,
+            None => Answer::Rejected(Refusal::NoKind),
+        };
+        report.add("", answer)?;
+        return Ok(report);
     }
-    match decode(alloc, input) {
-        Ok(octets) => answer_der(alloc, kind, octets.as_slice()),
-        Err(PemError::OutOfMemory) => Err(Fault::Memory),
-        Err(error) => Ok(Answer::Rejected(Refusal::Pem(error))),
+    let objects = objects(alloc, input)?;
+    for (number, object) in objects.iter().enumerate() {
+        let mut name = String::new(alloc);
+        if objects.len() > 1 {
+            let label = text_of(alloc, object.label)?;
+            write!(name, "object.{number}: {label}")?;
+        }
+        report.add(name.as_str(), answer_to_object(alloc, kind, object)?)?;
     }
+    Ok(report)
 }

@@ -1,10 +1,10 @@
 //! General names (RFC 5280, 4.2.1.6).
 
 use crate::answers::Fault;
-use crate::show::{Show, optional, part, string_line, within};
+use crate::show::{Show, line, optional, part, string_line, within};
 use asn1::{Sequence, write_readable};
 use pkix::common::{EdiPartyName, GeneralName, OtherName};
-use std::alloc::Global;
+use std::alloc::{AllocError, Global};
 
 /// Appends the line of a character string at this part of the place.
 fn string(
@@ -15,7 +15,31 @@ fn string(
     out: &mut String,
 ) -> Result<(), Fault> {
     let place = within(alloc, place, name)?;
-    string_line(place.as_str(), text, out)
+    string_line(place.as_str(), "", text, out)
+}
+
+/// An address of IPv4, or two that are a range (RFC 5280, 4.2.1.10), in decimal; one of IPv6 in hex with colons; other
+/// octets in hex behind `#`.
+fn address(alloc: Global, octets: &[u8]) -> Result<String, AllocError> {
+    match octets {
+        [a, b, c, d] => return format!(in alloc; "{a}.{b}.{c}.{d}"),
+        [a, b, c, d, e, f, g, h] => {
+            return format!(in alloc; "{a}.{b}.{c}.{d}/{e}.{f}.{g}.{h}");
+        }
+        _ => {}
+    }
+    let digits = hex::encode(alloc, octets)?;
+    if octets.len() != 16 {
+        return format!(in alloc; "#{digits}");
+    }
+    let mut groups = String::new(alloc);
+    for group in digits.as_bytes().chunks(4) {
+        if !groups.is_empty() {
+            groups.push(':')?;
+        }
+        groups.push_str(str::from_utf8(group).unwrap_or(""))?;
+    }
+    Ok(groups)
 }
 
 /// The octets of a sequence whose elements aren't looked at, in hex behind `#`.
@@ -69,7 +93,10 @@ impl Show for GeneralName<'_> {
                 name.as_str(),
                 out,
             ),
-            GeneralName::IpAddress(name) => part(alloc, place, "iPAddress", name, out),
+            GeneralName::IpAddress(octets) => {
+                let address = address(alloc, *octets)?;
+                line(alloc, place, "iPAddress", address.as_str(), out)
+            }
             GeneralName::RegisteredId(name) => { part(alloc, place, "registeredID", name, out) }
         }
     }

@@ -3,6 +3,22 @@
 ghost use Rattle.std.specs.Prelude.{◌≡◌};
 ghost use Rattle.pkix_text.specs.Program.{kind_name, kind_named};
 
+/// The labels in PEM, by RFC 7468 and as OpenSSL writes them, of the objects of each kind that has any.
+const LABELS: &[(&[u8], Kind)] = &[
+    (b"CERTIFICATE", Kind::Certificate),
+    (b"X509 CERTIFICATE", Kind::Certificate),
+    (b"X509 CRL", Kind::Crl),
+    (b"CERTIFICATE REQUEST", Kind::Request),
+    (b"NEW CERTIFICATE REQUEST", Kind::Request),
+    (b"PRIVATE KEY", Kind::Key),
+    (b"PUBLIC KEY", Kind::Key),
+    (b"RSA PRIVATE KEY", Kind::Key),
+    (b"RSA PUBLIC KEY", Kind::Key),
+    (b"EC PRIVATE KEY", Kind::Key),
+    (b"CMS", Kind::Signature),
+    (b"PKCS7", Kind::Signature),
+];
+
 /// What an input should be the encoding of.
 #[derive(Debug, Clone, Copy, PartialEq, Eq)]
 pub enum Kind {
@@ -58,5 +74,11 @@ impl Kind {
         ensures { result ≡ kind_named name.now }
     {
         Kind::ALL.iter().copied().find(|kind| kind.name() == name)
+    }
+
+    /// The kind of the objects with this label in PEM.
+    pub(crate) fn labelled(label: &[u8]) -> Option<Kind> {
+        let row = LABELS.iter().find(|row| row.0 == label)?;
+        Some(row.1)
     }
 }

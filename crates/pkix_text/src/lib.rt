@@ -17,7 +17,7 @@ mod show;
 mod signatures;
 mod timestamps;
 
-pub use answers::{Answer, Fault, Refusal, answer_to};
+pub use answers::{Answer, Fault, Refusal, Report, answer_to, report_on};
 pub use kinds::Kind;
 pub use pem::PemError;
-pub use program::{kind, status};
+pub use program::{Asked, HELP, ask, status};

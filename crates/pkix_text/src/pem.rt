@@ -1,5 +1,6 @@
-//! Text around a DER encoding (RFC 7468, lax form): base64 between two lines that name what it is. Lines of other text
-//! may come before these. Spaces around a line, empty lines and the kind of line end say nothing.
+//! Text around DER encodings (RFC 7468, lax form): each is in base64 between two lines with a label, which says what it
+//! is. Other text may come before, between and after these. Spaces around a line, empty lines and the kind of line end
+//! say nothing.
 
 use base64::engine::general_purpose::STANDARD;
 use base64::{DecodeAllocError, DecodeError};
@@ -9,43 +10,98 @@ use std::fmt;
 /// What begins the line before the base64.
 const BEGIN: &[u8] = b"-----BEGIN ";
 
-/// What begins its last line.
+/// What begins the line after it.
 const END: &[u8] = b"-----END ";
+
+/// What ends both, after the label.
+const DASHES: &[u8] = b"-----";
 
 /// What some editors put at the start of a file: the byte order mark in UTF-8.
 const MARK: &[u8] = b"\xef\xbb\xbf";
 
-/// Why a text holds no encoding.
+/// Why an object of a text has no octets.
 #[derive(Debug, Clone, Copy, PartialEq, Eq)]
 pub enum PemError {
-    /// There is no line that ends it, or it names something else than the first one.
+    /// There is no line that ends it, or that line has another label.
     NoEnd,
-    /// There are further octets behind its last line.
-    ExtraData,
+    /// It is a private key in OpenSSL's older form, encrypted.
+    Encrypted,
     /// What is between the lines isn't base64.
     Base64(DecodeError),
-    /// Out of memory.
-    OutOfMemory,
 }
 
 impl fmt::Display for PemError {
     fn fmt<W: fmt::Write>(&self, f: &mut fmt::Formatter<W>) -> fmt::Result {
         match self {
             PemError::NoEnd => write!(f, "PEM: no line ends what the first one begins"),
-            PemError::ExtraData => write!(f, "PEM: extra data behind the last line"),
+            PemError::Encrypted => write!(f, "an encrypted key; `openssl pkey` decrypts it"),
             PemError::Base64(error) => write!(f, "PEM: {error}"),
-            PemError::OutOfMemory => write!(f, "out of memory"),
         }
     }
 }
 
-impl From<AllocError> for PemError {
-    fn from(_error: AllocError) -> PemError {
-        PemError::OutOfMemory
+/// An object of a text.
+#[derive(Drop)]
+pub(crate) struct Object<'a> {
+    /// What its lines call it.
+    pub(crate) label: &'a [u8],
+    /// What should be its encoding.
+    pub(crate) octets: Result<Vec<u8>, PemError>,
+}
+
+/// An object that no line has ended yet.
+#[derive(Drop)]
+struct Open<'a> {
+    label: &'a [u8],
+    symbols: Vec<u8>,
+    is_encrypted: bool,
+}
+
+impl<'a> Open<'a> {
+    /// The object, where no line ends it.
+    fn not_ended(self) -> Object<'a> {
+        Object {
+            label: self.label,
+            octets: Err(PemError::NoEnd),
+        }
+    }
+
+    /// The object that a line with this label ends.
+    fn ended_by(self, alloc: Global, label: &[u8]) -> Result<Object<'a>, AllocError> {
+        let octets = if label != self.label {
+            Err(PemError::NoEnd)
+        } else if self.is_encrypted {
+            Err(PemError::Encrypted)
+        } else {
+            match STANDARD.decode(alloc, self.symbols.as_slice()) {
+                Ok(octets) => Ok(octets),
+                Err(DecodeAllocError::DecodeError(error)) => Err(PemError::Base64(error)),
+                Err(DecodeAllocError::OutOfMemory) => return Err(AllocError),
+            }
+        };
+        Ok(Object {
+            label: self.label,
+            octets,
+        })
+    }
+
+    /// Takes a line between the first and the last one. A header has a colon, which base64 has not.
+    fn take(&mut self, line: &[u8]) -> Result<(), AllocError> {
+        if !line.contains(&b':') {
+            return self.symbols.extend_from_slice(line);
+        }
+        self.is_encrypted = self.is_encrypted || line.ends_with(b"ENCRYPTED");
+        Ok(())
     }
 }
 
-/// Whether a line begins an encoding, with nothing but text before it. An encoding in DER has a control character among
+/// The label of a line that starts like this.
+fn label_in<'a>(line: &'a [u8], start: &[u8]) -> Option<&'a [u8]> {
+    let label = line.strip_prefix(start)?;
+    Some(label.strip_suffix(DASHES).unwrap_or(label))
+}
+
+/// Whether a line begins an object, with nothing but text before it. An encoding in DER has a control character among
 /// its first octets.
 pub(crate) fn is_pem(input: &[u8]) -> bool {
     let text = input.strip_prefix(MARK).unwrap_or(input);
@@ -63,33 +119,32 @@ pub(crate) fn is_pem(input: &[u8]) -> bool {
     false
 }
 
-/// The octets that a text holds in which a line begins an encoding.
-pub(crate) fn decode(alloc: Global, input: &[u8]) -> Result<Vec<u8>, PemError> {
+/// The objects of a text, in order.
+pub(crate) fn objects<'a>(alloc: Global, input: &'a [u8]) -> Result<Vec<Object<'a>>, AllocError> {
     let text = input.strip_prefix(MARK).unwrap_or(input);
-    let mut label = None;
-    let mut is_ended = false;
-    let mut symbols = Vec::new(alloc);
+    let mut objects = Vec::new(alloc);
+    let mut open: Option<Open<'a>> = None;
     for line in text.split(|octet| matches!(*octet, b'\n' | b'\r')) {
         let line = line.trim_ascii();
-        if is_ended && !line.is_empty() {
-            return Err(PemError::ExtraData);
-        } else if label.is_none() {
-            label = line.strip_prefix(BEGIN);
-        } else if line.starts_with(END) {
-            if line.strip_prefix(END) != label {
-                return Err(PemError::NoEnd);
+        if let Some(label) = label_in(line, END) {
+            if let Some(object) = open.take() {
+                objects.push(object.ended_by(alloc, label)?)?;
             }
-            is_ended = true;
-        } else {
-            symbols.extend_from_slice(line)?;
+        } else if let Some(label) = label_in(line, BEGIN) {
+            if let Some(object) = open.take() {
+                objects.push(object.not_ended())?;
+            }
+            open = Some(Open {
+                label,
+                symbols: Vec::new(alloc),
+                is_encrypted: false,
+            });
+        } else if let Some(object) = &mut open {
+            object.take(line)?;
         }
     }
-    if !is_ended {
-        return Err(PemError::NoEnd);
+    if let Some(object) = open {
+        objects.push(object.not_ended())?;
     }
-    match STANDARD.decode(alloc, symbols.as_slice()) {
-        Ok(octets) => Ok(octets),
-        Err(DecodeAllocError::DecodeError(error)) => Err(PemError::Base64(error)),
-        Err(DecodeAllocError::OutOfMemory) => Err(PemError::OutOfMemory),
-    }
+    Ok(objects)
 }

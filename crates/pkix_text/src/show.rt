@@ -3,12 +3,13 @@
 use crate::answers::Fault;
 use crate::identifiers::name_of;
 use asn1::{
-    Asn1Readable, BigInt, BigUint, BitString, DateTime, GeneralizedTime, IA5String,
+    Asn1Readable, BMPString, BigInt, BigUint, BitString, DateTime, GeneralizedTime, IA5String,
     ObjectIdentifier, ParseResult, PrintableString, SequenceOf, Tlv, Utf8String, VisibleString,
     parse_single,
 };
 use pkix::common::{NamedBits, Time};
 use std::alloc::{AllocError, Global};
+use std::char::decode_utf16;
 
 /// What is shown as lines of text.
 pub(crate) trait Show {
@@ -227,9 +228,21 @@ pub(crate) fn push_escaped(out: &mut String, text: &str) -> Result<(), AllocErro
     Ok(())
 }
 
-/// Appends the line of a character string.
-pub(crate) fn string_line(place: &str, text: &str, out: &mut String) -> Result<(), Fault> {
+/// Appends the line of a character string of this type, which is told where it isn't empty. A `#` or `(` that begins it
+/// is escaped, as these begin octets in hex and a type.
+pub(crate) fn string_line(
+    place: &str,
+    string_type: &str,
+    text: &str,
+    out: &mut String,
+) -> Result<(), Fault> {
     write!(out, "{place}: ")?;
+    if !string_type.is_empty() {
+        write!(out, "({string_type}) ")?;
+    }
+    if text.starts_with('#') || text.starts_with('(') {
+        out.push('\\')?;
+    }
     push_escaped(out, text)?;
     out.push('\n')?;
     Ok(())
@@ -237,38 +250,56 @@ pub(crate) fn string_line(place: &str, text: &str, out: &mut String) -> Result<(
 
 impl Show for Utf8String<'_> {
     fn show(&self, _alloc: Global, place: &str, out: &mut String) -> Result<(), Fault> {
-        string_line(place, self.as_str(), out)
+        string_line(place, "", self.as_str(), out)
     }
 }
 
-/// The characters of an element that is a character string of ASCII or in UTF-8.
-fn characters<'a>(alloc: Global, element: &Tlv<'a>) -> Option<&'a str> {
+/// The characters of an element that is a character string of ASCII or in UTF-8, and its type where that is neither
+/// PrintableString nor UTF8String.
+fn characters<'a>(alloc: Global, element: &Tlv<'a>) -> Option<(&'static str, &'a str)> {
     let octets = element.full_data();
     if let Ok(text) = parse_single::<Utf8String<'a>>(alloc, octets) {
-        return Some(text.as_str());
+        return Some(("", text.as_str()));
     }
     if let Ok(text) = parse_single::<PrintableString<'a>>(alloc, octets) {
-        return Some(text.as_str());
+        return Some(("", text.as_str()));
     }
     if let Ok(text) = parse_single::<IA5String<'a>>(alloc, octets) {
-        return Some(text.as_str());
+        return Some(("IA5String", text.as_str()));
     }
     match parse_single::<VisibleString<'a>>(alloc, octets) {
-        Ok(text) => Some(text.as_str()),
+        Ok(text) => Some(("VisibleString", text.as_str())),
         Err(_) => None,
     }
 }
 
-/// A character string of ASCII or in UTF-8 as its characters, another element as its octets in hex behind `#`.
+/// The characters of a BMPString.
+fn bmp_characters(alloc: Global, text: &BMPString<'_>) -> Result<String, AllocError> {
+    let units = text.as_utf16_be_bytes().chunks(2).map(|unit| {
+        match unit {
+            [high, low] => u16::from_be_bytes([*high, *low]),
+            _ => 0,
+        }
+    });
+    let mut characters = String::new(alloc);
+    for c in decode_utf16(units) {
+        characters.push(c.unwrap_or('\u{fffd}'))?;
+    }
+    Ok(characters)
+}
+
+/// A character string as its characters, another element as its octets in hex behind `#`.
 impl Show for Tlv<'_> {
     fn show(&self, alloc: Global, place: &str, out: &mut String) -> Result<(), Fault> {
-        match characters(alloc, self) {
-            Some(text) => string_line(place, text, out),
-            None => {
-                let octets = hex::encode(alloc, self.full_data())?;
-                writeln!(out, "{place}: #{octets}")?;
-                Ok(())
-            }
+        if let Some((string_type, text)) = characters(alloc, self) {
+            return string_line(place, string_type, text, out);
         }
+        if let Ok(text) = parse_single::<BMPString<'_>>(alloc, self.full_data()) {
+            let text = bmp_characters(alloc, &text)?;
+            return string_line(place, "BMPString", text.as_str(), out);
+        }
+        let octets = hex::encode(alloc, self.full_data())?;
+        writeln!(out, "{place}: #{octets}")?;
+        Ok(())
     }
 }

@@ -1,0 +1,95 @@
+//! Values whose lines no real object here has, in a request made by hand.
+
+use crate::lines::{line, lines};
+use pkix_text::Kind;
+use std::alloc::Global;
+use std::test::Fail;
+use testing::same;
+
+/// An element whose contents are these octets, fewer than 128.
+fn element(alloc: Global, tag: u8, start: &[u8], rest: &[u8]) -> Result<Vec<u8>, Fail> {
+    let mut octets = Vec::new(alloc);
+    octets.push(tag)?;
+    octets.push(u8::try_from(start.len().saturating_add(rest.len()))?)?;
+    octets.extend_from_slice(start)?;
+    octets.extend_from_slice(rest)?;
+    Ok(octets)
+}
+
+/// A request with this common name and these attributes.
+fn request(alloc: Global, name: &[u8], attributes: &[u8]) -> Result<Vec<u8>, Fail> {
+    let common_name = element(alloc, 0x30, b"\x06\x03\x55\x04\x03", name)?;
+    let names = element(alloc, 0x31, b"", common_name.as_slice())?;
+    let subject = element(alloc, 0x30, b"", names.as_slice())?;
+    let attribute_set = element(alloc, 0xa0, b"", attributes)?;
+    let mut info = Vec::new(alloc);
+    info.extend_from_slice(b"\x02\x01\x00")?;
+    info.extend_from_slice(subject.as_slice())?;
+    info.extend_from_slice(b"\x30\x09\x30\x04\x06\x02\x2a\x03\x03\x01\x00")?;
+    info.extend_from_slice(attribute_set.as_slice())?;
+    let signed = element(alloc, 0x30, b"", info.as_slice())?;
+    let signature = b"\x30\x04\x06\x02\x2a\x03\x03\x01\x00";
+    element(alloc, 0x30, signed.as_slice(), signature)
+}
+
+/// Demands the request's line with this place.
+fn has_line(alloc: Global, octets: &[u8], place: &str, wanted: &str) -> Result<(), Fail> {
+    let text = lines(alloc, Kind::Request, octets)?;
+    let whole = format!(in alloc; "{place}: {wanted}")?;
+    same(line(text.as_str(), place), Some(whole.as_str()))
+}
+
+/// The type of a string is told where it is neither PrintableString nor UTF8String, and no string is shown as octets or
+/// as another type.
+#[test]
+fn character_strings(rt: HostRuntime) -> Result<(), Fail> {
+    let alloc = rt.alloc();
+    let rows: [(&[u8], &str); 9] = [
+        (b"\x0c\x00", ""),
+        (b"\x0c\x02#a", "\\#a"),
+        (b"\x0c\x02(a", "\\(a"),
+        (b"\x13\x02(a", "\\(a"),
+        (b"\x16\x02@a", "(IA5String) @a"),
+        (b"\x1a\x01a", "(VisibleString) a"),
+        (b"\x1e\x02\x00#", "(BMPString) \\#"),
+        (
+            b"\x1e\x06\x00\xe9\xd8\x3d\xde\x00",
+            "(BMPString) \u{e9}\u{1f600}",
+        ),
+        (b"\x14\x01a", "#140161"),
+    ];
+    for (name, wanted) in rows {
+        let octets = request(alloc, name, b"")?;
+        has_line(alloc, octets.as_slice(), "subject.0.commonName", wanted)?;
+    }
+    Ok(())
+}
+
+#[test]
+fn addresses(rt: HostRuntime) -> Result<(), Fail> {
+    let alloc = rt.alloc();
+    let rows = [
+        ("c0000201", "192.0.2.1"),
+        ("c0000200ffffff00", "192.0.2.0/255.255.255.0"),
+        (
+            "20010db8000000000000000000000001",
+            "2001:0db8:0000:0000:0000:0000:0000:0001",
+        ),
+        ("c00002", "#c00002"),
+    ];
+    for (digits, wanted) in rows {
+        let octets = hex::decode(alloc, digits)?;
+        let address = element(alloc, 0x87, b"", octets.as_slice())?;
+        let names = element(alloc, 0x30, b"", address.as_slice())?;
+        let value = element(alloc, 0x04, b"", names.as_slice())?;
+        let extension = element(alloc, 0x30, b"\x06\x03\x55\x1d\x11", value.as_slice())?;
+        let extensions = element(alloc, 0x30, b"", extension.as_slice())?;
+        let values = element(alloc, 0x31, b"", extensions.as_slice())?;
+        let requested = b"\x06\x09\x2a\x86\x48\x86\xf7\x0d\x01\x09\x0e";
+        let attribute = element(alloc, 0x30, requested, values.as_slice())?;
+        let octets = request(alloc, b"\x0c\x00", attribute.as_slice())?;
+        let place = "attributes.0.extensionRequest.0.subjectAltName.0.iPAddress";
+        has_line(alloc, octets.as_slice(), place, wanted)?;
+    }
+    Ok(())
+}
