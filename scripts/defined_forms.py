@@ -244,28 +244,40 @@ def readable(item):
 
 
 def write_answer(item, module, crate, path):
-    """The proofs that the write of large variants owes: their types have one encoding, so nothing more is asked, and an
-    error leaves the buffer as it was."""
+    """The function and the proofs that the write of large variants owes, in which the search would end at its limit:
+    their types have one encoding, so nothing more is asked; and of what an item defines, that an error leaves the
+    buffer as it was."""
     plain = [part for part in item.parts if not part.tag]
-    large = [part.name for part in plain if part is not item.other and holds(module, part.base)]
+    is_large = holds if item.is_defined else holds_choice
+    large = [part.name for part in plain if "default" not in part.attributes and is_large(module, part.base)]
     # The first call's goals and results have no more than its name, and those of each further one tell where it is.
     at = {part.name: f"-in-{part.name}" if part is not plain[0] else "" for part in plain}
     goals = [f"write_element-requires{at[name]}" for name in large]
     lines = [f"pub {goal} : goal.{goal}\n{goal} c = inl (search rules)\n" for goal in goals]
+    function = f"{item.name}{f'Asn1DefinedByWritable{ITEM}' if item.is_defined else 'Asn1Writable'}/write"
+    goal_use = f"use Rattle.{crate}.proofs.{path}{function.replace('/', '.')}.Goals as goal\n"
+    if not item.is_defined:
+        return function, goals and f"use Rattle.std.proofs.Common.{{inl, rules}}\n{goal_use}\n" + "\n".join(lines)
     for name, where in at.items():
         goal, call = f"returns-in-{name}-clause-err", f"c.write_element{where}"
         proof = f"on_err_weaker {call}.result keeps_front {call}.ensures.err"
         lines.append(f"pub {goal} : goal.{goal}\n{goal} c = {proof}\n")
-    return goals and f"""use Rattle.std.proofs.Common.{{◌≡◌, ℕ, List, arith, inl, rules}}
+    return function, goals and f"""use Rattle.std.proofs.Common.{{◌≡◌, ℕ, List, arith, inl, rules}}
 use Rattle.std.proofs.lemmas.Grind.{{common_steps}}
 use Rattle.std.proofs.lemmas.Result.{{on_err_weaker}}
 use Rattle.asn1.specs.Buffer.{{KeepsFront}}
-use Rattle.{crate}.proofs.{path}{item.name}Asn1DefinedByWritable{ITEM}.write.Goals as goal
-
+{goal_use}
 keeps_front : {{old new : List ℕ}} → new ≡ old → KeepsFront old new
 keeps_front e = record {{ joined = grind (arith, common_steps) }}
 
 {chr(10).join(lines)}"""
+
+
+def holds_choice(module, type):
+    """Whether a type is an enum that is declared beside it, or has one inside."""
+    item = module.items.get(type.name)
+    inner = [part.base for part in item.parts] if item and item.parts else [item.type] if item else type.inner
+    return bool(item and item.kind == "enum") or any(holds_choice(module, it) for it in inner)
 
 
 def holds(module, type):
