@@ -1,6 +1,6 @@
 //! SEQUENCE OF (X.690 8.10).
 
-ghost use Rattle.std.specs.Prelude.{◌≡◌, ◌<◌, ◌-◌, ◌==◌, List, ℕ, length, nat_eq, Ok, OnOk, OnErr, IfErr, Some};
+ghost use Rattle.std.specs.Prelude.{◌≡◌, ◌<◌, ◌-◌, ◌==◌, List, ℕ, length, nat_eq, Ok, OnOk, OnErr, IfErr, IsSome, Some};
 ghost use Rattle.std.specs.Iterator.{at_most};
 ghost use Rattle.std.specs.Hash as fed;
 ghost use Rattle.std.specs.Cmp.{partial_equiv_from_equiv, on_per, on_equiv};
@@ -42,8 +42,8 @@ use std::marker::PhantomData;
 ///
 /// The iterator reads each item again, and ends after the last: `None` comes exactly where no item remains.
 /// `Some(Err(..))` comes only where an item is out of memory (`AllocationError`, without a location of this list). That
-/// item counts as taken. Writing a list whose item is out of memory returns `AllocationError` too, and its length is
-/// `None`.
+/// item counts as taken. Writing a list whose item is out of memory returns `AllocationError` too. Its length is known
+/// without reading an item: the items' encodings are the octets that remain.
 #[derive(Drop)]
 pub struct SequenceOf<'a, T: Asn1Type, const MINIMUM_LEN: usize, const MAXIMUM_LEN: usize> {
     content: &'a [u8],
@@ -308,28 +308,6 @@ fn write_items<'a, T: Asn1Readable<'a> + Asn1Writable>(
     Ok(())
 }
 
-/// How many octets the items' encodings have together. `None` where that isn't known.
-fn items_length<'a, T: Asn1Readable<'a> + Asn1Writable>(
-    alloc: Global,
-    items: &'a [u8],
-    number: usize,
-) -> Option<usize>
-    requires { AreItems T.der.read items.now number }
-    ensures { KnowsLength (Joins T.der.texts (left T.der.read items.entry.now)) result }
-{
-    let mut parser = Parser::new(alloc, items);
-    let mut count = number;
-    let mut total = 0usize;
-    'items: while !parser.is_empty() {
-        match read_first::<T>(&mut parser, count) {
-            Ok(value) => total = total.checked_add(value.encoded_length()?)?,
-            Err(_) => return None,
-        }
-        count -= 1;
-    }
-    Some(total)
-}
-
 impl<
     'a,
     T: Asn1Readable<'a> + Asn1Writable,
@@ -351,7 +329,14 @@ impl<
         write_items::<T>(self.alloc, self.content, self.count, &mut Writer::new(dest))
     }
 
-    fn data_length(&self) -> Option<usize> {
-        items_length::<T>(self.alloc, self.content, self.count)
+    fn data_length(&self) -> Option<usize>
+        ensures length { KnowsLength (Joins T.der.texts (left T.der.read self.now.content.now))
+            result }
+        ensures known { IsSome result }
+    {
+        self.content.known();
+        // Says that each item has one encoding, and so the octets that it was read from.
+        let _accepted = T::can_parse(Tag::constructed(0x10));
+        Some(self.content.len())
     }
 }

@@ -1,7 +1,7 @@
 //! SET and SET OF (X.690 8.11, 8.12): SET as it is encoded, its elements in the order of their tags (10.3), and SET OF
 //! as an iterator, its items in the order of their encodings (11.6).
 
-ghost use Rattle.std.specs.Prelude.{◌≡◌, ◌<◌, List, ℕ, [], length, Result, Some, OnOk, OnErr, IfErr, nat_eq};
+ghost use Rattle.std.specs.Prelude.{◌≡◌, ◌<◌, List, ℕ, [], length, Result, Some, OnOk, OnErr, IfErr, IsSome, nat_eq};
 ghost use Rattle.std.specs.Fn.{FnOnceReturnsAtMut};
 ghost use Rattle.std.specs.Iterator.{at_most};
 ghost use Rattle.std.specs.Hash as fed;
@@ -390,26 +390,6 @@ fn write_set_items<'a, T: Asn1Readable<'a> + Asn1Writable>(
     Ok(())
 }
 
-/// How many octets the items' encodings have together. `None` where that isn't known.
-fn set_items_length<'a, T: Asn1Readable<'a> + Asn1Writable>(
-    alloc: Global,
-    items: &'a [u8],
-) -> Option<usize>
-    requires { AreOrdered text_less T.der.read items.now }
-    ensures { KnowsLength
-        (Joins T.der.texts (set_left text_less T.der.read items.entry.now)) result }
-{
-    let mut parser = Parser::new(alloc, items);
-    let mut total = 0usize;
-    'items: while !parser.is_empty() {
-        match read_first::<T>(&mut parser) {
-            Ok(value) => total = total.checked_add(value.encoded_length()?)?,
-            Err(_) => return None,
-        }
-    }
-    Some(total)
-}
-
 impl<'a, T: Asn1Readable<'a> + Asn1Writable> SimpleAsn1Writable for SetOf<'a, T> {
     type Error = T::Error;
 
@@ -426,7 +406,14 @@ impl<'a, T: Asn1Readable<'a> + Asn1Writable> SimpleAsn1Writable for SetOf<'a, T>
         write_set_items::<T>(self.alloc, self.content, &mut Writer::new(dest))
     }
 
-    fn data_length(&self) -> Option<usize> {
-        set_items_length::<T>(self.alloc, self.content)
+    fn data_length(&self) -> Option<usize>
+        ensures length { KnowsLength
+            (Joins T.der.texts (set_left text_less T.der.read self.now.content.now)) result }
+        ensures known { IsSome result }
+    {
+        self.content.known();
+        // Says that each item has one encoding, and so the octets that it was read from.
+        let _accepted = T::can_parse(Tag::constructed(0x11));
+        Some(self.content.len())
     }
 }
