@@ -1,6 +1,6 @@
 //! Parameters of algorithms, which their identifiers define (RFC 3279, 3370, 4055, 5480, 5754, 5758, 8410).
 
-ghost use Rattle.std.specs.Prelude.{◌≡◌, Ok};
+ghost use Rattle.std.specs.Prelude.{◌≡◌, Ok, Some};
 ghost use Rattle.std.specs.Str.{bytes_eq};
 ghost use Rattle.asn1.specs.Identifier.{read_identifier};
 ghost use Rattle.asn1.specs.IdentifierValues.{identifier_of};
@@ -94,7 +94,8 @@ impl KnownAlgorithm {
 
     /// The contents octets of its identifier.
     fn contents(self) -> &'static [u8]
-        ensures { read_identifier result.now ≡ Ok (algorithm_numbers self) }
+        ensures octets { read_identifier result.now ≡ Ok (algorithm_numbers self) }
+        ensures found { algorithm_with (algorithm_numbers self) ≡ Some self }
     {
         match self {
             KnownAlgorithm::RsaEncryption => b"\x2a\x86\x48\x86\xf7\x0d\x01\x01\x01",
@@ -119,9 +120,10 @@ impl KnownAlgorithm {
         }
     }
 
-    /// Its identifier.
+    /// Its identifier, which [`Self::with_identifier`] finds.
     pub fn identifier(self) -> ObjectIdentifier
-        ensures { identifier_of result ≡ algorithm_numbers self }
+        ensures value { identifier_of result ≡ algorithm_numbers self }
+        ensures found { algorithm_with (identifier_of result) ≡ Some self }
     {
         identifiers::with_contents(self.contents())
     }

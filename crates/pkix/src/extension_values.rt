@@ -1,6 +1,6 @@
 //! Values of extensions, whose types their identifiers name (RFC 5280, 4.2 and 5).
 
-ghost use Rattle.std.specs.Prelude.{◌≡◌, Ok};
+ghost use Rattle.std.specs.Prelude.{◌≡◌, Ok, Some};
 ghost use Rattle.std.specs.Str.{bytes_eq};
 ghost use Rattle.asn1.specs.Identifier.{read_identifier};
 ghost use Rattle.asn1.specs.IdentifierValues.{identifier_of};
@@ -67,7 +67,8 @@ impl KnownExtension {
 
     /// The contents octets of its identifier.
     fn contents(self) -> &'static [u8]
-        ensures { read_identifier result.now ≡ Ok (extension_numbers self) }
+        ensures octets { read_identifier result.now ≡ Ok (extension_numbers self) }
+        ensures found { extension_with (extension_numbers self) ≡ Some self }
     {
         match self {
             KnownExtension::AuthorityInfoAccess => b"\x2b\x06\x01\x05\x05\x07\x01\x01",
@@ -84,9 +85,10 @@ impl KnownExtension {
         }
     }
 
-    /// Its identifier.
+    /// Its identifier, which [`Self::with_identifier`] finds.
     pub fn identifier(self) -> ObjectIdentifier
-        ensures { identifier_of result ≡ extension_numbers self }
+        ensures value { identifier_of result ≡ extension_numbers self }
+        ensures found { extension_with (identifier_of result) ≡ Some self }
     {
         identifiers::with_contents(self.contents())
     }

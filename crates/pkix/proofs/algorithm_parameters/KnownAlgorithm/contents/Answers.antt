@@ -3,78 +3,78 @@ use Rattle.asn1.specs.Base128.{number_front}
 use Rattle.asn1.specs.Identifier.{numbers_in, read_identifier}
 use Rattle.pkix.proofs.algorithm_parameters.KnownAlgorithm.contents.Goals as goal
 
-pub returns-in-RsaEncryption : goal.returns-in-RsaEncryption
+pub returns-in-RsaEncryption-clause-octets : goal.returns-in-RsaEncryption-clause-octets
 unfolding read_identifier numbers_in number_front
-returns-in-RsaEncryption c = rw c.in-RsaEncryption.is refl
+returns-in-RsaEncryption-clause-octets c = rw c.in-RsaEncryption.is refl
 
-pub returns-in-Sha1WithRsaEncryption : goal.returns-in-Sha1WithRsaEncryption
+pub returns-in-Sha1WithRsaEncryption-clause-octets : goal.returns-in-Sha1WithRsaEncryption-clause-octets
 unfolding read_identifier numbers_in number_front
-returns-in-Sha1WithRsaEncryption c = rw c.in-Sha1WithRsaEncryption.is refl
+returns-in-Sha1WithRsaEncryption-clause-octets c = rw c.in-Sha1WithRsaEncryption.is refl
 
-pub returns-in-Sha224WithRsaEncryption : goal.returns-in-Sha224WithRsaEncryption
+pub returns-in-Sha224WithRsaEncryption-clause-octets : goal.returns-in-Sha224WithRsaEncryption-clause-octets
 unfolding read_identifier numbers_in number_front
-returns-in-Sha224WithRsaEncryption c = rw c.in-Sha224WithRsaEncryption.is refl
+returns-in-Sha224WithRsaEncryption-clause-octets c = rw c.in-Sha224WithRsaEncryption.is refl
 
-pub returns-in-Sha256WithRsaEncryption : goal.returns-in-Sha256WithRsaEncryption
+pub returns-in-Sha256WithRsaEncryption-clause-octets : goal.returns-in-Sha256WithRsaEncryption-clause-octets
 unfolding read_identifier numbers_in number_front
-returns-in-Sha256WithRsaEncryption c = rw c.in-Sha256WithRsaEncryption.is refl
+returns-in-Sha256WithRsaEncryption-clause-octets c = rw c.in-Sha256WithRsaEncryption.is refl
 
-pub returns-in-Sha384WithRsaEncryption : goal.returns-in-Sha384WithRsaEncryption
+pub returns-in-Sha384WithRsaEncryption-clause-octets : goal.returns-in-Sha384WithRsaEncryption-clause-octets
 unfolding read_identifier numbers_in number_front
-returns-in-Sha384WithRsaEncryption c = rw c.in-Sha384WithRsaEncryption.is refl
+returns-in-Sha384WithRsaEncryption-clause-octets c = rw c.in-Sha384WithRsaEncryption.is refl
 
-pub returns-in-Sha512WithRsaEncryption : goal.returns-in-Sha512WithRsaEncryption
+pub returns-in-Sha512WithRsaEncryption-clause-octets : goal.returns-in-Sha512WithRsaEncryption-clause-octets
 unfolding read_identifier numbers_in number_front
-returns-in-Sha512WithRsaEncryption c = rw c.in-Sha512WithRsaEncryption.is refl
+returns-in-Sha512WithRsaEncryption-clause-octets c = rw c.in-Sha512WithRsaEncryption.is refl
 
-pub returns-in-EcPublicKey : goal.returns-in-EcPublicKey
+pub returns-in-EcPublicKey-clause-octets : goal.returns-in-EcPublicKey-clause-octets
 unfolding read_identifier numbers_in number_front
-returns-in-EcPublicKey c = rw c.in-EcPublicKey.is refl
+returns-in-EcPublicKey-clause-octets c = rw c.in-EcPublicKey.is refl
 
-pub returns-in-EcdsaWithSha1 : goal.returns-in-EcdsaWithSha1
+pub returns-in-EcdsaWithSha1-clause-octets : goal.returns-in-EcdsaWithSha1-clause-octets
 unfolding read_identifier numbers_in number_front
-returns-in-EcdsaWithSha1 c = rw c.in-EcdsaWithSha1.is refl
+returns-in-EcdsaWithSha1-clause-octets c = rw c.in-EcdsaWithSha1.is refl
 
-pub returns-in-EcdsaWithSha224 : goal.returns-in-EcdsaWithSha224
+pub returns-in-EcdsaWithSha224-clause-octets : goal.returns-in-EcdsaWithSha224-clause-octets
 unfolding read_identifier numbers_in number_front
-returns-in-EcdsaWithSha224 c = rw c.in-EcdsaWithSha224.is refl
+returns-in-EcdsaWithSha224-clause-octets c = rw c.in-EcdsaWithSha224.is refl
 
-pub returns-in-EcdsaWithSha256 : goal.returns-in-EcdsaWithSha256
+pub returns-in-EcdsaWithSha256-clause-octets : goal.returns-in-EcdsaWithSha256-clause-octets
 unfolding read_identifier numbers_in number_front
-returns-in-EcdsaWithSha256 c = rw c.in-EcdsaWithSha256.is refl
+returns-in-EcdsaWithSha256-clause-octets c = rw c.in-EcdsaWithSha256.is refl
 
-pub returns-in-EcdsaWithSha384 : goal.returns-in-EcdsaWithSha384
+pub returns-in-EcdsaWithSha384-clause-octets : goal.returns-in-EcdsaWithSha384-clause-octets
 unfolding read_identifier numbers_in number_front
-returns-in-EcdsaWithSha384 c = rw c.in-EcdsaWithSha384.is refl
+returns-in-EcdsaWithSha384-clause-octets c = rw c.in-EcdsaWithSha384.is refl
 
-pub returns-in-EcdsaWithSha512 : goal.returns-in-EcdsaWithSha512
+pub returns-in-EcdsaWithSha512-clause-octets : goal.returns-in-EcdsaWithSha512-clause-octets
 unfolding read_identifier numbers_in number_front
-returns-in-EcdsaWithSha512 c = rw c.in-EcdsaWithSha512.is refl
+returns-in-EcdsaWithSha512-clause-octets c = rw c.in-EcdsaWithSha512.is refl
 
-pub returns-in-Ed25519 : goal.returns-in-Ed25519
+pub returns-in-Ed25519-clause-octets : goal.returns-in-Ed25519-clause-octets
 unfolding read_identifier numbers_in number_front
-returns-in-Ed25519 c = rw c.in-Ed25519.is refl
+returns-in-Ed25519-clause-octets c = rw c.in-Ed25519.is refl
 
-pub returns-in-Ed448 : goal.returns-in-Ed448
+pub returns-in-Ed448-clause-octets : goal.returns-in-Ed448-clause-octets
 unfolding read_identifier numbers_in number_front
-returns-in-Ed448 c = rw c.in-Ed448.is refl
+returns-in-Ed448-clause-octets c = rw c.in-Ed448.is refl
 
-pub returns-in-Sha1 : goal.returns-in-Sha1
+pub returns-in-Sha1-clause-octets : goal.returns-in-Sha1-clause-octets
 unfolding read_identifier numbers_in number_front
-returns-in-Sha1 c = rw c.in-Sha1.is refl
+returns-in-Sha1-clause-octets c = rw c.in-Sha1.is refl
 
-pub returns-in-Sha224 : goal.returns-in-Sha224
+pub returns-in-Sha224-clause-octets : goal.returns-in-Sha224-clause-octets
 unfolding read_identifier numbers_in number_front
-returns-in-Sha224 c = rw c.in-Sha224.is refl
+returns-in-Sha224-clause-octets c = rw c.in-Sha224.is refl
 
-pub returns-in-Sha256 : goal.returns-in-Sha256
+pub returns-in-Sha256-clause-octets : goal.returns-in-Sha256-clause-octets
 unfolding read_identifier numbers_in number_front
-returns-in-Sha256 c = rw c.in-Sha256.is refl
+returns-in-Sha256-clause-octets c = rw c.in-Sha256.is refl
 
-pub returns-in-Sha384 : goal.returns-in-Sha384
+pub returns-in-Sha384-clause-octets : goal.returns-in-Sha384-clause-octets
 unfolding read_identifier numbers_in number_front
-returns-in-Sha384 c = rw c.in-Sha384.is refl
+returns-in-Sha384-clause-octets c = rw c.in-Sha384.is refl
 
-pub returns-in-Sha512 : goal.returns-in-Sha512
+pub returns-in-Sha512-clause-octets : goal.returns-in-Sha512-clause-octets
 unfolding read_identifier numbers_in number_front
-returns-in-Sha512 c = rw c.in-Sha512.is refl
+returns-in-Sha512-clause-octets c = rw c.in-Sha512.is refl

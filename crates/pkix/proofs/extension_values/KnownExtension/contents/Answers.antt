@@ -3,46 +3,46 @@ use Rattle.asn1.specs.Base128.{number_front}
 use Rattle.asn1.specs.Identifier.{numbers_in, read_identifier}
 use Rattle.pkix.proofs.extension_values.KnownExtension.contents.Goals as goal
 
-pub returns-in-AuthorityInfoAccess : goal.returns-in-AuthorityInfoAccess
+pub returns-in-AuthorityInfoAccess-clause-octets : goal.returns-in-AuthorityInfoAccess-clause-octets
 unfolding read_identifier numbers_in number_front
-returns-in-AuthorityInfoAccess c = rw c.in-AuthorityInfoAccess.is refl
+returns-in-AuthorityInfoAccess-clause-octets c = rw c.in-AuthorityInfoAccess.is refl
 
-pub returns-in-AuthorityKeyIdentifier : goal.returns-in-AuthorityKeyIdentifier
+pub returns-in-AuthorityKeyIdentifier-clause-octets : goal.returns-in-AuthorityKeyIdentifier-clause-octets
 unfolding read_identifier numbers_in number_front
-returns-in-AuthorityKeyIdentifier c = rw c.in-AuthorityKeyIdentifier.is refl
+returns-in-AuthorityKeyIdentifier-clause-octets c = rw c.in-AuthorityKeyIdentifier.is refl
 
-pub returns-in-BasicConstraints : goal.returns-in-BasicConstraints
+pub returns-in-BasicConstraints-clause-octets : goal.returns-in-BasicConstraints-clause-octets
 unfolding read_identifier numbers_in number_front
-returns-in-BasicConstraints c = rw c.in-BasicConstraints.is refl
+returns-in-BasicConstraints-clause-octets c = rw c.in-BasicConstraints.is refl
 
-pub returns-in-CrlDistributionPoints : goal.returns-in-CrlDistributionPoints
+pub returns-in-CrlDistributionPoints-clause-octets : goal.returns-in-CrlDistributionPoints-clause-octets
 unfolding read_identifier numbers_in number_front
-returns-in-CrlDistributionPoints c = rw c.in-CrlDistributionPoints.is refl
+returns-in-CrlDistributionPoints-clause-octets c = rw c.in-CrlDistributionPoints.is refl
 
-pub returns-in-CrlNumber : goal.returns-in-CrlNumber
+pub returns-in-CrlNumber-clause-octets : goal.returns-in-CrlNumber-clause-octets
 unfolding read_identifier numbers_in number_front
-returns-in-CrlNumber c = rw c.in-CrlNumber.is refl
+returns-in-CrlNumber-clause-octets c = rw c.in-CrlNumber.is refl
 
-pub returns-in-CrlReason : goal.returns-in-CrlReason
+pub returns-in-CrlReason-clause-octets : goal.returns-in-CrlReason-clause-octets
 unfolding read_identifier numbers_in number_front
-returns-in-CrlReason c = rw c.in-CrlReason.is refl
+returns-in-CrlReason-clause-octets c = rw c.in-CrlReason.is refl
 
-pub returns-in-ExtendedKeyUsage : goal.returns-in-ExtendedKeyUsage
+pub returns-in-ExtendedKeyUsage-clause-octets : goal.returns-in-ExtendedKeyUsage-clause-octets
 unfolding read_identifier numbers_in number_front
-returns-in-ExtendedKeyUsage c = rw c.in-ExtendedKeyUsage.is refl
+returns-in-ExtendedKeyUsage-clause-octets c = rw c.in-ExtendedKeyUsage.is refl
 
-pub returns-in-IssuerAltName : goal.returns-in-IssuerAltName
+pub returns-in-IssuerAltName-clause-octets : goal.returns-in-IssuerAltName-clause-octets
 unfolding read_identifier numbers_in number_front
-returns-in-IssuerAltName c = rw c.in-IssuerAltName.is refl
+returns-in-IssuerAltName-clause-octets c = rw c.in-IssuerAltName.is refl
 
-pub returns-in-KeyUsage : goal.returns-in-KeyUsage
+pub returns-in-KeyUsage-clause-octets : goal.returns-in-KeyUsage-clause-octets
 unfolding read_identifier numbers_in number_front
-returns-in-KeyUsage c = rw c.in-KeyUsage.is refl
+returns-in-KeyUsage-clause-octets c = rw c.in-KeyUsage.is refl
 
-pub returns-in-SubjectAltName : goal.returns-in-SubjectAltName
+pub returns-in-SubjectAltName-clause-octets : goal.returns-in-SubjectAltName-clause-octets
 unfolding read_identifier numbers_in number_front
-returns-in-SubjectAltName c = rw c.in-SubjectAltName.is refl
+returns-in-SubjectAltName-clause-octets c = rw c.in-SubjectAltName.is refl
 
-pub returns-in-SubjectKeyIdentifier : goal.returns-in-SubjectKeyIdentifier
+pub returns-in-SubjectKeyIdentifier-clause-octets : goal.returns-in-SubjectKeyIdentifier-clause-octets
 unfolding read_identifier numbers_in number_front
-returns-in-SubjectKeyIdentifier c = rw c.in-SubjectKeyIdentifier.is refl
+returns-in-SubjectKeyIdentifier-clause-octets c = rw c.in-SubjectKeyIdentifier.is refl
