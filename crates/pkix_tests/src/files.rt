@@ -97,11 +97,62 @@ fn other_labels(rt: HostRuntime) -> Result<(), Fail> {
     }
     let text = pem(alloc, objects::DIGEST, "ENCRYPTED PRIVATE KEY")?;
     let reason = "pkix: an encrypted key; `openssl pkey` decrypts it\n";
-    is_answered(alloc, Some(Kind::Signature), text.as_bytes(), "", reason)?;
+    is_answered(alloc, Some(Kind::Signature), text.as_bytes(), "", reason)
+}
+
+/// Objects of which a single kind has the form.
+const FORMS: [(Kind, &str); 14] = [
+    (Kind::Certificate, objects::RSA),
+    (Kind::Certificate, objects::CURVE),
+    (Kind::Crl, objects::CRL),
+    (Kind::Request, objects::REQUEST),
+    (Kind::Key, objects::EC_KEY),
+    (Kind::Key, objects::EC_PKCS8),
+    (Kind::Key, objects::ED_PKCS8),
+    (Kind::Key, objects::RSA_KEY),
+    (Kind::Key, objects::RSA_PKCS8),
+    (Kind::Signature, objects::DIGEST),
+    (Kind::Signature, objects::EMPTY_SETS),
+    (Kind::TimestampRequest, objects::STAMP_REQUEST),
+    (Kind::TimestampResponse, objects::STAMP_RESPONSE),
+    (Kind::TimestampResponse, objects::STAMP_REFUSAL),
+];
+
+/// An Ed25519 key that OpenSSL encrypted, as it does now (RFC 8018) and as it did (RFC 7292).
+const ENCRYPTED: [&str; 2] = [
+    "\
+        30819b305706092a864886f70d01050d304a302906092a864886f70d01050c301c04089c902dfab8315dca0202\
+        0800300c06082a864886f70d02090500301d060960864801650304012a04103e80b5629c4ca93c0107e78fb9e2\
+        a9b90440dcd81ae0f092451a65df34dce5b394b7d1527007f54e2ce6d8642d239ed4a96b420d24d0c68282fa6a\
+        44f94711d55f76b8830ad519df3ba2d28f5567dc67eee6",
+    "\
+        3058301c060a2a864886f70d010c0103300e04087286dc367b31e5c20202080004387feb2f792830c61d303e9b\
+        3dfa269bc796ed8b7a22975e9a8cd455844df9865febce9ca0d21f04165afea429cb69aa7e459d1ed68862757a",
+];
+
+#[test]
+fn forms_tell_the_kind(rt: HostRuntime) -> Result<(), Fail> {
+    let alloc = rt.alloc();
+    for (kind, object) in FORMS {
+        let octets = hex::decode(alloc, object)?;
+        let wanted = listing(alloc, kind, object)?;
+        is_answered(alloc, None, octets.as_slice(), wanted.as_str(), "")?;
+    }
+    let integers = hex::decode(alloc, objects::RSA_PUBLIC)?;
+    let reason = "pkix: several kinds have this form: name one\n";
+    is_answered(alloc, None, integers.as_slice(), "", reason)?;
     let reason =
-        "pkix: DER has no label: name one of certificate, crl, request, key, signature, timestamp-request, \
+        "pkix: this has the form of none of certificate, crl, request, key, signature, timestamp-request, \
         timestamp-response\n";
-    is_answered(alloc, None, b"\x30\x00", "", reason)
+    is_answered(alloc, None, b"\x30\x00", "", reason)?;
+    for key in ENCRYPTED {
+        let octets = hex::decode(alloc, key)?;
+        let reason = "pkix: an encrypted key; `openssl pkey` decrypts it\n";
+        for kind in [None, Some(Kind::Key), Some(Kind::Signature)] {
+            is_answered(alloc, kind, octets.as_slice(), "", reason)?;
+        }
+    }
+    Ok(())
 }
 
 /// The text with other line ends, empty lines and spaces around its lines.

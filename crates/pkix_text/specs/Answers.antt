@@ -1,11 +1,15 @@
--- What an input is answered with, by what reading it returns.
-use Rattle.std.specs.Prelude.{Result, Ok, Err, ⊤}
-use Rattle.asn1.specs.Fault.{Fault}
+-- What an input is answered with, by what reads it.
+use Rattle.std.specs.Prelude.{ℕ, List, IsOk, ⊤}
+use Rattle.asn1.specs.Der.{Der}
+use Rattle.asn1.specs.Reading.{whole}
 use Rattle.pkix_text.specs.declared.answers.Answer.{Answer}
 use Rattle.pkix_text.specs.declared.answers.Answer.TheVariants.{Shown, Rejected}
 
--- What isn't the encoding of a value is rejected; of what is, nothing is said, since more may be looked at inside.
-abbrev pub IsReadIfShown : {M : Type 0} → Result M Fault → Answer → Type 0
-IsReadIfShown (Err fault) (Shown text) = ⊥
-IsReadIfShown (Err fault) (Rejected refusal) = ⊤
-IsReadIfShown (Ok value) answer = ⊤
+-- The octets are the encoding of a value of the type.
+abbrev pub IsRead : {V : Type 0} → Der V → List ℕ → Type 0
+IsRead der octets = IsOk (whole (der.read octets))
+
+-- What is shown has the form. What has it may be rejected, since more may be looked at inside.
+abbrev pub IsShownOnlyIf : Type 0 → Answer → Type 0
+IsShownOnlyIf Form (Shown text) = Form
+IsShownOnlyIf Form (Rejected refusal) = ⊤

@@ -1,14 +1,15 @@
 //! What an input is answered with.
 
-ghost use Rattle.std.specs.Prelude.{IfOk};
-ghost use Rattle.asn1.specs.Reading.{whole};
-ghost use Rattle.pkix_text.specs.Answers.{IsReadIfShown};
+ghost use Rattle.std.specs.Prelude.{◌⊎◌, IfOk};
+ghost use Rattle.pkix_text.specs.Answers.{IsRead, IsShownOnlyIf};
+ghost use Rattle.pkix_text.specs.declared.kinds.Kind.TheVariants as kinds;
 
 use crate::kinds::Kind;
 use crate::pem::{Object, PemError, is_pem, objects};
 use crate::show::{Show, push_escaped};
 use asn1::{
-    Asn1Readable, Asn1Writable, ParseError, Tag, WriteError, parse_single, strip_tlv, write_single,
+    Asn1Readable, Asn1Type, Asn1Writable, ParseError, Tag, WriteError, parse_single, strip_tlv,
+    write_single,
 };
 use pkix::certificate::Certificate;
 use pkix::common::SubjectPublicKeyInfo;
@@ -59,10 +60,14 @@ impl From<ParseError> for Fault {
 /// Why an object is rejected.
 #[derive(Debug, Drop)]
 pub enum Refusal {
-    /// No kind was named, and there is no label that tells one.
+    /// No kind was named, and it is of none.
     NoKind,
+    /// No kind was named, and it has the form of several.
+    SeveralKinds,
     /// Its label is of another kind, or of none that is known.
     Label(String),
+    /// It is an encrypted key.
+    Encrypted,
     /// It is between the lines of PEM, and has no octets.
     Pem(PemError),
     /// It isn't the encoding of what it should be.
@@ -73,8 +78,10 @@ pub enum Refusal {
 impl fmt::Display for Refusal {
     fn fmt<W: fmt::Write>(&self, f: &mut fmt::Formatter<W>) -> fmt::Result {
         match self {
-            Refusal::NoKind => write!(f, "DER has no label: name one of {}", Kind::NAMES),
+            Refusal::NoKind => write!(f, "this has the form of none of {}", Kind::NAMES),
+            Refusal::SeveralKinds => write!(f, "several kinds have this form: name one"),
             Refusal::Label(label) => write!(f, "the label {label} is of another kind, or of none"),
+            Refusal::Encrypted => write!(f, "an encrypted key; `openssl pkey` decrypts it"),
             Refusal::Pem(error) => write!(f, "{error}"),
             Refusal::Der(error) => write!(f, "{error} ({error:?})"),
         }
@@ -96,7 +103,7 @@ fn shown<'a, T: Asn1Readable<'a> + Asn1Writable<Error = WriteError> + Show>(
     octets: &'a [u8],
 ) -> Result<Answer, Fault>
     requires plain { T.der.plain }
-    ensures { IfOk result (IsReadIfShown (whole (T.der.read octets.entry.now))) }
+    ensures { IfOk result (IsShownOnlyIf (IsRead T.der octets.entry.now)) }
 {
     let value = match parse_single::<T>(alloc, octets) {
         Ok(value) => value,
@@ -129,7 +136,15 @@ struct Start {
     second: Option<Tag>,
     /// Whether octets follow the second.
     has_more: bool,
+    /// Whether the first is the algorithm of an encrypted key.
+    is_encrypted: bool,
 }
+
+/// How the algorithms of encrypted keys begin: those of RFC 8018 and of RFC 7292, appendix C.
+const ENCRYPTIONS: [&[u8]; 2] = [
+    b"\x06\x09\x2a\x86\x48\x86\xf7\x0d\x01\x05",
+    b"\x06\x0a\x2a\x86\x48\x86\xf7\x0d\x01\x0c\x01",
+];
 
 /// How the contents octets of an element begin.
 fn start_of(octets: &[u8]) -> Start {
@@ -137,6 +152,7 @@ fn start_of(octets: &[u8]) -> Start {
         first: None,
         second: None,
         has_more: false,
+        is_encrypted: false,
     };
     let Ok((whole, _)) = strip_tlv(octets) else {
         return start;
@@ -145,6 +161,7 @@ fn start_of(octets: &[u8]) -> Start {
         return start;
     };
     start.first = Some(first.tag());
+    start.is_encrypted = ENCRYPTIONS.iter().any(|it| first.data().starts_with(it));
     if let Ok((second, after)) = strip_tlv(after) {
         start.second = Some(second.tag());
         start.has_more = !after.is_empty();
@@ -155,8 +172,18 @@ fn start_of(octets: &[u8]) -> Start {
 /// The lines of a key, whose first elements tell its form: a OneAsymmetricKey has a version and an algorithm, an
 /// ECPrivateKey a version and octets, an RSAPublicKey two integers, an RSAPrivateKey more of them, a
 /// SubjectPublicKeyInfo begins with an algorithm.
-fn key(alloc: Global, octets: &[u8]) -> Result<Answer, Fault> {
+fn key<'a>(alloc: Global, octets: &'a [u8]) -> Result<Answer, Fault>
+    ensures { IfOk result (IsShownOnlyIf (
+        IsRead ⟦<SubjectPublicKeyInfo<'a> as Asn1Type>⟧.der octets.entry.now
+        ⊎ IsRead ⟦<EcPrivateKey<'a> as Asn1Type>⟧.der octets.entry.now
+        ⊎ IsRead ⟦<RsaPrivateKey<'a> as Asn1Type>⟧.der octets.entry.now
+        ⊎ IsRead ⟦<RsaPublicKey<'a> as Asn1Type>⟧.der octets.entry.now
+        ⊎ IsRead ⟦<OneAsymmetricKey<'a> as Asn1Type>⟧.der octets.entry.now)) }
+{
     let start = start_of(octets);
+    if start.is_encrypted {
+        return Ok(Answer::Rejected(Refusal::Encrypted));
+    }
     if start.first == Some(Tag::constructed(0x10)) {
         return shown::<SubjectPublicKeyInfo<'_>>(alloc, octets);
     }
@@ -175,19 +202,43 @@ fn key(alloc: Global, octets: &[u8]) -> Result<Answer, Fault> {
 
 /// The lines of a signature, whose first element tells its form: an ECDSA-Sig-Value begins with an integer, a
 /// DigestInfo with an algorithm, a ContentInfo with an identifier.
-fn signature(alloc: Global, octets: &[u8]) -> Result<Answer, Fault> {
-    let first = start_of(octets).first;
-    if first == Some(Tag::primitive(0x02)) {
+fn signature<'a>(alloc: Global, octets: &'a [u8]) -> Result<Answer, Fault>
+    ensures { IfOk result (IsShownOnlyIf (
+        IsRead ⟦<EcdsaSigValue<'a> as Asn1Type>⟧.der octets.entry.now
+        ⊎ IsRead ⟦<DigestInfo<'a> as Asn1Type>⟧.der octets.entry.now
+        ⊎ IsRead ⟦<ContentInfo<'a> as Asn1Type>⟧.der octets.entry.now)) }
+{
+    let start = start_of(octets);
+    if start.is_encrypted {
+        return Ok(Answer::Rejected(Refusal::Encrypted));
+    }
+    if start.first == Some(Tag::primitive(0x02)) {
         return shown::<EcdsaSigValue<'_>>(alloc, octets);
     }
-    if first == Some(Tag::constructed(0x10)) {
+    if start.first == Some(Tag::constructed(0x10)) {
         return shown::<DigestInfo<'_>>(alloc, octets);
     }
     shown::<ContentInfo<'_>>(alloc, octets)
 }
 
 /// The lines of the value of this kind whose encoding the octets are.
-pub fn answer_to(alloc: Global, kind: Kind, octets: &[u8]) -> Result<Answer, Fault> {
+pub fn answer_to<'a>(alloc: Global, kind: Kind, octets: &'a [u8]) -> Result<Answer, Fault>
+    ensures { IfOk result (IsShownOnlyIf (elim kind as (λ _. Type 0) [
+      | kinds.Certificate ↦ IsRead ⟦<Certificate<'a> as Asn1Type>⟧.der octets.entry.now
+      | kinds.Crl ↦ IsRead ⟦<CertificateList<'a> as Asn1Type>⟧.der octets.entry.now
+      | kinds.Request ↦ IsRead ⟦<CertificationRequest<'a> as Asn1Type>⟧.der octets.entry.now
+      | kinds.Key ↦ IsRead ⟦<SubjectPublicKeyInfo<'a> as Asn1Type>⟧.der octets.entry.now
+          ⊎ IsRead ⟦<EcPrivateKey<'a> as Asn1Type>⟧.der octets.entry.now
+          ⊎ IsRead ⟦<RsaPrivateKey<'a> as Asn1Type>⟧.der octets.entry.now
+          ⊎ IsRead ⟦<RsaPublicKey<'a> as Asn1Type>⟧.der octets.entry.now
+          ⊎ IsRead ⟦<OneAsymmetricKey<'a> as Asn1Type>⟧.der octets.entry.now
+      | kinds.Signature ↦ IsRead ⟦<EcdsaSigValue<'a> as Asn1Type>⟧.der octets.entry.now
+          ⊎ IsRead ⟦<DigestInfo<'a> as Asn1Type>⟧.der octets.entry.now
+          ⊎ IsRead ⟦<ContentInfo<'a> as Asn1Type>⟧.der octets.entry.now
+      | kinds.TimestampRequest ↦ IsRead ⟦<TimeStampReq<'a> as Asn1Type>⟧.der octets.entry.now
+      | kinds.TimestampResponse ↦ IsRead ⟦<TimeStampResp<'a> as Asn1Type>⟧.der octets.entry.now
+    ])) }
+{
     match kind {
         Kind::Certificate => shown::<Certificate<'_>>(alloc, octets),
         Kind::Crl => shown::<CertificateList<'_>>(alloc, octets),
@@ -197,6 +248,27 @@ pub fn answer_to(alloc: Global, kind: Kind, octets: &[u8]) -> Result<Answer, Fau
         Kind::TimestampRequest => shown::<TimeStampReq<'_>>(alloc, octets),
         Kind::TimestampResponse => shown::<TimeStampResp<'_>>(alloc, octets),
     }
+}
+
+/// What an object in DER is answered with if no kind is named: the lines of the only kind that reads it.
+fn answer_to_any(alloc: Global, octets: &[u8]) -> Result<Answer, Fault> {
+    let mut found = None;
+    for kind in Kind::ALL.iter().copied() {
+        match answer_to(alloc, kind, octets)? {
+            Answer::Shown(lines) => {
+                if found.is_some() {
+                    return Ok(Answer::Rejected(Refusal::SeveralKinds));
+                }
+                found = Some(lines);
+            }
+            Answer::Rejected(refusal) => {
+                if matches!(refusal, Refusal::Encrypted) {
+                    return Ok(Answer::Rejected(refusal));
+                }
+            }
+        }
+    }
+    Ok(found.map_or(Answer::Rejected(Refusal::NoKind), Answer::Shown))
 }
 
 /// Whether objects with this label are of no kind, though they may have the form of one: parameters that of a key.
@@ -218,13 +290,13 @@ fn answer_to_object(
     asked: Option<Kind>,
     object: &Object<'_>,
 ) -> Result<Answer, Fault> {
+    if object.is_encrypted || object.label.starts_with(b"ENCRYPTED") {
+        return Ok(Answer::Rejected(Refusal::Encrypted));
+    }
     let octets = match &object.octets {
         Ok(octets) => octets.as_slice(),
         Err(error) => return Ok(Answer::Rejected(Refusal::Pem(*error))),
     };
-    if object.label.starts_with(b"ENCRYPTED") {
-        return Ok(Answer::Rejected(Refusal::Pem(PemError::Encrypted)));
-    }
     let kind = match (Kind::labelled(object.label), asked) {
         (Some(told), Some(asked)) if told != asked => None,
         (None, _) if is_of_no_kind(object.label) => None,
@@ -261,8 +333,7 @@ impl Report {
 }
 
 /// The lines of the objects of an input, and why others are rejected. The input is in PEM if it has a line that begins
-/// with `-----BEGIN ` and only text before that, and else one object in DER, whose kind has to be named. `Memory` where
-/// out of memory.
+/// with `-----BEGIN ` and only text before that, and else one object in DER. `Memory` where out of memory.
 pub fn report_on(alloc: Global, kind: Option<Kind>, input: &[u8]) -> Result<Report, Fault> {
     let mut report = Report {
         lines: String::new(alloc),
@@ -271,7 +342,7 @@ pub fn report_on(alloc: Global, kind: Option<Kind>, input: &[u8]) -> Result<Repo
     if !is_pem(input) {
         let answer = match kind {
             Some(kind) => answer_to(alloc, kind, input)?,
-            None => Answer::Rejected(Refusal::NoKind),
+            None => answer_to_any(alloc, input)?,
         };
         report.add("", answer)?;
         return Ok(report);

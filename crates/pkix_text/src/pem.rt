@@ -24,8 +24,6 @@ const MARK: &[u8] = b"\xef\xbb\xbf";
 pub enum PemError {
     /// There is no line that ends it, or that line has another label.
     NoEnd,
-    /// It is a private key in OpenSSL's older form, encrypted.
-    Encrypted,
     /// What is between the lines isn't base64.
     Base64(DecodeError),
 }
@@ -34,7 +32,6 @@ impl fmt::Display for PemError {
     fn fmt<W: fmt::Write>(&self, f: &mut fmt::Formatter<W>) -> fmt::Result {
         match self {
             PemError::NoEnd => write!(f, "PEM: no line ends what the first one begins"),
-            PemError::Encrypted => write!(f, "an encrypted key; `openssl pkey` decrypts it"),
             PemError::Base64(error) => write!(f, "PEM: {error}"),
         }
     }
@@ -45,6 +42,8 @@ impl fmt::Display for PemError {
 pub(crate) struct Object<'a> {
     /// What its lines call it.
     pub(crate) label: &'a [u8],
+    /// Whether a header says that it is encrypted, as in OpenSSL's older form of private keys.
+    pub(crate) is_encrypted: bool,
     /// What should be its encoding.
     pub(crate) octets: Result<Vec<u8>, PemError>,
 }
@@ -62,6 +61,7 @@ impl<'a> Open<'a> {
     fn not_ended(self) -> Object<'a> {
         Object {
             label: self.label,
+            is_encrypted: self.is_encrypted,
             octets: Err(PemError::NoEnd),
         }
     }
@@ -70,8 +70,6 @@ impl<'a> Open<'a> {
     fn ended_by(self, alloc: Global, label: &[u8]) -> Result<Object<'a>, AllocError> {
         let octets = if label != self.label {
             Err(PemError::NoEnd)
-        } else if self.is_encrypted {
-            Err(PemError::Encrypted)
         } else {
             match STANDARD.decode(alloc, self.symbols.as_slice()) {
                 Ok(octets) => Ok(octets),
@@ -81,6 +79,7 @@ impl<'a> Open<'a> {
         };
         Ok(Object {
             label: self.label,
+            is_encrypted: self.is_encrypted,
             octets,
         })
     }

@@ -11,7 +11,7 @@ pub const HELP: &str = "\
 usage: pkix [KIND] [FILE]...
 Shows certificates and other documents in DER or PEM, a line for each field. Without a file it reads standard input.
 KIND is certificate, crl, request, key, signature, timestamp-request or timestamp-response. PEM needs none if its labels
-tell the kind.
+tell the kind, and DER none if a single kind has its form.
 The status is 0 if each object is shown, 1 if one is rejected, and 2 if there is no answer.
 example: pkix certificate server.der
 ";
