@@ -148,7 +148,7 @@ fn forms_tell_the_kind(rt: HostRuntime) -> Result<(), Fail> {
     for key in ENCRYPTED {
         let octets = hex::decode(alloc, key)?;
         let reason = "pkix: an encrypted key; `openssl pkey` decrypts it\n";
-        for kind in [None, Some(Kind::Key), Some(Kind::Signature)] {
+        for kind in [None, Some(Kind::Key), Some(Kind::Crl)] {
             is_answered(alloc, kind, octets.as_slice(), "", reason)?;
         }
     }

@@ -172,7 +172,7 @@ fn start_of(octets: &[u8]) -> Start {
 /// The lines of a key, whose first elements tell its form: a OneAsymmetricKey has a version and an algorithm, an
 /// ECPrivateKey a version and octets, an RSAPublicKey two integers, an RSAPrivateKey more of them, a
 /// SubjectPublicKeyInfo begins with an algorithm.
-fn key<'a>(alloc: Global, octets: &'a [u8]) -> Result<Answer, Fault>
+fn key<'a>(alloc: Global, start: Start, octets: &'a [u8]) -> Result<Answer, Fault>
     ensures { IfOk result (IsShownOnlyIf (
         IsRead ⟦<SubjectPublicKeyInfo<'a> as Asn1Type>⟧.der octets.entry.now
         ⊎ IsRead ⟦<EcPrivateKey<'a> as Asn1Type>⟧.der octets.entry.now
@@ -180,10 +180,6 @@ fn key<'a>(alloc: Global, octets: &'a [u8]) -> Result<Answer, Fault>
         ⊎ IsRead ⟦<RsaPublicKey<'a> as Asn1Type>⟧.der octets.entry.now
         ⊎ IsRead ⟦<OneAsymmetricKey<'a> as Asn1Type>⟧.der octets.entry.now)) }
 {
-    let start = start_of(octets);
-    if start.is_encrypted {
-        return Ok(Answer::Rejected(Refusal::Encrypted));
-    }
     if start.first == Some(Tag::constructed(0x10)) {
         return shown::<SubjectPublicKeyInfo<'_>>(alloc, octets);
     }
@@ -202,16 +198,12 @@ fn key<'a>(alloc: Global, octets: &'a [u8]) -> Result<Answer, Fault>
 
 /// The lines of a signature, whose first element tells its form: an ECDSA-Sig-Value begins with an integer, a
 /// DigestInfo with an algorithm, a ContentInfo with an identifier.
-fn signature<'a>(alloc: Global, octets: &'a [u8]) -> Result<Answer, Fault>
+fn signature<'a>(alloc: Global, start: Start, octets: &'a [u8]) -> Result<Answer, Fault>
     ensures { IfOk result (IsShownOnlyIf (
         IsRead ⟦<EcdsaSigValue<'a> as Asn1Type>⟧.der octets.entry.now
         ⊎ IsRead ⟦<DigestInfo<'a> as Asn1Type>⟧.der octets.entry.now
         ⊎ IsRead ⟦<ContentInfo<'a> as Asn1Type>⟧.der octets.entry.now)) }
 {
-    let start = start_of(octets);
-    if start.is_encrypted {
-        return Ok(Answer::Rejected(Refusal::Encrypted));
-    }
     if start.first == Some(Tag::primitive(0x02)) {
         return shown::<EcdsaSigValue<'_>>(alloc, octets);
     }
@@ -221,7 +213,9 @@ fn signature<'a>(alloc: Global, octets: &'a [u8]) -> Result<Answer, Fault>
     shown::<ContentInfo<'_>>(alloc, octets)
 }
 
-/// The lines of the value of this kind whose encoding the octets are.
+/// The lines of the value of this kind whose encoding the octets are. An encrypted key is rejected as that, whatever the
+/// kind, and other octets with the first error of the kind's type, or of a part that is shown too. `Memory` where out of
+/// memory.
 pub fn answer_to<'a>(alloc: Global, kind: Kind, octets: &'a [u8]) -> Result<Answer, Fault>
     ensures { IfOk result (IsShownOnlyIf (elim kind as (λ _. Type 0) [
       | kinds.Certificate ↦ IsRead ⟦<Certificate<'a> as Asn1Type>⟧.der octets.entry.now
@@ -239,12 +233,16 @@ pub fn answer_to<'a>(alloc: Global, kind: Kind, octets: &'a [u8]) -> Result<Answ
       | kinds.TimestampResponse ↦ IsRead ⟦<TimeStampResp<'a> as Asn1Type>⟧.der octets.entry.now
     ])) }
 {
+    let start = start_of(octets);
+    if start.is_encrypted {
+        return Ok(Answer::Rejected(Refusal::Encrypted));
+    }
     match kind {
         Kind::Certificate => shown::<Certificate<'_>>(alloc, octets),
         Kind::Crl => shown::<CertificateList<'_>>(alloc, octets),
         Kind::Request => shown::<CertificationRequest<'_>>(alloc, octets),
-        Kind::Key => key(alloc, octets),
-        Kind::Signature => signature(alloc, octets),
+        Kind::Key => key(alloc, start, octets),
+        Kind::Signature => signature(alloc, start, octets),
         Kind::TimestampRequest => shown::<TimeStampReq<'_>>(alloc, octets),
         Kind::TimestampResponse => shown::<TimeStampResp<'_>>(alloc, octets),
     }
