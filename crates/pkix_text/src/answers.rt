@@ -213,9 +213,9 @@ fn signature<'a>(alloc: Global, start: Start, octets: &'a [u8]) -> Result<Answer
     shown::<ContentInfo<'_>>(alloc, octets)
 }
 
-/// The lines of the value of this kind whose encoding the octets are. An encrypted key is rejected as that, whatever the
-/// kind, and other octets with the first error of the kind's type, or of a part that is shown too. `Memory` where out of
-/// memory.
+/// The lines of the value of this kind whose encoding the octets are. An encrypted key is rejected as that for each
+/// kind, and other octets with the first error of the kind's type, or of a part that is shown too. `Memory` where out
+/// of memory.
 pub fn answer_to<'a>(alloc: Global, kind: Kind, octets: &'a [u8]) -> Result<Answer, Fault>
     ensures { IfOk result (IsShownOnlyIf (elim kind as (λ _. Type 0) [
       | kinds.Certificate ↦ IsRead ⟦<Certificate<'a> as Asn1Type>⟧.der octets.entry.now

@@ -21,7 +21,7 @@ example: pkix certificate server.der
 pub enum Asked {
     /// `--help`: how the program is used.
     Help,
-    /// The name of a kind, or nothing: the lines of the objects of this kind, or of that which their labels or forms tell.
+    /// The name of a kind, or nothing: the lines of the objects of this kind, or of that which labels or forms tell.
     Objects(Option<Kind>),
 }
 
