@@ -2,45 +2,11 @@
 
 from declarations import reject
 from derived_forms import (
-    ERROR, NO_ERRORS, angle, comment, der, function, ghost, impl, match, method, parse_method, quoted, side, stated,
+    ERROR, angle, comment, der, function, ghost, impl, match, method, parse_method, quoted, side, stated,
     variants_of, writes,
 )
 
 ITEM = "ObjectIdentifier"
-
-IS_IDENTIFIER = """
-/// Whether the two are one identifier.
-fn is_identifier(item: &ObjectIdentifier, known: ObjectIdentifier) -> bool
-    ensures { result ≡ bytes_eq (identifier_of item.now) (identifier_of known) }
-{
-    // Says that identifiers are equal exactly where their numbers are.
-    identifiers_compare();
-    *item == known
-}
-"""
-
-
-def is_identifier_answer(crate, path):
-    """The proof that equal identifiers have the same numbers."""
-    numbers = "(identifier_of c.args.item.now) (identifier_of c.args.known)"
-    return f"""use Rattle.std.proofs.Common.{{◌≡◌, sym, ◌∙◌}}
-use Rattle.std.specs.Bool.{{Decides}}
-use Rattle.std.specs.Str.{{bytes_eq}}
-use Rattle.std.proofs.lemmas.Bool.Decides.{{same_from_decides}}
-use Rattle.std.proofs.lemmas.Slice.Eq.{{bytes_eq-Decides}}
-use Rattle.asn1.specs.IdentifierValues.{{identifier_of}}
-use Rattle.{crate}.proofs.{path}is_identifier.Goals as goal
-
-pub returns : goal.returns
-returns c =
-    let same = c.identifiers_compare.ensures.equality c.args.item.now c.args.known in
-    let told : Decides c.eq.result (identifier_of c.args.item.now ≡ identifier_of c.args.known) = (
-      λ e. same.0 (sym c.eq.ensures ∙ e),
-      λ e. c.eq.ensures ∙ same.1 e,
-    ) in
-    let same_numbers = bytes_eq-Decides {numbers} in
-    same_from_decides c.eq.result (bytes_eq {numbers}) told same_numbers
-"""
 
 
 # ---- identifiers
@@ -65,7 +31,7 @@ def octets_of(item):
 def identifier(item):
     """A function that returns an identifier: its clause has the numbers, of which the first stands for two."""
     numbers, octets = octets_of(item)
-    lets = "".join(f"    octets[{at}] = {octet:#04x};\n" for at, octet in enumerate(octets))
+    contents = "".join(f"\\x{octet:02x}" for octet in octets)
     return f"""
 /// The numbers of [`{item.name.lower()}`], as they are encoded: the first stands for two.
 pub const {item.name}_NUMBERS: [{"u64" if max(numbers) < 2**64 else "u128"}; {len(numbers)}] = {numbers};
@@ -74,37 +40,26 @@ pub const {item.name}_NUMBERS: [{"u64" if max(numbers) < 2**64 else "u128"}; {le
 pub fn {item.name.lower()}() -> ObjectIdentifier
     ensures {{ identifier_of result ≡ {item.name}_NUMBERS }}
 {{
-    let mut octets = [0; 63];
-{lets}    ObjectIdentifier::from_der_unchecked(octets, {len(octets)})
+    known_identifier(b"{contents}")
 }}
 """
 
 
 def identifier_answer(item, crate, path):
-    """The proofs that an identifier's function owes: it computes them."""
-    octets = octets_of(item)[1]
-    text, small = " ∷ ".join([*map(str, octets), "[]"]), "(lit< tt, " * len(octets) + "tt" + ")" * len(octets)
-    return f"""use Rattle.std.proofs.Common.{{◌≡◌, [], ◌∷◌, ◌∙◌, true, refl, lit<, lit≤}}
-use Rattle.std.specs.Prelude.{{is_some}}
+    """The proofs that an identifier's function owes: the numbers that its octets are read as are computed."""
+    return f"""use Rattle.std.proofs.Common.{{refl, sym}}
 use Rattle.asn1.specs.Base128.{{number_front}}
-use Rattle.asn1.specs.Identifier.{{numbers_in, identifier_numbers}}
-use Rattle.asn1.specs.KnownIdentifiers.{{known_form}}
-use Rattle.{crate}.specs.declared.{path}TheConstants.{{{item.name}_NUMBERS}}
+use Rattle.asn1.specs.Identifier.{{numbers_in, read_identifier}}
+use Rattle.asn1.specs.Lemmas.Results.{{ok_is}}
 use Rattle.{crate}.proofs.{path}{item.name.lower()}.Goals as goal
 
-are_numbers : is_some (numbers_in ({text})) ≡ true
-unfolding numbers_in number_front
-are_numbers = refl
-
-numbers_are : identifier_numbers ({text}) ≡ {item.name}_NUMBERS
-unfolding numbers_in number_front
-numbers_are = refl
-
-pub from_der_unchecked-requires : goal.from_der_unchecked-requires
-from_der_unchecked-requires c = known_form ({text}) (lit< tt) (lit≤ tt) are_numbers {small}
+pub known_identifier-requires : goal.known_identifier-requires
+unfolding read_identifier numbers_in number_front
+known_identifier-requires c = refl
 
 pub returns : goal.returns
-returns c = c.from_der_unchecked.ensures ∙ numbers_are
+unfolding read_identifier numbers_in number_front
+returns c = sym (ok_is _ _ c.known_identifier.ensures)
 """
 
 
@@ -130,8 +85,8 @@ def defined(module, item, specs):
     text += readable(item) if item.reads else ""
     if item.writes:
         body = match(item, "{call}", "x.item.clone().unwrap()", "_")
-        members = ghost("write_errors_by", NO_ERRORS), function(f"fn item(&self) -> {ITEM}", body)
-        text += impl(item, f"Asn1DefinedByWritable<{ITEM}> ", ERROR, *members, *writes(item, "x.value"))
+        told = function(f"fn item(&self) -> {ITEM}", body)
+        text += impl(item, f"Asn1DefinedByWritable<{ITEM}> ", ERROR, told, *writes(item, "x.value"))
     return text
 
 
@@ -220,11 +175,8 @@ def alternatives(item):
     first, view = f"(elim [ {' | '.join(cases)} ])", "(λ m. m)"
     text = f"(any_variant {der(item.other.base)} {view}) " if item.other else ""
     for part in reversed(item.known):
-        numbers = part.numbers
-        alone = f"λ n e. sym ((bytes_eq-Decides n {numbers}).0 e)"
-        known = f"item = {numbers};\nis = λ n. bytes_eq n {numbers};\nitself = refl;\nalone = {alone};"
-        view = first if part is item.known[0] else view
-        text = f"({'or_variant' if text else 'variant'} (record {{\n{known}\n}}) {der(part.form)} {text}{view}) "
+        view, word = first if part is item.known[0] else view, "or_variant" if text else "variant"
+        text = f"({word} (identifier_with {part.numbers}) {der(part.form)} {text}{view}) "
     return text[1:-2]
 
 
@@ -255,22 +207,13 @@ def write_answer(item, module, crate, path):
     goals = [f"write_element-requires{at[name]}" for name in large]
     lines = [f"pub {goal} : goal.{goal}\n{goal} c = inl (search rules)\n" for goal in goals]
     function = f"{item.name}{f'Asn1DefinedByWritable{ITEM}' if item.is_defined else 'Asn1Writable'}/write"
-    goal_use = f"use Rattle.{crate}.proofs.{path}{function.replace('/', '.')}.Goals as goal\n"
-    if not item.is_defined:
-        return function, goals and f"use Rattle.std.proofs.Common.{{inl, rules}}\n{goal_use}\n" + "\n".join(lines)
-    for name, where in at.items():
+    uses = "use Rattle.std.proofs.Common.{inl, rules}\n"
+    for name, where in at.items() if item.is_defined else ():
         goal, call = f"returns-in-{name}-clause-err", f"c.write_element{where}"
-        proof = f"on_err_weaker {call}.result keeps_front {call}.ensures.err"
-        lines.append(f"pub {goal} : goal.{goal}\n{goal} c = {proof}\n")
-    return function, goals and f"""use Rattle.std.proofs.Common.{{◌≡◌, ℕ, List, arith, inl, rules}}
-use Rattle.std.proofs.lemmas.Grind.{{common_steps}}
-use Rattle.std.proofs.lemmas.Result.{{on_err_weaker}}
-use Rattle.asn1.specs.Buffer.{{KeepsFront}}
-{goal_use}
-keeps_front : {{old new : List ℕ}} → new ≡ old → KeepsFront old new
-keeps_front e = record {{ joined = grind (arith, common_steps) }}
-
-{chr(10).join(lines)}"""
+        lines.append(f"pub {goal} : goal.{goal}\n{goal} c = unmoved_keeps_front _ _ {call}.result {call}.ensures.err\n")
+    uses += "use Rattle.asn1.specs.Lemmas.Variants.{unmoved_keeps_front}\n" if item.is_defined else ""
+    uses += f"use Rattle.{crate}.proofs.{path}{function.replace('/', '.')}.Goals as goal\n"
+    return function, goals and f"{uses}\n" + "\n".join(lines)
 
 
 def holds_choice(module, type):

@@ -6,7 +6,7 @@ from declared_types import camel, snake
 
 WIDTH = 100
 BY_TAGS = "#[tactic(auto, using(asn1::specs::Lemmas::Fields::tags_differ))]\n"
-ERROR, NO_ERRORS = "    type Error = WriteError;", "λ _ _. ⊥"
+ERROR = "    type Error = WriteError;"
 
 
 def angle(life):
@@ -157,18 +157,15 @@ def structure(item):
         body = call("write_fields!(self, dest; ", fields, ")")
         write = function("fn write_data(&self, dest: &mut WriteBuf) -> WriteResult<()>", body)
         length = function("fn data_length(&self) -> Option<usize>", call("fields_length!(self; ", fields, ")"))
-        fails = ghost("write_errors", errors(item))
-        text += impl(item, "SimpleAsn1Writable ", ERROR, fails, method(item, *tag), write, length)
+        text += impl(item, "SimpleAsn1Writable ", ERROR, *errors(item), method(item, *tag), write, length)
     return text
 
 
 def errors(item):
-    """Which errors a write may return: those of lists that are made in code."""
+    """Which errors a write may return, where there are any: those of lists that are made in code."""
     failing = [part for part in item.parts if part.fails]
-    found = [f"{quoted(part.form, part.fails)}.write_errors {group(field_value(part))}" for part in failing]
-    if len(found) == 1:
-        return f"λ v. {found[0]}"
-    return f"λ v e. {' ⊎ '.join(f'{each} e' for each in found)}" if found else NO_ERRORS
+    found = [f"{quoted(part.form, part.fails)}.write_errors {group(field_value(part))} e" for part in failing]
+    return [ghost("write_errors", f"λ v e. {' ⊎ '.join(found)}")] if found else []
 
 
 def default(item, part):
@@ -293,7 +290,7 @@ def choice(item, specs):
         can_parse = method(item, "fn can_parse(tag: Tag) -> bool", body, *clauses)
         text += impl(item, f"Asn1Readable<{life}> ", parse, can_parse, life=life)
     if item.writes:
-        text += impl(item, "Asn1Writable ", ERROR, ghost("write_errors", NO_ERRORS), *writes(item))
+        text += impl(item, "Asn1Writable ", ERROR, *writes(item))
     return text
 
 

@@ -1,18 +1,17 @@
 -- Elements that were written one behind another in order are the content of a set.
-use Rattle.std.proofs.Common.{◌≡◌, ◌<◌, ◌≤◌, ◌^◌, ◌++◌, ◌∙◌, ℕ, List, [], ◌∷◌, length, Option, Some, None, Result, Ok, false, refl, sym, ap, subst, arith, append_assoc, length-append}
+use Rattle.std.proofs.Common.{◌≡◌, ◌<◌, ◌≤◌, ◌^◌, ◌++◌, ◌∙◌, ℕ, List, [], ◌∷◌, length, Option, Some, None, Result, false, refl, sym, ap, subst, arith, append_assoc, length-append}
 use Rattle.std.proofs.lemmas.List.{append-nil}
 use Rattle.std.specs.Fn.{Once}
 use Rattle.std.specs.Borrow.{MutBor}
 use Rattle.asn1_core.specs.declared.tag.Tag.{Tag}
-use Rattle.asn1_core.specs.Tag.{tag_text}
+use Rattle.asn1_core.specs.Tag.{tag_text, IsTagBefore, before_tag}
 use Rattle.asn1_core.specs.Length.{length_text}
 use Rattle.asn1_core.specs.Element.{Element, element_text, IsReadable}
-use Rattle.asn1_core.specs.TagOrder.{IsTagBefore, before_tag}
 use Rattle.asn1_core.specs.Items.{Each, joined}
-use Rattle.asn1_core.specs.SetWriting.{SetState, OrderedElements, no_element, one_more, KeepsElements, MayWriteSet}
+use Rattle.asn1_core.specs.SetWriting.{SetState, OrderedElements, no_element, one_more}
 use Rattle.asn1_core.specs.Lemmas.TagOrder.{tag_order_is_answered}
 use Rattle.asn1.specs.Sets.{TagsInOrder, IsSetContent}
-use Rattle.asn1.specs.WrittenSets.{WritesSets}
+use Rattle.asn1.specs.ListLaws.{WritesSets}
 
 -- the tag of the last element
 abbrev last_tag : List Element → Option Tag

@@ -2,7 +2,7 @@
 use Rattle.std.proofs.Common.{◌≡◌, ℕ, Bool, List, Result, Ok, inr, true, if◌then◌else◌, Err, ◌⊎◌, inl}
 use Rattle.asn1_core.specs.Element.{element_text, ◌>>=◌}
 use Rattle.asn1_core.specs.Fault.{Fault, fault}
-use Rattle.asn1_core.specs.Reading.{stands, element_front, whole}
+use Rattle.asn1_core.specs.Reading.{element_front, whole}
 use Rattle.asn1_core.specs.declared.parser.ParseErrorKind.TheVariants.{UnknownDefinedBy}
 
 -- a content that is one element, read as it stands and then as a value

@@ -32,8 +32,7 @@ use Rattle.asn1_values.specs.declared.values.generalized_time.GeneralizedTime.{G
 use Rattle.asn1_values.specs.Identifier.{identifier_content, read_identifier}
 use Rattle.asn1_values.specs.IdentifierValues.{identifier_of}
 use Rattle.asn1_values.specs.Times.{Moment, Instant, instant, utc_text, general_text, instant_text, read_utc, read_x509, read_instant}
-use Rattle.asn1_values.specs.TimeValues.{utc_moment, x509_moment}
-use Rattle.asn1_values.specs.GeneralizedTimes.{instant_of}
+use Rattle.asn1_values.specs.TimeValues.{utc_moment, x509_moment, instant_of}
 use Rattle.asn1_values.specs.Lemmas.Identifier.{identifier_again, form_in_hand}
 use Rattle.asn1_values.specs.Lemmas.SameIdentifiers.{equal_identifiers}
 use Rattle.asn1_values.specs.Lemmas.Times.{utc_again, x509_again}

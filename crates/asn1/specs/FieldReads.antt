@@ -1,5 +1,5 @@
 -- What reading the fields of a structure returns (X.690 8.9), and the encodings that they append.
-use Rattle.std.proofs.Common.{◌≡◌, ℕ, List, ◌++◌, length, Result, Ok, Err, ◌+◌, Option, Some, None}
+use Rattle.std.proofs.Common.{◌≡◌, ℕ, List, ◌++◌, Result, Ok, Err, ◌+◌, Option, Some, None}
 use Rattle.asn1_core.specs.declared.parser.Place.{Place}
 use Rattle.asn1_core.specs.declared.parser.Place.TheVariants.{Field}
 use Rattle.asn1_core.specs.Element.{◌>>=◌}

@@ -1,5 +1,5 @@
--- Values in hand, to their callers.
-use Rattle.std.specs.Prelude.{ℕ, List}
+-- Wrappers, choices, lists and sets in hand, to their callers.
+use Rattle.std.specs.Prelude.{ℕ, List, ◌⊎◌}
 use Rattle.asn1.specs.declared.wrappers.tagged.Explicit.{Explicit}
 use Rattle.asn1.specs.declared.wrappers.tagged.Implicit.{Implicit}
 use Rattle.asn1.specs.declared.wrappers.tagged.OctetStringEncoded.{OctetStringEncoded}
@@ -8,6 +8,17 @@ use Rattle.asn1.specs.declared.wrappers.errors.ErrorInto.{ErrorInto}
 use Rattle.asn1.specs.declared.lists.sets.Set.{Set}
 use Rattle.asn1.specs.declared.lists.writers.SequenceOfWriter.{SequenceOfWriter}
 use Rattle.asn1.specs.declared.lists.writers.SequenceWriter.{SequenceWriter}
+use Rattle.asn1_core.specs.Items.{sequence_tag}
+use Rattle.asn1_core.specs.OctetContents.{octets_content}
+use Rattle.asn1_core.specs.Der.{Content}
+use Rattle.asn1.specs.declared.lists.sequence.Sequence.{Sequence}
+use Rattle.std.proofs.Common.{inl, inr}
+use Rattle.asn1.specs.declared.wrappers.choices.Choice1.{Choice1}
+use Rattle.asn1.specs.declared.wrappers.choices.Choice2.{Choice2}
+use Rattle.asn1.specs.declared.wrappers.choices.Choice3.{Choice3}
+use Rattle.asn1.specs.declared.wrappers.choices.Choice1.TheVariants as one
+use Rattle.asn1.specs.declared.wrappers.choices.Choice2.TheVariants as two
+use Rattle.asn1.specs.declared.wrappers.choices.Choice3.TheVariants as three
 
 -- What a wrapper holds.
 abbrev pub explicit_inner : {T : Type 0} {tag : ℕ} → Explicit T tag → T
@@ -36,3 +47,39 @@ sequence_closure w = w.f.now
 -- The contents octets of a set of any elements.
 abbrev pub octets_of_set : Set → List ℕ
 octets_of_set s = s.«data».now
+
+abbrev pub sequence_octets : Sequence → List ℕ
+sequence_octets s = s.«data».now
+
+-- Any octets, as those of an octet string.
+abbrev pub sequence_content : Content (List ℕ)
+sequence_content = record octets_content { tag = sequence_tag }
+
+abbrev pub choice1_meaning : {A M : Type 0} → (A → M) → Choice1 A → M
+choice1_meaning f (one.ChoiceA v) = f v
+
+abbrev pub choice2_meaning : {A B M N : Type 0} → (A → M) → (B → N) → Choice2 A B → M ⊎ N
+choice2_meaning f g (two.ChoiceA v) = inl (f v)
+choice2_meaning f g (two.ChoiceB v) = inr (g v)
+
+abbrev pub choice3_meaning : {A B C M N K : Type 0} → (A → M) → (B → N) → (C → K) → Choice3 A B C → M ⊎ (N ⊎ K)
+choice3_meaning f g h (three.ChoiceA v) = inl (f v)
+choice3_meaning f g h (three.ChoiceB v) = inr (inl (g v))
+choice3_meaning f g h (three.ChoiceC v) = inr (inr (h v))
+
+-- the errors of the value that is there
+abbrev pub Choice1Errors : {A E : Type 0} → (A → E → Type 0) → Choice1 A → E → Type 0
+Choice1Errors f (one.ChoiceA v) e = f v e
+
+abbrev pub Choice2Errors : {A B E : Type 0} → (A → E → Type 0) → (B → E → Type 0) → Choice2 A B → E → Type 0
+Choice2Errors f g (two.ChoiceA v) e = f v e
+Choice2Errors f g (two.ChoiceB v) e = g v e
+
+abbrev pub Choice3Errors : {A B C E : Type 0} → (A → E → Type 0) → (B → E → Type 0) → (C → E → Type 0) → Choice3 A B C → E → Type 0
+Choice3Errors f g h (three.ChoiceA v) e = f v e
+Choice3Errors f g h (three.ChoiceB v) e = g v e
+Choice3Errors f g h (three.ChoiceC v) e = h v e
+
+-- An error that is made from one of these.
+abbrev pub MadeFrom : {A E : Type 0} → (A → E → Type 0) → (A → Type 0) → E → Type 0
+MadeFrom {A} gives one e = (a : A) × one a × gives a e

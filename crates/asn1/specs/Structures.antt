@@ -4,7 +4,7 @@ use Rattle.asn1_core.specs.declared.tag.Tag.{Tag}
 use Rattle.asn1_core.specs.Der.{Der, simple_der}
 use Rattle.asn1.specs.Fields.{sequence}
 use Rattle.asn1.specs.FieldLists.{FieldList}
-use Rattle.asn1.specs.Inside.{retagged}
+use Rattle.asn1.specs.Tagged.{retagged}
 use Rattle.asn1.specs.declared.fields.NoFields.{NoFields}
 use Rattle.asn1.specs.declared.fields.Field.{Field}
 use Rattle.asn1.specs.declared.fields.Last.{Last}

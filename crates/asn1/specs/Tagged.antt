@@ -1,10 +1,42 @@
--- Types with tags of any class (X.680 31.2, X.690 8.14), for types of one's own.
-use Rattle.std.specs.Prelude.{ℕ, Bool}
+-- Values under a tag of any class, or in an octet string (X.680 31.2, X.690 8.14).
+use Rattle.std.specs.Prelude.{[], ℕ, Bool}
 use Rattle.asn1_core.specs.declared.tag.Tag.{Tag}
+use Rattle.asn1_core.specs.Reading.{whole}
+use Rattle.asn1_core.specs.Der.{Der, Content, simple_der}
+use Rattle.asn1_core.specs.Lemmas.Faults.{whole_faults}
+use Rattle.asn1.specs.Lemmas.Inside.{inside_takes, inside_again}
 use Rattle.asn1_core.specs.declared.tag.TagClass.TheVariants.{Application, Private}
 use Rattle.asn1_core.specs.Tag.{tag_with}
-use Rattle.asn1_core.specs.Der.{Der, simple_der}
-use Rattle.asn1.specs.Inside.{one_inside, retagged}
+
+-- A content that is the text of one value. (X.690 8.14.2)
+abbrev pub one_inside : {V : Type 0} → Tag → (d : Der V) → Content d.Meaning
+one_inside tag d = record {
+  tag = tag;
+  text = d.text;
+  texts = d.texts;
+  closures = d.closures;
+  valid = d.valid;
+  allowed = d.allowed;
+  bounded = d.bounded;
+  plain = d.plain;
+  lawful = d.lawful;
+  takes_memory = d.takes_memory;
+  runs_out = d.runs_out;
+  read = λ c. whole (d.read c);
+  one_text = d.one_text;
+  no_closures = d.no_closures;
+  takes = inside_takes d.text (λ m. d.valid m × d.allowed m) d.read d.takes;
+  again = λ m l v a s. inside_again d.accepts d.text d.read m (d.shape m l v) (d.again m [] l v a) s;
+  unbounded = d.unbounded;
+  memory = d.memory;
+  faults = λ c. whole_faults (d.read c) (d.faults c);
+}
+
+-- The same content under another tag. (X.690 8.14.3)
+abbrev pub retagged : {M : Type 0} → (Tag → Tag) → Content M → Content M
+retagged change c = record c {
+  tag = change c.tag;
+}
 
 -- The tag with this number of the class application, and of the class private; whether it is constructed stands first.
 abbrev pub application_tag : Bool → ℕ → Tag

@@ -1,5 +1,4 @@
 -- What the types of this library keep, by what their parts do.
-use Rattle.std.specs.Prelude.{◌⊎◌}
 use Rattle.asn1_core.specs.Der.{Der}
 
 -- The laws of reading back hold; a value has one text; reading takes no memory; and there are no bounds.

@@ -18,7 +18,7 @@ mod writes;
 
 pub use defined::{
     Before, DefinedField, Item, ItemOf, LastValue, RowBehind, RowBehindReadable, Value, ValueOf,
-    known_item, known_value,
+    is_identifier, known_identifier, known_item, known_value,
 };
 pub use plain::{
     Wrapped, Wraps, WrapsWritable, into_plain, known_plain, plain_length, write_plain,

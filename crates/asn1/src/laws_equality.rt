@@ -3,8 +3,7 @@
 
 ghost use Rattle.asn1_core.specs.Tlv.{element_of};
 ghost use Rattle.asn1_values.specs.Comparisons.{ClonesAreEqual, HashesAlike, IsEqualityOf, NeverFails};
-ghost use Rattle.asn1.specs.InHand.{octets_of_set};
-ghost use Rattle.asn1.specs.Sequences.{sequence_octets};
+ghost use Rattle.asn1.specs.InHand.{octets_of_set, sequence_octets};
 
 use crate::{
     Choice1, Choice2, Choice3, Defaulted, ErrorInto, Explicit, Implicit, OctetStringEncoded,

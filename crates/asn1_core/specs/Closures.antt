@@ -1,9 +1,45 @@
--- What is said of a closure that writes through a writer.
-use Rattle.std.specs.Prelude.{◌≡◌, ℕ, List, ◌++◌, Result, Ok, Err}
-use Rattle.std.specs.Fn.{Once}
+-- What is said of a body that writes into a buffer, and of a closure that writes through a writer.
+use Rattle.std.specs.Prelude.{◌≡◌, ℕ, List, ◌++◌, length, ◌⊎◌, IfSome, Option, Result, Ok, Err}
+use Rattle.std.specs.Fn.{FnOnceReturnsAtMut, Once}
 use Rattle.std.specs.Borrow.{MutBor}
-use Rattle.asn1_core.specs.Buffer.{KeepsFront}
+use Rattle.asn1_core.specs.Buffer.{Buffer, KeepsFront}
+use Rattle.asn1_core.specs.declared.tag.Tag.{Tag}
+use Rattle.asn1_core.specs.Element.{element, element_text}
+use Rattle.asn1_core.specs.declared.writer.WriteError.{WriteError}
+use Rattle.asn1_core.specs.declared.writer.WriteError.TheVariants.{AllocationError}
 use Rattle.asn1_core.specs.declared.writer.Writer.{Writer}
+
+module _ {F E : Type 0} (calls : Once F (MutBor Buffer × Unit {0}) (Result (Unit {0}) E × (MutBor Buffer × Unit {0}))) (body : F) where
+  -- the body leaves what stood before in front, at Ok and at Err
+  abbrev pub LeavesFront : Type 0
+  LeavesFront = (old : Buffer) (r : Result (Unit {0}) E) (new : Buffer) → FnOnceReturnsAtMut calls body old r new → KeepsFront old.bytes new.bytes
+
+  -- the body may append that text at Ok, behind some front
+  pub record MayAppend (text : List ℕ) : Type 0 where
+    pub old : Buffer
+    pub new : Buffer
+    pub called : FnOnceReturnsAtMut calls body old (Ok tt) new
+    pub joined : new.bytes ≡ old.bytes ++ text
+
+  -- where a length is announced, each text that the body may append has it
+  abbrev pub Announces : Option ℕ → Type 0
+  Announces announced = IfSome announced (λ n. (t : List ℕ) → MayAppend t → length t ≡ n)
+
+  -- the element of a content that the body may append was appended
+  pub record Appended (tag : Tag) (old new : List ℕ) : Type 0 where
+    pub content : List ℕ
+    pub allowed : MayAppend content
+    pub joined : new ≡ old ++ element_text (element tag content)
+
+  -- the body may answer that error
+  pub record MayRefuse (e : E) : Type 0 where
+    pub old : Buffer
+    pub new : Buffer
+    pub called : FnOnceReturnsAtMut calls body old (Err e) new
+
+  -- want of memory, or an error that the body may answer
+  abbrev pub Refused : (WriteError → E → Type 0) → E → Type 0
+  Refused gives e = gives AllocationError e ⊎ MayRefuse e
 
 module _ {F E : Type 0} (calls : Once F (MutBor Writer × Unit {0}) (Result (Unit {0}) E × (MutBor Writer × Unit {0}))) (f : F) where
   -- a call with these octets in the buffer may give that answer and leave those

@@ -4,6 +4,9 @@ use Rattle.asn1_core.specs.declared.parser.ParseErrorKind.{ParseErrorKind}
 use Rattle.asn1_core.specs.declared.parser.ParseErrorKind.TheVariants.{AllocationError}
 use Rattle.asn1_core.specs.declared.parser.Place.{Place}
 use Rattle.asn1_core.specs.declared.parser.TheConstants.{MAX_PLACES}
+use Rattle.asn1_core.specs.declared.parser.ParseLocation.{ParseLocation}
+use Rattle.asn1_core.specs.declared.parser.Place.TheVariants.{Field, Index}
+use Rattle.asn1_core.specs.declared.parser.ParseLocation.TheVariants as locations
 
 pub record Fault : Type 0 where
   pub kind : ParseErrorKind
@@ -39,3 +42,8 @@ AnswersError view (Err e) answer = (answer ≡ Err e.kind) × (e.places ≡ [])
 -- The fault is one of the text, and not want of memory.
 abbrev pub IsOfText : Fault → Type 0
 IsOfText f = f.kind ≡ AllocationError → ⊥
+
+-- A location as the place that is kept.
+abbrev pub place_of : ParseLocation → Place
+place_of (locations.Field name) = Field name.now
+place_of (locations.Index i) = Index i

@@ -1,6 +1,5 @@
 -- What calls that read return, a word for each: the value, or the first error, or out of memory.
 use Rattle.std.specs.Prelude.{ℕ, ◌≡◌, List, Result}
-use Rattle.asn1_core.specs.declared.tag.Tag.{Tag}
 use Rattle.asn1_core.specs.Fault.{Fault}
 use Rattle.asn1_core.specs.Tag.{implicit_tag_of, explicit_tag_of}
 use Rattle.asn1_core.specs.Reading.{Answers, simple, simple_out, whole}

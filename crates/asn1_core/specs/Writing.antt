@@ -1,4 +1,4 @@
--- The laws that writing keeps.
+-- Writers to their callers, and the laws that writing keeps.
 use Rattle.std.specs.Prelude.{◌≡◌, ℕ, ◌+◌, List, length, ◌⊎◌, Option, IfSome}
 use Rattle.asn1_core.specs.declared.tag.Tag.{Tag}
 use Rattle.asn1_core.specs.declared.writer.WriteError.{WriteError}
@@ -6,6 +6,11 @@ use Rattle.asn1_core.specs.declared.writer.WriteError.TheVariants.{AllocationErr
 use Rattle.asn1_core.specs.Tag.{tag_text}
 use Rattle.asn1_core.specs.Length.{length_text}
 use Rattle.asn1_core.specs.Element.{element, element_text}
+use Rattle.std.specs.Borrow.{GName}
+use Rattle.asn1_core.specs.declared.writer.Writer.{Writer}
+use Rattle.asn1_core.specs.declared.writer.sets.SetOfWriter.{SetOfWriter}
+use Rattle.asn1_core.specs.declared.writer.sets.SetWriter.{SetWriter}
+use Rattle.asn1_core.specs.Buffer.{Buffer}
 
 -- a length that is known is that of each text
 abbrev pub KnowsLength : (List ℕ → Type 0) → Option ℕ → Type 0
@@ -24,3 +29,23 @@ pub record IsElementOf (tag : Tag) (contents : List ℕ → Type 0) (text : List
 -- The count of octets of an element with this tag and n octets of content.
 unfoldable pub full_count : Tag → ℕ → ℕ
 full_count tag n = n + (length (tag_text tag) + length (length_text n))
+
+-- The name of the buffer that a writer writes into. Writers with the same one write into the same buffer.
+abbrev pub buffer_name : Writer → GName
+buffer_name w = w.buf.ghost_name
+
+-- That buffer as it is: the octets written so far, and the room for more.
+abbrev pub buffer_of : Writer → Buffer
+buffer_of w = w.buf.now
+
+-- The octets written so far.
+abbrev pub octets_of : Writer → List ℕ
+octets_of w = (buffer_of w).bytes
+
+-- The items of the slice that is written as a set.
+abbrev pub set_items : {T : Type 0} → SetOfWriter T → List T
+set_items w = w.items.now
+
+-- The closure that writes a set.
+abbrev pub set_closure : {F E : Type 0} → SetWriter F E → F
+set_closure w = w.f.now

@@ -1,16 +1,15 @@
 //! Reading: errors with their locations, framing, and the parser.
 
-ghost use Rattle.std.specs.Prelude.{◌≡◌, ◌↔◌, ℕ, ◌*◌, ◌^◌, ◌<◌, ◌≤◌, ◌==◌, ◌++◌, [], List, Result, length, IsTrue, IfOk, IfErr, OnErr, Ok};
+ghost use Rattle.std.specs.Prelude.{◌≡◌, ◌↔◌, ℕ, ◌*◌, ◌^◌, ◌<◌, ◌≤◌, ◌==◌, ◌++◌, [], List, Result, length, IsTrue, IfOk, IfErr, IfSome, OnErr, Ok};
 ghost use Rattle.std.specs.Fn.{FnOnceReturnsAtMut};
 ghost use Rattle.asn1_core.specs.declared.parser.ParseErrorKind.{ParseErrorKind};
 ghost use Rattle.asn1_core.specs.declared.parser.ParseErrorKind.TheVariants.{ShortData};
 ghost use Rattle.asn1_core.specs.Text.{IsText, number};
 ghost use Rattle.asn1_core.specs.Tag.{tag_front, found_tag};
 ghost use Rattle.asn1_core.specs.Length.{length_front};
-ghost use Rattle.asn1_core.specs.Element.{Element, IsFront, front, element_text};
+ghost use Rattle.asn1_core.specs.Element.{Element, IsFront, content_front, front, element_text};
 ghost use Rattle.asn1_core.specs.Tlv.{element_of, full_octets, stripped};
-ghost use Rattle.asn1_core.specs.Fault.{fault, within, framed, AnswersError, AnswersKind, IsOfText};
-ghost use Rattle.asn1_core.specs.Places.{place_of};
+ghost use Rattle.asn1_core.specs.Fault.{fault, within, framed, AnswersError, AnswersKind, IsOfText, place_of};
 ghost use Rattle.asn1_core.specs.Reading.{Answers, EndsWith, IsHandedOn, Fits, rest_refused, expected_front, simple_stops};
 ghost use Rattle.asn1_core.specs.Reads.{IsEncodingOf, ReadsExplicit, ReadsImplicit, ReadsPrefix, ReadsWhole};
 ghost use Rattle.asn1_core.specs.Laws.{IsShort, with_more};
@@ -21,7 +20,7 @@ ghost use Rattle.asn1_core.specs.Lemmas.Same.{place_eq-decides, fault_eq-decides
 
 mod name;
 
-use crate::tag::{Tag, explicit_tag, implicit_tag};
+use crate::tag::{LONG_FORM, Tag, explicit_tag, implicit_tag};
 use crate::types::{Asn1Readable, SimpleAsn1Readable, Tlv};
 use name::Name;
 use std::alloc::Global;
@@ -362,6 +361,20 @@ impl<'a> Parser<'a> {
         ensures rest { EndsWith self.old self.new }
         ensures unmoved { OnErr result (self.new ≡ self.old) }
     {
+        if let Some((tlv, rest)) = short_tlv_in(self.data) {
+            self.data = rest;
+            return Ok(tlv);
+        }
+        self.read_any_tlv()
+    }
+
+    /// What [`Self::read_tlv`] returns, for an element of any form.
+    #[inline(never)]
+    fn read_any_tlv(&mut self) -> Result<Tlv<'a>, ParseErrorKind>
+        ensures answers { AnswersKind (λ t. (element_of t, self.new)) result (front self.old) }
+        ensures rest { EndsWith self.old self.new }
+        ensures unmoved { OnErr result (self.new ≡ self.old) }
+    {
         let (tlv, rest) = tlv_in(self.data)?;
         self.data = rest;
         Ok(tlv)
@@ -524,16 +537,45 @@ fn tlv_in(octets: &[u8]) -> Result<(Tlv<'_>, &[u8]), ParseErrorKind>
         let needed = n - rest.len();
         return Err(ParseErrorKind::ShortData { needed });
     }
+    Ok(cut(octets, tag, n, rest))
+}
+
+/// What [`tlv_in`] returns, if the element has one identifier octet and one length octet, as most have.
+#[inline(always)]
+fn short_tlv_in(octets: &[u8]) -> Option<(Tlv<'_>, &[u8])>
+    ensures answer { IfSome result (λ x. front octets.now ≡ Ok (element_of x.0, x.1.now)) }
+    ensures parts { IfSome result (λ x. octets.now ≡ full_octets x.0 ++ x.1.now) }
+{
+    let [first, length, rest @ ..] = octets else {
+        return None;
+    };
+    let low = *first & LONG_FORM;
+    let n = usize::from(*length);
+    if low >= LONG_FORM || n >= 0x80 || rest.len() < n {
+        return None;
+    }
+    let tag = Tag::from_first_octet(*first, u32::from(low));
+    Some(cut(octets, tag, n, rest))
+}
+
+/// The element with this tag and as many contents octets, which are at the start of `rest`, and the octets after it.
+#[inline(always)]
+fn cut<'a>(octets: &'a [u8], tag: Tag, n: usize, rest: &'a [u8]) -> (Tlv<'a>, &'a [u8])
+    requires header { front octets.now ≡ content_front tag n rest.now }
+    requires enough { n ≤ length rest.now }
+    ensures answer { front octets.now ≡ Ok (element_of result.0, result.1.now) }
+    ensures parts { octets.now ≡ full_octets result.0 ++ result.1.now }
+{
     let (data, rest) = rest.split_at(n);
     let full_data = &octets[..octets.len() - rest.len()];
-    Ok((
+    (
         Tlv {
             tag,
             data,
             full_data,
         },
         rest,
-    ))
+    )
 }
 
 /// Reads `data` by `f`, which is given a parser over it, and returns what `f` returns.

@@ -4,8 +4,7 @@
 ghost use Rattle.std.specs.Prelude.{◌≡◌, ℕ, ◌+◌, ◌*◌, ◌/◌, ◌%◌, ◌<◌, ◌≤◌, ◌++◌, ◌↔◌, IsTrue, List, length, SomeIff, OnOk, OnErr, IsOkUnless, Bool, true, false};
 ghost use Rattle.asn1_core.specs.declared.tag.TagClass.TheVariants.{Universal};
 ghost use Rattle.asn1_core.specs.Fault.{AnswersError, AnswersKind};
-ghost use Rattle.asn1_core.specs.TagOrder.{tag_before};
-ghost use Rattle.asn1_core.specs.Tag.{tag_class, tag_constructed, tag_number, tag_with, universal, universal_constructed, implicit_tag_of, explicit_tag_of, class_number, class_of, tag_of, tag_front, tag_text, first_octet, tag_eq};
+ghost use Rattle.asn1_core.specs.Tag.{tag_before, tag_class, tag_constructed, tag_number, tag_with, universal, universal_constructed, implicit_tag_of, explicit_tag_of, class_number, class_of, tag_of, tag_front, tag_text, first_octet, tag_eq};
 
 use crate::base128;
 use crate::parser::{ParseErrorKind, ParseResult, kind_as_error};
@@ -45,7 +44,7 @@ pub struct Tag {
 /// Bit 6 of the first identifier octet, which is set where the encoding is constructed (8.1.2.5).
 const CONSTRUCTED: u8 = 0x20;
 /// The five low bits of the first identifier octet that announce a number in base 128 after it.
-const LONG_FORM: u8 = 0x1f;
+pub(crate) const LONG_FORM: u8 = 0x1f;
 /// How many identifier octets there are at most.
 const MAX_TAG_OCTETS: usize = 6;
 
@@ -118,7 +117,7 @@ impl Tag {
     }
 
     /// The tag with this number, whose first identifier octet says the class and the form.
-    fn from_first_octet(first: u8, value: u32) -> Tag
+    pub(crate) fn from_first_octet(first: u8, value: u32) -> Tag
         ensures { result ≡ tag_of first value }
     {
         Tag {

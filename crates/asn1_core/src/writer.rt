@@ -6,8 +6,7 @@ ghost use Rattle.asn1_core.specs.Length.{length_text};
 ghost use Rattle.asn1_core.specs.Display.{write_error_text};
 ghost use Rattle.asn1_core.specs.Closures.{IsWriter, WriterCall, MayAnswer};
 ghost use Rattle.asn1_core.specs.Der.{IsWritable, IsWritableContent};
-ghost use Rattle.asn1_core.specs.Writers.{buffer_name, buffer_of, octets_of};
-ghost use Rattle.asn1_core.specs.Writing.{Refuses, IsElementOf, full_count};
+ghost use Rattle.asn1_core.specs.Writing.{buffer_name, buffer_of, octets_of, Refuses, IsElementOf, full_count};
 ghost use Rattle.asn1_core.specs.declared.writer.WriteError.TheVariants.{AllocationError};
 
 mod sets;
@@ -361,7 +360,7 @@ pub struct Writer<'a> {
 impl<'a> Writer<'a> {
     ghost use Rattle.asn1_core.specs.Writing.{Refuses, IsElementOf};
     ghost use Rattle.asn1_core.specs.Buffer.{Appends, KeepsFront};
-    ghost use Rattle.asn1_core.specs.Calls.{LeavesFront, Announces, Appended, Refused};
+    ghost use Rattle.asn1_core.specs.Closures.{LeavesFront, Announces, Appended, Refused};
 
     /// A writer that appends to the buffer.
     #[inline]

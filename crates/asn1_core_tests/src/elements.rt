@@ -78,6 +78,21 @@ fn faults_of_framing() -> Result<(), Fail> {
     Ok(())
 }
 
+/// Enough octets follow for contents octets of the length that the second octet would be in the short form.
+#[test]
+fn other_forms_are_not_short_ones(rt: HostRuntime) -> Result<(), Fail> {
+    let mut indefinite = [0u8; 130];
+    indefinite[0] = 0x04;
+    indefinite[1] = 0x80;
+    are_refused::<Tlv<'_>>(
+        rt.alloc(),
+        &[
+            (&indefinite, ParseErrorKind::InvalidLength),
+            (&[0x1f, 0x02, 0x00, 0x00], ParseErrorKind::InvalidTag),
+        ],
+    )
+}
+
 /// Each prefix of the octets is too short, and by so much.
 fn compare_fronts(octets: &[u8], needed: &[usize]) -> Result<(), Fail> {
     for (end, needed) in needed.iter().enumerate() {

@@ -50,8 +50,6 @@ impl<'a> SimpleAsn1Readable<'a> for Type2<'a> {
 impl<'a> SimpleAsn1Writable for Type2<'a> {
     type Error = WriteError;
 
-    ghost write_errors = { λ _ _. ⊥ };
-
     fn tag() -> Tag
         ensures value { result ≡ ⟦<Type2<'a> as Asn1Type>⟧.der.content.tag }
         ensures simple { ⟦<Type2<'a> as Asn1Type>⟧.der.is_simple }
@@ -106,8 +104,6 @@ impl<'a> SimpleAsn1Readable<'a> for Type4<'a> {
 impl<'a> SimpleAsn1Writable for Type4<'a> {
     type Error = WriteError;
 
-    ghost write_errors = { λ _ _. ⊥ };
-
     fn tag() -> Tag
         ensures value { result ≡ ⟦<Type4<'a> as Asn1Type>⟧.der.content.tag }
         ensures simple { ⟦<Type4<'a> as Asn1Type>⟧.der.is_simple }
@@ -158,8 +154,6 @@ impl<'a> SimpleAsn1Readable<'a> for Use {
 impl SimpleAsn1Writable for Use {
     type Error = WriteError;
 
-    ghost write_errors = { λ _ _. ⊥ };
-
     fn tag() -> Tag {
         Tag::constructed(0x10)
     }
@@ -201,8 +195,6 @@ impl<'a> SimpleAsn1Readable<'a> for Stamp {
 
 impl SimpleAsn1Writable for Stamp {
     type Error = WriteError;
-
-    ghost write_errors = { λ _ _. ⊥ };
 
     fn tag() -> Tag {
         Tag::new(1, TagClass::Application, true)

@@ -47,8 +47,6 @@ impl<'a> SimpleAsn1Readable<'a> for Port {
 impl SimpleAsn1Writable for Port {
     type Error = WriteError;
 
-    ghost write_errors = { λ _ _. ⊥ };
-
     fn tag() -> Tag {
         <u16 as SimpleAsn1Writable>::tag()
     }

@@ -2,7 +2,7 @@
 
 ghost use Rattle.std.specs.Prelude.{◌≡◌};
 ghost use Rattle.asn1.specs.Buffer.{KeepsFront};
-ghost use Rattle.asn1.specs.Writers.{buffer_name, octets_of};
+ghost use Rattle.asn1.specs.Writing.{buffer_name, octets_of};
 
 use asn1::{
     Explicit, IA5String, Implicit, ParseResult, Parser, Sequence, SequenceWriter, Tag, TagClass,

@@ -3,7 +3,7 @@
 ghost use Rattle.std.specs.Prelude.{◌≡◌, []};
 ghost use Rattle.asn1.specs.Tag.{universal};
 ghost use Rattle.asn1.specs.Buffer.{KeepsFront};
-ghost use Rattle.asn1.specs.Writers.{buffer_name, octets_of};
+ghost use Rattle.asn1.specs.Writing.{buffer_name, octets_of};
 ghost use Rattle.asn1.specs.Items.{sequence_tag};
 ghost use Rattle.asn1.specs.Der.{simple_der};
 ghost use Rattle.asn1.specs.Written.{written};
@@ -301,8 +301,6 @@ impl Asn1Type for Announced {
 
 impl SimpleAsn1Writable for Announced {
     type Error = WriteError;
-
-    ghost write_errors = { λ _ _. ⊥ };
 
     fn tag() -> Tag {
         Tag::constructed(0x10)

@@ -2,7 +2,7 @@
 
 ghost use Rattle.std.specs.Prelude.{◌≡◌, ◌++◌, true, false, OnOk, OnErr};
 ghost use Rattle.asn1.specs.Buffer.{KeepsFront};
-ghost use Rattle.asn1.specs.Writers.{buffer_name, octets_of};
+ghost use Rattle.asn1.specs.Writing.{buffer_name, octets_of};
 ghost use Rattle.asn1.specs.Example.{bool_text};
 
 use asn1::*;

@@ -58,8 +58,6 @@ impl<'a> SimpleAsn1Readable<'a> for Tagged {
 impl SimpleAsn1Writable for Tagged {
     type Error = WriteError;
 
-    ghost write_errors = { λ _ _. ⊥ };
-
     fn tag() -> Tag {
         Tag::constructed(0x10)
     }
@@ -184,8 +182,6 @@ impl<'a> SimpleAsn1Readable<'a> for Defaults {
 impl SimpleAsn1Writable for Defaults {
     type Error = WriteError;
 
-    ghost write_errors = { λ _ _. ⊥ };
-
     fn tag() -> Tag {
         Tag::constructed(0x10)
     }
@@ -288,8 +284,6 @@ impl<'a> SimpleAsn1Readable<'a> for Sixteen {
 
 impl SimpleAsn1Writable for Sixteen {
     type Error = WriteError;
-
-    ghost write_errors = { λ _ _. ⊥ };
 
     fn tag() -> Tag {
         Tag::constructed(0x10)

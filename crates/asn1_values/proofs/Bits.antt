@@ -7,7 +7,6 @@ use Rattle.std.proofs.lemmas.Bool.{cases_lt, both_ways, lt-leb, le-leb, leb-true
 use Rattle.std.proofs.lemmas.Nat.{pow-add, div-mul-add, div-add-mod', mod_below}
 use Rattle.std.proofs.lemmas.List.{take_all}
 use Rattle.std.proofs.Math.Nat.{pow-suc, pow-le-pow_right, mul-le-mul_right, add-mul}
-use mir.Val.{bool_byte}
 use Rattle.asn1_core.specs.Text.{IsText, number, signed_number}
 use Rattle.asn1_core.specs.Integer.{turned}
 use Rattle.asn1_core.specs.Lemmas.Lengths.{number_lt as text_lt}

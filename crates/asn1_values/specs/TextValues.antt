@@ -1,9 +1,15 @@
--- Texts in hand: their octets, without where they lie in memory.
-use Rattle.std.specs.Prelude.{ℕ, List}
+-- Character strings in hand: their octets; and the contents of character strings.
+use Rattle.std.specs.Prelude.{ℕ, List, Bool}
 use Rattle.asn1_values.specs.declared.values.texts.PrintableString.{PrintableString}
 use Rattle.asn1_values.specs.declared.values.texts.IA5String.{IA5String}
 use Rattle.asn1_values.specs.declared.values.texts.VisibleString.{VisibleString}
 use Rattle.asn1_values.specs.declared.values.texts.Utf8String.{Utf8String}
+use Rattle.asn1_values.specs.declared.values.wide_texts.BMPString.{BMPString}
+use Rattle.asn1_values.specs.declared.values.wide_texts.UniversalString.{UniversalString}
+use Rattle.asn1_core.specs.Tag.{universal}
+use Rattle.asn1_core.specs.Der.{Content, basic}
+use Rattle.asn1_values.specs.Texts.{IsTextOf, read_text, is_printable_text, is_ia5_text, is_visible_text, is_utf8_text, is_utf16_text, is_utf32_text}
+use Rattle.asn1_values.specs.Lemmas.Texts.{text_takes, text_again, text_faults}
 
 abbrev pub printable_octets : PrintableString → List ℕ
 printable_octets s = s.text.now
@@ -16,3 +22,39 @@ visible_octets s = s.text.now
 
 abbrev pub utf8_octets : Utf8String → List ℕ
 utf8_octets s = s.text.now
+
+abbrev pub bmp_octets : BMPString → List ℕ
+bmp_octets s = s.octets.now
+
+abbrev pub universal_octets : UniversalString → List ℕ
+universal_octets s = s.octets.now
+
+-- Of the type with a universal tag of this number.
+abbrev pub text_content : ℕ → (List ℕ → Bool) → Content (List ℕ)
+text_content number rule = basic (record {
+  tag = universal number;
+  text = λ octets. octets;
+  valid = IsTextOf rule;
+  read = read_text rule;
+  takes = text_takes rule;
+  again = text_again rule;
+  faults = text_faults rule;
+})
+
+abbrev pub utf8_content : Content (List ℕ)
+utf8_content = text_content 12 is_utf8_text
+
+abbrev pub printable_content : Content (List ℕ)
+printable_content = text_content 19 is_printable_text
+
+abbrev pub ia5_content : Content (List ℕ)
+ia5_content = text_content 22 is_ia5_text
+
+abbrev pub visible_content : Content (List ℕ)
+visible_content = text_content 26 is_visible_text
+
+abbrev pub utf32_content : Content (List ℕ)
+utf32_content = text_content 28 is_utf32_text
+
+abbrev pub utf16_content : Content (List ℕ)
+utf16_content = text_content 30 is_utf16_text

@@ -1,10 +1,17 @@
--- Values in hand: their octets and their numbers, without where they lie in memory.
-use Rattle.std.specs.Prelude.{ℕ, ℤ, List}
+-- Integers of any length and enumerated values in hand, and the contents of integers of any length.
+use Rattle.std.specs.Prelude.{ℕ, ℤ, List, pos, ◌≤ℤ◌}
 use Rattle.asn1_core.specs.Text.{signed_number}
 use Rattle.asn1_values.specs.declared.values.big.BigUint.{BigUint}
 use Rattle.asn1_values.specs.declared.values.big.BigInt.{BigInt}
 use Rattle.asn1_values.specs.declared.values.owned.OwnedBigUint.{OwnedBigUint}
 use Rattle.asn1_values.specs.declared.values.owned.OwnedBigInt.{OwnedBigInt}
+use Rattle.asn1_core.specs.Tag.{universal}
+use Rattle.asn1_core.specs.Integer.{integer_content, read_integer}
+use Rattle.asn1_core.specs.Der.{Content, basic}
+use Rattle.asn1_values.specs.Big.{read_unsigned}
+use Rattle.asn1_values.specs.Lemmas.Big.{signed_takes, signed_again, unsigned_takes, unsigned_again, unsigned_faults}
+use Rattle.asn1_core.specs.Lemmas.Integers.{integer_faults}
+use Rattle.asn1_values.specs.declared.values.enumerated.Enumerated.{Enumerated}
 
 abbrev pub big_uint_octets : BigUint → List ℕ
 big_uint_octets n = n.octets.now
@@ -29,3 +36,31 @@ owned_big_int_octets n = n.octets.items
 
 abbrev pub owned_big_int_number : OwnedBigInt → ℤ
 owned_big_int_number n = signed_number (owned_big_int_octets n)
+
+-- Every number.
+abbrev pub signed_content : Content ℤ
+signed_content = basic (record {
+  tag = universal 2;
+  text = integer_content;
+  valid = λ z. Unit {0};
+  read = read_integer;
+  takes = signed_takes;
+  again = signed_again;
+  faults = integer_faults;
+})
+
+-- Every number that isn't negative.
+abbrev pub unsigned_content : Content ℤ
+unsigned_content = basic (record {
+  tag = universal 2;
+  text = integer_content;
+  valid = λ z. pos 0 ≤ℤ z;
+  read = read_unsigned;
+  takes = unsigned_takes;
+  again = unsigned_again;
+  faults = unsigned_faults;
+})
+
+-- The number.
+abbrev pub enumerated_value : Enumerated → ℕ
+enumerated_value e = e.0

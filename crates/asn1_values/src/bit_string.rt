@@ -7,7 +7,6 @@ ghost use Rattle.asn1_core.specs.Boxed.{boxed};
 ghost use Rattle.asn1_core.specs.Tag.{universal};
 ghost use Rattle.asn1_core.specs.Writing.{KnowsLength};
 ghost use Rattle.asn1_values.specs.Bits.{is_padded, IsBits, bits, bits_text, has_bit, read_bits};
-ghost use Rattle.asn1_values.specs.BitContents.{bits_content};
 
 use asn1_core::{
     Asn1Type, ParseError, ParseErrorKind, ParseResult, SimpleAsn1Readable, SimpleAsn1Writable, Tag,
@@ -109,7 +108,7 @@ impl fmt::Debug for BitString<'_> {
 }
 
 impl<'a> Asn1Type for BitString<'a> {
-    ghost use Rattle.asn1_values.specs.BitStrings.{bits_of};
+    ghost use Rattle.asn1_values.specs.BitStrings.{bits_of, bits_content};
 
     ghost der = { simple_der bits_of bits_content };
 
@@ -142,11 +141,9 @@ impl<'a> SimpleAsn1Readable<'a> for BitString<'a> {
 }
 
 impl SimpleAsn1Writable for BitString<'_> {
-    ghost use Rattle.asn1_values.specs.BitStrings.{bits_of};
+    ghost use Rattle.asn1_values.specs.BitStrings.{bits_of, bits_content};
 
     type Error = WriteError;
-
-    ghost write_errors = { λ _ _. ⊥ };
 
     fn tag() -> Tag
         ensures value { result ≡ universal 3 }
@@ -229,7 +226,7 @@ impl fmt::Debug for OwnedBitString {
 }
 
 impl Asn1Type for OwnedBitString {
-    ghost use Rattle.asn1_values.specs.BitStrings.{owned_bits_of};
+    ghost use Rattle.asn1_values.specs.BitStrings.{owned_bits_of, bits_content};
 
     ghost der = { simple_der owned_bits_of (boxed bits_content) };
 
@@ -261,8 +258,6 @@ impl SimpleAsn1Writable for OwnedBitString {
     ghost use Rattle.asn1_values.specs.BitStrings.{owned_bits_of};
 
     type Error = WriteError;
-
-    ghost write_errors = { λ _ _. ⊥ };
 
     fn tag() -> Tag {
         Tag::primitive(0x03)

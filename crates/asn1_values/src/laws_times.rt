@@ -8,10 +8,8 @@ ghost use Rattle.asn1_values.specs.Comparisons.{
   IsTieOf,
   NeverFails,
 };
-ghost use Rattle.asn1_values.specs.DateTimes.{moment};
-ghost use Rattle.asn1_values.specs.GeneralizedTimes.{instant_of};
+ghost use Rattle.asn1_values.specs.TimeValues.{moment, instant_of, utc_moment, x509_moment};
 ghost use Rattle.asn1_values.specs.TimeOrders.{instant_order, moment_order};
-ghost use Rattle.asn1_values.specs.TimeValues.{utc_moment, x509_moment};
 
 use crate::values::{DateTime, GeneralizedTime, UtcTime, X509GeneralizedTime};
 use std::hash::Hash;

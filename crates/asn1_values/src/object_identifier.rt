@@ -8,10 +8,8 @@ ghost use Rattle.asn1_core.specs.Reading.{Answers};
 ghost use Rattle.asn1_core.specs.Writing.{KnowsLength};
 ghost use Rattle.asn1_core.specs.Der.{simple_der};
 ghost use Rattle.asn1_values.specs.Identifier.{identifier_content, identifier_numbers, numbers_in, read_identifier, IsIdentifierForm, IsIdentifier};
-ghost use Rattle.asn1_values.specs.IdentifierContent.{identifier_basic};
-ghost use Rattle.asn1_values.specs.Dotted.{dotted_text, first_text};
+ghost use Rattle.asn1_values.specs.IdentifierText.{dotted_text, first_text, part_number, text_numbers, left_numbers, left_size, first_of, and_then, if_few, read_dotted};
 ghost use Rattle.std.specs.Fmt.{DisplaysOnOk};
-ghost use Rattle.asn1_values.specs.IdentifierText.{part_number, text_numbers, left_numbers, left_size, first_of, and_then, if_few, read_dotted};
 
 use asn1_core::{
     Asn1Type, ParseError, ParseErrorKind, ParseResult, SimpleAsn1Readable, SimpleAsn1Writable, Tag,
@@ -267,7 +265,7 @@ impl fmt::Debug for ObjectIdentifier {
 }
 
 impl Asn1Type for ObjectIdentifier {
-    ghost use Rattle.asn1_values.specs.IdentifierValues.{identifier_of};
+    ghost use Rattle.asn1_values.specs.IdentifierValues.{identifier_of, identifier_basic};
 
     ghost der = { simple_der identifier_of identifier_basic };
 
@@ -289,8 +287,6 @@ impl SimpleAsn1Writable for ObjectIdentifier {
     ghost use Rattle.asn1_values.specs.IdentifierValues.{identifier_of};
 
     type Error = WriteError;
-
-    ghost write_errors = { λ _ _. ⊥ };
 
     fn tag() -> Tag {
         Tag::primitive(0x06)

@@ -7,4 +7,3 @@ pub mod Headers
 pub mod Framings
 pub mod States
 pub mod Steps
-mod KnownIdentifiers

@@ -8,12 +8,12 @@ use Rattle.asn1.specs.Der.{Der, Content, simple_der, tlv_der}
 use Rattle.asn1.specs.Element.{Element}
 use Rattle.asn1.specs.Sized.{sized_content, signed_der, unsigned_der}
 use Rattle.asn1.specs.OctetContents.{null_content, octets_content}
-use Rattle.asn1.specs.BigContents.{signed_content, unsigned_content}
-use Rattle.asn1.specs.BitContents.{bits_content}
-use Rattle.asn1.specs.TextContents.{utf8_content, printable_content, ia5_content, visible_content, utf16_content, utf32_content}
-use Rattle.asn1.specs.IdentifierContent.{identifier_basic}
-use Rattle.asn1.specs.TimeContents.{utc_content, x509_content, instant_content}
-use Rattle.asn1.specs.Sequences.{sequence_content}
+use Rattle.asn1.specs.Values.{signed_content, unsigned_content}
+use Rattle.asn1.specs.BitStrings.{bits_content}
+use Rattle.asn1.specs.TextValues.{utf8_content, printable_content, ia5_content, visible_content, utf16_content, utf32_content}
+use Rattle.asn1.specs.IdentifierValues.{identifier_basic}
+use Rattle.asn1.specs.TimeValues.{utc_content, x509_content, instant_content}
+use Rattle.asn1.specs.InHand.{sequence_content}
 use Rattle.asn1.specs.ListTypes.{items_inside}
 use Rattle.asn1.specs.SetTypes.{set_content, set_inside}
 use Rattle.dercheck.specs.declared.words.Word.{Word}

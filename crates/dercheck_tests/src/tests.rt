@@ -453,8 +453,6 @@ impl<'a> SimpleAsn1Readable<'a> for Code {
 impl SimpleAsn1Writable for Code {
     type Error = WriteError;
 
-    ghost write_errors = { λ _ _. ⊥ };
-
     fn tag() -> Tag {
         Tag::primitive(0x0a)
     }

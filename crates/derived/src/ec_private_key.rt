@@ -1,5 +1,5 @@
 //! Private keys of elliptic curves (RFC 5915, 3).
-// Printed by scripts/derive from declarations/ec_private_key.rs, with the sum be8e47a2.
+// Printed by scripts/derive from declarations/ec_private_key.rs, with the sum 9335705c.
 
 ghost use Rattle.std.specs.Prelude.{◌≡◌, ◌∷◌, [], codes};
 ghost use Rattle.asn1.specs.Options.{option_meaning};
@@ -72,8 +72,6 @@ impl<'a> SimpleAsn1Readable<'a> for EcPrivateKey<'a> {
 
 impl<'a> SimpleAsn1Writable for EcPrivateKey<'a> {
     type Error = WriteError;
-
-    ghost write_errors = { λ _ _. ⊥ };
 
     fn tag() -> Tag
         ensures value { result ≡ ⟦<EcPrivateKey<'a> as Asn1Type>⟧.der.content.tag }

@@ -1,10 +1,9 @@
 //! Each attribute of the original's derives, once.
-// Printed by scripts/derive from declarations/page.rs, with the sum d6eafbb5.
+// Printed by scripts/derive from declarations/page.rs, with the sum 30b2e374.
 
 ghost use Rattle.std.specs.Prelude.{◌≡◌, ◌⊎◌, ◌∷◌, [], codes, negsuc, true, false, ⊤, MatchOption, OnErr};
 ghost use Rattle.std.specs.Str.{bytes_eq};
-ghost use Rattle.std.proofs.Common.{inl, inr, refl, sym};
-ghost use Rattle.std.proofs.lemmas.Slice.Eq.{bytes_eq-Decides};
+ghost use Rattle.std.proofs.Common.{inl, inr};
 ghost use Rattle.asn1.specs.Choices.{choice_der, only, or};
 ghost use Rattle.asn1.specs.IdentifierValues.{identifier_of};
 ghost use Rattle.asn1.specs.ItemsAndValues.{by_item, word_for_word};
@@ -12,14 +11,13 @@ ghost use Rattle.asn1.specs.Options.{option_meaning};
 ghost use Rattle.asn1.specs.Reading.{EndsWith};
 ghost use Rattle.asn1.specs.Reads.{HasOneEncoding, ReadsContents, ReadsDefined, ReadsPrefix};
 ghost use Rattle.asn1.specs.Structures.{defaulted, explicit, implicit, structure, fields0, fields1, fields2, fields7};
-ghost use Rattle.asn1.specs.Variants.{any_variant, or_variant, variant};
+ghost use Rattle.asn1.specs.Variants.{any_variant, identifier_with, or_variant, variant};
 ghost use Rattle.derived.specs.declared.page.TheConstants.{OTHER_OID_NUMBERS, SHA256_WITH_RSA_NUMBERS, SOME_OID_NUMBERS};
 
 use asn1::fields::{
     Before, DefinedField, Field, Fields2, Fields7, Item, Last, LastValue, NoFields, Row, Value,
-    plain_length, write_plain,
+    is_identifier, known_identifier, plain_length, write_plain,
 };
-use asn1::laws::identifiers_compare;
 use asn1::{
     Asn1DefinedBy, Asn1DefinedByReadable, Asn1DefinedByWritable, Asn1Readable, Asn1Type,
     Asn1Writable, Choice2, Choice3, DefaultValue, Defaulted, DefinedByMarker, Explicit, IA5String,
@@ -30,15 +28,6 @@ use asn1::{
 };
 use std::alloc::{AllocError, Global};
 
-/// Whether the two are one identifier.
-fn is_identifier(item: &ObjectIdentifier, known: ObjectIdentifier) -> bool
-    ensures { result ≡ bytes_eq (identifier_of item.now) (identifier_of known) }
-{
-    // Says that identifiers are equal exactly where their numbers are.
-    identifiers_compare();
-    *item == known
-}
-
 /// The numbers of [`some_oid`], as they are encoded: the first stands for two.
 pub const SOME_OID_NUMBERS: [u64; 2] = [42, 3];
 
@@ -46,10 +35,7 @@ pub const SOME_OID_NUMBERS: [u64; 2] = [42, 3];
 pub fn some_oid() -> ObjectIdentifier
     ensures { identifier_of result ≡ SOME_OID_NUMBERS }
 {
-    let mut octets = [0; 63];
-    octets[0] = 0x2a;
-    octets[1] = 0x03;
-    ObjectIdentifier::from_der_unchecked(octets, 2)
+    known_identifier(b"\x2a\x03")
 }
 
 /// The numbers of [`sha256_with_rsa`], as they are encoded: the first stands for two.
@@ -59,17 +45,7 @@ pub const SHA256_WITH_RSA_NUMBERS: [u64; 6] = [42, 840, 113549, 1, 1, 11];
 pub fn sha256_with_rsa() -> ObjectIdentifier
     ensures { identifier_of result ≡ SHA256_WITH_RSA_NUMBERS }
 {
-    let mut octets = [0; 63];
-    octets[0] = 0x2a;
-    octets[1] = 0x86;
-    octets[2] = 0x48;
-    octets[3] = 0x86;
-    octets[4] = 0xf7;
-    octets[5] = 0x0d;
-    octets[6] = 0x01;
-    octets[7] = 0x01;
-    octets[8] = 0x0b;
-    ObjectIdentifier::from_der_unchecked(octets, 9)
+    known_identifier(b"\x2a\x86\x48\x86\xf7\x0d\x01\x01\x0b")
 }
 
 /// The numbers of [`other_oid`], as they are encoded: the first stands for two.
@@ -79,10 +55,7 @@ pub const OTHER_OID_NUMBERS: [u64; 2] = [42, 4];
 pub fn other_oid() -> ObjectIdentifier
     ensures { identifier_of result ≡ OTHER_OID_NUMBERS }
 {
-    let mut octets = [0; 63];
-    octets[0] = 0x2a;
-    octets[1] = 0x04;
-    ObjectIdentifier::from_der_unchecked(octets, 2)
+    known_identifier(b"\x2a\x04")
 }
 
 /// Two numbers, by plain names.
@@ -117,8 +90,6 @@ impl<'a> SimpleAsn1Readable<'a> for Signature {
 
 impl SimpleAsn1Writable for Signature {
     type Error = WriteError;
-
-    ghost write_errors = { λ _ _. ⊥ };
 
     fn tag() -> Tag {
         Tag::constructed(0x10)
@@ -159,8 +130,6 @@ impl<'a> SimpleAsn1Readable<'a> for Nothing {
 
 impl SimpleAsn1Writable for Nothing {
     type Error = WriteError;
-
-    ghost write_errors = { λ _ _. ⊥ };
 
     fn tag() -> Tag {
         Tag::constructed(0x10)
@@ -292,8 +261,6 @@ impl<'a> SimpleAsn1Readable<'a> for Tagged<'a> {
 
 impl<'a> SimpleAsn1Writable for Tagged<'a> {
     type Error = WriteError;
-
-    ghost write_errors = { λ _ _. ⊥ };
 
     fn tag() -> Tag
         ensures value { result ≡ ⟦<Tagged<'a> as Asn1Type>⟧.der.content.tag }
@@ -443,8 +410,6 @@ impl<'a> Asn1Readable<'a> for GeneralName<'a> {
 impl<'a> Asn1Writable for GeneralName<'a> {
     type Error = WriteError;
 
-    ghost write_errors = { λ _ _. ⊥ };
-
     fn write(&self, dest: &mut Writer<'_>) -> WriteResult<()> {
         match self {
             GeneralName::OtherName(x) => write_plain::<Implicit<Signature, 0>, _>(x, dest),
@@ -539,8 +504,6 @@ impl<'a> Asn1Readable<'a> for ResponderId<'a> {
 impl<'a> Asn1Writable for ResponderId<'a> {
     type Error = WriteError;
 
-    ghost write_errors = { λ _ _. ⊥ };
-
     fn write(&self, dest: &mut Writer<'_>) -> WriteResult<()> {
         match self {
             ResponderId::ByName(x) => write_plain::<Explicit<Strings<'a>, 1>, _>(x, dest),
@@ -592,8 +555,6 @@ impl<'a> SimpleAsn1Readable<'a> for Alternative<'a> {
 
 impl<'a> SimpleAsn1Writable for Alternative<'a> {
     type Error = WriteError;
-
-    ghost write_errors = { λ _ _. ⊥ };
 
     fn tag() -> Tag
         ensures value { result ≡ ⟦<Alternative<'a> as Asn1Type>⟧.der.content.tag }
@@ -649,8 +610,6 @@ impl<'a> SimpleAsn1Readable<'a> for MySequence {
 impl SimpleAsn1Writable for MySequence {
     type Error = WriteError;
 
-    ghost write_errors = { λ _ _. ⊥ };
-
     fn tag() -> Tag {
         Tag::constructed(0x10)
     }
@@ -679,21 +638,11 @@ impl Asn1DefinedBy<ObjectIdentifier> for Content {
 
     ghost by = { by_item (record {
       item = ⟦<ObjectIdentifier as Asn1Type>⟧.der;
-      value = or_variant (record {
-        item = SOME_OID_NUMBERS;
-        is = λ n. bytes_eq n SOME_OID_NUMBERS;
-        itself = refl;
-        alone = λ n e. sym ((bytes_eq-Decides n SOME_OID_NUMBERS).0 e);
-      }) ⟦<i32 as Asn1Type>⟧.der (variant (record {
-        item = SHA256_WITH_RSA_NUMBERS;
-        is = λ n. bytes_eq n SHA256_WITH_RSA_NUMBERS;
-        itself = refl;
-        alone = λ n e. sym ((bytes_eq-Decides n SHA256_WITH_RSA_NUMBERS).0 e);
-      }) ⟦<Null as Asn1Type>⟧.der (λ m. m)) (elim [
-        | SomeVariant x ↦ inl
-            (⟦<i32 as Asn1Type>⟧.der.meaning x)
-        | RsaParameters x ↦ inr (⟦<Null as Asn1Type>⟧.der.meaning x)
-      ]);
+      value = or_variant (identifier_with SOME_OID_NUMBERS) ⟦<i32 as Asn1Type>⟧.der (variant
+          (identifier_with SHA256_WITH_RSA_NUMBERS) ⟦<Null as Asn1Type>⟧.der (λ m. m)) (elim [
+            | SomeVariant x ↦ inl (⟦<i32 as Asn1Type>⟧.der.meaning x)
+            | RsaParameters x ↦ inr (⟦<Null as Asn1Type>⟧.der.meaning x)
+          ]);
     }) };
 
     fn known_by(&self) {
@@ -736,8 +685,6 @@ impl<'a> Asn1DefinedByReadable<'a, ObjectIdentifier> for Content {
 
 impl Asn1DefinedByWritable<ObjectIdentifier> for Content {
     type Error = WriteError;
-
-    ghost write_errors_by = { λ _ _. ⊥ };
 
     fn item(&self) -> ObjectIdentifier {
         match self {
@@ -835,30 +782,16 @@ impl<'a> Asn1DefinedBy<ObjectIdentifier> for AnyContent<'a> {
 
     ghost by = { by_item (record {
       item = ⟦<ObjectIdentifier as Asn1Type>⟧.der;
-      value = or_variant (record {
-        item = SOME_OID_NUMBERS;
-        is = λ n. bytes_eq n SOME_OID_NUMBERS;
-        itself = refl;
-        alone = λ n e. sym ((bytes_eq-Decides n SOME_OID_NUMBERS).0 e);
-      }) ⟦<&'a [u8] as Asn1Type>⟧.der (or_variant (record {
-        item = OTHER_OID_NUMBERS;
-        is = λ n. bytes_eq n OTHER_OID_NUMBERS;
-        itself = refl;
-        alone = λ n e. sym ((bytes_eq-Decides n OTHER_OID_NUMBERS).0 e);
-      }) ⟦<Explicit<u32, 1> as Asn1Type>⟧.der (or_variant (record {
-        item = SHA256_WITH_RSA_NUMBERS;
-        is = λ n. bytes_eq n SHA256_WITH_RSA_NUMBERS;
-        itself = refl;
-        alone = λ n e. sym ((bytes_eq-Decides n SHA256_WITH_RSA_NUMBERS).0 e);
-      }) ⟦<Option<bool> as Asn1Type>⟧.der (any_variant ⟦<Tlv<'a> as Asn1Type>⟧.der (λ m.
-          m)) (λ m. m)) (λ m. m)) (elim [
+      value = or_variant (identifier_with SOME_OID_NUMBERS) ⟦<&'a [u8] as Asn1Type>⟧.der (or_variant
+          (identifier_with OTHER_OID_NUMBERS) ⟦<Explicit<u32, 1> as Asn1Type>⟧.der (or_variant
+          (identifier_with SHA256_WITH_RSA_NUMBERS) ⟦<Option<bool> as Asn1Type>⟧.der (any_variant
+          ⟦<Tlv<'a> as Asn1Type>⟧.der (λ m. m)) (λ m. m)) (λ m. m)) (elim [
             | Octets x ↦ inl
                 (⟦<&'a [u8] as Asn1Type>⟧.der.meaning x)
             | Number x ↦ inr (inl (⟦<u32 as Asn1Type>⟧.der.meaning x))
             | Flag x ↦ inr (inr (inl (⟦<Option<bool> as Asn1Type>⟧.der.meaning x)))
             | Unknown x ↦ inr (inr (inr (
-              ⟦<ObjectIdentifier as Asn1Type>⟧.der.meaning
-                  x.item,
+              ⟦<ObjectIdentifier as Asn1Type>⟧.der.meaning x.item,
               ⟦<Tlv<'a> as Asn1Type>⟧.der.meaning x.value,
             )))
           ]);
@@ -924,8 +857,6 @@ impl<'a> Asn1DefinedByReadable<'a, ObjectIdentifier> for AnyContent<'a> {
 
 impl<'a> Asn1DefinedByWritable<ObjectIdentifier> for AnyContent<'a> {
     type Error = WriteError;
-
-    ghost write_errors_by = { λ _ _. ⊥ };
 
     fn item(&self) -> ObjectIdentifier {
         match self {
@@ -998,8 +929,6 @@ impl<'a> SimpleAsn1Readable<'a> for AnySequence<'a> {
 
 impl<'a> SimpleAsn1Writable for AnySequence<'a> {
     type Error = WriteError;
-
-    ghost write_errors = { λ _ _. ⊥ };
 
     fn tag() -> Tag
         ensures value { result ≡ ⟦<AnySequence<'a> as Asn1Type>⟧.der.content.tag }
@@ -1079,8 +1008,6 @@ impl<'a> SimpleAsn1Readable<'a> for Notice {
 
 impl SimpleAsn1Writable for Notice {
     type Error = WriteError;
-
-    ghost write_errors = { λ _ _. ⊥ };
 
     fn tag() -> Tag {
         Tag::constructed(0x10)
@@ -1182,8 +1109,6 @@ impl<'a> SimpleAsn1Readable<'a> for Letter {
 impl SimpleAsn1Writable for Letter {
     type Error = WriteError;
 
-    ghost write_errors = { λ _ _. ⊥ };
-
     fn tag() -> Tag {
         Tag::constructed(0x10)
     }
@@ -1267,18 +1192,10 @@ impl<'a> Asn1DefinedBy<ObjectIdentifier> for Listed<'a> {
 
     ghost by = { by_item (record {
       item = ⟦<ObjectIdentifier as Asn1Type>⟧.der;
-      value = or_variant (record {
-        item = SOME_OID_NUMBERS;
-        is = λ n. bytes_eq n SOME_OID_NUMBERS;
-        itself = refl;
-        alone = λ n e. sym ((bytes_eq-Decides n SOME_OID_NUMBERS).0 e);
-      }) ⟦<OctetStringEncoded<Tagged<'a>> as Asn1Type>⟧.der (or_variant (record {
-        item = OTHER_OID_NUMBERS;
-        is = λ n. bytes_eq n OTHER_OID_NUMBERS;
-        itself = refl;
-        alone = λ n e. sym ((bytes_eq-Decides n OTHER_OID_NUMBERS).0 e);
-      }) ⟦<SequenceOf<'a, u64, 0, 18446744073709551615> as Asn1Type>⟧.der (any_variant
-          ⟦<Tlv<'a> as Asn1Type>⟧.der (λ m. m)) (λ m. m)) (elim [
+      value = or_variant (identifier_with SOME_OID_NUMBERS)
+          ⟦<OctetStringEncoded<Tagged<'a>> as Asn1Type>⟧.der (or_variant (identifier_with
+          OTHER_OID_NUMBERS) ⟦<SequenceOf<'a, u64, 0, 18446744073709551615> as Asn1Type>⟧.der
+          (any_variant ⟦<Tlv<'a> as Asn1Type>⟧.der (λ m. m)) (λ m. m)) (elim [
             | Tagged x ↦ inl
                 (⟦<OctetStringEncoded<Tagged<'a>> as Asn1Type>⟧.der.meaning x)
             | Numbers x ↦ inr (inl
@@ -1347,8 +1264,6 @@ impl<'a> Asn1DefinedByReadable<'a, ObjectIdentifier> for Listed<'a> {
 
 impl<'a> Asn1DefinedByWritable<ObjectIdentifier> for Listed<'a> {
     type Error = WriteError;
-
-    ghost write_errors_by = { λ _ _. ⊥ };
 
     fn item(&self) -> ObjectIdentifier {
         match self {
@@ -1422,8 +1337,6 @@ impl<'a> SimpleAsn1Readable<'a> for Entry<'a> {
 impl<'a> SimpleAsn1Writable for Entry<'a> {
     type Error = WriteError;
 
-    ghost write_errors = { λ _ _. ⊥ };
-
     fn tag() -> Tag
         ensures value { result ≡ ⟦<Entry<'a> as Asn1Type>⟧.der.content.tag }
         ensures simple { ⟦<Entry<'a> as Asn1Type>⟧.der.is_simple }
@@ -1464,8 +1377,8 @@ impl<'a> Asn1Type for Bag<'a> {
 impl<'a> SimpleAsn1Writable for Bag<'a> {
     type Error = WriteError;
 
-    ghost write_errors = { λ v. ⟦<SetOfWriter<'a, u64> as SimpleAsn1Writable>⟧.write_errors
-        v.numbers };
+    ghost write_errors = { λ v e. ⟦<SetOfWriter<'a, u64> as SimpleAsn1Writable>⟧.write_errors
+        v.numbers e };
 
     fn tag() -> Tag
         ensures value { result ≡ ⟦<Bag<'a> as Asn1Type>⟧.der.content.tag }

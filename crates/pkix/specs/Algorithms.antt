@@ -3,16 +3,14 @@ use Rattle.std.specs.Prelude.{ℕ, ◌≡◌, List, [], ◌∷◌, Option, Some,
 use Rattle.std.specs.List.{find}
 use Rattle.std.specs.Str.{bytes_eq}
 use Rattle.asn1.specs.declared.Tlv.{Tlv}
-use Rattle.asn1.specs.declared.ObjectIdentifier.{ObjectIdentifier}
 use Rattle.asn1.specs.Der.{simple_der, option_der}
 use Rattle.asn1.specs.Fault.{Fault}
-use Rattle.asn1.specs.IdentifierContent.{identifier_basic}
-use Rattle.asn1.specs.IdentifierValues.{identifier_of}
+use Rattle.asn1.specs.IdentifierValues.{identifier_basic, identifier_of}
 use Rattle.asn1.specs.OctetContents.{null_content}
 use Rattle.asn1.specs.Reading.{all_taken}
 use Rattle.asn1.specs.Tlv.{full_octets}
 use Rattle.pkix.specs.Identifiers.{of_arcs}
-use Rattle.pkix.specs.ValueTypes.{ValueType, typed, ReadsTyped}
+use Rattle.pkix.specs.ValueTypes.{typed, ReadsTyped}
 use Rattle.pkix.specs.declared.algorithm_parameters.AlgorithmParameters.{AlgorithmParameters}
 use Rattle.pkix.specs.declared.algorithm_parameters.AlgorithmParameters.TheVariants as parameters
 use Rattle.pkix.specs.declared.algorithm_parameters.KnownAlgorithm.{KnownAlgorithm}
@@ -29,7 +27,12 @@ algorithm_numbers known.Sha224WithRsaEncryption = of_arcs (1 ∷ 2 ∷ 840 ∷ 1
 algorithm_numbers known.Sha256WithRsaEncryption = of_arcs (1 ∷ 2 ∷ 840 ∷ 113549 ∷ 1 ∷ 1 ∷ 11 ∷ [])
 algorithm_numbers known.Sha384WithRsaEncryption = of_arcs (1 ∷ 2 ∷ 840 ∷ 113549 ∷ 1 ∷ 1 ∷ 12 ∷ [])
 algorithm_numbers known.Sha512WithRsaEncryption = of_arcs (1 ∷ 2 ∷ 840 ∷ 113549 ∷ 1 ∷ 1 ∷ 13 ∷ [])
+algorithm_numbers known.DsaWithSha1 = of_arcs (1 ∷ 2 ∷ 840 ∷ 10040 ∷ 4 ∷ 3 ∷ [])
+algorithm_numbers known.DsaWithSha224 = of_arcs (2 ∷ 16 ∷ 840 ∷ 1 ∷ 101 ∷ 3 ∷ 4 ∷ 3 ∷ 1 ∷ [])
+algorithm_numbers known.DsaWithSha256 = of_arcs (2 ∷ 16 ∷ 840 ∷ 1 ∷ 101 ∷ 3 ∷ 4 ∷ 3 ∷ 2 ∷ [])
 algorithm_numbers known.EcPublicKey = of_arcs (1 ∷ 2 ∷ 840 ∷ 10045 ∷ 2 ∷ 1 ∷ [])
+algorithm_numbers known.EcDh = of_arcs (1 ∷ 3 ∷ 132 ∷ 1 ∷ 12 ∷ [])
+algorithm_numbers known.EcMqv = of_arcs (1 ∷ 3 ∷ 132 ∷ 1 ∷ 13 ∷ [])
 algorithm_numbers known.EcdsaWithSha1 = of_arcs (1 ∷ 2 ∷ 840 ∷ 10045 ∷ 4 ∷ 1 ∷ [])
 algorithm_numbers known.EcdsaWithSha224 = of_arcs (1 ∷ 2 ∷ 840 ∷ 10045 ∷ 4 ∷ 3 ∷ 1 ∷ [])
 algorithm_numbers known.EcdsaWithSha256 = of_arcs (1 ∷ 2 ∷ 840 ∷ 10045 ∷ 4 ∷ 3 ∷ 2 ∷ [])
@@ -37,6 +40,8 @@ algorithm_numbers known.EcdsaWithSha384 = of_arcs (1 ∷ 2 ∷ 840 ∷ 10045 ∷
 algorithm_numbers known.EcdsaWithSha512 = of_arcs (1 ∷ 2 ∷ 840 ∷ 10045 ∷ 4 ∷ 3 ∷ 4 ∷ [])
 algorithm_numbers known.Ed25519 = of_arcs (1 ∷ 3 ∷ 101 ∷ 112 ∷ [])
 algorithm_numbers known.Ed448 = of_arcs (1 ∷ 3 ∷ 101 ∷ 113 ∷ [])
+algorithm_numbers known.X25519 = of_arcs (1 ∷ 3 ∷ 101 ∷ 110 ∷ [])
+algorithm_numbers known.X448 = of_arcs (1 ∷ 3 ∷ 101 ∷ 111 ∷ [])
 algorithm_numbers known.Sha1 = of_arcs (1 ∷ 3 ∷ 14 ∷ 3 ∷ 2 ∷ 26 ∷ [])
 algorithm_numbers known.Sha224 = of_arcs (2 ∷ 16 ∷ 840 ∷ 1 ∷ 101 ∷ 3 ∷ 4 ∷ 2 ∷ 4 ∷ [])
 algorithm_numbers known.Sha256 = of_arcs (2 ∷ 16 ∷ 840 ∷ 1 ∷ 101 ∷ 3 ∷ 4 ∷ 2 ∷ 1 ∷ [])
@@ -45,7 +50,7 @@ algorithm_numbers known.Sha512 = of_arcs (2 ∷ 16 ∷ 840 ∷ 1 ∷ 101 ∷ 3 �
 
 -- The known algorithm with that identifier.
 abbrev pub algorithm_with : List ℕ → Option KnownAlgorithm
-algorithm_with numbers = find (λ algorithm. bytes_eq (algorithm_numbers algorithm) numbers) ALL.now
+algorithm_with numbers = find (λ algorithm. bytes_eq numbers (algorithm_numbers algorithm)) ALL.now
 
 -- What the parameters of each known algorithm are, by the documents that define it.
 abbrev pub form_of : KnownAlgorithm → ParametersForm
@@ -55,7 +60,12 @@ form_of known.Sha224WithRsaEncryption = form.NullOrAbsent  -- RFC 4055, 5
 form_of known.Sha256WithRsaEncryption = form.NullOrAbsent  -- RFC 4055, 5
 form_of known.Sha384WithRsaEncryption = form.NullOrAbsent  -- RFC 4055, 5
 form_of known.Sha512WithRsaEncryption = form.NullOrAbsent  -- RFC 4055, 5
+form_of known.DsaWithSha1 = form.Absent  -- RFC 3279, 2.2.2
+form_of known.DsaWithSha224 = form.Absent  -- RFC 5758, 3.1
+form_of known.DsaWithSha256 = form.Absent  -- RFC 5758, 3.1
 form_of known.EcPublicKey = form.NamedCurve  -- RFC 5480, 2.1.1
+form_of known.EcDh = form.NamedCurve  -- RFC 5480, 2.1.2
+form_of known.EcMqv = form.NamedCurve  -- RFC 5480, 2.1.2
 form_of known.EcdsaWithSha1 = form.Absent  -- RFC 3279, 2.2.3
 form_of known.EcdsaWithSha224 = form.Absent  -- RFC 5758, 3.2
 form_of known.EcdsaWithSha256 = form.Absent  -- RFC 5758, 3.2
@@ -63,6 +73,8 @@ form_of known.EcdsaWithSha384 = form.Absent  -- RFC 5758, 3.2
 form_of known.EcdsaWithSha512 = form.Absent  -- RFC 5758, 3.2
 form_of known.Ed25519 = form.Absent  -- RFC 8410, 3
 form_of known.Ed448 = form.Absent  -- RFC 8410, 3
+form_of known.X25519 = form.Absent  -- RFC 8410, 3
+form_of known.X448 = form.Absent  -- RFC 8410, 3
 form_of known.Sha1 = form.NullOrAbsent  -- RFC 3370, 2.1
 form_of known.Sha224 = form.NullOrAbsent  -- RFC 5754, 2.1
 form_of known.Sha256 = form.NullOrAbsent  -- RFC 5754, 2.2

@@ -26,7 +26,7 @@ extension_numbers known.SubjectKeyIdentifier = of_arcs (2 ∷ 5 ∷ 29 ∷ 14 �
 
 -- The known extension with that identifier.
 abbrev pub extension_with : List ℕ → Option KnownExtension
-extension_with numbers = find (λ extension. bytes_eq (extension_numbers extension) numbers) ALL.now
+extension_with numbers = find (λ extension. bytes_eq numbers (extension_numbers extension)) ALL.now
 
 -- What reading the octets as a value of the type of a known extension returns; every other is held by its octets.
 abbrev pub ReadsExtension : {E : Type 0} → (KnownExtension → ValueType E) → (Bor (List ℕ) → E) → Option KnownExtension → Bor (List ℕ) → Result E Fault → Type 0

@@ -8,7 +8,7 @@ use Rattle.asn1.specs.Element.{◌>>=◌}
 use Rattle.asn1.specs.Der.{Content, basic}
 use Rattle.asn1.specs.Tag.{universal}
 use Rattle.asn1.specs.Bits.{Bits, IsBits, bits_text, read_bits}
-use Rattle.asn1.specs.BitContents.{bits_content}
+use Rattle.asn1.specs.BitStrings.{bits_content}
 use Rattle.asn1.specs.Lemmas.Results.{ok_is, bind_ok, passed}
 use Rattle.asn1.specs.Lemmas.Faults.{bind_faults, passed_faults}
 

@@ -1,14 +1,12 @@
 //! Parameters of algorithms, which their identifiers define (RFC 3279, 3370, 4055, 5480, 5754, 5758, 8410).
 
 ghost use Rattle.std.specs.Prelude.{◌≡◌, Ok, Some};
-ghost use Rattle.std.specs.Str.{bytes_eq};
 ghost use Rattle.asn1.specs.Identifier.{read_identifier};
 ghost use Rattle.asn1.specs.IdentifierValues.{identifier_of};
 ghost use Rattle.pkix.specs.Algorithms.{algorithm_numbers, algorithm_with, form_of, parameter_octets, ReadsForm, ReadsParameters};
 
 use crate::common::AlgorithmIdentifier;
-use crate::identifiers;
-use asn1::laws::identifiers_compare;
+use asn1::fields::{is_identifier, known_identifier};
 use asn1::{ObjectIdentifier, ParseError, ParseErrorKind, ParseResult, Tlv, parse_single};
 use std::alloc::Global;
 
@@ -27,8 +25,18 @@ pub enum KnownAlgorithm {
     Sha384WithRsaEncryption,
     /// sha512WithRSAEncryption (RFC 4055, 5).
     Sha512WithRsaEncryption,
+    /// dsa-with-sha1 (RFC 3279, 2.2.2).
+    DsaWithSha1,
+    /// dsa-with-sha224 (RFC 5758, 3.1).
+    DsaWithSha224,
+    /// dsa-with-sha256 (RFC 5758, 3.1).
+    DsaWithSha256,
     /// id-ecPublicKey (RFC 5480, 2.1.1).
     EcPublicKey,
+    /// id-ecDH (RFC 5480, 2.1.2).
+    EcDh,
+    /// id-ecMQV (RFC 5480, 2.1.2).
+    EcMqv,
     /// ecdsa-with-SHA1 (RFC 3279, 2.2.3).
     EcdsaWithSha1,
     /// ecdsa-with-SHA224 (RFC 5758, 3.2).
@@ -43,6 +51,10 @@ pub enum KnownAlgorithm {
     Ed25519,
     /// id-Ed448 (RFC 8410, 3).
     Ed448,
+    /// id-X25519 (RFC 8410, 3).
+    X25519,
+    /// id-X448 (RFC 8410, 3).
+    X448,
     /// id-sha1 (RFC 3370, 2.1).
     Sha1,
     /// id-sha224 (RFC 5754, 2.1).
@@ -77,7 +89,12 @@ impl KnownAlgorithm {
         KnownAlgorithm::Sha256WithRsaEncryption,
         KnownAlgorithm::Sha384WithRsaEncryption,
         KnownAlgorithm::Sha512WithRsaEncryption,
+        KnownAlgorithm::DsaWithSha1,
+        KnownAlgorithm::DsaWithSha224,
+        KnownAlgorithm::DsaWithSha256,
         KnownAlgorithm::EcPublicKey,
+        KnownAlgorithm::EcDh,
+        KnownAlgorithm::EcMqv,
         KnownAlgorithm::EcdsaWithSha1,
         KnownAlgorithm::EcdsaWithSha224,
         KnownAlgorithm::EcdsaWithSha256,
@@ -85,6 +102,8 @@ impl KnownAlgorithm {
         KnownAlgorithm::EcdsaWithSha512,
         KnownAlgorithm::Ed25519,
         KnownAlgorithm::Ed448,
+        KnownAlgorithm::X25519,
+        KnownAlgorithm::X448,
         KnownAlgorithm::Sha1,
         KnownAlgorithm::Sha224,
         KnownAlgorithm::Sha256,
@@ -104,7 +123,12 @@ impl KnownAlgorithm {
             KnownAlgorithm::Sha256WithRsaEncryption => b"\x2a\x86\x48\x86\xf7\x0d\x01\x01\x0b",
             KnownAlgorithm::Sha384WithRsaEncryption => b"\x2a\x86\x48\x86\xf7\x0d\x01\x01\x0c",
             KnownAlgorithm::Sha512WithRsaEncryption => b"\x2a\x86\x48\x86\xf7\x0d\x01\x01\x0d",
+            KnownAlgorithm::DsaWithSha1 => b"\x2a\x86\x48\xce\x38\x04\x03",
+            KnownAlgorithm::DsaWithSha224 => b"\x60\x86\x48\x01\x65\x03\x04\x03\x01",
+            KnownAlgorithm::DsaWithSha256 => b"\x60\x86\x48\x01\x65\x03\x04\x03\x02",
             KnownAlgorithm::EcPublicKey => b"\x2a\x86\x48\xce\x3d\x02\x01",
+            KnownAlgorithm::EcDh => b"\x2b\x81\x04\x01\x0c",
+            KnownAlgorithm::EcMqv => b"\x2b\x81\x04\x01\x0d",
             KnownAlgorithm::EcdsaWithSha1 => b"\x2a\x86\x48\xce\x3d\x04\x01",
             KnownAlgorithm::EcdsaWithSha224 => b"\x2a\x86\x48\xce\x3d\x04\x03\x01",
             KnownAlgorithm::EcdsaWithSha256 => b"\x2a\x86\x48\xce\x3d\x04\x03\x02",
@@ -112,6 +136,8 @@ impl KnownAlgorithm {
             KnownAlgorithm::EcdsaWithSha512 => b"\x2a\x86\x48\xce\x3d\x04\x03\x04",
             KnownAlgorithm::Ed25519 => b"\x2b\x65\x70",
             KnownAlgorithm::Ed448 => b"\x2b\x65\x71",
+            KnownAlgorithm::X25519 => b"\x2b\x65\x6e",
+            KnownAlgorithm::X448 => b"\x2b\x65\x6f",
             KnownAlgorithm::Sha1 => b"\x2b\x0e\x03\x02\x1a",
             KnownAlgorithm::Sha224 => b"\x60\x86\x48\x01\x65\x03\x04\x02\x04",
             KnownAlgorithm::Sha256 => b"\x60\x86\x48\x01\x65\x03\x04\x02\x01",
@@ -125,26 +151,17 @@ impl KnownAlgorithm {
         ensures value { identifier_of result ≡ algorithm_numbers self }
         ensures found { algorithm_with (identifier_of result) ≡ Some self }
     {
-        identifiers::with_contents(self.contents())
-    }
-
-    /// Whether it has this identifier.
-    fn has_identifier(self, identifier: &ObjectIdentifier) -> bool
-        ensures { result ≡ bytes_eq (algorithm_numbers self) (identifier_of identifier.now) }
-    {
-        // Says that identifiers are equal exactly where their numbers are.
-        identifiers_compare();
-        self.identifier() == *identifier
+        known_identifier(self.contents())
     }
 
     /// The one with this identifier.
     pub fn with_identifier(identifier: &ObjectIdentifier) -> Option<KnownAlgorithm>
         ensures { result ≡ algorithm_with (identifier_of identifier.now) }
     {
-        KnownAlgorithm::ALL
-            .iter()
-            .copied()
-            .find(|algorithm| algorithm.has_identifier(identifier))
+        KnownAlgorithm::ALL.iter().copied().find(|algorithm| is_identifier(
+            identifier,
+            algorithm.identifier(),
+        ))
     }
 
     /// What its parameters are.
@@ -155,14 +172,21 @@ impl KnownAlgorithm {
             KnownAlgorithm::RsaEncryption | KnownAlgorithm::Sha1WithRsaEncryption => {
                 ParametersForm::Null
             }
-            KnownAlgorithm::EcPublicKey => ParametersForm::NamedCurve,
-            KnownAlgorithm::EcdsaWithSha1
+            KnownAlgorithm::EcPublicKey | KnownAlgorithm::EcDh | KnownAlgorithm::EcMqv => {
+                ParametersForm::NamedCurve
+            }
+            KnownAlgorithm::DsaWithSha1
+            | KnownAlgorithm::DsaWithSha224
+            | KnownAlgorithm::DsaWithSha256
+            | KnownAlgorithm::EcdsaWithSha1
             | KnownAlgorithm::EcdsaWithSha224
             | KnownAlgorithm::EcdsaWithSha256
             | KnownAlgorithm::EcdsaWithSha384
             | KnownAlgorithm::EcdsaWithSha512
             | KnownAlgorithm::Ed25519
-            | KnownAlgorithm::Ed448 => ParametersForm::Absent,
+            | KnownAlgorithm::Ed448
+            | KnownAlgorithm::X25519
+            | KnownAlgorithm::X448 => ParametersForm::Absent,
             KnownAlgorithm::Sha224WithRsaEncryption
             | KnownAlgorithm::Sha256WithRsaEncryption
             | KnownAlgorithm::Sha384WithRsaEncryption
@@ -213,10 +237,10 @@ impl ParametersForm {
 pub enum AlgorithmParameters<'a> {
     /// NULL: of RSA, which has to have it, but for signatures with SHA-2, and of digests, which may have it.
     Null,
-    /// None: of ECDSA, Ed25519 and Ed448, which may have none, of digests, and of signatures by RSA with SHA-2, which
-    /// are written with NULL and have to be read without it too (RFC 4055, 5).
+    /// None: of DSA, ECDSA and the algorithms of RFC 8410, which may have none, of digests, and of signatures by RSA
+    /// with SHA-2, which are written with NULL and have to be read without it too (RFC 4055, 5).
     Absent,
-    /// The identifier of a curve, which id-ecPublicKey has to have (RFC 5480, 2.1.1).
+    /// The identifier of a curve, which the algorithms of RFC 5480 have to have.
     NamedCurve(ObjectIdentifier),
     /// The parameters of every other algorithm, as they are.
     Other(Option<Tlv<'a>>),

@@ -1,7 +1,6 @@
 //! Values of extensions, whose types their identifiers name (RFC 5280, 4.2 and 5).
 
 ghost use Rattle.std.specs.Prelude.{◌≡◌, Ok, Some};
-ghost use Rattle.std.specs.Str.{bytes_eq};
 ghost use Rattle.asn1.specs.Identifier.{read_identifier};
 ghost use Rattle.asn1.specs.IdentifierValues.{identifier_of};
 ghost use Rattle.pkix.specs.Extensions.{extension_numbers, extension_with, ReadsExtension};
@@ -16,9 +15,8 @@ use crate::certificate::extensions::{
     SubjectKeyIdentifier,
 };
 use crate::common::{Extension, GeneralNames};
-use crate::identifiers;
 use crate::revocation::extensions::{CrlNumber, CrlReason};
-use asn1::laws::identifiers_compare;
+use asn1::fields::{is_identifier, known_identifier};
 use asn1::{Asn1Type, ObjectIdentifier, ParseResult, parse_single};
 use std::alloc::Global;
 
@@ -90,26 +88,17 @@ impl KnownExtension {
         ensures value { identifier_of result ≡ extension_numbers self }
         ensures found { extension_with (identifier_of result) ≡ Some self }
     {
-        identifiers::with_contents(self.contents())
-    }
-
-    /// Whether it has this identifier.
-    fn has_identifier(self, identifier: &ObjectIdentifier) -> bool
-        ensures { result ≡ bytes_eq (extension_numbers self) (identifier_of identifier.now) }
-    {
-        // Says that identifiers are equal exactly where their numbers are.
-        identifiers_compare();
-        self.identifier() == *identifier
+        known_identifier(self.contents())
     }
 
     /// The one with this identifier.
     pub fn with_identifier(identifier: &ObjectIdentifier) -> Option<KnownExtension>
         ensures { result ≡ extension_with (identifier_of identifier.now) }
     {
-        KnownExtension::ALL
-            .iter()
-            .copied()
-            .find(|extension| extension.has_identifier(identifier))
+        KnownExtension::ALL.iter().copied().find(|extension| is_identifier(
+            identifier,
+            extension.identifier(),
+        ))
     }
 }
 

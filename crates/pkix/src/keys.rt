@@ -1,5 +1,5 @@
 //! Keys (RFC 5958, 8017, 5915 and 5480).
-// Printed by scripts/derive from declarations/keys.rs, with the sum 98089ae8.
+// Printed by scripts/derive from declarations/keys.rs, with the sum 7f8d3703.
 
 ghost use Rattle.std.specs.Prelude.{◌≡◌, ◌∷◌, [], codes};
 ghost use Rattle.asn1.specs.Options.{option_meaning};
@@ -84,8 +84,6 @@ impl<'a> SimpleAsn1Readable<'a> for OneAsymmetricKey<'a> {
 impl<'a> SimpleAsn1Writable for OneAsymmetricKey<'a> {
     type Error = WriteError;
 
-    ghost write_errors = { λ _ _. ⊥ };
-
     fn tag() -> Tag
         ensures value { result ≡ ⟦<OneAsymmetricKey<'a> as Asn1Type>⟧.der.content.tag }
         ensures simple { ⟦<OneAsymmetricKey<'a> as Asn1Type>⟧.der.is_simple }
@@ -149,8 +147,6 @@ impl<'a> SimpleAsn1Readable<'a> for RsaPublicKey<'a> {
 
 impl<'a> SimpleAsn1Writable for RsaPublicKey<'a> {
     type Error = WriteError;
-
-    ghost write_errors = { λ _ _. ⊥ };
 
     fn tag() -> Tag
         ensures value { result ≡ ⟦<RsaPublicKey<'a> as Asn1Type>⟧.der.content.tag }
@@ -242,8 +238,6 @@ impl<'a> SimpleAsn1Readable<'a> for RsaPrivateKey<'a> {
 impl<'a> SimpleAsn1Writable for RsaPrivateKey<'a> {
     type Error = WriteError;
 
-    ghost write_errors = { λ _ _. ⊥ };
-
     fn tag() -> Tag
         ensures value { result ≡ ⟦<RsaPrivateKey<'a> as Asn1Type>⟧.der.content.tag }
         ensures simple { ⟦<RsaPrivateKey<'a> as Asn1Type>⟧.der.is_simple }
@@ -322,8 +316,6 @@ impl<'a> SimpleAsn1Readable<'a> for EcPrivateKey<'a> {
 
 impl<'a> SimpleAsn1Writable for EcPrivateKey<'a> {
     type Error = WriteError;
-
-    ghost write_errors = { λ _ _. ⊥ };
 
     fn tag() -> Tag
         ensures value { result ≡ ⟦<EcPrivateKey<'a> as Asn1Type>⟧.der.content.tag }

@@ -11,7 +11,6 @@ pub mod algorithm_parameters;
 pub mod certificate;
 pub mod common;
 pub mod extension_values;
-mod identifiers;
 pub mod keys;
 pub mod request;
 pub mod revocation;

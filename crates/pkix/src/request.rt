@@ -1,5 +1,5 @@
 //! Requests for certificates (RFC 2986).
-// Printed by scripts/derive from declarations/request.rs, with the sum c34f7db7.
+// Printed by scripts/derive from declarations/request.rs, with the sum a9b6a9d6.
 
 ghost use Rattle.std.specs.Prelude.{◌≡◌, ◌∷◌, [], codes};
 ghost use Rattle.asn1.specs.Reads.{HasOneEncoding, ReadsContents};
@@ -75,8 +75,6 @@ impl<'a> SimpleAsn1Readable<'a> for CertificationRequestInfo<'a> {
 impl<'a> SimpleAsn1Writable for CertificationRequestInfo<'a> {
     type Error = WriteError;
 
-    ghost write_errors = { λ _ _. ⊥ };
-
     fn tag() -> Tag
         ensures value { result ≡ ⟦<CertificationRequestInfo<'a> as Asn1Type>⟧.der.content.tag }
         ensures simple { ⟦<CertificationRequestInfo<'a> as Asn1Type>⟧.der.is_simple }
@@ -147,8 +145,6 @@ impl<'a> SimpleAsn1Readable<'a> for CertificationRequest<'a> {
 
 impl<'a> SimpleAsn1Writable for CertificationRequest<'a> {
     type Error = WriteError;
-
-    ghost write_errors = { λ _ _. ⊥ };
 
     fn tag() -> Tag
         ensures value { result ≡ ⟦<CertificationRequest<'a> as Asn1Type>⟧.der.content.tag }

@@ -1,10 +1,12 @@
 //! Fields that an item before them defines (X.680, types that another field defines).
 
-ghost use Rattle.std.specs.Prelude.{◌≡◌, OnOk, OnErr, IfErr};
+ghost use Rattle.std.specs.Prelude.{◌≡◌, OnOk, OnErr, IfErr, IsOk, Ok};
+ghost use Rattle.std.specs.Str.{bytes_eq};
 ghost use Rattle.asn1_core.specs.Buffer.{Appends, KeepsFront};
 ghost use Rattle.asn1_core.specs.Reading.{Answers};
-ghost use Rattle.asn1_core.specs.Writers.{buffer_name, octets_of};
-ghost use Rattle.asn1_core.specs.Writing.{KnowsLength, Refuses};
+ghost use Rattle.asn1_core.specs.Writing.{buffer_name, octets_of, KnowsLength, Refuses};
+ghost use Rattle.asn1_values.specs.Identifier.{read_identifier};
+ghost use Rattle.asn1_values.specs.IdentifierValues.{identifier_of};
 ghost use Rattle.asn1.specs.FieldLists.{
   BehindItem,
   ItemErrors,
@@ -13,15 +15,16 @@ ghost use Rattle.asn1.specs.FieldLists.{
   value_behind,
   value_last_behind,
 };
-ghost use Rattle.asn1.specs.ItemFields.{item_der, written_value};
-ghost use Rattle.asn1.specs.ItemsAndValues.{Agrees, ItemAgrees, ItemAndValue};
+ghost use Rattle.asn1.specs.ItemsAndValues.{item_der, written_value, Agrees, ItemAgrees, ItemAndValue};
 
 use super::{NameSource, Row, RowReadable, finish, placed};
+use crate::laws::identifiers_compare;
 use crate::wrappers::DefinedByMarker;
 use asn1_core::{
     Asn1DefinedBy, Asn1DefinedByReadable, Asn1DefinedByWritable, Asn1Readable, Asn1Type,
     Asn1Writable, ParseResult, Parser, WriteError, Writer,
 };
+use asn1_values::ObjectIdentifier;
 use std::marker::PhantomData;
 
 /// A value that an item of the type `T` defines, where both are fields: what each means, for contracts alone.
@@ -178,6 +181,26 @@ impl<'a, T: Asn1Readable<'a>, C: DefinedField<T> + Asn1DefinedByReadable<'a, T>>
         finish(parser)?;
         Ok(LastValue { value })
     }
+}
+
+/// The OBJECT IDENTIFIER with these contents octets, which the caller has to prove to be those of one.
+pub fn known_identifier(contents: &[u8]) -> ObjectIdentifier
+    requires { IsOk (read_identifier contents.now) }
+    ensures { read_identifier contents.now ≡ Ok (identifier_of result) }
+{
+    match ObjectIdentifier::from_der(contents) {
+        Ok(identifier) => identifier,
+        Err(_) => unreachable!(),
+    }
+}
+
+/// Whether the two are one OBJECT IDENTIFIER.
+pub fn is_identifier(item: &ObjectIdentifier, known: ObjectIdentifier) -> bool
+    ensures { result ≡ bytes_eq (identifier_of item.now) (identifier_of known) }
+{
+    // Says that identifiers are equal exactly where their numbers are.
+    identifiers_compare();
+    *item == known
 }
 
 /// States that the item of a value is valid. It does nothing at run time.

@@ -3,8 +3,7 @@
 ghost use Rattle.std.specs.Prelude.{◌≡◌, OnOk, OnErr, IfErr};
 ghost use Rattle.asn1_core.specs.Buffer.{Appends, KeepsFront};
 ghost use Rattle.asn1_core.specs.Der.{seen};
-ghost use Rattle.asn1_core.specs.Writers.{buffer_name, octets_of};
-ghost use Rattle.asn1_core.specs.Writing.{KnowsLength, Refuses};
+ghost use Rattle.asn1_core.specs.Writing.{buffer_name, octets_of, KnowsLength, Refuses};
 ghost use Rattle.asn1.specs.Structures.{defaulted};
 
 use crate::wrappers::{DefaultValue, Defaulted, MeaningEq, is_default};

@@ -6,7 +6,7 @@ ghost use Rattle.asn1_core.specs.Reading.{Answers, IsHandedOn};
 ghost use Rattle.asn1_core.specs.Der.{simple_der};
 ghost use Rattle.asn1_core.specs.Items.{sequence_tag};
 ghost use Rattle.asn1_core.specs.Writing.{KnowsLength};
-ghost use Rattle.asn1.specs.Sequences.{sequence_octets, sequence_content};
+ghost use Rattle.asn1.specs.InHand.{sequence_octets, sequence_content};
 
 use asn1_core::{
     Asn1Type, ParseError, ParseResult, Parser, SimpleAsn1Readable, SimpleAsn1Writable, Tag,
@@ -68,8 +68,6 @@ impl<'a> SimpleAsn1Readable<'a> for Sequence<'a> {
 
 impl<'a> SimpleAsn1Writable for Sequence<'a> {
     type Error = WriteError;
-
-    ghost write_errors = { λ _ _. ⊥ };
 
     fn tag() -> Tag
         ensures value { result ≡ sequence_tag }

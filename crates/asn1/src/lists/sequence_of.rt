@@ -12,8 +12,7 @@ ghost use Rattle.asn1_core.specs.Element.{Element, front};
 ghost use Rattle.asn1_core.specs.Reading.{Answers, EndsWith};
 ghost use Rattle.asn1_core.specs.Der.{simple_der};
 ghost use Rattle.asn1_core.specs.Items.{Each, Joins, OneNames, sequence_tag};
-ghost use Rattle.asn1_core.specs.Writers.{buffer_name, octets_of};
-ghost use Rattle.asn1_core.specs.Writing.{KnowsLength, Refuses};
+ghost use Rattle.asn1_core.specs.Writing.{buffer_name, octets_of, KnowsLength, Refuses};
 ghost use Rattle.asn1.specs.Lists.{AreItems, left, item, counted, item_out, items_out, sequence_read, NextItem};
 ghost use Rattle.asn1.specs.ListTypes.{items_inside};
 

@@ -1,7 +1,7 @@
 //! CHOICE (X.690 8.13, X.680 29): an element that is read as the first alternative that accepts its tag.
 
 ghost use Rattle.asn1.specs.Choices.{choice_der, only, or};
-ghost use Rattle.asn1.specs.ChoiceValues.{choice1_meaning, choice2_meaning, choice3_meaning, Choice1Errors, Choice2Errors, Choice3Errors};
+ghost use Rattle.asn1.specs.InHand.{choice1_meaning, choice2_meaning, choice3_meaning, Choice1Errors, Choice2Errors, Choice3Errors};
 
 use asn1_core::{
     Asn1Readable, Asn1Type, Asn1Writable, ParseError, ParseErrorKind, ParseResult, Parser, Tag,

@@ -5,27 +5,9 @@ ghost use Rattle.std.proofs.lemmas.Slice.Eq.{bytes_eq-Decides};
 ghost use Rattle.asn1_core.specs.Items.{sequence_tag, set_tag};
 ghost use Rattle.asn1_core.specs.Tag.{explicit_tag_of, implicit_tag_of, universal};
 ghost use Rattle.asn1_values.specs.BitStrings.{bits_of, owned_bits_of};
-ghost use Rattle.asn1_values.specs.Enumerated.{enumerated_value};
-ghost use Rattle.asn1_values.specs.TextValues.{
-  ia5_octets,
-  printable_octets,
-  utf8_octets,
-  visible_octets,
-};
-ghost use Rattle.asn1_values.specs.Values.{
-  big_int_octets,
-  big_uint_octets,
-  owned_big_int_octets,
-  owned_big_uint_octets,
-};
-ghost use Rattle.asn1_values.specs.WideTexts.{bmp_octets, universal_octets};
-ghost use Rattle.asn1.specs.InHand.{
-  explicit_inner,
-  implicit_inner,
-  octet_string_inner,
-  octets_of_set,
-};
-ghost use Rattle.asn1.specs.Sequences.{sequence_octets};
+ghost use Rattle.asn1_values.specs.Values.{enumerated_value, big_int_octets, big_uint_octets, owned_big_int_octets, owned_big_uint_octets};
+ghost use Rattle.asn1_values.specs.TextValues.{ia5_octets, printable_octets, utf8_octets, visible_octets, bmp_octets, universal_octets};
+ghost use Rattle.asn1.specs.InHand.{explicit_inner, implicit_inner, octet_string_inner, octets_of_set, sequence_octets};
 ghost use Rattle.asn1.specs.Equalities.{
   big_content_tells,
   big_tells,

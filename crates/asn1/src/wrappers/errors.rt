@@ -3,8 +3,7 @@
 ghost use Rattle.std.specs.Prelude.{◌≡◌};
 ghost use Rattle.asn1_core.specs.Der.{seen};
 ghost use Rattle.asn1_core.specs.Writing.{Refuses};
-ghost use Rattle.asn1.specs.Errors.{MadeFrom};
-ghost use Rattle.asn1.specs.InHand.{error_into_inner};
+ghost use Rattle.asn1.specs.InHand.{MadeFrom, error_into_inner};
 
 use asn1_core::{
     Asn1Readable, Asn1Type, Asn1Writable, ParseResult, Parser, Tag, WriteError, Writer,

@@ -4,7 +4,7 @@ ghost use Rattle.std.specs.Prelude.{◌≡◌};
 ghost use Rattle.asn1_core.specs.Tag.{explicit_tag_of, implicit_tag_of, universal};
 ghost use Rattle.asn1_core.specs.Der.{simple_der};
 ghost use Rattle.asn1.specs.InHand.{explicit_inner, implicit_inner, octet_string_inner};
-ghost use Rattle.asn1.specs.Inside.{one_inside, retagged};
+ghost use Rattle.asn1.specs.Tagged.{one_inside, retagged};
 
 use asn1_core::{
     Asn1Readable, Asn1Type, Asn1Writable, ParseResult, SimpleAsn1Readable, SimpleAsn1Writable, Tag,

@@ -1,14 +1,11 @@
 -- What a closure that writes through a writer leaves.
-use Rattle.std.specs.Prelude.{◌≡◌, ℕ, List, [], ◌++◌, Result, Ok, Err, OnOk, IfErr, refl, drop, length}
-use Rattle.std.proofs.Common.{inr, sym, ◌∙◌, ap}
-use Rattle.std.proofs.lemmas.List.{append_cancel_left}
-use Rattle.asn1_core.specs.declared.tag.Tag.{Tag}
-use Rattle.asn1_core.specs.Element.{element, element_text}
+use Rattle.std.specs.Prelude.{Result, Ok, Err, OnOk, IfErr, refl, drop, length}
+use Rattle.std.proofs.Common.{inr}
 use Rattle.std.specs.Fn.{Once}
 use Rattle.std.specs.Borrow.{MutBor}
 use Rattle.asn1_core.specs.Buffer.{KeepsFront, Appends}
-use Rattle.asn1_core.specs.Closures.{IsWriter, WriterCall, MayWrite, MayAnswer}
-use Rattle.asn1_core.specs.Writing.{Refuses, IsElementOf}
+use Rattle.asn1_core.specs.Closures.{IsWriter, MayWrite, MayAnswer}
+use Rattle.asn1_core.specs.Writing.{Refuses}
 use Rattle.asn1_core.specs.declared.writer.Writer.{Writer}
 use Rattle.asn1_core.specs.declared.writer.WriteError.{WriteError}
 

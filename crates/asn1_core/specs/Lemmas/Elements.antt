@@ -8,7 +8,7 @@ use Rattle.asn1_core.specs.declared.tag.Tag.{Tag}
 use Rattle.asn1_core.specs.Text.{IsText}
 use Rattle.asn1_core.specs.Tag.{tag_text, tag_front, IsTagFront}
 use Rattle.asn1_core.specs.Length.{length_text, length_front, IsLengthFront}
-use Rattle.asn1_core.specs.Element.{Element, element_text, IsReadable, IsFront, front}
+use Rattle.asn1_core.specs.Element.{Element, element_text, IsReadable, IsFront, content_front, front}
 use Rattle.asn1_core.specs.Lemmas.Tags.{TagFront, tag_ok, tag_only, tag_is, tag_has_octets, tag_some}
 use Rattle.asn1_core.specs.Lemmas.Lengths.{LengthFront, length_ok, length_only, length_is, length_big}
 use Rattle.asn1_core.specs.Lemmas.Texts.{IsText-rest}
@@ -25,13 +25,15 @@ pub front_length : (text : List ℕ) (tag : Tag) (after : List ℕ) (kind : Pars
 unfolding front
 front_length text tag after kind e f = rw (e, f) refl
 
-pub front_short : (text : List ℕ) (tag : Tag) (after : List ℕ) (n : ℕ) (rest : List ℕ) → tag_front text ≡ Ok (tag, after) → length_front after ≡ Ok (n, rest) → length rest < n → front text ≡ Err (ShortData (n - length rest))
+pub front_content : (text : List ℕ) (tag : Tag) (after : List ℕ) (n : ℕ) (rest : List ℕ) → tag_front text ≡ Ok (tag, after) → length_front after ≡ Ok (n, rest) → front text ≡ content_front tag n rest
 unfolding front
-front_short text tag after n rest e f l = rw (e, f, lt-ltb (length rest) n l) refl
+front_content text tag after n rest e f = rw (e, f) refl
+
+pub front_short : (text : List ℕ) (tag : Tag) (after : List ℕ) (n : ℕ) (rest : List ℕ) → tag_front text ≡ Ok (tag, after) → length_front after ≡ Ok (n, rest) → length rest < n → front text ≡ Err (ShortData (n - length rest))
+front_short text tag after n rest e f l = front_content text tag after n rest e f ∙ rw (lt-ltb (length rest) n l) refl
 
 pub front_found : (text : List ℕ) (tag : Tag) (after : List ℕ) (n : ℕ) (rest : List ℕ) → tag_front text ≡ Ok (tag, after) → length_front after ≡ Ok (n, rest) → n ≤ length rest → front text ≡ Ok (record { tag = tag; content = take n rest }, drop n rest)
-unfolding front
-front_found text tag after n rest e f l = rw (e, f, le-ltb (length rest) n l) refl
+front_found text tag after n rest e f l = front_content text tag after n rest e f ∙ rw (le-ltb (length rest) n l) refl
 
 -- the fields of an element, one after another
 pub regroup : (e : Element) (rest : List ℕ) → element_text e ++ rest ≡ tag_text e.tag ++ (length_text (length e.content) ++ (e.content ++ rest))

@@ -3,7 +3,7 @@ use Rattle.std.proofs.Common.{◌≡◌, ℕ, zero, suc, ◌+◌, ◌-◌, ◌*�
 use Rattle.std.specs.Prelude.{OnOk, is_ok}
 use Rattle.std.proofs.lemmas.Bool.{le-leb, lt-leb, le-ltb, lt-ltb, eq-eqb, ne_eqb, cases_lt, cases_eq, or_right}
 use Rattle.std.proofs.lemmas.Nat.{mul-add-lt, or_shifted, and_mask}
-use Rattle.std.proofs.lemmas.List.{length_push, length-drop, take_all, drop-set, length-append, length-take-le, take-append-drop, nil_from_length, take_more, take_at, drop_at, get_or_append_left}
+use Rattle.std.proofs.lemmas.List.{length_push, drop-set, length-append, length-take-le, take-append-drop, nil_from_length, take_more, take_at, drop_at, get_or_append_left}
 use Rattle.std.proofs.lemmas.Grind.{pow_more, or_after_shift, numeral_or}
 use Rattle.std.proofs.Math.Nat.{pow-suc, pow-le-pow_right}
 use Rattle.asn1_core.specs.declared.parser.ParseErrorKind.{ParseErrorKind}

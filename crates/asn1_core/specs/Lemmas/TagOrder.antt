@@ -1,8 +1,7 @@
 -- The order of tags, and of the elements that have them.
 use Rattle.std.proofs.Common.{◌≡◌, ℕ, ◌<◌, ◌^◌, ◌⊎◌, Bool, true, false, ◌&&◌, ◌||◌, eqb, ltb, ◌++◌, length, Some, refl, inl, inr}
 use Rattle.std.proofs.lemmas.Bool.{and_parts, ltb-true, lt-ltb, eqb-true, eq-eqb}
-use Rattle.asn1_core.specs.Tag.{tag_class, tag_number, class_number}
-use Rattle.asn1_core.specs.TagOrder.{tag_before, TagOrderIsAnswered, tag_in_front, tag_less}
+use Rattle.asn1_core.specs.Tag.{tag_class, tag_number, class_number, tag_before, TagOrderIsAnswered, tag_in_front, tag_less}
 use Rattle.asn1_core.specs.Length.{length_text}
 use Rattle.asn1_core.specs.Element.{Element, element_text}
 use Rattle.asn1_core.specs.Lemmas.Tags.{tag_ok}

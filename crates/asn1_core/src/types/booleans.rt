@@ -36,8 +36,6 @@ impl<'a> SimpleAsn1Readable<'a> for bool {
 impl SimpleAsn1Writable for bool {
     type Error = WriteError;
 
-    ghost write_errors = { λ _ _. ⊥ };
-
     fn tag() -> Tag {
         Tag::primitive(0x01)
     }

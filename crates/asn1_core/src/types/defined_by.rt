@@ -4,8 +4,7 @@ ghost use Rattle.std.specs.Prelude.{◌≡◌, OnOk, OnErr, IfErr};
 ghost use Rattle.asn1_core.specs.Buffer.{Appends, KeepsFront};
 ghost use Rattle.asn1_core.specs.Reading.{EndsWith};
 ghost use Rattle.asn1_core.specs.Reads.{ReadsDefined};
-ghost use Rattle.asn1_core.specs.Writers.{buffer_name, octets_of};
-ghost use Rattle.asn1_core.specs.Writing.{KnowsLength, Refuses};
+ghost use Rattle.asn1_core.specs.Writing.{buffer_name, octets_of, KnowsLength, Refuses};
 ghost use Rattle.asn1_core.specs.DefinedBy.{ByItem};
 
 use crate::parser::{ParseResult, Parser};
@@ -44,7 +43,7 @@ pub trait Asn1DefinedByWritable<T: Asn1Writable>: Asn1DefinedBy<T> + Sized {
     type Error: From<WriteError>;
 
     // The errors that a write may return, beside being out of memory.
-    ghost write_errors_by: { Self → Self.Error → Type 0 };
+    ghost write_errors_by: { Self → Self.Error → Type 0 } = { λ _ _. ⊥ };
 
     /// The item that defines the value.
     fn item(&self) -> T

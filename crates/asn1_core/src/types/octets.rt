@@ -41,8 +41,6 @@ impl<'a> SimpleAsn1Readable<'a> for () {
 impl SimpleAsn1Writable for () {
     type Error = WriteError;
 
-    ghost write_errors = { λ _ _. ⊥ };
-
     fn tag() -> Tag {
         Tag::primitive(0x05)
     }
@@ -95,8 +93,6 @@ impl<'a> SimpleAsn1Readable<'a> for &'a [u8] {
 impl SimpleAsn1Writable for &[u8] {
     type Error = WriteError;
 
-    ghost write_errors = { λ _ _. ⊥ };
-
     fn tag() -> Tag
         ensures value { result ≡ universal 4 }
         ensures simple { Unit {0} }
@@ -141,8 +137,6 @@ impl<'a, const N: usize> SimpleAsn1Readable<'a> for [u8; N] {
 
 impl<const N: usize> SimpleAsn1Writable for [u8; N] {
     type Error = WriteError;
-
-    ghost write_errors = { λ _ _. ⊥ };
 
     fn tag() -> Tag {
         Tag::primitive(0x04)

@@ -87,8 +87,6 @@ impl Asn1Writable for &Tlv<'_> {
 
     type Error = WriteError;
 
-    ghost write_errors = { λ _ _. ⊥ };
-
     #[inline]
     fn write(&self, dest: &mut Writer<'_>) -> WriteResult<()> {
         (**self).write(dest)

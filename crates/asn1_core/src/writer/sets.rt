@@ -3,14 +3,13 @@
 ghost use Rattle.std.specs.Prelude.{◌≡◌, ◌++◌, [], length, map, All, IsPermutation, None, true, IfSome, OnOk, OnErr, IfErr, IsOkUnless, ◌⊎◌};
 ghost use Rattle.std.specs.List.Sorted.{IsSortedBy};
 ghost use Rattle.asn1_core.specs.Buffer.{Appends, KeepsFront};
-ghost use Rattle.asn1_core.specs.Writing.{Refuses};
+ghost use Rattle.asn1_core.specs.Writing.{Refuses, set_closure, set_items};
 ghost use Rattle.asn1_core.specs.Der.{IsWritable, simple_der};
 ghost use Rattle.asn1_core.specs.Items.{Each, AnyNames, set_tag};
 ghost use Rattle.asn1_core.specs.Listing.{join, ListingOf};
 ghost use Rattle.asn1_core.specs.SetWriting.{StandsBehind, AddsTo, IsElementWritten, IsOutOfOrder, KeepsElements, SetContent, MayRefuseSet, set_closure_written};
-ghost use Rattle.asn1_core.specs.TagOrder.{tag_in_front, before_tag};
+ghost use Rattle.asn1_core.specs.Tag.{tag_in_front, before_tag};
 ghost use Rattle.asn1_core.specs.Spans.{part_of, first_number, span_cmp, IsBefore, IsWithin, NotesFirst, NotesTexts};
-ghost use Rattle.asn1_core.specs.Writers.{set_closure, set_items};
 ghost use Rattle.asn1_core.specs.Written.{listing_written};
 ghost use Rattle.asn1_core.specs.declared.writer.WriteError.TheVariants.{AllocationError, InvalidSetOrdering};
 

@@ -8,7 +8,6 @@ ghost use Rattle.asn1_core.specs.Reading.{Answers};
 ghost use Rattle.asn1_core.specs.Writing.{KnowsLength};
 ghost use Rattle.asn1_core.specs.Der.{simple_der};
 ghost use Rattle.asn1_values.specs.Big.{IsSigned, IsUnsigned, IsSignedForm, IsUnsignedForm, IsMagnitude, bit_count, magnitude, read_unsigned};
-ghost use Rattle.asn1_values.specs.BigContents.{signed_content, unsigned_content};
 
 use asn1_core::types::is_integer_content;
 use asn1_core::{
@@ -62,7 +61,7 @@ impl fmt::Debug for BigUint<'_> {
 }
 
 impl<'a> Asn1Type for BigUint<'a> {
-    ghost use Rattle.asn1_values.specs.Values.{big_uint_number};
+    ghost use Rattle.asn1_values.specs.Values.{big_uint_number, unsigned_content};
 
     ghost der = { simple_der big_uint_number unsigned_content };
 
@@ -92,11 +91,9 @@ impl<'a> SimpleAsn1Readable<'a> for BigUint<'a> {
 }
 
 impl SimpleAsn1Writable for BigUint<'_> {
-    ghost use Rattle.asn1_values.specs.Values.{big_uint_number};
+    ghost use Rattle.asn1_values.specs.Values.{big_uint_number, unsigned_content};
 
     type Error = WriteError;
-
-    ghost write_errors = { λ _ _. ⊥ };
 
     fn tag() -> Tag
         ensures value { result ≡ universal 2 }
@@ -176,7 +173,7 @@ impl fmt::Debug for BigInt<'_> {
 }
 
 impl<'a> Asn1Type for BigInt<'a> {
-    ghost use Rattle.asn1_values.specs.Values.{big_int_number};
+    ghost use Rattle.asn1_values.specs.Values.{big_int_number, signed_content};
 
     ghost der = { simple_der big_int_number signed_content };
 
@@ -206,11 +203,9 @@ impl<'a> SimpleAsn1Readable<'a> for BigInt<'a> {
 }
 
 impl SimpleAsn1Writable for BigInt<'_> {
-    ghost use Rattle.asn1_values.specs.Values.{big_int_number};
+    ghost use Rattle.asn1_values.specs.Values.{big_int_number, signed_content};
 
     type Error = WriteError;
-
-    ghost write_errors = { λ _ _. ⊥ };
 
     fn tag() -> Tag
         ensures value { result ≡ universal 2 }

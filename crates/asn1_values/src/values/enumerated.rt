@@ -19,7 +19,7 @@ use std::alloc::Global;
 pub struct Enumerated(u32);
 
 impl Enumerated {
-    ghost use Rattle.asn1_values.specs.Enumerated.{enumerated_value};
+    ghost use Rattle.asn1_values.specs.Values.{enumerated_value};
 
     /// The value with this number.
     pub fn new(value: u32) -> Enumerated
@@ -37,7 +37,7 @@ impl Enumerated {
 }
 
 impl Asn1Type for Enumerated {
-    ghost use Rattle.asn1_values.specs.Enumerated.{enumerated_value};
+    ghost use Rattle.asn1_values.specs.Values.{enumerated_value};
 
     ghost der = { simple_der (λ e. pos (enumerated_value e))
         (sized_content (universal 10) (pos 0) (pos (2 ^ 32) -ℤ pos 1)) };
@@ -61,11 +61,9 @@ impl<'a> SimpleAsn1Readable<'a> for Enumerated {
 }
 
 impl SimpleAsn1Writable for Enumerated {
-    ghost use Rattle.asn1_values.specs.Enumerated.{enumerated_value};
+    ghost use Rattle.asn1_values.specs.Values.{enumerated_value};
 
     type Error = WriteError;
-
-    ghost write_errors = { λ _ _. ⊥ };
 
     fn tag() -> Tag {
         Tag::primitive(0x0a)

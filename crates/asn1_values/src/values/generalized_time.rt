@@ -6,8 +6,6 @@ ghost use Rattle.asn1_core.specs.declared.parser.ParseErrorKind.TheVariants.{Inv
 ghost use Rattle.asn1_core.specs.Fault.{fault};
 ghost use Rattle.asn1_core.specs.Der.{simple_der};
 ghost use Rattle.asn1_values.specs.Times.{IsNanoseconds, instant, instant_text};
-ghost use Rattle.asn1_values.specs.TimeContents.{instant_content};
-ghost use Rattle.asn1_values.specs.DateTimes.{moment};
 
 use crate::values::DateTime;
 use crate::values::time_digits::general_octets;
@@ -35,7 +33,7 @@ pub struct GeneralizedTime {
 }
 
 impl GeneralizedTime {
-    ghost use Rattle.asn1_values.specs.GeneralizedTimes.{instant_of};
+    ghost use Rattle.asn1_values.specs.TimeValues.{instant_of, moment};
 
     /// The time. The error is `InvalidValue`, without a location, where the year is after 9999, or there are
     /// nanoseconds and they are 0 or above 999999999.
@@ -70,7 +68,7 @@ impl GeneralizedTime {
 
 /// Takes no memory, and never fails.
 impl Clone for GeneralizedTime {
-    ghost use Rattle.asn1_values.specs.GeneralizedTimes.{instant_of};
+    ghost use Rattle.asn1_values.specs.TimeValues.{instant_of};
 
     ghost is_clone = { λ x y. instant_of y ≡ instant_of x };
 
@@ -86,7 +84,7 @@ impl Clone for GeneralizedTime {
 }
 
 impl Asn1Type for GeneralizedTime {
-    ghost use Rattle.asn1_values.specs.GeneralizedTimes.{instant_of};
+    ghost use Rattle.asn1_values.specs.TimeValues.{instant_of, instant_content};
 
     ghost der = { simple_der instant_of instant_content };
 
@@ -111,11 +109,9 @@ impl<'a> SimpleAsn1Readable<'a> for GeneralizedTime {
 }
 
 impl SimpleAsn1Writable for GeneralizedTime {
-    ghost use Rattle.asn1_values.specs.GeneralizedTimes.{instant_of};
+    ghost use Rattle.asn1_values.specs.TimeValues.{instant_of};
 
     type Error = WriteError;
-
-    ghost write_errors = { λ _ _. ⊥ };
 
     fn tag() -> Tag {
         Tag::primitive(0x18)

@@ -5,7 +5,6 @@ ghost use Rattle.asn1_core.specs.Integer.{integer_content};
 ghost use Rattle.asn1_core.specs.Der.{simple_der};
 ghost use Rattle.asn1_core.specs.Boxed.{boxed};
 ghost use Rattle.asn1_values.specs.Big.{IsSigned, IsUnsigned, IsSignedForm, IsUnsignedForm, bit_count};
-ghost use Rattle.asn1_values.specs.BigContents.{signed_content, unsigned_content};
 
 use crate::values::big::{bit_length, is_negative, is_signed_content, is_unsigned_content};
 use asn1_core::{
@@ -70,7 +69,7 @@ impl fmt::Debug for OwnedBigUint {
 }
 
 impl Asn1Type for OwnedBigUint {
-    ghost use Rattle.asn1_values.specs.Values.{owned_big_uint_number};
+    ghost use Rattle.asn1_values.specs.Values.{owned_big_uint_number, unsigned_content};
 
     ghost der = { simple_der owned_big_uint_number (boxed unsigned_content) };
 
@@ -98,8 +97,6 @@ impl SimpleAsn1Writable for OwnedBigUint {
     ghost use Rattle.asn1_values.specs.Values.{owned_big_uint_number};
 
     type Error = WriteError;
-
-    ghost write_errors = { λ _ _. ⊥ };
 
     fn tag() -> Tag {
         Tag::primitive(0x02)
@@ -186,7 +183,7 @@ impl fmt::Debug for OwnedBigInt {
 }
 
 impl Asn1Type for OwnedBigInt {
-    ghost use Rattle.asn1_values.specs.Values.{owned_big_int_number};
+    ghost use Rattle.asn1_values.specs.Values.{owned_big_int_number, signed_content};
 
     ghost der = { simple_der owned_big_int_number (boxed signed_content) };
 
@@ -214,8 +211,6 @@ impl SimpleAsn1Writable for OwnedBigInt {
     ghost use Rattle.asn1_values.specs.Values.{owned_big_int_number};
 
     type Error = WriteError;
-
-    ghost write_errors = { λ _ _. ⊥ };
 
     fn tag() -> Tag {
         Tag::primitive(0x02)

@@ -6,7 +6,6 @@ ghost use Rattle.asn1_core.specs.Reading.{Answers};
 ghost use Rattle.asn1_core.specs.Writing.{KnowsLength};
 ghost use Rattle.asn1_core.specs.Der.{simple_der};
 ghost use Rattle.asn1_values.specs.Texts.{is_printable, is_printable_text, is_ia5_text, is_visible_text, is_utf8_text, IsTextOf, read_text};
-ghost use Rattle.asn1_values.specs.TextContents.{printable_content, ia5_content, visible_content, utf8_content};
 
 use asn1_core::{
     Asn1Type, ParseError, ParseErrorKind, ParseResult, SimpleAsn1Readable, SimpleAsn1Writable, Tag,
@@ -116,7 +115,7 @@ impl fmt::Debug for PrintableString<'_> {
 }
 
 impl<'a> Asn1Type for PrintableString<'a> {
-    ghost use Rattle.asn1_values.specs.TextValues.{printable_octets};
+    ghost use Rattle.asn1_values.specs.TextValues.{printable_octets, printable_content};
 
     ghost der = { simple_der printable_octets printable_content };
 
@@ -147,11 +146,9 @@ impl<'a> SimpleAsn1Readable<'a> for PrintableString<'a> {
 }
 
 impl SimpleAsn1Writable for PrintableString<'_> {
-    ghost use Rattle.asn1_values.specs.TextValues.{printable_octets};
+    ghost use Rattle.asn1_values.specs.TextValues.{printable_octets, printable_content};
 
     type Error = WriteError;
-
-    ghost write_errors = { λ _ _. ⊥ };
 
     fn tag() -> Tag
         ensures value { result ≡ universal 19 }
@@ -222,7 +219,7 @@ impl fmt::Debug for IA5String<'_> {
 }
 
 impl<'a> Asn1Type for IA5String<'a> {
-    ghost use Rattle.asn1_values.specs.TextValues.{ia5_octets};
+    ghost use Rattle.asn1_values.specs.TextValues.{ia5_octets, ia5_content};
 
     ghost der = { simple_der ia5_octets ia5_content };
 
@@ -252,11 +249,9 @@ impl<'a> SimpleAsn1Readable<'a> for IA5String<'a> {
 }
 
 impl SimpleAsn1Writable for IA5String<'_> {
-    ghost use Rattle.asn1_values.specs.TextValues.{ia5_octets};
+    ghost use Rattle.asn1_values.specs.TextValues.{ia5_octets, ia5_content};
 
     type Error = WriteError;
-
-    ghost write_errors = { λ _ _. ⊥ };
 
     fn tag() -> Tag
         ensures value { result ≡ universal 22 }
@@ -327,7 +322,7 @@ impl fmt::Debug for VisibleString<'_> {
 }
 
 impl<'a> Asn1Type for VisibleString<'a> {
-    ghost use Rattle.asn1_values.specs.TextValues.{visible_octets};
+    ghost use Rattle.asn1_values.specs.TextValues.{visible_octets, visible_content};
 
     ghost der = { simple_der visible_octets visible_content };
 
@@ -358,11 +353,9 @@ impl<'a> SimpleAsn1Readable<'a> for VisibleString<'a> {
 }
 
 impl SimpleAsn1Writable for VisibleString<'_> {
-    ghost use Rattle.asn1_values.specs.TextValues.{visible_octets};
+    ghost use Rattle.asn1_values.specs.TextValues.{visible_octets, visible_content};
 
     type Error = WriteError;
-
-    ghost write_errors = { λ _ _. ⊥ };
 
     fn tag() -> Tag
         ensures value { result ≡ universal 26 }
@@ -429,7 +422,7 @@ impl fmt::Debug for Utf8String<'_> {
 }
 
 impl<'a> Asn1Type for Utf8String<'a> {
-    ghost use Rattle.asn1_values.specs.TextValues.{utf8_octets};
+    ghost use Rattle.asn1_values.specs.TextValues.{utf8_octets, utf8_content};
 
     ghost der = { simple_der utf8_octets utf8_content };
 
@@ -459,11 +452,9 @@ impl<'a> SimpleAsn1Readable<'a> for Utf8String<'a> {
 }
 
 impl SimpleAsn1Writable for Utf8String<'_> {
-    ghost use Rattle.asn1_values.specs.TextValues.{utf8_octets};
+    ghost use Rattle.asn1_values.specs.TextValues.{utf8_octets, utf8_content};
 
     type Error = WriteError;
-
-    ghost write_errors = { λ _ _. ⊥ };
 
     fn tag() -> Tag
         ensures value { result ≡ universal 12 }

@@ -5,8 +5,6 @@ ghost use Rattle.std.specs.Prelude.{◌≡◌, ◌≤◌, ⊤, Some, MatchResult
 ghost use Rattle.asn1_core.specs.declared.parser.ParseErrorKind.TheVariants.{InvalidValue};
 ghost use Rattle.asn1_core.specs.Fault.{fault};
 ghost use Rattle.asn1_core.specs.Der.{simple_der};
-ghost use Rattle.asn1_values.specs.TimeContents.{utc_content, x509_content};
-ghost use Rattle.asn1_values.specs.DateTimes.{moment};
 
 use crate::values::DateTime;
 use crate::values::time_digits::{general_octets, utc, utc_octets, x509};
@@ -29,7 +27,7 @@ pub struct UtcTime {
 }
 
 impl UtcTime {
-    ghost use Rattle.asn1_values.specs.TimeValues.{utc_moment};
+    ghost use Rattle.asn1_values.specs.TimeValues.{utc_moment, moment};
 
     /// The time. The error is `InvalidValue`, without a location, where the year is before 1950 or after 2049.
     pub fn new(datetime: DateTime) -> ParseResult<UtcTime>
@@ -72,7 +70,7 @@ impl fmt::Debug for UtcTime {
 }
 
 impl Asn1Type for UtcTime {
-    ghost use Rattle.asn1_values.specs.TimeValues.{utc_moment};
+    ghost use Rattle.asn1_values.specs.TimeValues.{utc_moment, utc_content};
 
     ghost der = { simple_der utc_moment utc_content };
 
@@ -95,8 +93,6 @@ impl<'a> SimpleAsn1Readable<'a> for UtcTime {
 
 impl SimpleAsn1Writable for UtcTime {
     type Error = WriteError;
-
-    ghost write_errors = { λ _ _. ⊥ };
 
     fn tag() -> Tag {
         Tag::primitive(0x17)
@@ -125,7 +121,7 @@ pub struct X509GeneralizedTime {
 }
 
 impl X509GeneralizedTime {
-    ghost use Rattle.asn1_values.specs.TimeValues.{x509_moment};
+    ghost use Rattle.asn1_values.specs.TimeValues.{x509_moment, moment};
 
     /// The time. The error is `InvalidValue`, without a location, where the year is after 9999.
     pub fn new(datetime: DateTime) -> ParseResult<X509GeneralizedTime>
@@ -169,7 +165,7 @@ impl fmt::Debug for X509GeneralizedTime {
 }
 
 impl Asn1Type for X509GeneralizedTime {
-    ghost use Rattle.asn1_values.specs.TimeValues.{x509_moment};
+    ghost use Rattle.asn1_values.specs.TimeValues.{x509_moment, x509_content};
 
     ghost der = { simple_der x509_moment x509_content };
 
@@ -192,8 +188,6 @@ impl<'a> SimpleAsn1Readable<'a> for X509GeneralizedTime {
 
 impl SimpleAsn1Writable for X509GeneralizedTime {
     type Error = WriteError;
-
-    ghost write_errors = { λ _ _. ⊥ };
 
     fn tag() -> Tag {
         Tag::primitive(0x18)

@@ -8,7 +8,6 @@ ghost use Rattle.asn1_core.specs.Reading.{Answers};
 ghost use Rattle.asn1_core.specs.Writing.{KnowsLength};
 ghost use Rattle.asn1_core.specs.Der.{simple_der};
 ghost use Rattle.asn1_values.specs.Texts.{is_paired, is_utf16_text, fours, is_utf32_text, IsTextOf, read_text};
-ghost use Rattle.asn1_values.specs.TextContents.{utf16_content, utf32_content};
 
 use asn1_core::{
     Asn1Type, ParseError, ParseErrorKind, ParseResult, SimpleAsn1Readable, SimpleAsn1Writable, Tag,
@@ -97,7 +96,7 @@ pub struct BMPString<'a> {
 }
 
 impl<'a> BMPString<'a> {
-    ghost use Rattle.asn1_values.specs.WideTexts.{bmp_octets};
+    ghost use Rattle.asn1_values.specs.TextValues.{bmp_octets};
 
     /// The string with these octets. `None` where their number is odd, or a surrogate has no partner.
     pub fn new(octets: &'a [u8]) -> Option<BMPString<'a>>
@@ -120,7 +119,7 @@ impl<'a> BMPString<'a> {
 
 /// Takes no memory, and never fails.
 impl<'a> Clone for BMPString<'a> {
-    ghost use Rattle.asn1_values.specs.WideTexts.{bmp_octets};
+    ghost use Rattle.asn1_values.specs.TextValues.{bmp_octets};
 
     ghost is_clone = { λ x y. bmp_octets y ≡ bmp_octets x };
 
@@ -140,7 +139,7 @@ impl fmt::Debug for BMPString<'_> {
 }
 
 impl<'a> Asn1Type for BMPString<'a> {
-    ghost use Rattle.asn1_values.specs.WideTexts.{bmp_octets};
+    ghost use Rattle.asn1_values.specs.TextValues.{bmp_octets, utf16_content};
 
     ghost der = { simple_der bmp_octets utf16_content };
 
@@ -148,7 +147,7 @@ impl<'a> Asn1Type for BMPString<'a> {
 }
 
 impl<'a> SimpleAsn1Readable<'a> for BMPString<'a> {
-    ghost use Rattle.asn1_values.specs.WideTexts.{bmp_octets};
+    ghost use Rattle.asn1_values.specs.TextValues.{bmp_octets};
 
     fn tag() -> Tag
         ensures value { result ≡ universal 30 }
@@ -170,11 +169,9 @@ impl<'a> SimpleAsn1Readable<'a> for BMPString<'a> {
 }
 
 impl SimpleAsn1Writable for BMPString<'_> {
-    ghost use Rattle.asn1_values.specs.WideTexts.{bmp_octets};
+    ghost use Rattle.asn1_values.specs.TextValues.{bmp_octets, utf16_content};
 
     type Error = WriteError;
-
-    ghost write_errors = { λ _ _. ⊥ };
 
     fn tag() -> Tag
         ensures value { result ≡ universal 30 }
@@ -205,7 +202,7 @@ pub struct UniversalString<'a> {
 }
 
 impl<'a> UniversalString<'a> {
-    ghost use Rattle.asn1_values.specs.WideTexts.{universal_octets};
+    ghost use Rattle.asn1_values.specs.TextValues.{universal_octets};
 
     /// The string with these octets. `None` where their number isn't a multiple of four, or four of them are above
     /// 0x10ffff or a surrogate (0xd800 to 0xdfff).
@@ -229,7 +226,7 @@ impl<'a> UniversalString<'a> {
 
 /// Takes no memory, and never fails.
 impl<'a> Clone for UniversalString<'a> {
-    ghost use Rattle.asn1_values.specs.WideTexts.{universal_octets};
+    ghost use Rattle.asn1_values.specs.TextValues.{universal_octets};
 
     ghost is_clone = { λ x y. universal_octets y ≡ universal_octets x };
 
@@ -251,7 +248,7 @@ impl fmt::Debug for UniversalString<'_> {
 }
 
 impl<'a> Asn1Type for UniversalString<'a> {
-    ghost use Rattle.asn1_values.specs.WideTexts.{universal_octets};
+    ghost use Rattle.asn1_values.specs.TextValues.{universal_octets, utf32_content};
 
     ghost der = { simple_der universal_octets utf32_content };
 
@@ -259,7 +256,7 @@ impl<'a> Asn1Type for UniversalString<'a> {
 }
 
 impl<'a> SimpleAsn1Readable<'a> for UniversalString<'a> {
-    ghost use Rattle.asn1_values.specs.WideTexts.{universal_octets};
+    ghost use Rattle.asn1_values.specs.TextValues.{universal_octets};
 
     fn tag() -> Tag
         ensures value { result ≡ universal 28 }
@@ -282,11 +279,9 @@ impl<'a> SimpleAsn1Readable<'a> for UniversalString<'a> {
 }
 
 impl SimpleAsn1Writable for UniversalString<'_> {
-    ghost use Rattle.asn1_values.specs.WideTexts.{universal_octets};
+    ghost use Rattle.asn1_values.specs.TextValues.{universal_octets, utf32_content};
 
     type Error = WriteError;
-
-    ghost write_errors = { λ _ _. ⊥ };
 
     fn tag() -> Tag
         ensures value { result ≡ universal 28 }

@@ -73,8 +73,6 @@ impl<'a> SimpleAsn1Readable<'a> for Entry {
 impl SimpleAsn1Writable for Entry {
     type Error = WriteError;
 
-    ghost write_errors = { λ _ _. ⊥ };
-
     fn tag() -> Tag {
         Tag::constructed(0x10)
     }

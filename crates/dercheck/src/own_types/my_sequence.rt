@@ -4,10 +4,9 @@ ghost use Rattle.std.specs.Prelude.{◌≡◌, ◌∷◌, [], codes};
 ghost use Rattle.asn1.specs.IdentifierValues.{identifier_of};
 ghost use Rattle.asn1.specs.ItemsAndValues.{by_item, word_for_word};
 ghost use Rattle.asn1.specs.Structures.{structure};
-ghost use Rattle.dercheck.specs.MySequence.{are_some, some_numbers, content_both};
+ghost use Rattle.dercheck.specs.MySequence.{some_numbers, content_both};
 
-use asn1::fields::{DefinedField, Item, LastValue, Row};
-use asn1::laws::identifiers_compare;
+use asn1::fields::{DefinedField, Item, LastValue, Row, is_identifier, known_identifier};
 use asn1::{
     Asn1DefinedBy, Asn1DefinedByReadable, Asn1DefinedByWritable, Asn1Type, Asn1Writable,
     DefinedByMarker, ObjectIdentifier, ParseError, ParseErrorKind, ParseResult, Parser,
@@ -20,19 +19,7 @@ use std::alloc::Global;
 pub fn some_oid() -> ObjectIdentifier
     ensures { identifier_of result ≡ some_numbers }
 {
-    let mut octets = [0; 63];
-    octets[0] = 0x2a;
-    octets[1] = 0x03;
-    ObjectIdentifier::from_der_unchecked(octets, 2)
-}
-
-/// Whether this is the object identifier of the one variant.
-fn is_some_oid(item: &ObjectIdentifier) -> bool
-    ensures { result ≡ are_some (identifier_of item.now) }
-{
-    // Says that object identifiers are equal exactly where their numbers are.
-    identifiers_compare();
-    *item == some_oid()
+    known_identifier(b"\x2a\x03")
 }
 
 /// What follows the object identifier.
@@ -64,7 +51,7 @@ impl DefinedField<ObjectIdentifier> for Content {
 
 impl<'a> Asn1DefinedByReadable<'a, ObjectIdentifier> for Content {
     fn parse(item: ObjectIdentifier, parser: &mut Parser<'a>) -> ParseResult<Content> {
-        if !is_some_oid(&item) {
+        if !is_identifier(&item, some_oid()) {
             return Err(ParseError::new(ParseErrorKind::UnknownDefinedBy));
         }
         Ok(Content::SomeVariant(parser.read_element::<i32>()?))
@@ -75,8 +62,6 @@ impl<'a> Asn1DefinedByReadable<'a, ObjectIdentifier> for Content {
 
 impl Asn1DefinedByWritable<ObjectIdentifier> for Content {
     type Error = WriteError;
-
-    ghost write_errors_by = { λ _ _. ⊥ };
 
     fn item(&self) -> ObjectIdentifier {
         match self {
@@ -135,8 +120,6 @@ impl<'a> SimpleAsn1Readable<'a> for MySequence {
 
 impl SimpleAsn1Writable for MySequence {
     type Error = WriteError;
-
-    ghost write_errors = { λ _ _. ⊥ };
 
     fn tag() -> Tag {
         Tag::constructed(0x10)

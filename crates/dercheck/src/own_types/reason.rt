@@ -42,8 +42,6 @@ impl<'a> SimpleAsn1Readable<'a> for Reason {
 impl SimpleAsn1Writable for Reason {
     type Error = WriteError;
 
-    ghost write_errors = { λ _ _. ⊥ };
-
     fn tag() -> Tag {
         Tag::primitive(0x0a)
     }

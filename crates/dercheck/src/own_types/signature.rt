@@ -43,8 +43,6 @@ impl<'a> SimpleAsn1Readable<'a> for Signature {
 impl SimpleAsn1Writable for Signature {
     type Error = WriteError;
 
-    ghost write_errors = { λ _ _. ⊥ };
-
     fn tag() -> Tag {
         Tag::constructed(0x10)
     }

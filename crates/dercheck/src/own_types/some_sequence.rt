@@ -55,8 +55,6 @@ impl<'a> SimpleAsn1Readable<'a> for SomeSequence<'a> {
 impl<'a> SimpleAsn1Writable for SomeSequence<'a> {
     type Error = WriteError;
 
-    ghost write_errors = { λ _ _. ⊥ };
-
     fn tag() -> Tag
         ensures value { result ≡ ⟦<SomeSequence<'a> as Asn1Type>⟧.der.content.tag }
         ensures simple { ⟦<SomeSequence<'a> as Asn1Type>⟧.der.is_simple }

@@ -49,8 +49,6 @@ impl<'a> Asn1Readable<'a> for Time {
 impl Asn1Writable for Time {
     type Error = WriteError;
 
-    ghost write_errors = { λ _ _. ⊥ };
-
     fn write(&self, dest: &mut Writer<'_>) -> WriteResult<()> {
         match self {
             Time::UTCTime(time) => dest.write_element(time),

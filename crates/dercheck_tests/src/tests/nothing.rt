@@ -38,8 +38,6 @@ impl<'a> SimpleAsn1Readable<'a> for Nothing {
 impl SimpleAsn1Writable for Nothing {
     type Error = WriteError;
 
-    ghost write_errors = { λ _ _. ⊥ };
-
     fn tag() -> Tag {
         Tag::constructed(0x10)
     }

@@ -70,8 +70,6 @@ impl<'a> SimpleAsn1Readable<'a> for Notice {
 impl SimpleAsn1Writable for Notice {
     type Error = WriteError;
 
-    ghost write_errors = { λ _ _. ⊥ };
-
     fn tag() -> Tag {
         Tag::constructed(0x10)
     }
@@ -134,8 +132,6 @@ impl<'a> SimpleAsn1Readable<'a> for Letter {
 
 impl SimpleAsn1Writable for Letter {
     type Error = WriteError;
-
-    ghost write_errors = { λ _ _. ⊥ };
 
     fn tag() -> Tag {
         Tag::constructed(0x10)

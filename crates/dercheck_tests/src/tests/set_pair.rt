@@ -45,8 +45,6 @@ impl<'a> SimpleAsn1Readable<'a> for Pair {
 impl SimpleAsn1Writable for Pair {
     type Error = WriteError;
 
-    ghost write_errors = { λ _ _. ⊥ };
-
     fn tag() -> Tag {
         Tag::constructed(0x11)
     }

@@ -51,8 +51,6 @@ impl<'a> SimpleAsn1Readable<'a> for Ticket<'a> {
 impl<'a> SimpleAsn1Writable for Ticket<'a> {
     type Error = WriteError;
 
-    ghost write_errors = { λ _ _. ⊥ };
-
     fn tag() -> Tag
         ensures value { result ≡ ⟦<Ticket<'a> as Asn1Type>⟧.der.content.tag }
         ensures simple { ⟦<Ticket<'a> as Asn1Type>⟧.der.is_simple }

@@ -1,5 +1,5 @@
 //! Where other data of an issuer is (RFC 5280, 4.2.2.1).
-// Printed by scripts/derive from declarations/certificate/access.rs, with the sum c6417fa7.
+// Printed by scripts/derive from declarations/certificate/access.rs, with the sum bf4ffa42.
 
 ghost use Rattle.std.specs.Prelude.{◌≡◌, ◌∷◌, [], codes};
 ghost use Rattle.asn1.specs.Reads.{HasOneEncoding, ReadsContents};
@@ -54,8 +54,6 @@ impl<'a> SimpleAsn1Readable<'a> for AccessDescription<'a> {
 
 impl<'a> SimpleAsn1Writable for AccessDescription<'a> {
     type Error = WriteError;
-
-    ghost write_errors = { λ _ _. ⊥ };
 
     fn tag() -> Tag
         ensures value { result ≡ ⟦<AccessDescription<'a> as Asn1Type>⟧.der.content.tag }

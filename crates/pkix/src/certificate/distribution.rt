@@ -1,5 +1,5 @@
 //! Where revocation lists are found: the CRL distribution points of a certificate (RFC 5280, 4.2.1.13).
-// Printed by scripts/derive from declarations/certificate/distribution.rs, with the sum a760bab2.
+// Printed by scripts/derive from declarations/certificate/distribution.rs, with the sum c56fa6b4.
 
 ghost use Rattle.std.specs.Prelude.{◌≡◌, ◌∷◌, [], codes, OnErr};
 ghost use Rattle.std.proofs.Common.{inl, inr};
@@ -82,8 +82,6 @@ impl<'a> Asn1Readable<'a> for DistributionPointName<'a> {
 
 impl<'a> Asn1Writable for DistributionPointName<'a> {
     type Error = WriteError;
-
-    ghost write_errors = { λ _ _. ⊥ };
 
     fn write(&self, dest: &mut Writer<'_>) -> WriteResult<()> {
         match self {
@@ -170,8 +168,6 @@ impl<'a> SimpleAsn1Readable<'a> for DistributionPoint<'a> {
 
 impl<'a> SimpleAsn1Writable for DistributionPoint<'a> {
     type Error = WriteError;
-
-    ghost write_errors = { λ _ _. ⊥ };
 
     fn tag() -> Tag
         ensures value { result ≡ ⟦<DistributionPoint<'a> as Asn1Type>⟧.der.content.tag }

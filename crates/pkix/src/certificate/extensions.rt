@@ -1,5 +1,5 @@
 //! Values of extensions (RFC 5280, 4.2.1 and 4.2.2): each type is what the octets of an extension hold.
-// Printed by scripts/derive from declarations/certificate/extensions.rs, with the sum a9e0749c.
+// Printed by scripts/derive from declarations/certificate/extensions.rs, with the sum 79f6f43e.
 
 ghost use Rattle.std.specs.Prelude.{◌≡◌, ◌∷◌, [], codes, false};
 ghost use Rattle.asn1.specs.Options.{option_meaning};
@@ -70,8 +70,6 @@ impl<'a> SimpleAsn1Readable<'a> for BasicConstraints<'a> {
 
 impl<'a> SimpleAsn1Writable for BasicConstraints<'a> {
     type Error = WriteError;
-
-    ghost write_errors = { λ _ _. ⊥ };
 
     fn tag() -> Tag
         ensures value { result ≡ ⟦<BasicConstraints<'a> as Asn1Type>⟧.der.content.tag }
@@ -152,8 +150,6 @@ impl<'a> SimpleAsn1Readable<'a> for AuthorityKeyIdentifier<'a> {
 
 impl<'a> SimpleAsn1Writable for AuthorityKeyIdentifier<'a> {
     type Error = WriteError;
-
-    ghost write_errors = { λ _ _. ⊥ };
 
     fn tag() -> Tag
         ensures value { result ≡ ⟦<AuthorityKeyIdentifier<'a> as Asn1Type>⟧.der.content.tag }

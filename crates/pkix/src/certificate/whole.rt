@@ -1,5 +1,5 @@
 //! Certificates (RFC 5280, 4.1).
-// Printed by scripts/derive from declarations/certificate/whole.rs, with the sum 6bcc3914.
+// Printed by scripts/derive from declarations/certificate/whole.rs, with the sum 87fba48b.
 
 ghost use Rattle.std.specs.Prelude.{◌≡◌, ◌∷◌, [], codes};
 ghost use Rattle.asn1.specs.Options.{option_meaning};
@@ -51,8 +51,6 @@ impl<'a> SimpleAsn1Readable<'a> for Validity {
 
 impl SimpleAsn1Writable for Validity {
     type Error = WriteError;
-
-    ghost write_errors = { λ _ _. ⊥ };
 
     fn tag() -> Tag {
         Tag::constructed(0x10)
@@ -171,8 +169,6 @@ impl<'a> SimpleAsn1Readable<'a> for TbsCertificate<'a> {
 impl<'a> SimpleAsn1Writable for TbsCertificate<'a> {
     type Error = WriteError;
 
-    ghost write_errors = { λ _ _. ⊥ };
-
     fn tag() -> Tag
         ensures value { result ≡ ⟦<TbsCertificate<'a> as Asn1Type>⟧.der.content.tag }
         ensures simple { ⟦<TbsCertificate<'a> as Asn1Type>⟧.der.is_simple }
@@ -242,8 +238,6 @@ impl<'a> SimpleAsn1Readable<'a> for Certificate<'a> {
 
 impl<'a> SimpleAsn1Writable for Certificate<'a> {
     type Error = WriteError;
-
-    ghost write_errors = { λ _ _. ⊥ };
 
     fn tag() -> Tag
         ensures value { result ≡ ⟦<Certificate<'a> as Asn1Type>⟧.der.content.tag }

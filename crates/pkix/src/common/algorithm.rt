@@ -1,5 +1,5 @@
 //! Algorithms and public keys (RFC 5280, 4.1.1.2 and 4.1.2.7).
-// Printed by scripts/derive from declarations/common/algorithm.rs, with the sum 39277462.
+// Printed by scripts/derive from declarations/common/algorithm.rs, with the sum 3480e394.
 
 ghost use Rattle.std.specs.Prelude.{◌≡◌, ◌∷◌, [], codes};
 ghost use Rattle.asn1.specs.Reads.{HasOneEncoding, ReadsContents};
@@ -56,8 +56,6 @@ impl<'a> SimpleAsn1Readable<'a> for AlgorithmIdentifier<'a> {
 
 impl<'a> SimpleAsn1Writable for AlgorithmIdentifier<'a> {
     type Error = WriteError;
-
-    ghost write_errors = { λ _ _. ⊥ };
 
     fn tag() -> Tag
         ensures value { result ≡ ⟦<AlgorithmIdentifier<'a> as Asn1Type>⟧.der.content.tag }
@@ -117,8 +115,6 @@ impl<'a> SimpleAsn1Readable<'a> for SubjectPublicKeyInfo<'a> {
 
 impl<'a> SimpleAsn1Writable for SubjectPublicKeyInfo<'a> {
     type Error = WriteError;
-
-    ghost write_errors = { λ _ _. ⊥ };
 
     fn tag() -> Tag
         ensures value { result ≡ ⟦<SubjectPublicKeyInfo<'a> as Asn1Type>⟧.der.content.tag }

@@ -1,5 +1,5 @@
 //! Extensions (RFC 5280, 4.1.2.9).
-// Printed by scripts/derive from declarations/common/extension.rs, with the sum 7ca0c377.
+// Printed by scripts/derive from declarations/common/extension.rs, with the sum 0507c635.
 
 ghost use Rattle.std.specs.Prelude.{◌≡◌, ◌∷◌, [], codes, false};
 ghost use Rattle.asn1.specs.Reads.{HasOneEncoding, ReadsContents};
@@ -70,8 +70,6 @@ impl<'a> SimpleAsn1Readable<'a> for Extension<'a> {
 
 impl<'a> SimpleAsn1Writable for Extension<'a> {
     type Error = WriteError;
-
-    ghost write_errors = { λ _ _. ⊥ };
 
     fn tag() -> Tag
         ensures value { result ≡ ⟦<Extension<'a> as Asn1Type>⟧.der.content.tag }

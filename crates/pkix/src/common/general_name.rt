@@ -1,5 +1,5 @@
 //! General names (RFC 5280, 4.2.1.6).
-// Printed by scripts/derive from declarations/common/general_name.rs, with the sum ef8cb838.
+// Printed by scripts/derive from declarations/common/general_name.rs, with the sum 714a1087.
 
 ghost use Rattle.std.specs.Prelude.{◌≡◌, ◌∷◌, [], codes, OnErr};
 ghost use Rattle.std.proofs.Common.{inl, inr};
@@ -62,8 +62,6 @@ impl<'a> SimpleAsn1Readable<'a> for OtherName<'a> {
 
 impl<'a> SimpleAsn1Writable for OtherName<'a> {
     type Error = WriteError;
-
-    ghost write_errors = { λ _ _. ⊥ };
 
     fn tag() -> Tag
         ensures value { result ≡ ⟦<OtherName<'a> as Asn1Type>⟧.der.content.tag }
@@ -132,8 +130,6 @@ impl<'a> SimpleAsn1Readable<'a> for EdiPartyName<'a> {
 
 impl<'a> SimpleAsn1Writable for EdiPartyName<'a> {
     type Error = WriteError;
-
-    ghost write_errors = { λ _ _. ⊥ };
 
     fn tag() -> Tag
         ensures value { result ≡ ⟦<EdiPartyName<'a> as Asn1Type>⟧.der.content.tag }
@@ -281,8 +277,6 @@ impl<'a> Asn1Readable<'a> for GeneralName<'a> {
 
 impl<'a> Asn1Writable for GeneralName<'a> {
     type Error = WriteError;
-
-    ghost write_errors = { λ _ _. ⊥ };
 
     fn write(&self, dest: &mut Writer<'_>) -> WriteResult<()> {
         match self {

@@ -102,8 +102,6 @@ impl<'a> SimpleAsn1Readable<'a> for NamedBits<'a> {
 impl<'a> SimpleAsn1Writable for NamedBits<'a> {
     type Error = WriteError;
 
-    ghost write_errors = { λ _ _. ⊥ };
-
     fn tag() -> Tag
         ensures value { result ≡ ⟦<NamedBits<'a> as Asn1Type>⟧.der.content.tag }
         ensures simple { ⟦<NamedBits<'a> as Asn1Type>⟧.der.is_simple }

@@ -1,5 +1,5 @@
 //! Names and attributes (RFC 5280, 4.1.2.4; RFC 2986, 4.1; RFC 5652, 5.3).
-// Printed by scripts/derive from declarations/common/names.rs, with the sum 1150455b.
+// Printed by scripts/derive from declarations/common/names.rs, with the sum adb4b9ca.
 
 ghost use Rattle.std.specs.Prelude.{◌≡◌, ◌∷◌, [], codes};
 ghost use Rattle.asn1.specs.Reads.{HasOneEncoding, ReadsContents};
@@ -55,8 +55,6 @@ impl<'a> SimpleAsn1Readable<'a> for AttributeTypeAndValue<'a> {
 
 impl<'a> SimpleAsn1Writable for AttributeTypeAndValue<'a> {
     type Error = WriteError;
-
-    ghost write_errors = { λ _ _. ⊥ };
 
     fn tag() -> Tag
         ensures value { result ≡ ⟦<AttributeTypeAndValue<'a> as Asn1Type>⟧.der.content.tag }
@@ -117,8 +115,6 @@ impl<'a> SimpleAsn1Readable<'a> for Attribute<'a> {
 
 impl<'a> SimpleAsn1Writable for Attribute<'a> {
     type Error = WriteError;
-
-    ghost write_errors = { λ _ _. ⊥ };
 
     fn tag() -> Tag
         ensures value { result ≡ ⟦<Attribute<'a> as Asn1Type>⟧.der.content.tag }

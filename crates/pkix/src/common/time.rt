@@ -1,5 +1,5 @@
 //! Times (RFC 5280, 4.1.2.5).
-// Printed by scripts/derive from declarations/common/time.rs, with the sum 55193dcb.
+// Printed by scripts/derive from declarations/common/time.rs, with the sum 6c4797bf.
 
 ghost use Rattle.std.proofs.Common.{inl, inr};
 ghost use Rattle.asn1.specs.Choices.{choice_der, only, or};
@@ -54,8 +54,6 @@ impl<'a> Asn1Readable<'a> for Time {
 
 impl Asn1Writable for Time {
     type Error = WriteError;
-
-    ghost write_errors = { λ _ _. ⊥ };
 
     fn write(&self, dest: &mut Writer<'_>) -> WriteResult<()> {
         match self {

@@ -1,5 +1,5 @@
 //! Revocation lists (RFC 5280, 5.1 to 5.3).
-// Printed by scripts/derive from declarations/revocation/lists.rs, with the sum 401d5fd7.
+// Printed by scripts/derive from declarations/revocation/lists.rs, with the sum fc9edcf2.
 
 ghost use Rattle.std.specs.Prelude.{◌≡◌, ◌∷◌, [], codes};
 ghost use Rattle.asn1.specs.Options.{option_meaning};
@@ -62,8 +62,6 @@ impl<'a> SimpleAsn1Readable<'a> for RevokedCertificate<'a> {
 
 impl<'a> SimpleAsn1Writable for RevokedCertificate<'a> {
     type Error = WriteError;
-
-    ghost write_errors = { λ _ _. ⊥ };
 
     fn tag() -> Tag
         ensures value { result ≡ ⟦<RevokedCertificate<'a> as Asn1Type>⟧.der.content.tag }
@@ -152,8 +150,6 @@ impl<'a> SimpleAsn1Readable<'a> for TbsCertList<'a> {
 impl<'a> SimpleAsn1Writable for TbsCertList<'a> {
     type Error = WriteError;
 
-    ghost write_errors = { λ _ _. ⊥ };
-
     fn tag() -> Tag
         ensures value { result ≡ ⟦<TbsCertList<'a> as Asn1Type>⟧.der.content.tag }
         ensures simple { ⟦<TbsCertList<'a> as Asn1Type>⟧.der.is_simple }
@@ -218,8 +214,6 @@ impl<'a> SimpleAsn1Readable<'a> for CertificateList<'a> {
 
 impl<'a> SimpleAsn1Writable for CertificateList<'a> {
     type Error = WriteError;
-
-    ghost write_errors = { λ _ _. ⊥ };
 
     fn tag() -> Tag
         ensures value { result ≡ ⟦<CertificateList<'a> as Asn1Type>⟧.der.content.tag }

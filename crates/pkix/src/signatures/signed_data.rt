@@ -1,5 +1,5 @@
 //! Signed data (RFC 5652), as far as time stamps need it.
-// Printed by scripts/derive from declarations/signatures/signed_data.rs, with the sum fd0020dc.
+// Printed by scripts/derive from declarations/signatures/signed_data.rs, with the sum 8a99783b.
 
 ghost use Rattle.std.specs.Prelude.{◌≡◌, ◌∷◌, [], codes};
 ghost use Rattle.asn1.specs.Options.{option_meaning};
@@ -61,8 +61,6 @@ impl<'a> SimpleAsn1Readable<'a> for ContentInfo<'a> {
 
 impl<'a> SimpleAsn1Writable for ContentInfo<'a> {
     type Error = WriteError;
-
-    ghost write_errors = { λ _ _. ⊥ };
 
     fn tag() -> Tag
         ensures value { result ≡ ⟦<ContentInfo<'a> as Asn1Type>⟧.der.content.tag }
@@ -128,8 +126,6 @@ impl<'a> SimpleAsn1Readable<'a> for EncapsulatedContentInfo<'a> {
 
 impl<'a> SimpleAsn1Writable for EncapsulatedContentInfo<'a> {
     type Error = WriteError;
-
-    ghost write_errors = { λ _ _. ⊥ };
 
     fn tag() -> Tag
         ensures value { result ≡ ⟦<EncapsulatedContentInfo<'a> as Asn1Type>⟧.der.content.tag }
@@ -216,8 +212,6 @@ impl<'a> SimpleAsn1Readable<'a> for SignedData<'a> {
 
 impl<'a> SimpleAsn1Writable for SignedData<'a> {
     type Error = WriteError;
-
-    ghost write_errors = { λ _ _. ⊥ };
 
     fn tag() -> Tag
         ensures value { result ≡ ⟦<SignedData<'a> as Asn1Type>⟧.der.content.tag }

@@ -1,5 +1,5 @@
 //! Who signed (RFC 5652, 5.3).
-// Printed by scripts/derive from declarations/signatures/signer.rs, with the sum 495c2997.
+// Printed by scripts/derive from declarations/signatures/signer.rs, with the sum 447faf5e.
 
 ghost use Rattle.std.specs.Prelude.{◌≡◌, ◌∷◌, [], codes, OnErr};
 ghost use Rattle.std.proofs.Common.{inl, inr};
@@ -63,8 +63,6 @@ impl<'a> SimpleAsn1Readable<'a> for IssuerAndSerialNumber<'a> {
 
 impl<'a> SimpleAsn1Writable for IssuerAndSerialNumber<'a> {
     type Error = WriteError;
-
-    ghost write_errors = { λ _ _. ⊥ };
 
     fn tag() -> Tag
         ensures value { result ≡ ⟦<IssuerAndSerialNumber<'a> as Asn1Type>⟧.der.content.tag }
@@ -136,8 +134,6 @@ impl<'a> Asn1Readable<'a> for SignerIdentifier<'a> {
 
 impl<'a> Asn1Writable for SignerIdentifier<'a> {
     type Error = WriteError;
-
-    ghost write_errors = { λ _ _. ⊥ };
 
     fn write(&self, dest: &mut Writer<'_>) -> WriteResult<()> {
         match self {
@@ -228,8 +224,6 @@ impl<'a> SimpleAsn1Readable<'a> for SignerInfo<'a> {
 
 impl<'a> SimpleAsn1Writable for SignerInfo<'a> {
     type Error = WriteError;
-
-    ghost write_errors = { λ _ _. ⊥ };
 
     fn tag() -> Tag
         ensures value { result ≡ ⟦<SignerInfo<'a> as Asn1Type>⟧.der.content.tag }

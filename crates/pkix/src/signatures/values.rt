@@ -1,5 +1,5 @@
 //! Values of signatures (RFC 3279, 2.2.2 and 2.2.3; RFC 8017, 9.2).
-// Printed by scripts/derive from declarations/signatures/values.rs, with the sum 06c28975.
+// Printed by scripts/derive from declarations/signatures/values.rs, with the sum 5bb91b8b.
 
 ghost use Rattle.std.specs.Prelude.{◌≡◌, ◌∷◌, [], codes};
 ghost use Rattle.asn1.specs.Reads.{HasOneEncoding, ReadsContents};
@@ -52,8 +52,6 @@ impl<'a> SimpleAsn1Readable<'a> for EcdsaSigValue<'a> {
 
 impl<'a> SimpleAsn1Writable for EcdsaSigValue<'a> {
     type Error = WriteError;
-
-    ghost write_errors = { λ _ _. ⊥ };
 
     fn tag() -> Tag
         ensures value { result ≡ ⟦<EcdsaSigValue<'a> as Asn1Type>⟧.der.content.tag }
@@ -110,8 +108,6 @@ impl<'a> SimpleAsn1Readable<'a> for DigestInfo<'a> {
 
 impl<'a> SimpleAsn1Writable for DigestInfo<'a> {
     type Error = WriteError;
-
-    ghost write_errors = { λ _ _. ⊥ };
 
     fn tag() -> Tag
         ensures value { result ≡ ⟦<DigestInfo<'a> as Asn1Type>⟧.der.content.tag }

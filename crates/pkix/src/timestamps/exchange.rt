@@ -1,5 +1,5 @@
 //! Requests for time stamps, and responses (RFC 3161, 2.4).
-// Printed by scripts/derive from declarations/timestamps/exchange.rs, with the sum 7342c5fe.
+// Printed by scripts/derive from declarations/timestamps/exchange.rs, with the sum 27a381a4.
 
 ghost use Rattle.std.specs.Prelude.{◌≡◌, ◌∷◌, [], codes, false};
 ghost use Rattle.asn1.specs.Options.{option_meaning};
@@ -60,8 +60,6 @@ impl<'a> SimpleAsn1Readable<'a> for MessageImprint<'a> {
 
 impl<'a> SimpleAsn1Writable for MessageImprint<'a> {
     type Error = WriteError;
-
-    ghost write_errors = { λ _ _. ⊥ };
 
     fn tag() -> Tag
         ensures value { result ≡ ⟦<MessageImprint<'a> as Asn1Type>⟧.der.content.tag }
@@ -158,8 +156,6 @@ impl<'a> SimpleAsn1Readable<'a> for TimeStampReq<'a> {
 impl<'a> SimpleAsn1Writable for TimeStampReq<'a> {
     type Error = WriteError;
 
-    ghost write_errors = { λ _ _. ⊥ };
-
     fn tag() -> Tag
         ensures value { result ≡ ⟦<TimeStampReq<'a> as Asn1Type>⟧.der.content.tag }
         ensures simple { ⟦<TimeStampReq<'a> as Asn1Type>⟧.der.is_simple }
@@ -224,8 +220,6 @@ impl<'a> SimpleAsn1Readable<'a> for PkiStatusInfo<'a> {
 impl<'a> SimpleAsn1Writable for PkiStatusInfo<'a> {
     type Error = WriteError;
 
-    ghost write_errors = { λ _ _. ⊥ };
-
     fn tag() -> Tag
         ensures value { result ≡ ⟦<PkiStatusInfo<'a> as Asn1Type>⟧.der.content.tag }
         ensures simple { ⟦<PkiStatusInfo<'a> as Asn1Type>⟧.der.is_simple }
@@ -286,8 +280,6 @@ impl<'a> SimpleAsn1Readable<'a> for TimeStampResp<'a> {
 
 impl<'a> SimpleAsn1Writable for TimeStampResp<'a> {
     type Error = WriteError;
-
-    ghost write_errors = { λ _ _. ⊥ };
 
     fn tag() -> Tag
         ensures value { result ≡ ⟦<TimeStampResp<'a> as Asn1Type>⟧.der.content.tag }

@@ -1,5 +1,5 @@
 //! What a time stamp says (RFC 3161, 2.4.2).
-// Printed by scripts/derive from declarations/timestamps/info.rs, with the sum 9d289f05.
+// Printed by scripts/derive from declarations/timestamps/info.rs, with the sum 16de2f89.
 
 ghost use Rattle.std.specs.Prelude.{◌≡◌, ◌∷◌, [], codes, false};
 ghost use Rattle.asn1.specs.Options.{option_meaning};
@@ -63,8 +63,6 @@ impl<'a> SimpleAsn1Readable<'a> for Accuracy<'a> {
 
 impl<'a> SimpleAsn1Writable for Accuracy<'a> {
     type Error = WriteError;
-
-    ghost write_errors = { λ _ _. ⊥ };
 
     fn tag() -> Tag
         ensures value { result ≡ ⟦<Accuracy<'a> as Asn1Type>⟧.der.content.tag }
@@ -177,8 +175,6 @@ impl<'a> SimpleAsn1Readable<'a> for TstInfo<'a> {
 
 impl<'a> SimpleAsn1Writable for TstInfo<'a> {
     type Error = WriteError;
-
-    ghost write_errors = { λ _ _. ⊥ };
 
     fn tag() -> Tag
         ensures value { result ≡ ⟦<TstInfo<'a> as Asn1Type>⟧.der.content.tag }

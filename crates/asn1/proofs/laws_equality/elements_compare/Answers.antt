@@ -1,5 +1,4 @@
 use Rattle.std.proofs.Common.{rules, ◌≡◌, ◌∙◌, ap, sym}
-use Rattle.asn1_core.specs.declared.tag.Tag.{Tag}
 use Rattle.asn1_core.specs.Element.{Element, element_text}
 use Rattle.asn1.proofs.laws_equality.elements_compare.Goals as goal
 

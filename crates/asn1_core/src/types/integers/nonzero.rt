@@ -23,8 +23,6 @@ impl Asn1Type for NonZeroI8 {
 impl SimpleAsn1Writable for NonZeroI8 {
     type Error = WriteError;
 
-    ghost write_errors = { λ _ _. ⊥ };
-
     fn tag() -> Tag {
         i8::tag()
     }
@@ -50,8 +48,6 @@ impl Asn1Type for NonZeroI16 {
 
 impl SimpleAsn1Writable for NonZeroI16 {
     type Error = WriteError;
-
-    ghost write_errors = { λ _ _. ⊥ };
 
     fn tag() -> Tag {
         i16::tag()
@@ -79,8 +75,6 @@ impl Asn1Type for NonZeroI32 {
 impl SimpleAsn1Writable for NonZeroI32 {
     type Error = WriteError;
 
-    ghost write_errors = { λ _ _. ⊥ };
-
     fn tag() -> Tag {
         i32::tag()
     }
@@ -106,8 +100,6 @@ impl Asn1Type for NonZeroI64 {
 
 impl SimpleAsn1Writable for NonZeroI64 {
     type Error = WriteError;
-
-    ghost write_errors = { λ _ _. ⊥ };
 
     fn tag() -> Tag {
         i64::tag()
@@ -135,8 +127,6 @@ impl Asn1Type for NonZeroU8 {
 impl SimpleAsn1Writable for NonZeroU8 {
     type Error = WriteError;
 
-    ghost write_errors = { λ _ _. ⊥ };
-
     fn tag() -> Tag {
         u8::tag()
     }
@@ -162,8 +152,6 @@ impl Asn1Type for NonZeroU16 {
 
 impl SimpleAsn1Writable for NonZeroU16 {
     type Error = WriteError;
-
-    ghost write_errors = { λ _ _. ⊥ };
 
     fn tag() -> Tag {
         u16::tag()
@@ -191,8 +179,6 @@ impl Asn1Type for NonZeroU32 {
 impl SimpleAsn1Writable for NonZeroU32 {
     type Error = WriteError;
 
-    ghost write_errors = { λ _ _. ⊥ };
-
     fn tag() -> Tag {
         u32::tag()
     }
@@ -218,8 +204,6 @@ impl Asn1Type for NonZeroU64 {
 
 impl SimpleAsn1Writable for NonZeroU64 {
     type Error = WriteError;
-
-    ghost write_errors = { λ _ _. ⊥ };
 
     fn tag() -> Tag {
         u64::tag()

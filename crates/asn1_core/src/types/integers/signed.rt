@@ -39,8 +39,6 @@ impl<'a> SimpleAsn1Readable<'a> for i8 {
 impl SimpleAsn1Writable for i8 {
     type Error = WriteError;
 
-    ghost write_errors = { λ _ _. ⊥ };
-
     fn tag() -> Tag {
         Tag::primitive(0x02)
     }
@@ -82,8 +80,6 @@ impl<'a> SimpleAsn1Readable<'a> for i16 {
 
 impl SimpleAsn1Writable for i16 {
     type Error = WriteError;
-
-    ghost write_errors = { λ _ _. ⊥ };
 
     fn tag() -> Tag {
         Tag::primitive(0x02)
@@ -127,8 +123,6 @@ impl<'a> SimpleAsn1Readable<'a> for i32 {
 impl SimpleAsn1Writable for i32 {
     type Error = WriteError;
 
-    ghost write_errors = { λ _ _. ⊥ };
-
     fn tag() -> Tag {
         Tag::primitive(0x02)
     }
@@ -170,8 +164,6 @@ impl<'a> SimpleAsn1Readable<'a> for i64 {
 
 impl SimpleAsn1Writable for i64 {
     type Error = WriteError;
-
-    ghost write_errors = { λ _ _. ⊥ };
 
     fn tag() -> Tag {
         Tag::primitive(0x02)

@@ -39,8 +39,6 @@ impl<'a> SimpleAsn1Readable<'a> for u8 {
 impl SimpleAsn1Writable for u8 {
     type Error = WriteError;
 
-    ghost write_errors = { λ _ _. ⊥ };
-
     fn tag() -> Tag {
         Tag::primitive(0x02)
     }
@@ -82,8 +80,6 @@ impl<'a> SimpleAsn1Readable<'a> for u16 {
 
 impl SimpleAsn1Writable for u16 {
     type Error = WriteError;
-
-    ghost write_errors = { λ _ _. ⊥ };
 
     fn tag() -> Tag {
         Tag::primitive(0x02)
@@ -127,8 +123,6 @@ impl<'a> SimpleAsn1Readable<'a> for u32 {
 impl SimpleAsn1Writable for u32 {
     type Error = WriteError;
 
-    ghost write_errors = { λ _ _. ⊥ };
-
     fn tag() -> Tag {
         Tag::primitive(0x02)
     }
@@ -170,8 +164,6 @@ impl<'a> SimpleAsn1Readable<'a> for u64 {
 
 impl SimpleAsn1Writable for u64 {
     type Error = WriteError;
-
-    ghost write_errors = { λ _ _. ⊥ };
 
     fn tag() -> Tag {
         Tag::primitive(0x02)

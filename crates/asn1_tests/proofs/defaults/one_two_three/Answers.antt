@@ -1,4 +1,3 @@
-use Rattle.std.proofs.Common.{refl}
 use Rattle.asn1_tests.specs.Identifiers.{some_identifier}
 use Rattle.asn1_tests.proofs.defaults.one_two_three.Goals as goal
 

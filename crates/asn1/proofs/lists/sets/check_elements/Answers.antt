@@ -4,7 +4,7 @@ use Rattle.asn1_core.specs.declared.tag.Tag.{Tag}
 use Rattle.asn1_core.specs.Element.{Element, element_text, IsReadable, ◌>>=◌}
 use Rattle.asn1_core.specs.Fault.{Fault}
 use Rattle.asn1_core.specs.Reading.{element_front}
-use Rattle.asn1_core.specs.TagOrder.{tag_less}
+use Rattle.asn1_core.specs.Tag.{tag_less}
 use Rattle.asn1_core.specs.Tlv.{element_of}
 use Rattle.asn1_core.specs.Lemmas.Texts.{IsText-from_reads}
 use Rattle.asn1_core.specs.Lemmas.TagOrder.{element_tag_in_front}

@@ -1,6 +1,6 @@
 use Rattle.std.proofs.Common.{◌≡◌, ◌+◌, ◌≤◌, List, [], ℕ, length}
 use Rattle.asn1_core.specs.Text.{IsText}
-use Rattle.asn1_core.specs.TagOrder.{tag_in_front, tag_less}
+use Rattle.asn1_core.specs.Tag.{tag_in_front, tag_less}
 use Rattle.asn1_core.specs.Reading.{element_front}
 use Rattle.asn1.specs.Sets.{checked}
 use Rattle.asn1.proofs.lists.sets.check_elements.Given as goal

@@ -1,7 +1,7 @@
 use Rattle.std.proofs.Common.{◌∙◌, ◌-◌, ℕ, List, length, take, drop, get_or, refl, sym, ap, inl}
 use Rattle.std.proofs.lemmas.Bool.{both_ways}
 use Rattle.asn1_values.specs.Bits.{is_padded, bits}
-use Rattle.asn1_values.specs.BitContents.{bits_content}
+use Rattle.asn1_values.specs.BitStrings.{bits_content}
 use Rattle.asn1_values.specs.Lemmas.Big.{wants_memory}
 use Rattle.asn1_values.specs.Lemmas.Bits.{bits_short, bits_right, bits_wrong}
 use Rattle.asn1_values.proofs.bit_string.OwnedBitStringSimpleAsn1Readable.parse_data.Goals as goal

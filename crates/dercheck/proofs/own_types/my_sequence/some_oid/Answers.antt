@@ -1,9 +1,13 @@
-use Rattle.std.proofs.Common.{◌∙◌}
-use Rattle.dercheck.proofs.KnownIdentifiers.{some_form, some_numbers_are}
+use Rattle.std.proofs.Common.{refl, sym}
+use Rattle.asn1.specs.Base128.{number_front}
+use Rattle.asn1.specs.Identifier.{numbers_in, read_identifier}
+use Rattle.asn1.specs.Lemmas.Results.{ok_is}
 use Rattle.dercheck.proofs.own_types.my_sequence.some_oid.Goals as goal
 
-pub from_der_unchecked-requires : goal.from_der_unchecked-requires
-from_der_unchecked-requires c = some_form
+pub known_identifier-requires : goal.known_identifier-requires
+unfolding read_identifier numbers_in number_front
+known_identifier-requires c = refl
 
 pub returns : goal.returns
-returns c = c.from_der_unchecked.ensures ∙ some_numbers_are
+unfolding read_identifier numbers_in number_front
+returns c = sym (ok_is _ _ c.known_identifier.ensures)

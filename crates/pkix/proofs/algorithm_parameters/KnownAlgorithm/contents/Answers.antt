@@ -27,9 +27,29 @@ pub returns-in-Sha512WithRsaEncryption-clause-octets : goal.returns-in-Sha512Wit
 unfolding read_identifier numbers_in number_front
 returns-in-Sha512WithRsaEncryption-clause-octets c = rw c.in-Sha512WithRsaEncryption.is refl
 
+pub returns-in-DsaWithSha1-clause-octets : goal.returns-in-DsaWithSha1-clause-octets
+unfolding read_identifier numbers_in number_front
+returns-in-DsaWithSha1-clause-octets c = rw c.in-DsaWithSha1.is refl
+
+pub returns-in-DsaWithSha224-clause-octets : goal.returns-in-DsaWithSha224-clause-octets
+unfolding read_identifier numbers_in number_front
+returns-in-DsaWithSha224-clause-octets c = rw c.in-DsaWithSha224.is refl
+
+pub returns-in-DsaWithSha256-clause-octets : goal.returns-in-DsaWithSha256-clause-octets
+unfolding read_identifier numbers_in number_front
+returns-in-DsaWithSha256-clause-octets c = rw c.in-DsaWithSha256.is refl
+
 pub returns-in-EcPublicKey-clause-octets : goal.returns-in-EcPublicKey-clause-octets
 unfolding read_identifier numbers_in number_front
 returns-in-EcPublicKey-clause-octets c = rw c.in-EcPublicKey.is refl
+
+pub returns-in-EcDh-clause-octets : goal.returns-in-EcDh-clause-octets
+unfolding read_identifier numbers_in number_front
+returns-in-EcDh-clause-octets c = rw c.in-EcDh.is refl
+
+pub returns-in-EcMqv-clause-octets : goal.returns-in-EcMqv-clause-octets
+unfolding read_identifier numbers_in number_front
+returns-in-EcMqv-clause-octets c = rw c.in-EcMqv.is refl
 
 pub returns-in-EcdsaWithSha1-clause-octets : goal.returns-in-EcdsaWithSha1-clause-octets
 unfolding read_identifier numbers_in number_front
@@ -58,6 +78,14 @@ returns-in-Ed25519-clause-octets c = rw c.in-Ed25519.is refl
 pub returns-in-Ed448-clause-octets : goal.returns-in-Ed448-clause-octets
 unfolding read_identifier numbers_in number_front
 returns-in-Ed448-clause-octets c = rw c.in-Ed448.is refl
+
+pub returns-in-X25519-clause-octets : goal.returns-in-X25519-clause-octets
+unfolding read_identifier numbers_in number_front
+returns-in-X25519-clause-octets c = rw c.in-X25519.is refl
+
+pub returns-in-X448-clause-octets : goal.returns-in-X448-clause-octets
+unfolding read_identifier numbers_in number_front
+returns-in-X448-clause-octets c = rw c.in-X448.is refl
 
 pub returns-in-Sha1-clause-octets : goal.returns-in-Sha1-clause-octets
 unfolding read_identifier numbers_in number_front

@@ -1,11 +1,10 @@
--- Printed by scripts/derive from declarations/page.rs, with the sum a0889d72.
 use Rattle.std.proofs.Common.{◌≡◌, sym, ◌∙◌}
 use Rattle.std.specs.Bool.{Decides}
 use Rattle.std.specs.Str.{bytes_eq}
 use Rattle.std.proofs.lemmas.Bool.Decides.{same_from_decides}
 use Rattle.std.proofs.lemmas.Slice.Eq.{bytes_eq-Decides}
-use Rattle.asn1.specs.IdentifierValues.{identifier_of}
-use Rattle.derived.proofs.page.is_identifier.Goals as goal
+use Rattle.asn1_values.specs.IdentifierValues.{identifier_of}
+use Rattle.asn1.proofs.fields.defined.is_identifier.Goals as goal
 
 pub returns : goal.returns
 returns c =
