@@ -12,7 +12,7 @@ use std::test::Fail;
 use testing::{all_same, kind_of, same, same_at};
 
 /// Each known algorithm with its identifier.
-const IDENTIFIERS: [(KnownAlgorithm, &str); 19] = [
+const IDENTIFIERS: [(KnownAlgorithm, &str); 26] = [
     (KnownAlgorithm::RsaEncryption, "1.2.840.113549.1.1.1"),
     (
         KnownAlgorithm::Sha1WithRsaEncryption,
@@ -34,7 +34,12 @@ const IDENTIFIERS: [(KnownAlgorithm, &str); 19] = [
         KnownAlgorithm::Sha512WithRsaEncryption,
         "1.2.840.113549.1.1.13",
     ),
+    (KnownAlgorithm::DsaWithSha1, "1.2.840.10040.4.3"),
+    (KnownAlgorithm::DsaWithSha224, "2.16.840.1.101.3.4.3.1"),
+    (KnownAlgorithm::DsaWithSha256, "2.16.840.1.101.3.4.3.2"),
     (KnownAlgorithm::EcPublicKey, "1.2.840.10045.2.1"),
+    (KnownAlgorithm::EcDh, "1.3.132.1.12"),
+    (KnownAlgorithm::EcMqv, "1.3.132.1.13"),
     (KnownAlgorithm::EcdsaWithSha1, "1.2.840.10045.4.1"),
     (KnownAlgorithm::EcdsaWithSha224, "1.2.840.10045.4.3.1"),
     (KnownAlgorithm::EcdsaWithSha256, "1.2.840.10045.4.3.2"),
@@ -42,6 +47,8 @@ const IDENTIFIERS: [(KnownAlgorithm, &str); 19] = [
     (KnownAlgorithm::EcdsaWithSha512, "1.2.840.10045.4.3.4"),
     (KnownAlgorithm::Ed25519, "1.3.101.112"),
     (KnownAlgorithm::Ed448, "1.3.101.113"),
+    (KnownAlgorithm::X25519, "1.3.101.110"),
+    (KnownAlgorithm::X448, "1.3.101.111"),
     (KnownAlgorithm::Sha1, "1.3.14.3.2.26"),
     (KnownAlgorithm::Sha224, "2.16.840.1.101.3.4.2.4"),
     (KnownAlgorithm::Sha256, "2.16.840.1.101.3.4.2.1"),
@@ -192,7 +199,11 @@ fn parameters_that_are_a_curve(rt: HostRuntime) -> Result<(), Fail> {
     let null = Tag::primitive(0x05);
     are_answered(
         rt.alloc(),
-        &[KnownAlgorithm::EcPublicKey],
+        &[
+            KnownAlgorithm::EcPublicKey,
+            KnownAlgorithm::EcDh,
+            KnownAlgorithm::EcMqv,
+        ],
         &[
             (NONE, Some(ParseErrorKind::ShortData { needed: 1 })),
             (NULL, Some(ParseErrorKind::UnexpectedTag { actual: null })),
@@ -207,6 +218,9 @@ fn parameters_that_are_absent(rt: HostRuntime) -> Result<(), Fail> {
     are_answered(
         rt.alloc(),
         &[
+            KnownAlgorithm::DsaWithSha1,
+            KnownAlgorithm::DsaWithSha224,
+            KnownAlgorithm::DsaWithSha256,
             KnownAlgorithm::EcdsaWithSha1,
             KnownAlgorithm::EcdsaWithSha224,
             KnownAlgorithm::EcdsaWithSha256,
@@ -214,6 +228,8 @@ fn parameters_that_are_absent(rt: HostRuntime) -> Result<(), Fail> {
             KnownAlgorithm::EcdsaWithSha512,
             KnownAlgorithm::Ed25519,
             KnownAlgorithm::Ed448,
+            KnownAlgorithm::X25519,
+            KnownAlgorithm::X448,
         ],
         &[
             (NONE, None),
@@ -247,12 +263,12 @@ fn parameters_that_may_be_absent(rt: HostRuntime) -> Result<(), Fail> {
     )
 }
 
-/// Digests without parameters, and an algorithm that isn't known: id-X25519 (RFC 8410, 3).
+/// Digests without parameters, and an algorithm that isn't known: id-dsa (RFC 3279, 2.3.2).
 #[test]
 fn other_parameters(rt: HostRuntime) -> Result<(), Fail> {
     let alloc = rt.alloc();
     let digest = read(alloc, KnownAlgorithm::Sha256.identifier(), NONE)?;
-    let Some(other) = ObjectIdentifier::from_string("1.3.101.110") else {
+    let Some(other) = ObjectIdentifier::from_string("1.2.840.10040.4.1") else {
         return Err(Fail::new(format_args!("no identifier")));
     };
     let none = read(alloc, other.clone()?, NONE)?;

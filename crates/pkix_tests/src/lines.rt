@@ -124,9 +124,10 @@ fn addresses_of_other_networks(rt: HostRuntime) -> Result<(), Fail> {
 fn unknown_numbers(rt: HostRuntime) -> Result<(), Fail> {
     let alloc = rt.alloc();
     let response = b"\x30\x06\x30\x04\x02\x02\x01\x2c";
+    let text = lines(alloc, Kind::TimestampResponse, response)?;
     same(
-        lines(alloc, Kind::TimestampResponse, response)?.as_str(),
-        "status.status: 012c (unknown)\nsame\n",
+        line(text.as_str(), "status"),
+        Some("status.status: 012c (unknown)"),
     )?;
     let changed = with_octets(alloc, objects::CRL, 149, b"\x07")?;
     let text = lines(alloc, Kind::Crl, changed.as_slice())?;

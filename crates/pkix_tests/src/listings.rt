@@ -23,6 +23,7 @@ b043e9d1c7de2c37ccab20978c8ed2b76fe1795564f31e80ff714f993d6d3dc5905b678906056a16
 f4d4d52df48e7a88200e0d61c1ccc29d83b1409e37537ef87be4cb808c8a81a11d4d43b766000c0f81cec4bddd5924ea19e6b38c91c1b5\
 42d15aeeab3163b91e312cceb4de4a953a41c979315f59f3bd0add3c71c4b58ca94ae7f170b4ca20478dac92529e55eaede56c07b9f681\
 79117cb32569782ad990203010001\n\
+subjectPublicKeyInfo.keySize: 2048 bits\n\
 extensions.0.extnID: 2.5.29.19 (basicConstraints)\n\
 extensions.0.critical: true\n\
 extensions.0.basicConstraints.cA: true\n\
@@ -47,6 +48,7 @@ ff28721950cde789cee7d0e30eb88970ecdb13e7728d2092389f4af39d33073d2b0e315d86cc92ad
 1431c0de47ba27faff69271014716b7fc91cb8f8cd5f71f1b4d3031698427074cdf28cefd0a030e471b265ee543dfd2193ec779068df3c\
 d34232b1820962965ac9cd1844031cd12d68541aa4f6615148df9dc331fb259dc435fdb9ac8d73a69411259c5f676dc1ccb1c1cc0054ce\
 ca3e6cce7c69aad0731c1e23b53df0a52b0f2771064653f4b6984cf714e018a40c0d85689cdb85be33f44624\n\
+sha256: 120610038599455454a4e308883601eed066c11822556e3527649ef8da1cba7c\n\
 same\n\
 ";
 
@@ -87,6 +89,7 @@ extensions.3.subjectKeyIdentifier: 6f4fec44e0ec0c16602e2e8650438c38b9f20595\n\
 signatureAlgorithm: 1.2.840.10045.4.3.2 (ecdsa-with-SHA256)\n\
 signatureValue: 304402200cd559e10d3aa1885f28b73b2258785d9990edf3fd16d1a89bc3248e540b8d79022071ea066736022bb3a9\
 53d173747b017fce1fe1cdb1ee213b3f3be0971c5945f8\n\
+sha256: a7c913f8c59510e5d5e1b77b67f5b60d3f8f5408682dbbfa947d72f46a7a0322\n\
 same\n\
 ";
 
@@ -158,6 +161,7 @@ extensions.7.authorityInfoAccess.1.accessLocation.uniformResourceIdentifier: htt
 signatureAlgorithm: 1.2.840.10045.4.3.2 (ecdsa-with-SHA256)\n\
 signatureValue: 30440220772f463c6043129f94c9ac9381d3bbd18c47b2f2ab1111f3cda37659b5ea7c1c022060e880e5df2387b424\
 8f4f8bea7968c5538b6576eee06c6a2fe7be806b224d3b\n\
+sha256: 0cd4380b2edbed9e387e3e31ccb50cc8eb07b33f578eae3cd6749f29fccad8c0\n\
 same\n\
 ";
 
@@ -191,6 +195,7 @@ crlExtensions.1.cRLNumber: 1f\n\
 signatureAlgorithm: 1.2.840.10045.4.3.2 (ecdsa-with-SHA256)\n\
 signatureValue: 3044022075c8db483850fcfc73b6f8849c8e8dc2edddff25733d85c0477562627068feed022043e15d2bdb35c94a55\
 987efda13e56e650d5eb98dbddddc35b56bc06280deb67\n\
+sha256: 472caf5e284771fddae748c7c8786896c7b4138748cb998356199002bd0e790b\n\
 same\n\
 ";
 
@@ -205,6 +210,7 @@ nextUpdate: 2026-12-24T10:50:10Z\n\
 signatureAlgorithm: 1.2.840.10045.4.3.2 (ecdsa-with-SHA256)\n\
 signatureValue: 30450220140782458e6b3b1bdc32e6e7a77555e3b56a6eab8361d78552a0fc35101930c1022100e24f175a50ba5207\
 4f580dd2dda5a584f6ab945d28fcdee304b3afac73ba9659\n\
+sha256: 077d4029f93ac50b81958c56a86455a91502c8dc18f7709d37d6a2f8b448015d\n\
 same\n\
 ";
 
@@ -224,6 +230,7 @@ attributes.0.extensionRequest.0.subjectAltName.0.dNSName: req.example\n\
 signatureAlgorithm: 1.2.840.10045.4.3.2 (ecdsa-with-SHA256)\n\
 signature: 304402207ca13b12b433385ce146a514d92d5efce447c8699fc4e4a7387927250de8a66e022045827e683cf62127596a8a0\
 99fda3dd9115bf47564b5d11dabd5a28226fe2674\n\
+sha256: 65d60067bc9e4f655460befa81929a5b21d2aa14736dce065655c21ce30782b8\n\
 same\n\
 ";
 
@@ -250,6 +257,7 @@ privateKey.exponent2: 211c7f86416008f3d6be2e9a8eff8c99068423468f0c31e9040feb57d8
 597566917f7e7672c7fce1934f80d435227cf139\n\
 privateKey.coefficient: 00ddcc88175212257a9ee5858b5f4be1d5e90b41acf76a78884951efbeb3dadf28d4e324a7d60bd17d1a9b\
 7f983c65e964cdbda9d9c21fa1e600a097a65ff1ddd5\n\
+sha256: 2cdffba37c25368aec553f0d934b9ca6595c9fc3b82db6a6015761ad30db3110\n\
 same\n\
 ";
 
@@ -273,6 +281,7 @@ exponent2: 211c7f86416008f3d6be2e9a8eff8c99068423468f0c31e9040feb57d882ba5c57d40
 e7672c7fce1934f80d435227cf139\n\
 coefficient: 00ddcc88175212257a9ee5858b5f4be1d5e90b41acf76a78884951efbeb3dadf28d4e324a7d60bd17d1a9b7f983c65e96\
 4cdbda9d9c21fa1e600a097a65ff1ddd5\n\
+sha256: bc3c35708aa89a4a3f8f1665d4856c591825205b9bbc7628342acf413e2ada94\n\
 same\n\
 ";
 
@@ -282,6 +291,7 @@ modulus: 00b8698694b8c44404868a04b2f183f0192c26cde567edb59957398687d1d207fac196f
 6e0b4966b6509e8481efbff29f72b71a50b2921f887b0872b8ce5ac436f14ddf65e842467c21e10e86c5b29c9988417dca52fcddd15aaa\
 f47d24e9c9e58ac26865793194eff64bef55e600f9d7bc1\n\
 publicExponent: 010001\n\
+sha256: b0773f0cbf1dda4a6bc2773f8694a12f0484e7ce0354e47184100280ad748234\n\
 same\n\
 ";
 
@@ -294,6 +304,7 @@ privateKey.version: 01\n\
 privateKey.privateKey: 0217564dbc66d4e89b4f56e09e4c1b93c1a467e188fb3c1661c42df930dd5314\n\
 privateKey.publicKey: 04e73cebd78667ddd2b909d4fae42473d5760b30796608c10a43988621abae7717720653a3c90f8175db821e\
 fe684d312dceb3cb5df5d2245364b634df7efc68e4\n\
+sha256: dc31798c2e583df493915d50ad337cf13e6396d1f8c848458e66f7b3b49b6fd8\n\
 same\n\
 ";
 
@@ -304,6 +315,7 @@ privateKey: 0217564dbc66d4e89b4f56e09e4c1b93c1a467e188fb3c1661c42df930dd5314\n\
 parameters: 1.2.840.10045.3.1.7 (secp256r1)\n\
 publicKey: 04e73cebd78667ddd2b909d4fae42473d5760b30796608c10a43988621abae7717720653a3c90f8175db821efe684d312dc\
 eb3cb5df5d2245364b634df7efc68e4\n\
+sha256: b427c63a11cd50e9519da71da1b16e74b01dacc84b46b8d71b1690d0b651c44f\n\
 same\n\
 ";
 
@@ -312,6 +324,7 @@ pub const ED_PKCS8: &str = "\
 version: 00\n\
 privateKeyAlgorithm: 1.3.101.112 (Ed25519)\n\
 privateKey: 04201182e18da9e05816380d28fec7342feff3e6ed03d509449512c94e410f50c801\n\
+sha256: ed4e758625cb437ebf28245124177ca8f8382778bb72233dbe3edc3f6007c2f5\n\
 same\n\
 ";
 
@@ -319,6 +332,7 @@ same\n\
 pub const ECDSA: &str = "\
 r: 00b3d58843565aedec872307646a43f3e4985eec0cd82fe7477b6ddf504d988dc5\n\
 s: 00bcbd497273d474f980127015220c16f76f48ca28f237e5951368444061220aff\n\
+sha256: 85b8462b83d2656c2d5161756cb65fff6292ee658ee2d30f29a8a945835744ea\n\
 same\n\
 ";
 
@@ -327,6 +341,7 @@ pub const DIGEST: &str = "\
 digestAlgorithm: 2.16.840.1.101.3.4.2.1 (sha256)\n\
 digestAlgorithm.parameters: 0500\n\
 digest: 5891b5b522d5df086d0ff0b110fbd9d21bb4fc7163af34d08286a2e846f6be03\n\
+sha256: 9a7ea508caa87813a874b6fad6e7fe7b705fdff9d8c2336fb2cd3617f4a1063d\n\
 same\n\
 ";
 
@@ -339,6 +354,7 @@ messageImprint.hashedMessage: 5891b5b522d5df086d0ff0b110fbd9d21bb4fc7163af34d082
 reqPolicy: 1.2.3.4.1\n\
 nonce: 00ec81714c047be105\n\
 certReq: true\n\
+sha256: a3c5a6ee34f2a1784f06f5c4dbf3439ecbd245e2356e6a765f1706dc87eb8e6b\n\
 same\n\
 ";
 
@@ -349,6 +365,7 @@ messageImprint.hashAlgorithm: 2.16.840.1.101.3.4.2.1 (sha256)\n\
 messageImprint.hashAlgorithm.parameters: 0500\n\
 messageImprint.hashedMessage: 5891b5b522d5df086d0ff0b110fbd9d21bb4fc7163af34d08286a2e846f6be03\n\
 certReq: false\n\
+sha256: a4fdcaf15a3c13996918bc51e25d25f08fcb37294ca099f8226c4b87b2bc6a2d\n\
 same\n\
 ";
 
@@ -426,6 +443,7 @@ eb3f7a03062f1352b83ccc5289e89beec7b7398bdc00\n\
 timeStampToken.content.signerInfos.0.signatureAlgorithm: 1.2.840.10045.4.3.2 (ecdsa-with-SHA256)\n\
 timeStampToken.content.signerInfos.0.signature: 304402200ebdf9c7cbf68868cedfb74c5fe22097a169d61e988cb29d42dc28\
 63c459485b02200bf890ad032c3b98d574b44357117f98fccb416231afa039209c8f1525eb23af\n\
+sha256: f4feb4d5f836c396e37bb0cab708ded3a7e22ca1effb60dbddd7deb4fe1aa46e\n\
 same\n\
 ";
 
@@ -435,6 +453,7 @@ status.status: 02 (rejection)\n\
 status.statusString.0: Message digest algorithm is not supported.\n\
 status.failInfo: 80\n\
 status.failInfo.unusedBits: 07\n\
+sha256: 8fe683dc755fdab2a36a1945b92a1fd284efa1f8a32cb1e242d7db40d9158454\n\
 same\n\
 ";
 
@@ -447,6 +466,7 @@ thisUpdate: 2020-01-01T00:00:00Z\n\
 revokedCertificates: (empty)\n\
 signatureAlgorithm: 1.2.3\n\
 signatureValue: \n\
+sha256: a9d8ce7308a392a05b5f30569251bcf96072dfdb719c448da5f3bd1a494fc500\n\
 same\n\
 ";
 
@@ -458,5 +478,6 @@ content.digestAlgorithms: (empty)\n\
 content.encapContentInfo.eContentType: 1.2.840.113549.1.7.1 (data)\n\
 content.certificates: (empty)\n\
 content.signerInfos: (empty)\n\
+sha256: 9db730d9f31f720362c71dd72f72392032f3bce6b852ccd3e4e260f890219332\n\
 same\n\
 ";

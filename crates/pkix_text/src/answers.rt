@@ -18,6 +18,7 @@ use pkix::request::CertificationRequest;
 use pkix::revocation::CertificateList;
 use pkix::signatures::{ContentInfo, DigestInfo, EcdsaSigValue};
 use pkix::timestamps::{TimeStampReq, TimeStampResp};
+use sha2::{Digest, Sha256};
 use std::alloc::{AllocError, Global};
 use std::fmt;
 
@@ -91,7 +92,8 @@ impl fmt::Display for Refusal {
 /// What an object is answered with.
 #[derive(Debug, Drop)]
 pub enum Answer {
-    /// The lines of its fields, and `same` or `different`: whether it is written back as the same octets.
+    /// The lines of its fields, the SHA-256 of its octets, and `same` or `different`: whether it is written back as
+    /// these octets.
     Shown(String),
     /// Why it is rejected.
     Rejected(Refusal),
@@ -118,12 +120,13 @@ fn shown<'a, T: Asn1Readable<'a> + Asn1Writable<Error = WriteError> + Show>(
     let Ok(written) = write_single(alloc, &value) else {
         return Err(Fault::Memory);
     };
+    let digest = hex::encode(alloc, &Sha256::digest(octets))?;
     let end = if written.as_slice() == octets {
-        "same\n"
+        "same"
     } else {
-        "different\n"
+        "different"
     };
-    text.push_str(end)?;
+    write!(text, "sha256: {digest}\n{end}\n")?;
     Ok(Answer::Shown(text))
 }
 

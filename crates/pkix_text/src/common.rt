@@ -2,12 +2,14 @@
 
 use crate::answers::Fault;
 use crate::identifiers::name_of;
-use crate::show::{Show, empty, item, line, part, read_again};
-use asn1::{ObjectIdentifier, SetOf, Tlv, parse_single};
+use crate::show::{Show, empty, item, line, part, read_again, within};
+use asn1::{BigInt, ObjectIdentifier, SetOf, Tlv, parse_single};
+use pkix::algorithm_parameters::KnownAlgorithm;
 use pkix::common::{
     AlgorithmIdentifier, Attribute, AttributeTypeAndValue, Attributes, Extensions,
     SubjectPublicKeyInfo,
 };
+use pkix::keys::RsaPublicKey;
 use std::alloc::{AllocError, Global};
 
 /// The identifier's name where it is a known one, else its dotted form.
@@ -36,16 +38,29 @@ impl Show for AlgorithmIdentifier<'_> {
     }
 }
 
+/// How many bits the modulus of a key has, if its octets are an RSA public key (RFC 8017, A.1.1).
+fn modulus_bits(alloc: Global, octets: &[u8]) -> Option<usize> {
+    let key = parse_single::<RsaPublicKey<'_>>(alloc, octets).ok()?;
+    let modulus = key.modulus.as_bytes();
+    // Contents octets that are read are never more, which their types don't say.
+    u32::try_from(modulus.len()).ok()?;
+    Some(BigInt::new(modulus)?.bit_length())
+}
+
+/// The fields, and the size of an RSA key.
 impl Show for SubjectPublicKeyInfo<'_> {
     fn show(&self, alloc: Global, place: &str, out: &mut String) -> Result<(), Fault> {
         part(alloc, place, "algorithm", &self.algorithm, out)?;
-        part(
-            alloc,
-            place,
-            "subjectPublicKey",
-            &self.subject_public_key,
-            out,
-        )
+        let key = &self.subject_public_key;
+        part(alloc, place, "subjectPublicKey", key, out)?;
+        let algorithm = KnownAlgorithm::with_identifier(&self.algorithm.algorithm);
+        if algorithm == Some(KnownAlgorithm::RsaEncryption) {
+            if let Some(bits) = modulus_bits(alloc, key.as_bytes()) {
+                let place = within(alloc, place, "keySize")?;
+                writeln!(out, "{place}: {bits} bits")?;
+            }
+        }
+        Ok(())
     }
 }
 

@@ -1,7 +1,7 @@
 //! The names of object identifiers that are met often.
 
 /// Each with its name in the document that defines it.
-const NAMES: [(&str, &str); 75] = [
+const NAMES: [(&str, &str); 80] = [
     ("0.9.2342.19200300.100.1.1", "userId"),
     ("0.9.2342.19200300.100.1.25", "domainComponent"),
     ("1.2.840.10040.4.1", "dsa"),
@@ -18,6 +18,7 @@ const NAMES: [(&str, &str); 75] = [
     ("1.2.840.113549.1.1.11", "sha256WithRSAEncryption"),
     ("1.2.840.113549.1.1.12", "sha384WithRSAEncryption"),
     ("1.2.840.113549.1.1.13", "sha512WithRSAEncryption"),
+    ("1.2.840.113549.1.1.14", "sha224WithRSAEncryption"),
     ("1.2.840.113549.1.1.4", "md5WithRSAEncryption"),
     ("1.2.840.113549.1.1.5", "sha1WithRSAEncryption"),
     ("1.2.840.113549.1.1.8", "mgf1"),
@@ -39,6 +40,8 @@ const NAMES: [(&str, &str); 75] = [
     ("1.3.132.0.10", "secp256k1"),
     ("1.3.132.0.34", "secp384r1"),
     ("1.3.132.0.35", "secp521r1"),
+    ("1.3.132.1.12", "id-ecDH"),
+    ("1.3.132.1.13", "id-ecMQV"),
     ("1.3.14.3.2.26", "sha1"),
     ("1.3.6.1.4.1.11129.2.4.2", "signedCertificateTimestampList"),
     ("1.3.6.1.5.5.7.1.1", "authorityInfoAccess"),
@@ -54,6 +57,8 @@ const NAMES: [(&str, &str); 75] = [
     ("2.16.840.1.101.3.4.2.2", "sha384"),
     ("2.16.840.1.101.3.4.2.3", "sha512"),
     ("2.16.840.1.101.3.4.2.4", "sha224"),
+    ("2.16.840.1.101.3.4.3.1", "dsa-with-sha224"),
+    ("2.16.840.1.101.3.4.3.2", "dsa-with-sha256"),
     ("2.5.29.14", "subjectKeyIdentifier"),
     ("2.5.29.15", "keyUsage"),
     ("2.5.29.17", "subjectAltName"),
