@@ -1,5 +1,6 @@
 -- What reading the fields of a structure returns (X.690 8.9), and the encodings that they append.
-use Rattle.std.proofs.Common.{◌≡◌, ℕ, List, ◌++◌, Result, Ok, Err, ◌+◌, Option, Some, None}
+use Rattle.std.proofs.Common.{◌≡◌, ℕ, ◌<◌, ◌^◌, List, ◌++◌, Result, Ok, Err, ◌+◌, Option, Some, None}
+use Rattle.std.specs.Prelude.{SomeIff}
 use Rattle.asn1_core.specs.declared.parser.Place.{Place}
 use Rattle.asn1_core.specs.declared.parser.Place.TheVariants.{Field}
 use Rattle.asn1_core.specs.Element.{◌>>=◌}
@@ -41,6 +42,5 @@ behind_out {I} read out c places = (x : I × List ℕ) × (read c ≡ Ok x) × o
 
 -- a known length of both
 abbrev pub IsSum : Option ℕ → Option ℕ → Option ℕ → Type 0
-IsSum (Some a) (Some b) (Some n) = n ≡ a + b
-IsSum _ _ (Some n) = ⊥
-IsSum _ _ None = Unit {0}
+IsSum (Some a) (Some b) n = SomeIff n (a + b < 2 ^ 64) (a + b)
+IsSum _ _ n = n ≡ None

@@ -67,18 +67,18 @@ choice3_meaning f g h (three.ChoiceA v) = inl (f v)
 choice3_meaning f g h (three.ChoiceB v) = inr (inl (g v))
 choice3_meaning f g h (three.ChoiceC v) = inr (inr (h v))
 
--- the errors of the value that is there
-abbrev pub Choice1Errors : {A E : Type 0} → (A → E → Type 0) → Choice1 A → E → Type 0
-Choice1Errors f (one.ChoiceA v) e = f v e
+-- what is asked of the value that is there
+abbrev pub OfChoice1 : {A : Type 0} → (A → Type 0) → Choice1 A → Type 0
+OfChoice1 f (one.ChoiceA v) = f v
 
-abbrev pub Choice2Errors : {A B E : Type 0} → (A → E → Type 0) → (B → E → Type 0) → Choice2 A B → E → Type 0
-Choice2Errors f g (two.ChoiceA v) e = f v e
-Choice2Errors f g (two.ChoiceB v) e = g v e
+abbrev pub OfChoice2 : {A B : Type 0} → (A → Type 0) → (B → Type 0) → Choice2 A B → Type 0
+OfChoice2 f g (two.ChoiceA v) = f v
+OfChoice2 f g (two.ChoiceB v) = g v
 
-abbrev pub Choice3Errors : {A B C E : Type 0} → (A → E → Type 0) → (B → E → Type 0) → (C → E → Type 0) → Choice3 A B C → E → Type 0
-Choice3Errors f g h (three.ChoiceA v) e = f v e
-Choice3Errors f g h (three.ChoiceB v) e = g v e
-Choice3Errors f g h (three.ChoiceC v) e = h v e
+abbrev pub OfChoice3 : {A B C : Type 0} → (A → Type 0) → (B → Type 0) → (C → Type 0) → Choice3 A B C → Type 0
+OfChoice3 f g h (three.ChoiceA v) = f v
+OfChoice3 f g h (three.ChoiceB v) = g v
+OfChoice3 f g h (three.ChoiceC v) = h v
 
 -- An error that is made from one of these.
 abbrev pub MadeFrom : {A E : Type 0} → (A → E → Type 0) → (A → Type 0) → E → Type 0

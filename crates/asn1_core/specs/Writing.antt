@@ -1,5 +1,5 @@
 -- Writers to their callers, and the laws that writing keeps.
-use Rattle.std.specs.Prelude.{◌≡◌, ℕ, ◌+◌, List, length, ◌⊎◌, Option, IfSome}
+use Rattle.std.specs.Prelude.{◌≡◌, ℕ, ◌+◌, ◌<◌, ◌^◌, List, length, ◌⊎◌, Option, Some, IfSome}
 use Rattle.asn1_core.specs.declared.tag.Tag.{Tag}
 use Rattle.asn1_core.specs.declared.writer.WriteError.{WriteError}
 use Rattle.asn1_core.specs.declared.writer.WriteError.TheVariants.{AllocationError}
@@ -15,6 +15,11 @@ use Rattle.asn1_core.specs.Buffer.{Buffer}
 -- a length that is known is that of each text
 abbrev pub KnowsLength : (List ℕ → Type 0) → Option ℕ → Type 0
 KnowsLength texts known = IfSome known (λ n. (t : List ℕ) → texts t → length t ≡ n)
+
+-- it is that of each text, and it is known for a value that has it and a text whose length a `usize` holds
+pub record GivesLength (has : Type 0) (texts : List ℕ → Type 0) (known : Option ℕ) : Type 0 where
+  pub right : KnowsLength texts known
+  pub told : has → (t : List ℕ) → texts t → length t < 2 ^ 64 → known ≡ Some (length t)
 
 -- want of memory, or an error that is named
 abbrev pub Refuses : {E : Type 0} → (WriteError → E → Type 0) → (E → Type 0) → E → Type 0

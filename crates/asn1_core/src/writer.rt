@@ -12,7 +12,7 @@ ghost use Rattle.asn1_core.specs.declared.writer.WriteError.TheVariants.{Allocat
 mod sets;
 
 use crate::tag::{Tag, explicit_tag, implicit_tag};
-use crate::types::{Asn1Writable, SimpleAsn1Writable};
+use crate::types::{Asn1Writable, SimpleAsn1Writable, length_ahead};
 use sets::Span;
 pub use sets::{SetElementWriter, SetOfWriter, SetWriter};
 use std::alloc::{AllocError, Global};
@@ -445,7 +445,7 @@ impl<'a> Writer<'a> {
         let tag = explicit_tag(tag);
         self.write_tlv(
             tag,
-            val.encoded_length(),
+            None,
             |dest: &mut WriteBuf| -> Result<(), T::Error>
                 requires { IsWritable T.der (T.der.meaning val.now) }
             { Writer::new(dest).write_element(val) },
@@ -469,7 +469,7 @@ impl<'a> Writer<'a> {
         ensures error { IfErr result (Refuses T.Error.from_gives (T.write_errors val.now)) }
     {
         let tag = implicit_tag(tag, T::tag());
-        self.write_tlv(tag, val.data_length(), |dest| val.write_data(dest))
+        self.write_tlv(tag, length_ahead(val), |dest| val.write_data(dest))
     }
 
     /// The same as [`Writer::write_element`], but on an error a part of the element may stay in the buffer.

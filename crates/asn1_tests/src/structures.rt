@@ -58,6 +58,8 @@ impl<'a> SimpleAsn1Readable<'a> for Tagged {
 impl SimpleAsn1Writable for Tagged {
     type Error = WriteError;
 
+    ghost length_known = { λ _. Unit {0} };
+
     fn tag() -> Tag {
         Tag::constructed(0x10)
     }
@@ -182,6 +184,8 @@ impl<'a> SimpleAsn1Readable<'a> for Defaults {
 impl SimpleAsn1Writable for Defaults {
     type Error = WriteError;
 
+    ghost length_known = { λ _. Unit {0} };
+
     fn tag() -> Tag {
         Tag::constructed(0x10)
     }
@@ -284,6 +288,8 @@ impl<'a> SimpleAsn1Readable<'a> for Sixteen {
 
 impl SimpleAsn1Writable for Sixteen {
     type Error = WriteError;
+
+    ghost length_known = { λ _. Unit {0} };
 
     fn tag() -> Tag {
         Tag::constructed(0x10)

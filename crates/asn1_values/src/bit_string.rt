@@ -5,7 +5,7 @@ ghost use Rattle.asn1_core.specs.Reading.{Answers};
 ghost use Rattle.asn1_core.specs.Der.{simple_der};
 ghost use Rattle.asn1_core.specs.Boxed.{boxed};
 ghost use Rattle.asn1_core.specs.Tag.{universal};
-ghost use Rattle.asn1_core.specs.Writing.{KnowsLength};
+ghost use Rattle.asn1_core.specs.Writing.{GivesLength};
 ghost use Rattle.asn1_values.specs.Bits.{is_padded, IsBits, bits, bits_text, has_bit, read_bits};
 
 use asn1_core::{
@@ -145,6 +145,8 @@ impl SimpleAsn1Writable for BitString<'_> {
 
     type Error = WriteError;
 
+    ghost length_known = { λ _. Unit {0} };
+
     fn tag() -> Tag
         ensures value { result ≡ universal 3 }
         ensures simple { Unit {0} }
@@ -158,7 +160,7 @@ impl SimpleAsn1Writable for BitString<'_> {
     }
 
     fn data_length(&self) -> Option<usize>
-        ensures known { KnowsLength (bits_content.texts (bits_of self.now)) result }
+        ensures known { GivesLength (Unit {0}) (bits_content.texts (bits_of self.now)) result }
         ensures exact { result ≡ Some (length (bits_text (bits_of self.now))) }
     {
         Some(1 + self.octets.len())
@@ -258,6 +260,8 @@ impl SimpleAsn1Writable for OwnedBitString {
     ghost use Rattle.asn1_values.specs.BitStrings.{owned_bits_of};
 
     type Error = WriteError;
+
+    ghost length_known = { λ _. Unit {0} };
 
     fn tag() -> Tag {
         Tag::primitive(0x03)

@@ -5,7 +5,6 @@ ghost use Rattle.asn1_core.specs.declared.parser.ParseErrorKind.{ParseErrorKind}
 ghost use Rattle.asn1_core.specs.Base128.{number_front, number_text};
 ghost use Rattle.asn1_core.specs.Tag.{universal};
 ghost use Rattle.asn1_core.specs.Reading.{Answers};
-ghost use Rattle.asn1_core.specs.Writing.{KnowsLength};
 ghost use Rattle.asn1_core.specs.Der.{simple_der};
 ghost use Rattle.asn1_values.specs.Identifier.{identifier_content, identifier_numbers, numbers_in, read_identifier, IsIdentifierForm, IsIdentifier};
 ghost use Rattle.asn1_values.specs.IdentifierText.{dotted_text, first_text, part_number, text_numbers, left_numbers, left_size, first_of, and_then, if_few, read_dotted};
@@ -287,6 +286,8 @@ impl SimpleAsn1Writable for ObjectIdentifier {
     ghost use Rattle.asn1_values.specs.IdentifierValues.{identifier_of};
 
     type Error = WriteError;
+
+    ghost length_known = { λ _. Unit {0} };
 
     fn tag() -> Tag {
         Tag::primitive(0x06)

@@ -240,6 +240,9 @@ impl<T: Asn1Writable + Drop, C: DefinedField<T> + Asn1DefinedByWritable<T>> Asn1
 
     ghost write_errors = { λ x. ItemErrors C.both x.value.now T.write_errors };
 
+    ghost length_known = { λ x. (item : T) → (C.both.item.meaning item ≡
+        C.both.value.item (C.both.value.meaning x.value.now)) → T.length_known item };
+
     fn write(&self, dest: &mut Writer<'_>) -> Result<(), T::Error> {
         let item = self.value.item();
         dest.write_element(&item)
@@ -273,6 +276,8 @@ impl<T: Asn1Writable, C: DefinedField<T> + Asn1DefinedByWritable<T>> Asn1Writabl
     type Error = C::Error;
 
     ghost write_errors = { λ x. C.write_errors_by x.value.now };
+
+    ghost length_known = { λ x. C.length_known_by x.value.now };
 
     fn write(&self, dest: &mut Writer<'_>) -> Result<(), C::Error> {
         self.value.write(dest)

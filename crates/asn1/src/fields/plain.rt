@@ -3,7 +3,7 @@
 ghost use Rattle.std.specs.Prelude.{◌≡◌, OnOk, OnErr, IfErr};
 ghost use Rattle.asn1_core.specs.Buffer.{Appends, KeepsFront};
 ghost use Rattle.asn1_core.specs.Der.{seen};
-ghost use Rattle.asn1_core.specs.Writing.{buffer_name, octets_of, KnowsLength, Refuses};
+ghost use Rattle.asn1_core.specs.Writing.{buffer_name, octets_of, GivesLength, Refuses};
 ghost use Rattle.asn1.specs.Structures.{defaulted};
 
 use crate::wrappers::{DefaultValue, Defaulted, MeaningEq, is_default};
@@ -42,7 +42,8 @@ pub trait WrapsWritable<P>: Wraps<P> + Asn1Writable {
 
     /// How many octets the encoding has, where that is known without writing it.
     fn plain_length(value: &P) -> Option<usize>
-        ensures { KnowsLength (Self.der.texts (Self.der.meaning (Self.wrap value.now))) result };
+        ensures { GivesLength (Self.length_known (Self.wrap value.now))
+            (Self.der.texts (Self.der.meaning (Self.wrap value.now))) result };
 }
 
 /// A field's value where it stands in a struct, written as a `W`.
@@ -66,6 +67,8 @@ impl<W: WrapsWritable<P>, P> Asn1Writable for Wrapped<'_, W, P> {
     type Error = W::Error;
 
     ghost write_errors = { λ x. W.write_errors (W.wrap x.value.now) };
+
+    ghost length_known = { λ x. W.length_known (W.wrap x.value.now) };
 
     fn write(&self, dest: &mut Writer<'_>) -> Result<(), W::Error> {
         W::write_plain(self.value, dest)
@@ -106,7 +109,8 @@ pub fn write_plain<W: WrapsWritable<P>, P>(value: &P, dest: &mut Writer<'_>) -> 
 
 /// How many octets the encoding of a field's value has, where that is known.
 pub fn plain_length<W: WrapsWritable<P>, P>(value: &P) -> Option<usize>
-    ensures { KnowsLength (W.der.texts (W.der.meaning (W.wrap value.now))) result }
+    ensures { GivesLength (W.length_known (W.wrap value.now))
+        (W.der.texts (W.der.meaning (W.wrap value.now))) result }
 {
     W::plain_length(value)
 }

@@ -2,7 +2,7 @@
 
 ghost use Rattle.std.specs.Prelude.{◌⊎◌, OnOk, OnErr, IfErr};
 ghost use Rattle.asn1_core.specs.Buffer.{Appends, KeepsFront};
-ghost use Rattle.asn1_core.specs.Writing.{KnowsLength, Refuses};
+ghost use Rattle.asn1_core.specs.Writing.{GivesLength, Refuses};
 ghost use Rattle.asn1.specs.FieldReads.{Both};
 ghost use Rattle.asn1.specs.Structures.{encoded, owed};
 
@@ -24,7 +24,7 @@ pub fn write_1<E: From<WriteError>, A: Asn1Writable<Error = E>>(
 
 /// How many octets they have together.
 pub fn length_1<A: Asn1Writable>(a: &A) -> Option<usize>
-    ensures { KnowsLength (encoded A.der a.now) result }
+    ensures { GivesLength (A.length_known a.now) (encoded A.der a.now) result }
 {
     a.encoded_length()
 }
@@ -50,7 +50,8 @@ pub fn write_2<E: From<WriteError>, A: Asn1Writable<Error = E>, B: Asn1Writable<
 /// How many octets they have together.
 #[tactic(auto, using(crate::specs::Lemmas::FieldSteps::sum_known))]
 pub fn length_2<A: Asn1Writable, B: Asn1Writable>(a: &A, b: &B) -> Option<usize>
-    ensures { KnowsLength (Both (encoded A.der a.now) (encoded B.der b.now)) result }
+    ensures { GivesLength (A.length_known a.now × B.length_known b.now) (Both (encoded A.der a.now)
+        (encoded B.der b.now)) result }
 {
     sum(a.encoded_length(), length_1(b))
 }
@@ -81,8 +82,8 @@ pub fn length_3<A: Asn1Writable, B: Asn1Writable, C: Asn1Writable>(
     b: &B,
     c: &C,
 ) -> Option<usize>
-    ensures { KnowsLength (Both (encoded A.der a.now) (Both (encoded B.der b.now)
-        (encoded C.der c.now))) result }
+    ensures { GivesLength (A.length_known a.now × (B.length_known b.now × C.length_known c.now))
+        (Both (encoded A.der a.now) (Both (encoded B.der b.now) (encoded C.der c.now))) result }
 {
     sum(a.encoded_length(), length_2(b, c))
 }
@@ -115,7 +116,8 @@ pub fn length_4<A: Asn1Writable, B: Asn1Writable, C: Asn1Writable, D: Asn1Writab
     c: &C,
     d: &D,
 ) -> Option<usize>
-    ensures { KnowsLength (Both (encoded A.der a.now) (Both (encoded B.der b.now)
+    ensures { GivesLength (A.length_known a.now × (B.length_known b.now × (C.length_known c.now ×
+        D.length_known d.now))) (Both (encoded A.der a.now) (Both (encoded B.der b.now)
         (Both (encoded C.der c.now) (encoded D.der d.now)))) result }
 {
     sum(a.encoded_length(), length_3(b, c, d))
@@ -154,8 +156,10 @@ pub fn length_5<
     D: Asn1Writable,
     F: Asn1Writable,
 >(a: &A, b: &B, c: &C, d: &D, f: &F) -> Option<usize>
-    ensures { KnowsLength (Both (encoded A.der a.now) (Both (encoded B.der b.now)
-        (Both (encoded C.der c.now) (Both (encoded D.der d.now) (encoded F.der f.now))))) result }
+    ensures { GivesLength (A.length_known a.now × (B.length_known b.now × (C.length_known c.now ×
+        (D.length_known d.now × F.length_known f.now)))) (Both (encoded A.der a.now)
+        (Both (encoded B.der b.now) (Both (encoded C.der c.now) (Both (encoded D.der d.now)
+        (encoded F.der f.now))))) result }
 {
     sum(a.encoded_length(), length_4(b, c, d, f))
 }
@@ -195,9 +199,10 @@ pub fn length_6<
     F: Asn1Writable,
     G: Asn1Writable,
 >(a: &A, b: &B, c: &C, d: &D, f: &F, g: &G) -> Option<usize>
-    ensures { KnowsLength (Both (encoded A.der a.now) (Both (encoded B.der b.now)
-        (Both (encoded C.der c.now) (Both (encoded D.der d.now) (Both (encoded F.der f.now)
-        (encoded G.der g.now)))))) result }
+    ensures { GivesLength (A.length_known a.now × (B.length_known b.now × (C.length_known c.now ×
+        (D.length_known d.now × (F.length_known f.now × G.length_known g.now)))))
+        (Both (encoded A.der a.now) (Both (encoded B.der b.now) (Both (encoded C.der c.now)
+        (Both (encoded D.der d.now) (Both (encoded F.der f.now) (encoded G.der g.now)))))) result }
 {
     sum(a.encoded_length(), length_5(b, c, d, f, g))
 }
@@ -239,7 +244,9 @@ pub fn length_7<
     G: Asn1Writable,
     H: Asn1Writable,
 >(a: &A, b: &B, c: &C, d: &D, f: &F, g: &G, h: &H) -> Option<usize>
-    ensures { KnowsLength (Both (encoded A.der a.now) (Both (encoded B.der b.now)
+    ensures { GivesLength (A.length_known a.now × (B.length_known b.now × (C.length_known c.now ×
+        (D.length_known d.now × (F.length_known f.now × (G.length_known g.now ×
+        H.length_known h.now)))))) (Both (encoded A.der a.now) (Both (encoded B.der b.now)
         (Both (encoded C.der c.now) (Both (encoded D.der d.now) (Both (encoded F.der f.now)
         (Both (encoded G.der g.now) (encoded H.der h.now))))))) result }
 {
@@ -287,10 +294,12 @@ pub fn length_8<
     H: Asn1Writable,
     I: Asn1Writable,
 >(a: &A, b: &B, c: &C, d: &D, f: &F, g: &G, h: &H, i: &I) -> Option<usize>
-    ensures { KnowsLength (Both (encoded A.der a.now) (Both (encoded B.der b.now)
-        (Both (encoded C.der c.now) (Both (encoded D.der d.now) (Both (encoded F.der f.now)
-        (Both (encoded G.der g.now) (Both (encoded H.der h.now) (encoded I.der i.now))))))))
-        result }
+    ensures { GivesLength (A.length_known a.now × (B.length_known b.now × (C.length_known c.now ×
+        (D.length_known d.now × (F.length_known f.now × (G.length_known g.now ×
+        (H.length_known h.now × I.length_known i.now))))))) (Both (encoded A.der a.now)
+        (Both (encoded B.der b.now) (Both (encoded C.der c.now) (Both (encoded D.der d.now)
+        (Both (encoded F.der f.now) (Both (encoded G.der g.now) (Both (encoded H.der h.now)
+        (encoded I.der i.now)))))))) result }
 {
     sum(a.encoded_length(), length_7(b, c, d, f, g, h, i))
 }
@@ -338,7 +347,6 @@ pub fn write_9<
 }
 
 /// How many octets they have together.
-#[tactic(auto, using(crate::specs::Lemmas::FieldSteps::sum_known))]
 pub fn length_9<
     A: Asn1Writable,
     B: Asn1Writable,
@@ -350,10 +358,13 @@ pub fn length_9<
     I: Asn1Writable,
     J: Asn1Writable,
 >(a: &A, b: &B, c: &C, d: &D, f: &F, g: &G, h: &H, i: &I, j: &J) -> Option<usize>
-    ensures { KnowsLength (Both (encoded A.der a.now) (Both (encoded B.der b.now)
-        (Both (encoded C.der c.now) (Both (encoded D.der d.now) (Both (encoded F.der f.now)
-        (Both (encoded G.der g.now) (Both (encoded H.der h.now) (Both (encoded I.der i.now)
-        (encoded J.der j.now))))))))) result }
+    ensures { GivesLength (A.length_known a.now × (B.length_known b.now × (C.length_known c.now ×
+        (D.length_known d.now × (F.length_known f.now × (G.length_known g.now ×
+        (H.length_known h.now × (I.length_known i.now × J.length_known j.now))))))))
+        (Both (encoded A.der a.now) (Both (encoded B.der b.now) (Both (encoded C.der c.now)
+        (Both (encoded D.der d.now) (Both (encoded F.der f.now) (Both (encoded G.der g.now)
+        (Both (encoded H.der h.now) (Both (encoded I.der i.now) (encoded J.der j.now)))))))))
+        result }
 {
     sum(a.encoded_length(), length_8(b, c, d, f, g, h, i, j))
 }
@@ -403,7 +414,6 @@ pub fn write_10<
 }
 
 /// How many octets they have together.
-#[tactic(auto, using(crate::specs::Lemmas::FieldSteps::sum_known))]
 pub fn length_10<
     A: Asn1Writable,
     B: Asn1Writable,
@@ -416,7 +426,10 @@ pub fn length_10<
     J: Asn1Writable,
     K: Asn1Writable,
 >(a: &A, b: &B, c: &C, d: &D, f: &F, g: &G, h: &H, i: &I, j: &J, k: &K) -> Option<usize>
-    ensures { KnowsLength (Both (encoded A.der a.now) (Both (encoded B.der b.now)
+    ensures { GivesLength (A.length_known a.now × (B.length_known b.now × (C.length_known c.now ×
+        (D.length_known d.now × (F.length_known f.now × (G.length_known g.now ×
+        (H.length_known h.now × (I.length_known i.now × (J.length_known j.now ×
+        K.length_known k.now))))))))) (Both (encoded A.der a.now) (Both (encoded B.der b.now)
         (Both (encoded C.der c.now) (Both (encoded D.der d.now) (Both (encoded F.der f.now)
         (Both (encoded G.der g.now) (Both (encoded H.der h.now) (Both (encoded I.der i.now)
         (Both (encoded J.der j.now) (encoded K.der k.now)))))))))) result }
@@ -473,7 +486,6 @@ pub fn write_11<
 }
 
 /// How many octets they have together.
-#[tactic(auto, using(crate::specs::Lemmas::FieldSteps::sum_known))]
 pub fn length_11<
     A: Asn1Writable,
     B: Asn1Writable,
@@ -487,11 +499,14 @@ pub fn length_11<
     K: Asn1Writable,
     L: Asn1Writable,
 >(a: &A, b: &B, c: &C, d: &D, f: &F, g: &G, h: &H, i: &I, j: &J, k: &K, l: &L) -> Option<usize>
-    ensures { KnowsLength (Both (encoded A.der a.now) (Both (encoded B.der b.now)
-        (Both (encoded C.der c.now) (Both (encoded D.der d.now) (Both (encoded F.der f.now)
-        (Both (encoded G.der g.now) (Both (encoded H.der h.now) (Both (encoded I.der i.now)
-        (Both (encoded J.der j.now) (Both (encoded K.der k.now) (encoded L.der l.now)))))))))))
-        result }
+    ensures { GivesLength (A.length_known a.now × (B.length_known b.now × (C.length_known c.now ×
+        (D.length_known d.now × (F.length_known f.now × (G.length_known g.now ×
+        (H.length_known h.now × (I.length_known i.now × (J.length_known j.now ×
+        (K.length_known k.now × L.length_known l.now)))))))))) (Both (encoded A.der a.now)
+        (Both (encoded B.der b.now) (Both (encoded C.der c.now) (Both (encoded D.der d.now)
+        (Both (encoded F.der f.now) (Both (encoded G.der g.now) (Both (encoded H.der h.now)
+        (Both (encoded I.der i.now) (Both (encoded J.der j.now) (Both (encoded K.der k.now)
+        (encoded L.der l.now))))))))))) result }
 {
     sum(a.encoded_length(), length_10(b, c, d, f, g, h, i, j, k, l))
 }
@@ -547,7 +562,6 @@ pub fn write_12<
 }
 
 /// How many octets they have together.
-#[tactic(auto, using(crate::specs::Lemmas::FieldSteps::sum_known))]
 pub fn length_12<
     A: Asn1Writable,
     B: Asn1Writable,
@@ -575,11 +589,15 @@ pub fn length_12<
     l: &L,
     m: &M,
 ) -> Option<usize>
-    ensures { KnowsLength (Both (encoded A.der a.now) (Both (encoded B.der b.now)
-        (Both (encoded C.der c.now) (Both (encoded D.der d.now) (Both (encoded F.der f.now)
-        (Both (encoded G.der g.now) (Both (encoded H.der h.now) (Both (encoded I.der i.now)
-        (Both (encoded J.der j.now) (Both (encoded K.der k.now) (Both (encoded L.der l.now)
-        (encoded M.der m.now)))))))))))) result }
+    ensures { GivesLength (A.length_known a.now × (B.length_known b.now × (C.length_known c.now ×
+        (D.length_known d.now × (F.length_known f.now × (G.length_known g.now ×
+        (H.length_known h.now × (I.length_known i.now × (J.length_known j.now ×
+        (K.length_known k.now × (L.length_known l.now × M.length_known m.now)))))))))))
+        (Both (encoded A.der a.now) (Both (encoded B.der b.now) (Both (encoded C.der c.now)
+        (Both (encoded D.der d.now) (Both (encoded F.der f.now) (Both (encoded G.der g.now)
+        (Both (encoded H.der h.now) (Both (encoded I.der i.now) (Both (encoded J.der j.now)
+        (Both (encoded K.der k.now) (Both (encoded L.der l.now) (encoded M.der m.now))))))))))))
+        result }
 {
     sum(
         a.encoded_length(),
@@ -642,7 +660,6 @@ pub fn write_13<
 }
 
 /// How many octets they have together.
-#[tactic(auto, using(crate::specs::Lemmas::FieldSteps::sum_known))]
 pub fn length_13<
     A: Asn1Writable,
     B: Asn1Writable,
@@ -672,7 +689,11 @@ pub fn length_13<
     m: &M,
     n: &N,
 ) -> Option<usize>
-    ensures { KnowsLength (Both (encoded A.der a.now) (Both (encoded B.der b.now)
+    ensures { GivesLength (A.length_known a.now × (B.length_known b.now × (C.length_known c.now ×
+        (D.length_known d.now × (F.length_known f.now × (G.length_known g.now ×
+        (H.length_known h.now × (I.length_known i.now × (J.length_known j.now ×
+        (K.length_known k.now × (L.length_known l.now × (M.length_known m.now ×
+        N.length_known n.now)))))))))))) (Both (encoded A.der a.now) (Both (encoded B.der b.now)
         (Both (encoded C.der c.now) (Both (encoded D.der d.now) (Both (encoded F.der f.now)
         (Both (encoded G.der g.now) (Both (encoded H.der h.now) (Both (encoded I.der i.now)
         (Both (encoded J.der j.now) (Both (encoded K.der k.now) (Both (encoded L.der l.now)
@@ -742,7 +763,6 @@ pub fn write_14<
 }
 
 /// How many octets they have together.
-#[tactic(auto, using(crate::specs::Lemmas::FieldSteps::sum_known))]
 pub fn length_14<
     A: Asn1Writable,
     B: Asn1Writable,
@@ -774,12 +794,16 @@ pub fn length_14<
     n: &N,
     o: &O,
 ) -> Option<usize>
-    ensures { KnowsLength (Both (encoded A.der a.now) (Both (encoded B.der b.now)
-        (Both (encoded C.der c.now) (Both (encoded D.der d.now) (Both (encoded F.der f.now)
-        (Both (encoded G.der g.now) (Both (encoded H.der h.now) (Both (encoded I.der i.now)
-        (Both (encoded J.der j.now) (Both (encoded K.der k.now) (Both (encoded L.der l.now)
-        (Both (encoded M.der m.now) (Both (encoded N.der n.now) (encoded O.der o.now))))))))))))))
-        result }
+    ensures { GivesLength (A.length_known a.now × (B.length_known b.now × (C.length_known c.now ×
+        (D.length_known d.now × (F.length_known f.now × (G.length_known g.now ×
+        (H.length_known h.now × (I.length_known i.now × (J.length_known j.now ×
+        (K.length_known k.now × (L.length_known l.now × (M.length_known m.now ×
+        (N.length_known n.now × O.length_known o.now))))))))))))) (Both (encoded A.der a.now)
+        (Both (encoded B.der b.now) (Both (encoded C.der c.now) (Both (encoded D.der d.now)
+        (Both (encoded F.der f.now) (Both (encoded G.der g.now) (Both (encoded H.der h.now)
+        (Both (encoded I.der i.now) (Both (encoded J.der j.now) (Both (encoded K.der k.now)
+        (Both (encoded L.der l.now) (Both (encoded M.der m.now) (Both (encoded N.der n.now)
+        (encoded O.der o.now)))))))))))))) result }
 {
     sum(
         a.encoded_length(),
@@ -847,7 +871,6 @@ pub fn write_15<
 }
 
 /// How many octets they have together.
-#[tactic(auto, using(crate::specs::Lemmas::FieldSteps::sum_known))]
 pub fn length_15<
     A: Asn1Writable,
     B: Asn1Writable,
@@ -881,12 +904,17 @@ pub fn length_15<
     o: &O,
     p: &P,
 ) -> Option<usize>
-    ensures { KnowsLength (Both (encoded A.der a.now) (Both (encoded B.der b.now)
-        (Both (encoded C.der c.now) (Both (encoded D.der d.now) (Both (encoded F.der f.now)
-        (Both (encoded G.der g.now) (Both (encoded H.der h.now) (Both (encoded I.der i.now)
-        (Both (encoded J.der j.now) (Both (encoded K.der k.now) (Both (encoded L.der l.now)
-        (Both (encoded M.der m.now) (Both (encoded N.der n.now) (Both (encoded O.der o.now)
-        (encoded P.der p.now))))))))))))))) result }
+    ensures { GivesLength (A.length_known a.now × (B.length_known b.now × (C.length_known c.now ×
+        (D.length_known d.now × (F.length_known f.now × (G.length_known g.now ×
+        (H.length_known h.now × (I.length_known i.now × (J.length_known j.now ×
+        (K.length_known k.now × (L.length_known l.now × (M.length_known m.now ×
+        (N.length_known n.now × (O.length_known o.now × P.length_known p.now))))))))))))))
+        (Both (encoded A.der a.now) (Both (encoded B.der b.now) (Both (encoded C.der c.now)
+        (Both (encoded D.der d.now) (Both (encoded F.der f.now) (Both (encoded G.der g.now)
+        (Both (encoded H.der h.now) (Both (encoded I.der i.now) (Both (encoded J.der j.now)
+        (Both (encoded K.der k.now) (Both (encoded L.der l.now) (Both (encoded M.der m.now)
+        (Both (encoded N.der n.now) (Both (encoded O.der o.now) (encoded P.der p.now)))))))))))))))
+        result }
 {
     sum(
         a.encoded_length(),
@@ -957,7 +985,6 @@ pub fn write_16<
 }
 
 /// How many octets they have together.
-#[tactic(auto, using(crate::specs::Lemmas::FieldSteps::sum_known))]
 pub fn length_16<
     A: Asn1Writable,
     B: Asn1Writable,
@@ -993,7 +1020,12 @@ pub fn length_16<
     p: &P,
     q: &Q,
 ) -> Option<usize>
-    ensures { KnowsLength (Both (encoded A.der a.now) (Both (encoded B.der b.now)
+    ensures { GivesLength (A.length_known a.now × (B.length_known b.now × (C.length_known c.now ×
+        (D.length_known d.now × (F.length_known f.now × (G.length_known g.now ×
+        (H.length_known h.now × (I.length_known i.now × (J.length_known j.now ×
+        (K.length_known k.now × (L.length_known l.now × (M.length_known m.now ×
+        (N.length_known n.now × (O.length_known o.now × (P.length_known p.now ×
+        Q.length_known q.now))))))))))))))) (Both (encoded A.der a.now) (Both (encoded B.der b.now)
         (Both (encoded C.der c.now) (Both (encoded D.der d.now) (Both (encoded F.der f.now)
         (Both (encoded G.der g.now) (Both (encoded H.der h.now) (Both (encoded I.der i.now)
         (Both (encoded J.der j.now) (Both (encoded K.der k.now) (Both (encoded L.der l.now)

@@ -5,7 +5,7 @@ ghost use Rattle.std.specs.Fn.{FnOnceReturnsAtMut};
 ghost use Rattle.asn1_core.specs.Reading.{Answers, IsHandedOn};
 ghost use Rattle.asn1_core.specs.Der.{simple_der};
 ghost use Rattle.asn1_core.specs.Items.{sequence_tag};
-ghost use Rattle.asn1_core.specs.Writing.{KnowsLength};
+ghost use Rattle.asn1_core.specs.Writing.{GivesLength};
 ghost use Rattle.asn1.specs.InHand.{sequence_octets, sequence_content};
 
 use asn1_core::{
@@ -69,6 +69,8 @@ impl<'a> SimpleAsn1Readable<'a> for Sequence<'a> {
 impl<'a> SimpleAsn1Writable for Sequence<'a> {
     type Error = WriteError;
 
+    ghost length_known = { λ _. Unit {0} };
+
     fn tag() -> Tag
         ensures value { result ≡ sequence_tag }
         ensures simple { Unit {0} }
@@ -81,7 +83,7 @@ impl<'a> SimpleAsn1Writable for Sequence<'a> {
     }
 
     fn data_length(&self) -> Option<usize>
-        ensures length { KnowsLength (λ t. t ≡ sequence_octets self.now) result }
+        ensures length { GivesLength (Unit {0}) (λ t. t ≡ sequence_octets self.now) result }
         ensures known { result ≡ Some (length (sequence_octets self.now)) }
     {
         Some(self.data.len())

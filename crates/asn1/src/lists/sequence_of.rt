@@ -12,7 +12,7 @@ ghost use Rattle.asn1_core.specs.Element.{Element, front};
 ghost use Rattle.asn1_core.specs.Reading.{Answers, EndsWith};
 ghost use Rattle.asn1_core.specs.Der.{simple_der};
 ghost use Rattle.asn1_core.specs.Items.{Each, Joins, OneNames, sequence_tag};
-ghost use Rattle.asn1_core.specs.Writing.{buffer_name, octets_of, KnowsLength, Refuses};
+ghost use Rattle.asn1_core.specs.Writing.{buffer_name, octets_of, GivesLength, Refuses};
 ghost use Rattle.asn1.specs.Lists.{AreItems, left, item, counted, item_out, items_out, sequence_read, NextItem};
 ghost use Rattle.asn1.specs.ListTypes.{items_inside};
 
@@ -317,6 +317,8 @@ impl<
 
     ghost write_errors = { λ _. OneNames T.write_errors };
 
+    ghost length_known = { λ _. Unit {0} };
+
     fn tag() -> Tag
         ensures value { result ≡ sequence_tag }
         ensures simple { Unit {0} }
@@ -329,8 +331,8 @@ impl<
     }
 
     fn data_length(&self) -> Option<usize>
-        ensures length { KnowsLength (Joins T.der.texts (left T.der.read self.now.content.now))
-            result }
+        ensures length { GivesLength (Unit {0})
+            (Joins T.der.texts (left T.der.read self.now.content.now)) result }
         ensures known { IsSome result }
     {
         self.content.known();

@@ -16,7 +16,7 @@ ghost use Rattle.asn1_core.specs.Tlv.{element_of};
 ghost use Rattle.asn1_core.specs.Reading.{Answers, EndsWith, IsHandedOn, element_front};
 ghost use Rattle.asn1_core.specs.Der.{simple_der};
 ghost use Rattle.asn1_core.specs.Items.{Each, Joins, OneNames, set_tag};
-ghost use Rattle.asn1_core.specs.Writing.{buffer_name, octets_of, KnowsLength, Refuses};
+ghost use Rattle.asn1_core.specs.Writing.{buffer_name, octets_of, GivesLength, Refuses};
 ghost use Rattle.asn1.specs.Lists.{NextItem};
 ghost use Rattle.asn1.specs.Sets.{AreOrdered, set_left, set_item, checked, set_item_out, set_out, first_out, set_read, set_octets, element_behind};
 ghost use Rattle.asn1.specs.SetTypes.{set_inside, set_content};
@@ -192,6 +192,8 @@ impl SimpleAsn1Writable for Set<'_> {
 
     type Error = WriteError;
 
+    ghost length_known = { λ _. Unit {0} };
+
     fn tag() -> Tag
         ensures value { result ≡ set_tag }
         ensures simple { Unit {0} }
@@ -204,7 +206,7 @@ impl SimpleAsn1Writable for Set<'_> {
     }
 
     fn data_length(&self) -> Option<usize>
-        ensures length { KnowsLength (λ t. t ≡ octets_of_set self.now) result }
+        ensures length { GivesLength (Unit {0}) (λ t. t ≡ octets_of_set self.now) result }
         ensures known { result ≡ Some (length (octets_of_set self.now)) }
     {
         Some(self.data.len())
@@ -392,6 +394,8 @@ impl<'a, T: Asn1Readable<'a> + Asn1Writable> SimpleAsn1Writable for SetOf<'a, T>
 
     ghost write_errors = { λ _. OneNames T.write_errors };
 
+    ghost length_known = { λ _. Unit {0} };
+
     fn tag() -> Tag
         ensures value { result ≡ set_tag }
         ensures simple { Unit {0} }
@@ -404,7 +408,7 @@ impl<'a, T: Asn1Readable<'a> + Asn1Writable> SimpleAsn1Writable for SetOf<'a, T>
     }
 
     fn data_length(&self) -> Option<usize>
-        ensures length { KnowsLength
+        ensures length { GivesLength (Unit {0})
             (Joins T.der.texts (set_left text_less T.der.read self.now.content.now)) result }
         ensures known { IsSome result }
     {

@@ -3,7 +3,7 @@
 ghost use Rattle.std.specs.Prelude.{◌≡◌, map};
 ghost use Rattle.asn1_core.specs.Closures.{MayAnswer};
 ghost use Rattle.asn1_core.specs.Der.{simple_der};
-ghost use Rattle.asn1_core.specs.Items.{AnyNames, sequence_tag};
+ghost use Rattle.asn1_core.specs.Items.{AnyNames, Each, sequence_tag};
 ghost use Rattle.asn1_core.specs.Written.{items_written};
 ghost use Rattle.asn1.specs.ClosureWritten.{closure_written};
 ghost use Rattle.asn1.specs.InHand.{sequence_closure, sequence_items};
@@ -96,6 +96,8 @@ impl<T: Asn1Writable> SimpleAsn1Writable for SequenceOfWriter<'_, T> {
     type Error = T::Error;
 
     ghost write_errors = { λ v. AnyNames T.write_errors (sequence_items v) };
+
+    ghost length_known = { λ v. Each T.length_known (sequence_items v) };
 
     fn tag() -> Tag
         ensures value { result ≡ sequence_tag }

@@ -1,7 +1,7 @@
 //! CHOICE (X.690 8.13, X.680 29): an element that is read as the first alternative that accepts its tag.
 
 ghost use Rattle.asn1.specs.Choices.{choice_der, only, or};
-ghost use Rattle.asn1.specs.InHand.{choice1_meaning, choice2_meaning, choice3_meaning, Choice1Errors, Choice2Errors, Choice3Errors};
+ghost use Rattle.asn1.specs.InHand.{choice1_meaning, choice2_meaning, choice3_meaning, OfChoice1, OfChoice2, OfChoice3};
 
 use asn1_core::{
     Asn1Readable, Asn1Type, Asn1Writable, ParseError, ParseErrorKind, ParseResult, Parser, Tag,
@@ -45,7 +45,9 @@ impl<'a, T1: Asn1Readable<'a>> Asn1Readable<'a> for Choice1<T1> {
 impl<T1: Asn1Writable<Error = WriteError>> Asn1Writable for Choice1<T1> {
     type Error = WriteError;
 
-    ghost write_errors = { Choice1Errors T1.write_errors };
+    ghost write_errors = { λ v e. OfChoice1 (λ a. T1.write_errors a e) v };
+
+    ghost length_known = { OfChoice1 T1.length_known };
 
     fn write(&self, dest: &mut Writer<'_>) -> WriteResult<()> {
         match self {
@@ -109,7 +111,10 @@ impl<T1: Asn1Writable<Error = WriteError>, T2: Asn1Writable<Error = WriteError>>
     for Choice2<T1, T2> {
     type Error = WriteError;
 
-    ghost write_errors = { Choice2Errors T1.write_errors T2.write_errors };
+    ghost write_errors = { λ v e. OfChoice2 (λ a. T1.write_errors a e)
+        (λ b. T2.write_errors b e) v };
+
+    ghost length_known = { OfChoice2 T1.length_known T2.length_known };
 
     fn write(&self, dest: &mut Writer<'_>) -> WriteResult<()> {
         match self {
@@ -186,7 +191,10 @@ impl<
 > Asn1Writable for Choice3<T1, T2, T3> {
     type Error = WriteError;
 
-    ghost write_errors = { Choice3Errors T1.write_errors T2.write_errors T3.write_errors };
+    ghost write_errors = { λ v e. OfChoice3 (λ a. T1.write_errors a e)
+        (λ b. T2.write_errors b e) (λ c. T3.write_errors c e) v };
+
+    ghost length_known = { OfChoice3 T1.length_known T2.length_known T3.length_known };
 
     fn write(&self, dest: &mut Writer<'_>) -> WriteResult<()> {
         match self {

@@ -2,7 +2,7 @@
 
 ghost use Rattle.std.specs.Prelude.{◌≡◌};
 ghost use Rattle.asn1.specs.InHand.{defaulted_inner};
-ghost use Rattle.asn1.specs.Defaults.{or_read_default, same_text, seen_ok};
+ghost use Rattle.asn1.specs.Defaults.{or_read_default, same_text, seen_ok, UnlessDefault};
 ghost use Rattle.asn1.specs.Defaulted.{ContentTells, EqualityTells, default_der};
 
 use crate::wrappers::defaults::from_optional_default;
@@ -125,6 +125,9 @@ impl<T: Asn1Writable + MeaningEq + Drop, D: DefaultValue<T>> Asn1Writable for De
     type Error = T::Error;
 
     ghost write_errors = { λ x. T.write_errors (defaulted_inner x) };
+
+    ghost length_known = { λ x. UnlessDefault T.der.text (T.der.meaning D.default)
+        (T.der.meaning (defaulted_inner x)) (T.length_known (defaulted_inner x)) };
 
     fn write(&self, dest: &mut Writer<'_>) -> Result<(), T::Error> {
         if is_default::<T, D>(&self.inner) {

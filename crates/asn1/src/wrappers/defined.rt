@@ -51,6 +51,8 @@ impl<T: Asn1Writable, U: Asn1DefinedByWritable<T>, const TAG: u32> Asn1DefinedBy
 
     ghost write_errors_by = { λ x. U.write_errors_by (explicit_inner x) };
 
+    ghost length_known_by = { λ x. U.length_known_by (explicit_inner x) };
+
     fn item(&self) -> T {
         self.as_inner().item()
     }
@@ -59,7 +61,7 @@ impl<T: Asn1Writable, U: Asn1DefinedByWritable<T>, const TAG: u32> Asn1DefinedBy
         let inner = self.as_inner();
         dest.write_tlv(
             explicit_tag(TAG),
-            inner.encoded_length(),
+            None,
             |dest: &mut WriteBuf| -> Result<(), U::Error>
                 requires { U.by.means.closures (U.by.means.meaning inner.now) }
             { inner.write(&mut Writer::new(dest)) },

@@ -79,6 +79,8 @@ impl<A: Asn1Writable, E: From<WriteError> + From<A::Error>> Asn1Writable for Err
     ghost write_errors = { λ x. MadeFrom ⟦<E as From<A::Error>>⟧.from_gives
         (Refuses A.Error.from_gives (A.write_errors (error_into_inner x))) };
 
+    ghost length_known = { λ x. A.length_known (error_into_inner x) };
+
     fn write(&self, dest: &mut Writer<'_>) -> Result<(), E> {
         dest.write_element(&self.inner)?;
         Ok(())

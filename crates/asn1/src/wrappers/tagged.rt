@@ -81,6 +81,8 @@ impl<T: Asn1Writable, const TAG: u32> SimpleAsn1Writable for Explicit<T, TAG> {
 
     ghost write_errors = { λ x. T.write_errors (explicit_inner x) };
 
+    ghost length_known = { λ x. T.length_known (explicit_inner x) };
+
     fn tag() -> Tag {
         explicit_tag(TAG)
     }
@@ -158,6 +160,8 @@ impl<T: SimpleAsn1Writable, const TAG: u32> SimpleAsn1Writable for Implicit<T, T
     type Error = T::Error;
 
     ghost write_errors = { λ x. T.write_errors (implicit_inner x) };
+
+    ghost length_known = { λ x. T.length_known (implicit_inner x) };
 
     fn tag() -> Tag {
         implicit_tag(TAG, T::tag())
@@ -238,6 +242,8 @@ impl<T: Asn1Writable> SimpleAsn1Writable for OctetStringEncoded<T> {
     type Error = T::Error;
 
     ghost write_errors = { λ x. T.write_errors (octet_string_inner x) };
+
+    ghost length_known = { λ x. T.length_known (octet_string_inner x) };
 
     fn tag() -> Tag {
         Tag::primitive(0x04)

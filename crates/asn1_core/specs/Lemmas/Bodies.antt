@@ -1,8 +1,8 @@
 -- What follows from what is said of a body.
-use Rattle.std.proofs.Common.{◌≡◌, ◌+◌, ◌-◌, ◌++◌, [], ◌∷◌, length, take, drop, ℕ, List, refl, sym, ◌∙◌, ap, append_assoc, arith, length-append, Result, Ok, Err, OnOk, OnErr, IfErr, IsErrAnd, inr, subst, Option, Some, None}
+use Rattle.std.proofs.Common.{◌≡◌, ◌+◌, ◌-◌, ◌++◌, [], ◌∷◌, length, take, drop, ℕ, ◌<◌, ◌^◌, List, refl, sym, ◌∙◌, ap, append_assoc, arith, length-append, Result, Ok, Err, OnOk, OnErr, IfErr, IsErrAnd, inr, subst, Option, Some, None}
 use Rattle.std.specs.Prelude.{SomeIff}
 use Rattle.std.proofs.lemmas.Result.{on_ok_weaker}
-use Rattle.asn1_core.specs.Writing.{KnowsLength, IsElementOf, full_count}
+use Rattle.asn1_core.specs.Writing.{KnowsLength, GivesLength, IsElementOf, full_count}
 use Rattle.std.proofs.lemmas.Grind.{common_steps}
 use Rattle.std.specs.Fn.{FnOnceReturnsAtMut, Once}
 use Rattle.std.specs.Borrow.{MutBor}
@@ -118,10 +118,32 @@ pub element_length : (texts : List ℕ → Type 0) {tag tag' : Tag} (n : ℕ) �
 element_length texts n same known P None h = tt
 element_length texts {tag} {tag'} n same known P (Some m) h = λ t e. ap length e.is ∙ (length-element tag' e.content ∙ (ap (full_count tag') (known e.content e.is_content) ∙ (ap (λ (x : Tag). full_count x n) (sym same) ∙ sym h.1)))
 
+-- the same, where the length of the contents octets isn't known, and where it is
+shorter : (texts : List ℕ → Type 0) (tag : Tag) (t : List ℕ) (e : IsElementOf tag texts t) → length t < 2 ^ 64 → length e.content < 2 ^ 64
+unfolding full_count
+shorter texts tag t e small = omega (arith, ap length e.is ∙ length-element tag e.content)
+
+unknown : {n : ℕ} → None ≡ Some n → ⊥
+unknown e = cc
+
+pub element_unknown : (has : Type 0) (texts : List ℕ → Type 0) (tag : Tag) → GivesLength has texts None → GivesLength has (IsElementOf tag texts) None
+element_unknown has texts tag g = record { right = tt; told = λ h t e small. absurd (unknown (g.told h e.content e.is_content (shorter texts tag t e small))) }
+
+pub element_gives : (has : Type 0) (texts : List ℕ → Type 0) {tag tag' : Tag} (n : ℕ) → tag ≡ tag' → GivesLength has texts (Some n) → (r : Option ℕ) → SomeIff r (full_count tag n < 2 ^ 64) (full_count tag n) → GivesLength has (IsElementOf tag' texts) r
+element_gives has texts {tag} {tag'} n same g None h =
+    record { right = tt; told = λ k t e small. absurd (h (subst (λ m. m < 2 ^ 64) (ap length e.is ∙ (length-element tag' e.content ∙ (ap (full_count tag') (g.right e.content e.is_content) ∙ ap (λ (x : Tag). full_count x n) (sym same)))) small)) }
+element_gives has texts {tag} {tag'} n same g (Some m) h =
+    let right = element_length texts n same g.right (full_count tag n < 2 ^ 64) (Some m) h in
+    record { right = right; told = λ k t e small. ap Some (sym (right t e)) }
+
 -- the same, of one content, where the count fits
 pub one_length : (P : Type 0) (tag : Tag) (content : List ℕ) (r : Option ℕ) → SomeIff r P (full_count tag (length content)) → P → r ≡ Some (length (element_text (element tag content)))
 one_length P tag content None h p = absurd (h p)
 one_length P tag content (Some m) h p = let e : m ≡ length (element_text (element tag content)) = h.1 ∙ sym (length-element tag content) in rw e refl
+
+-- the length of the only text
+pub gives_one : (has : Type 0) (text : List ℕ) (r : Option ℕ) → r ≡ Some (length text) → GivesLength has (λ t. t ≡ text) r
+gives_one has text r e = record { right = rw e (λ t same. ap length same); told = λ k t same small. e ∙ ap (λ u. Some (length u)) (sym same) }
 
 -- from what a body says of Ok and of Err
 pub front_of : {E : Type 0} (r : Result (Unit {0}) E) (t old new : List ℕ) → OnOk r (new ≡ old ++ t) → OnErr r (KeepsFront old new) → KeepsFront old new

@@ -36,6 +36,8 @@ impl<'a> SimpleAsn1Readable<'a> for bool {
 impl SimpleAsn1Writable for bool {
     type Error = WriteError;
 
+    ghost length_known = { λ _. Unit {0} };
+
     fn tag() -> Tag {
         Tag::primitive(0x01)
     }

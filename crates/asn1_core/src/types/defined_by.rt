@@ -4,7 +4,7 @@ ghost use Rattle.std.specs.Prelude.{◌≡◌, OnOk, OnErr, IfErr};
 ghost use Rattle.asn1_core.specs.Buffer.{Appends, KeepsFront};
 ghost use Rattle.asn1_core.specs.Reading.{EndsWith};
 ghost use Rattle.asn1_core.specs.Reads.{ReadsDefined};
-ghost use Rattle.asn1_core.specs.Writing.{buffer_name, octets_of, KnowsLength, Refuses};
+ghost use Rattle.asn1_core.specs.Writing.{buffer_name, octets_of, GivesLength, Refuses};
 ghost use Rattle.asn1_core.specs.DefinedBy.{ByItem};
 
 use crate::parser::{ParseResult, Parser};
@@ -45,6 +45,9 @@ pub trait Asn1DefinedByWritable<T: Asn1Writable>: Asn1DefinedBy<T> + Sized {
     // The errors that a write may return, beside being out of memory.
     ghost write_errors_by: { Self → Self.Error → Type 0 } = { λ _ _. ⊥ };
 
+    // The values whose length is known without writing them.
+    ghost length_known_by: { Self → Type 0 } = { λ _. ⊥ };
+
     /// The item that defines the value.
     fn item(&self) -> T
         ensures { Self.by.seen result ≡ Self.by.means.item (Self.by.means.meaning self.now) };
@@ -59,7 +62,9 @@ pub trait Asn1DefinedByWritable<T: Asn1Writable>: Asn1DefinedBy<T> + Sized {
         ensures err { OnErr result (KeepsFront (octets_of dest.old) (octets_of dest.new)) }
         ensures error { IfErr result (Refuses Self.Error.from_gives (write_errors_by self.now)) };
 
-    /// How many octets the value's encoding has, without its item, where that is known without writing it.
+    /// How many octets the value's encoding has, without its item, where that is known without writing it. `None` also
+    /// where that is 2^64 or more.
     fn encoded_length(&self) -> Option<usize>
-        ensures { KnowsLength (Self.by.means.texts (Self.by.means.meaning self.now)) result };
+        ensures { GivesLength (length_known_by self.now)
+            (Self.by.means.texts (Self.by.means.meaning self.now)) result };
 }

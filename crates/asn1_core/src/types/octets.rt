@@ -6,7 +6,7 @@ ghost use Rattle.asn1_core.specs.Tag.{universal};
 ghost use Rattle.asn1_core.specs.Octets.{read_octets};
 ghost use Rattle.asn1_core.specs.OctetContents.{octets_content, sized_octets_content, null_content};
 ghost use Rattle.asn1_core.specs.Reading.{Answers};
-ghost use Rattle.asn1_core.specs.Writing.{KnowsLength};
+ghost use Rattle.asn1_core.specs.Writing.{GivesLength};
 ghost use Rattle.asn1_core.specs.Der.{simple_der};
 
 use crate::parser::{ParseError, ParseErrorKind, ParseResult};
@@ -40,6 +40,8 @@ impl<'a> SimpleAsn1Readable<'a> for () {
 
 impl SimpleAsn1Writable for () {
     type Error = WriteError;
+
+    ghost length_known = { λ _. Unit {0} };
 
     fn tag() -> Tag {
         Tag::primitive(0x05)
@@ -93,6 +95,8 @@ impl<'a> SimpleAsn1Readable<'a> for &'a [u8] {
 impl SimpleAsn1Writable for &[u8] {
     type Error = WriteError;
 
+    ghost length_known = { λ _. Unit {0} };
+
     fn tag() -> Tag
         ensures value { result ≡ universal 4 }
         ensures simple { Unit {0} }
@@ -105,7 +109,7 @@ impl SimpleAsn1Writable for &[u8] {
     }
 
     fn data_length(&self) -> Option<usize>
-        ensures known { KnowsLength (octets_content.texts self.now.now) result }
+        ensures known { GivesLength (Unit {0}) (octets_content.texts self.now.now) result }
         ensures exact { result ≡ Some (length self.now.now) }
     {
         Some(self.len())
@@ -138,6 +142,8 @@ impl<'a, const N: usize> SimpleAsn1Readable<'a> for [u8; N] {
 impl<const N: usize> SimpleAsn1Writable for [u8; N] {
     type Error = WriteError;
 
+    ghost length_known = { λ _. Unit {0} };
+
     fn tag() -> Tag {
         Tag::primitive(0x04)
     }
@@ -147,7 +153,7 @@ impl<const N: usize> SimpleAsn1Writable for [u8; N] {
     }
 
     fn data_length(&self) -> Option<usize>
-        ensures known { KnowsLength ((sized_octets_content N).texts self.now) result }
+        ensures known { GivesLength (Unit {0}) ((sized_octets_content N).texts self.now) result }
         ensures exact { result ≡ Some N }
     {
         Some(N)

@@ -4,7 +4,7 @@ ghost use Rattle.std.specs.Prelude.{◌≡◌, length, Some};
 ghost use Rattle.asn1_core.specs.Boxed.{boxed_der};
 ghost use Rattle.asn1_core.specs.Der.{seen};
 ghost use Rattle.asn1_core.specs.Element.{element_text};
-ghost use Rattle.asn1_core.specs.Writing.{KnowsLength};
+ghost use Rattle.asn1_core.specs.Writing.{GivesLength};
 
 use crate::parser::{ParseError, ParseErrorKind, ParseResult};
 use crate::tag::Tag;
@@ -42,6 +42,8 @@ impl<T: SimpleAsn1Writable> SimpleAsn1Writable for Box<T> {
 
     ghost write_errors = { λ v. T.write_errors v.value };
 
+    ghost length_known = { λ v. T.length_known v.value };
+
     fn tag() -> Tag {
         T::tag()
     }
@@ -69,6 +71,8 @@ impl<T: SimpleAsn1Writable> SimpleAsn1Writable for &T {
 
     ghost write_errors = { λ v. T.write_errors v.now };
 
+    ghost length_known = { λ v. T.length_known v.now };
+
     fn tag() -> Tag {
         T::tag()
     }
@@ -87,13 +91,16 @@ impl Asn1Writable for &Tlv<'_> {
 
     type Error = WriteError;
 
+    ghost length_known = { λ _. Unit {0} };
+
     #[inline]
     fn write(&self, dest: &mut Writer<'_>) -> WriteResult<()> {
         (**self).write(dest)
     }
 
     fn encoded_length(&self) -> Option<usize>
-        ensures length { KnowsLength (λ t. t ≡ element_text (element_of self.now.now)) result }
+        ensures length { GivesLength (Unit {0}) (λ t. t ≡ element_text (element_of self.now.now))
+            result }
         ensures known { result ≡ Some (length (element_text (element_of self.now.now))) }
     {
         (**self).encoded_length()

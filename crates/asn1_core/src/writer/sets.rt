@@ -171,6 +171,8 @@ impl<T: Asn1Writable> SimpleAsn1Writable for SetOfWriter<'_, T> {
 
     ghost write_errors = { λ v. AnyNames T.write_errors (set_items v) };
 
+    ghost length_known = { λ v. Each T.length_known (set_items v) };
+
     fn tag() -> Tag
         ensures value { result ≡ set_tag }
         ensures simple { Unit {0} }

@@ -5,7 +5,7 @@ ghost use Rattle.asn1_core.specs.Text.{number, signed_number};
 ghost use Rattle.asn1_core.specs.Tag.{universal};
 ghost use Rattle.asn1_core.specs.Integer.{integer_content, read_integer};
 ghost use Rattle.asn1_core.specs.Reading.{Answers};
-ghost use Rattle.asn1_core.specs.Writing.{KnowsLength};
+ghost use Rattle.asn1_core.specs.Writing.{GivesLength};
 ghost use Rattle.asn1_core.specs.Der.{simple_der};
 ghost use Rattle.asn1_values.specs.Big.{IsSigned, IsUnsigned, IsSignedForm, IsUnsignedForm, IsMagnitude, bit_count, magnitude, read_unsigned};
 
@@ -95,6 +95,8 @@ impl SimpleAsn1Writable for BigUint<'_> {
 
     type Error = WriteError;
 
+    ghost length_known = { λ _. Unit {0} };
+
     fn tag() -> Tag
         ensures value { result ≡ universal 2 }
         ensures simple { Unit {0} }
@@ -107,7 +109,8 @@ impl SimpleAsn1Writable for BigUint<'_> {
     }
 
     fn data_length(&self) -> Option<usize>
-        ensures known { KnowsLength (unsigned_content.texts (big_uint_number self.now)) result }
+        ensures known { GivesLength (Unit {0}) (unsigned_content.texts (big_uint_number self.now))
+            result }
         ensures exact { result ≡ Some (length (integer_content (big_uint_number self.now))) }
     {
         Some(self.octets.len())
@@ -207,6 +210,8 @@ impl SimpleAsn1Writable for BigInt<'_> {
 
     type Error = WriteError;
 
+    ghost length_known = { λ _. Unit {0} };
+
     fn tag() -> Tag
         ensures value { result ≡ universal 2 }
         ensures simple { Unit {0} }
@@ -219,7 +224,8 @@ impl SimpleAsn1Writable for BigInt<'_> {
     }
 
     fn data_length(&self) -> Option<usize>
-        ensures known { KnowsLength (signed_content.texts (big_int_number self.now)) result }
+        ensures known { GivesLength (Unit {0}) (signed_content.texts (big_int_number self.now))
+            result }
         ensures exact { result ≡ Some (length (integer_content (big_int_number self.now))) }
     {
         Some(self.octets.len())

@@ -65,6 +65,8 @@ impl SimpleAsn1Writable for Enumerated {
 
     type Error = WriteError;
 
+    ghost length_known = { λ _. Unit {0} };
+
     fn tag() -> Tag {
         Tag::primitive(0x0a)
     }

@@ -113,6 +113,8 @@ impl SimpleAsn1Writable for GeneralizedTime {
 
     type Error = WriteError;
 
+    ghost length_known = { λ _. Unit {0} };
+
     fn tag() -> Tag {
         Tag::primitive(0x18)
     }

@@ -98,6 +98,8 @@ impl SimpleAsn1Writable for OwnedBigUint {
 
     type Error = WriteError;
 
+    ghost length_known = { λ _. Unit {0} };
+
     fn tag() -> Tag {
         Tag::primitive(0x02)
     }
@@ -211,6 +213,8 @@ impl SimpleAsn1Writable for OwnedBigInt {
     ghost use Rattle.asn1_values.specs.Values.{owned_big_int_number};
 
     type Error = WriteError;
+
+    ghost length_known = { λ _. Unit {0} };
 
     fn tag() -> Tag {
         Tag::primitive(0x02)

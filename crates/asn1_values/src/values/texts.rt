@@ -3,7 +3,7 @@
 ghost use Rattle.std.specs.Prelude.{◌≡◌, true, false, ⊤, Some, length, MatchOption, IsTrue, IsUtf8};
 ghost use Rattle.asn1_core.specs.Tag.{universal};
 ghost use Rattle.asn1_core.specs.Reading.{Answers};
-ghost use Rattle.asn1_core.specs.Writing.{KnowsLength};
+ghost use Rattle.asn1_core.specs.Writing.{GivesLength};
 ghost use Rattle.asn1_core.specs.Der.{simple_der};
 ghost use Rattle.asn1_values.specs.Texts.{is_printable, is_printable_text, is_ia5_text, is_visible_text, is_utf8_text, IsTextOf, read_text};
 
@@ -150,6 +150,8 @@ impl SimpleAsn1Writable for PrintableString<'_> {
 
     type Error = WriteError;
 
+    ghost length_known = { λ _. Unit {0} };
+
     fn tag() -> Tag
         ensures value { result ≡ universal 19 }
         ensures simple { Unit {0} }
@@ -162,7 +164,8 @@ impl SimpleAsn1Writable for PrintableString<'_> {
     }
 
     fn data_length(&self) -> Option<usize>
-        ensures known { KnowsLength (printable_content.texts (printable_octets self.now)) result }
+        ensures known { GivesLength (Unit {0}) (printable_content.texts (printable_octets self.now))
+            result }
         ensures exact { result ≡ Some (length (printable_octets self.now)) }
     {
         Some(self.text.len())
@@ -253,6 +256,8 @@ impl SimpleAsn1Writable for IA5String<'_> {
 
     type Error = WriteError;
 
+    ghost length_known = { λ _. Unit {0} };
+
     fn tag() -> Tag
         ensures value { result ≡ universal 22 }
         ensures simple { Unit {0} }
@@ -265,7 +270,7 @@ impl SimpleAsn1Writable for IA5String<'_> {
     }
 
     fn data_length(&self) -> Option<usize>
-        ensures known { KnowsLength (ia5_content.texts (ia5_octets self.now)) result }
+        ensures known { GivesLength (Unit {0}) (ia5_content.texts (ia5_octets self.now)) result }
         ensures exact { result ≡ Some (length (ia5_octets self.now)) }
     {
         Some(self.text.len())
@@ -357,6 +362,8 @@ impl SimpleAsn1Writable for VisibleString<'_> {
 
     type Error = WriteError;
 
+    ghost length_known = { λ _. Unit {0} };
+
     fn tag() -> Tag
         ensures value { result ≡ universal 26 }
         ensures simple { Unit {0} }
@@ -369,7 +376,8 @@ impl SimpleAsn1Writable for VisibleString<'_> {
     }
 
     fn data_length(&self) -> Option<usize>
-        ensures known { KnowsLength (visible_content.texts (visible_octets self.now)) result }
+        ensures known { GivesLength (Unit {0}) (visible_content.texts (visible_octets self.now))
+            result }
         ensures exact { result ≡ Some (length (visible_octets self.now)) }
     {
         Some(self.text.len())
@@ -456,6 +464,8 @@ impl SimpleAsn1Writable for Utf8String<'_> {
 
     type Error = WriteError;
 
+    ghost length_known = { λ _. Unit {0} };
+
     fn tag() -> Tag
         ensures value { result ≡ universal 12 }
         ensures simple { Unit {0} }
@@ -468,7 +478,7 @@ impl SimpleAsn1Writable for Utf8String<'_> {
     }
 
     fn data_length(&self) -> Option<usize>
-        ensures known { KnowsLength (utf8_content.texts (utf8_octets self.now)) result }
+        ensures known { GivesLength (Unit {0}) (utf8_content.texts (utf8_octets self.now)) result }
         ensures exact { result ≡ Some (length (utf8_octets self.now)) }
     {
         Some(self.text.len())

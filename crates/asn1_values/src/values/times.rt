@@ -94,6 +94,8 @@ impl<'a> SimpleAsn1Readable<'a> for UtcTime {
 impl SimpleAsn1Writable for UtcTime {
     type Error = WriteError;
 
+    ghost length_known = { λ _. Unit {0} };
+
     fn tag() -> Tag {
         Tag::primitive(0x17)
     }
@@ -188,6 +190,8 @@ impl<'a> SimpleAsn1Readable<'a> for X509GeneralizedTime {
 
 impl SimpleAsn1Writable for X509GeneralizedTime {
     type Error = WriteError;
+
+    ghost length_known = { λ _. Unit {0} };
 
     fn tag() -> Tag {
         Tag::primitive(0x18)

@@ -5,7 +5,7 @@ ghost use Rattle.std.specs.Char.{IsScalar};
 ghost use Rattle.asn1_core.specs.Text.{number};
 ghost use Rattle.asn1_core.specs.Tag.{universal};
 ghost use Rattle.asn1_core.specs.Reading.{Answers};
-ghost use Rattle.asn1_core.specs.Writing.{KnowsLength};
+ghost use Rattle.asn1_core.specs.Writing.{GivesLength};
 ghost use Rattle.asn1_core.specs.Der.{simple_der};
 ghost use Rattle.asn1_values.specs.Texts.{is_paired, is_utf16_text, fours, is_utf32_text, IsTextOf, read_text};
 
@@ -173,6 +173,8 @@ impl SimpleAsn1Writable for BMPString<'_> {
 
     type Error = WriteError;
 
+    ghost length_known = { λ _. Unit {0} };
+
     fn tag() -> Tag
         ensures value { result ≡ universal 30 }
         ensures simple { Unit {0} }
@@ -185,7 +187,7 @@ impl SimpleAsn1Writable for BMPString<'_> {
     }
 
     fn data_length(&self) -> Option<usize>
-        ensures known { KnowsLength (utf16_content.texts (bmp_octets self.now)) result }
+        ensures known { GivesLength (Unit {0}) (utf16_content.texts (bmp_octets self.now)) result }
         ensures exact { result ≡ Some (length (bmp_octets self.now)) }
     {
         Some(self.octets.len())
@@ -283,6 +285,8 @@ impl SimpleAsn1Writable for UniversalString<'_> {
 
     type Error = WriteError;
 
+    ghost length_known = { λ _. Unit {0} };
+
     fn tag() -> Tag
         ensures value { result ≡ universal 28 }
         ensures simple { Unit {0} }
@@ -295,7 +299,8 @@ impl SimpleAsn1Writable for UniversalString<'_> {
     }
 
     fn data_length(&self) -> Option<usize>
-        ensures known { KnowsLength (utf32_content.texts (universal_octets self.now)) result }
+        ensures known { GivesLength (Unit {0}) (utf32_content.texts (universal_octets self.now))
+            result }
         ensures exact { result ≡ Some (length (universal_octets self.now)) }
     {
         Some(self.octets.len())

@@ -4,7 +4,7 @@
 ghost use Rattle.std.specs.Prelude.{◌≡◌};
 ghost use Rattle.asn1_core.specs.Options.{option_meaning};
 ghost use Rattle.asn1_core.specs.Tag.{explicit_tag_of};
-ghost use Rattle.asn1_core.specs.Writing.{IsElementOf, KnowsLength};
+ghost use Rattle.asn1_core.specs.Writing.{IsElementOf, GivesLength};
 ghost use Rattle.asn1.specs.Defaults.{same_text};
 ghost use Rattle.asn1.specs.Structures.{defaulted, explicit};
 
@@ -15,7 +15,7 @@ use asn1_core::{Asn1Type, Asn1Writable, Writer, explicit_tag};
 
 /// How many octets a value has under an explicit tag, where that is known.
 fn explicit_length<T: Asn1Writable>(value: &T, tag: u32) -> Option<usize>
-    ensures { KnowsLength (IsElementOf (explicit_tag_of tag)
+    ensures { GivesLength (T.length_known value.now) (IsElementOf (explicit_tag_of tag)
         (T.der.texts (T.der.meaning value.now))) result }
 {
     full_length(explicit_tag(tag), value.encoded_length()?)

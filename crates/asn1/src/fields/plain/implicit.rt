@@ -4,7 +4,7 @@
 ghost use Rattle.std.specs.Prelude.{◌≡◌};
 ghost use Rattle.asn1_core.specs.Options.{option_meaning};
 ghost use Rattle.asn1_core.specs.Tag.{implicit_tag_of};
-ghost use Rattle.asn1_core.specs.Writing.{IsElementOf, KnowsLength};
+ghost use Rattle.asn1_core.specs.Writing.{IsElementOf, GivesLength};
 ghost use Rattle.asn1.specs.Defaults.{same_text};
 ghost use Rattle.asn1.specs.Structures.{defaulted, implicit};
 
@@ -15,8 +15,9 @@ use asn1_core::{Asn1Type, SimpleAsn1Writable, Writer, implicit_tag};
 
 /// How many octets a value has under an implicit tag, where that is known.
 fn implicit_length<T: SimpleAsn1Writable>(value: &T, tag: u32) -> Option<usize>
-    ensures { KnowsLength (IsElementOf (implicit_tag_of tag T.der.content.tag)
-        (T.der.content.texts (T.der.meaning value.now))) result }
+    ensures { GivesLength (T.length_known value.now) (IsElementOf
+        (implicit_tag_of tag T.der.content.tag) (T.der.content.texts (T.der.meaning value.now)))
+        result }
 {
     full_length(implicit_tag(tag, T::tag()), value.data_length()?)
 }

@@ -23,6 +23,8 @@ impl Asn1Type for NonZeroI8 {
 impl SimpleAsn1Writable for NonZeroI8 {
     type Error = WriteError;
 
+    ghost length_known = { λ _. Unit {0} };
+
     fn tag() -> Tag {
         i8::tag()
     }
@@ -48,6 +50,8 @@ impl Asn1Type for NonZeroI16 {
 
 impl SimpleAsn1Writable for NonZeroI16 {
     type Error = WriteError;
+
+    ghost length_known = { λ _. Unit {0} };
 
     fn tag() -> Tag {
         i16::tag()
@@ -75,6 +79,8 @@ impl Asn1Type for NonZeroI32 {
 impl SimpleAsn1Writable for NonZeroI32 {
     type Error = WriteError;
 
+    ghost length_known = { λ _. Unit {0} };
+
     fn tag() -> Tag {
         i32::tag()
     }
@@ -100,6 +106,8 @@ impl Asn1Type for NonZeroI64 {
 
 impl SimpleAsn1Writable for NonZeroI64 {
     type Error = WriteError;
+
+    ghost length_known = { λ _. Unit {0} };
 
     fn tag() -> Tag {
         i64::tag()
@@ -127,6 +135,8 @@ impl Asn1Type for NonZeroU8 {
 impl SimpleAsn1Writable for NonZeroU8 {
     type Error = WriteError;
 
+    ghost length_known = { λ _. Unit {0} };
+
     fn tag() -> Tag {
         u8::tag()
     }
@@ -152,6 +162,8 @@ impl Asn1Type for NonZeroU16 {
 
 impl SimpleAsn1Writable for NonZeroU16 {
     type Error = WriteError;
+
+    ghost length_known = { λ _. Unit {0} };
 
     fn tag() -> Tag {
         u16::tag()
@@ -179,6 +191,8 @@ impl Asn1Type for NonZeroU32 {
 impl SimpleAsn1Writable for NonZeroU32 {
     type Error = WriteError;
 
+    ghost length_known = { λ _. Unit {0} };
+
     fn tag() -> Tag {
         u32::tag()
     }
@@ -204,6 +218,8 @@ impl Asn1Type for NonZeroU64 {
 
 impl SimpleAsn1Writable for NonZeroU64 {
     type Error = WriteError;
+
+    ghost length_known = { λ _. Unit {0} };
 
     fn tag() -> Tag {
         u64::tag()

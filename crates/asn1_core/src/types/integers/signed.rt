@@ -39,6 +39,8 @@ impl<'a> SimpleAsn1Readable<'a> for i8 {
 impl SimpleAsn1Writable for i8 {
     type Error = WriteError;
 
+    ghost length_known = { λ _. Unit {0} };
+
     fn tag() -> Tag {
         Tag::primitive(0x02)
     }
@@ -80,6 +82,8 @@ impl<'a> SimpleAsn1Readable<'a> for i16 {
 
 impl SimpleAsn1Writable for i16 {
     type Error = WriteError;
+
+    ghost length_known = { λ _. Unit {0} };
 
     fn tag() -> Tag {
         Tag::primitive(0x02)
@@ -123,6 +127,8 @@ impl<'a> SimpleAsn1Readable<'a> for i32 {
 impl SimpleAsn1Writable for i32 {
     type Error = WriteError;
 
+    ghost length_known = { λ _. Unit {0} };
+
     fn tag() -> Tag {
         Tag::primitive(0x02)
     }
@@ -164,6 +170,8 @@ impl<'a> SimpleAsn1Readable<'a> for i64 {
 
 impl SimpleAsn1Writable for i64 {
     type Error = WriteError;
+
+    ghost length_known = { λ _. Unit {0} };
 
     fn tag() -> Tag {
         Tag::primitive(0x02)

@@ -39,6 +39,8 @@ impl<'a> SimpleAsn1Readable<'a> for u8 {
 impl SimpleAsn1Writable for u8 {
     type Error = WriteError;
 
+    ghost length_known = { λ _. Unit {0} };
+
     fn tag() -> Tag {
         Tag::primitive(0x02)
     }
@@ -80,6 +82,8 @@ impl<'a> SimpleAsn1Readable<'a> for u16 {
 
 impl SimpleAsn1Writable for u16 {
     type Error = WriteError;
+
+    ghost length_known = { λ _. Unit {0} };
 
     fn tag() -> Tag {
         Tag::primitive(0x02)
@@ -123,6 +127,8 @@ impl<'a> SimpleAsn1Readable<'a> for u32 {
 impl SimpleAsn1Writable for u32 {
     type Error = WriteError;
 
+    ghost length_known = { λ _. Unit {0} };
+
     fn tag() -> Tag {
         Tag::primitive(0x02)
     }
@@ -164,6 +170,8 @@ impl<'a> SimpleAsn1Readable<'a> for u64 {
 
 impl SimpleAsn1Writable for u64 {
     type Error = WriteError;
+
+    ghost length_known = { λ _. Unit {0} };
 
     fn tag() -> Tag {
         Tag::primitive(0x02)

@@ -5,7 +5,7 @@ use Rattle.asn1_core.proofs.types.AnyAsn1Writable.write.Goals as goal
 pub write_tlv-requires-clause-announced : goal.write_tlv-requires-clause-announced
 write_tlv-requires-clause-announced g c =
     let d = g.T.Asn1Type.der in
-    announced_by _ _ (d.content.texts (d.meaning c.args.self.now)) (λ old new h. search rules) _ c.data_length.ensures
+    announced_by _ _ (d.content.texts (d.meaning c.args.self.now)) (λ old new h. search rules) _ c.length_ahead.ensures
 
 pub returns-clause-ok : goal.returns-clause-ok
 returns-clause-ok g c =

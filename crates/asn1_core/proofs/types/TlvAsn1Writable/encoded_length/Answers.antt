@@ -1,12 +1,8 @@
-use Rattle.std.proofs.Common.{◌≡◌, ℕ, ◌<◌, ◌^◌, List, length, Option, Some, ap, arith}
+use Rattle.std.proofs.Common.{◌≡◌, ◌<◌, ◌^◌, length, Some, ap, sym, arith, ◌∙◌}
 use Rattle.asn1_core.specs.Element.{element_text}
 use Rattle.asn1_core.specs.Tlv.{element_of}
-use Rattle.asn1_core.specs.Writing.{KnowsLength}
-use Rattle.asn1_core.specs.Lemmas.Bodies.{one_length}
+use Rattle.asn1_core.specs.Lemmas.Bodies.{one_length, gives_one}
 use Rattle.asn1_core.proofs.types.TlvAsn1Writable.encoded_length.Goals as goal
-
-knows : (text : List ℕ) (r : Option ℕ) → r ≡ Some (length text) → KnowsLength (λ t. t ≡ text) r
-knows text r e = rw e (λ t same. ap length same)
 
 known : (c : goal.After-full_length) → c.full_length.result ≡ Some (length (element_text (element_of c.args.self.now)))
 known c =
@@ -14,4 +10,4 @@ known c =
     one_length _ c.args.self.now.tag c.args.self.now.«data».now _ (rw c.data.ensures at c.full_length.ensures.value) (rw c.data.ensures at (c.full_length.ensures.fits small))
 
 pub returns : goal.returns
-returns c = record { length = knows _ _ (known c); known = known c }
+returns c = record { length = gives_one _ _ _ (known c); known = known c }

@@ -1,4 +1,5 @@
-use Rattle.std.proofs.Common.{length, sym, ap, ◌∙◌}
+use Rattle.std.proofs.Common.{◌≡◌, ℕ, List, length, Some, sym, ap, ◌∙◌}
+use Rattle.asn1_core.specs.Items.{Joins}
 use Rattle.asn1_core.specs.Order.{text_less}
 use Rattle.asn1_core.specs.Lemmas.Items.{joins_one}
 use Rattle.asn1.specs.Sets.{set_left}
@@ -6,9 +7,9 @@ use Rattle.asn1.specs.Lemmas.SetItems.{set_left_is}
 use Rattle.asn1.proofs.lists.sets.SetOfSimpleAsn1Writable.data_length.Goals as goal
 
 pub returns-clause-length : goal.returns-clause-length
-returns-clause-length g c t written =
+returns-clause-length g c =
     let d = g.T.Asn1Type.der in
     let content = c.args.self.now.content.now in
-    let one = joins_one d.text d.texts (d.one_text c.can_parse-accepted.ensures.plain) (set_left text_less d.read content) t written in
     let is = set_left_is text_less d.read d.text (λ m. d.valid m × d.allowed m) d.takes content c.known.ensures c.args.self.now.are_ordered in
-    ap length (one ∙ sym is.0)
+    let right : (t : List ℕ) → Joins d.texts (set_left text_less d.read content) t → length t ≡ length content = λ t written. ap length (joins_one d.text d.texts (d.one_text c.can_parse-accepted.ensures.plain) (set_left text_less d.read content) t written ∙ sym is.0) in
+    record { right = right; told = λ k t written small. ap Some (sym (right t written)) }
