@@ -4,7 +4,6 @@ ghost use Rattle.std.specs.Prelude.{◌≡◌, []};
 ghost use Rattle.asn1.specs.Tag.{universal};
 ghost use Rattle.asn1.specs.Buffer.{KeepsFront};
 ghost use Rattle.asn1.specs.Writing.{buffer_name, octets_of};
-ghost use Rattle.asn1.specs.Items.{sequence_tag};
 ghost use Rattle.asn1.specs.Der.{simple_der};
 ghost use Rattle.asn1.specs.Written.{written};
 ghost use Rattle.asn1_tests.specs.declared.lists.Custom.TheVariants.{Memory, Refused};
@@ -279,51 +278,8 @@ fn two_sequences_around(alloc: Global, octets: &[u8]) -> WriteResult<Vec<u8>> {
 
 const LETTERS: [u8; 65532] = [0x61; 65532];
 
-/// A sequence of these contents octets, which says their length.
-#[derive(Drop)]
-struct Announced(Vec<u8>);
-
-impl Asn1Type for Announced {
-    ghost der = { simple_der (λ v. v.0.items) (written (record {
-      tag = sequence_tag;
-      text = λ m. m;
-      texts = λ m t. t ≡ m;
-      closures = λ m. Unit {0};
-      valid = λ m. Unit {0};
-      plain = Unit {0};
-      lawful = ⊥;
-      one_text = λ p m t e. e;
-      no_closures = λ p m. tt;
-    })) };
-
-    fn known(&self) {}
-}
-
-impl SimpleAsn1Writable for Announced {
-    type Error = WriteError;
-
-    fn tag() -> Tag {
-        Tag::constructed(0x10)
-    }
-
-    fn write_data(&self, dest: &mut WriteBuf) -> WriteResult<()> {
-        dest.push_slice(self.0.as_slice())
-    }
-
-    fn data_length(&self) -> Option<usize> {
-        Some(self.0.len())
-    }
-}
-
-/// A sequence of one octet string, the second header in front of it, by a type that announces its length.
-fn announced_around(alloc: Global, header: &[u8], octets: &[u8]) -> Result<Vec<u8>, Fail> {
-    let mut content = Vec::from_slice(alloc, header)?;
-    content.extend_from_slice(octets)?;
-    Ok(write_single(alloc, &Announced(content))?)
-}
-
-/// A sequence of one octet string, with these headers, three times: its length is patched, counted by the slice's writer,
-/// and announced by a type of one's own.
+/// A sequence of one octet string, with these headers, three times: its length is patched for a closure and for a slice's
+/// writer, and announced for an element as it is encoded.
 fn compare_patched(
     alloc: Global,
     octets: &[u8],
@@ -333,8 +289,9 @@ fn compare_patched(
     let patched = sequence_around(alloc, octets)?;
     same_at(header, patched.as_slice().starts_with(header), true)?;
     let listed = write_single(alloc, &SequenceOfWriter::new(&[octets]))?;
-    let announced = announced_around(alloc, inner_header, octets)?;
     let (tlv, _rest) = strip_tlv(patched.as_slice())?;
+    same_at(header, tlv.data().starts_with(inner_header), true)?;
+    let announced = write_single(alloc, &tlv)?;
     let inner = parse_single::<&[u8]>(alloc, tlv.data())?;
     same(patched.as_slice(), listed.as_slice())?;
     same(patched.as_slice(), announced.as_slice())?;
