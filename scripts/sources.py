@@ -29,7 +29,8 @@ def report(results, tells_all=False):
 
 def uses():
     """The repository's crates, and what each uses."""
-    lines = (line.partition(":") for line in (TOP / "crates.txt").read_text().splitlines())
+    lines = (TOP / "crates.txt").read_text().splitlines()
+    lines = (line.partition(":") for line in lines if line and not line.startswith("#"))
     return {name: used.split() for name, _, used in lines}
 
 

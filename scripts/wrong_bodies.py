@@ -2,8 +2,8 @@
 crate, and the state of a crate that scripts/planted.txt keeps. `rt ci` tries those of must-fail, and reads their lines
 file, old and new alone. Those of wrong-bodies/first the gate plants each time, the others where a crate changes.
 
-A file holds one wrong body or several, parted by empty lines; a line that begins with # is a comment. Each is a few
-lines 'key: value':
+A file holds one wrong body or several, parted by empty lines; a line that begins with # is a comment, which says what the
+body does, or the file's. Each is a few lines 'key: value':
 
 function: PATH      the function that has to be refused, by its path in the crate, as a check names it
 body: TEXT          what stands in place of its whole body; or
@@ -77,15 +77,26 @@ def broken(clause, function):
     return words
 
 
+def blocks_of(file):
+    """The wrong bodies of a file: the comment that says what each does, its own or the file's, and its lines."""
+    of_file = ""
+    for block in re.split(r"\n\n+", file.read_text().strip()):
+        lines = block.splitlines()
+        said = " ".join(line.removeprefix("# ") for line in lines if line.startswith("#"))
+        if text := "\n".join(line for line in lines if not line.startswith("#")):
+            yield said or of_file, text
+        else:
+            of_file = said
+
+
 def wrong_bodies_in(file, crate, known):
     """The wrong bodies of a file, which are those of a crate with these functions."""
-    lines = (line for line in file.read_text().splitlines() if not line.startswith("#"))
-    for block in re.split(r"\n\n+", "\n".join(lines).strip()):
+    for comment, block in blocks_of(file):
         try:
             for text in each_of(block):
                 said = [line.partition(": ")[::2] for line in text.splitlines()]
                 values = {"clause": "", "test": "", "must": "be refused", "no test": None, **dict(said)}
-                name = values.get("body") or values.get("first") or file.name
+                name = values.get("body") or values.get("first") or comment or file.name
                 if not KEYS.issuperset(key for key, _ in said):
                     raise ValueError("a line with another key")
                 function = known[values["function"]]
@@ -135,11 +146,9 @@ def below(name):
 
 
 def without_comments(file):
-    """The text of a file; a source's without lines of comments, which change no proof, and a wrong body's without the name
-    of its test, which no check of the prover runs.
-    """
+    """The text of a file; a source's without lines of comments, which change no proof."""
     text = file.read_text()
-    return COMMENT.sub("", text) if file.suffix == ".rt" else NAMED_TEST.sub("test:", text)
+    return COMMENT.sub("", text) if file.suffix == ".rt" else text
 
 
 def without_bodies(file):
@@ -152,14 +161,17 @@ def without_bodies(file):
 def state_of(name):
     """A hash of all that decides whether a crate's wrong bodies are refused: its sources, specs, proofs and wrong bodies,
     and of the crates below the specs and the contracts, which its own cite; their bodies and proofs show nowhere above.
+    In which file a wrong body stands decides nothing, and no check of the prover runs its test.
     """
-    places = [(name, folder, without_comments) for folder in ["src", "specs", "proofs", *ALL_FOLDERS]]
+    places = [(name, folder, without_comments) for folder in ["src", "specs", "proofs"]]
     places += [(crate, *it) for crate in below(name) for it in (("src", without_bodies), ("specs", without_comments))]
     found = hashlib.sha256()
     for crate, folder, text in places:
-        pattern = "*.edit" if folder in ALL_FOLDERS else "**/*.*"
-        for file in sorted((CRATES / crate / folder).glob(pattern)):
+        for file in sorted((CRATES / crate / folder).glob("**/*.*")):
             found.update(f"{file.relative_to(CRATES)}\n{text(file)}\n".encode())
+    files = [file for folder in ALL_FOLDERS for file in (CRATES / name / folder).glob("*.edit")]
+    for text in sorted(NAMED_TEST.sub("test:", text) for file in files for _, text in blocks_of(file)):
+        found.update(f"{text}\n".encode())
     return found.hexdigest()[:32]
 
 
