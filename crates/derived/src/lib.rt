@@ -2,4 +2,5 @@
 #![tactic(auto)]
 
 pub mod ec_private_key;
+pub mod items;
 pub mod page;

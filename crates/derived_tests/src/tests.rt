@@ -7,11 +7,11 @@ use asn1::{
     ParseError, ParseErrorKind, ParseLocation, SetOfWriter, Tlv, WriteError, parse_single,
     write_readable, write_single,
 };
-use derived::page::{
-    Alternative, AnyContent, AnyContentUnknown, AnySequence, Bag, Content, Entry, GeneralName,
-    Letter, Listed, MySequence, Nothing, Notice, ResponderId, Signature, Tagged, other_oid,
-    sha256_with_rsa, some_oid,
+use derived::items::{
+    AnyContent, AnyContentUnknown, AnySequence, Content, Entry, Letter, Listed, MySequence, Notice,
+    other_oid, sha256_with_rsa, some_oid,
 };
+use derived::page::{Alternative, Bag, GeneralName, Nothing, ResponderId, Signature, Tagged};
 use std::alloc::Global;
 use std::test::Fail;
 use testing::{are_both_ways, are_refused_with, both_ways, refused};
