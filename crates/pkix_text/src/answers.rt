@@ -4,12 +4,13 @@ ghost use Rattle.std.specs.Prelude.{◌⊎◌, IfOk};
 ghost use Rattle.pkix_text.specs.Answers.{IsRead, IsShownOnlyIf};
 ghost use Rattle.pkix_text.specs.declared.kinds.Kind.TheVariants as kinds;
 
+use crate::errors::in_words;
 use crate::kinds::Kind;
 use crate::pem::{Object, PemError, is_pem, objects};
 use crate::show::{Show, push_escaped};
 use asn1::{
-    Asn1Readable, Asn1Type, Asn1Writable, ParseError, Tag, WriteError, parse_single, strip_tlv,
-    write_single,
+    Asn1Readable, Asn1Type, Asn1Writable, ParseError, ParseErrorKind, Tag, WriteError,
+    parse_single, strip_tlv, write_single,
 };
 use pkix::certificate::Certificate;
 use pkix::common::SubjectPublicKeyInfo;
@@ -71,11 +72,14 @@ pub enum Refusal {
     Encrypted,
     /// It is between the lines of PEM, and has no octets.
     Pem(PemError),
+    /// The input has no octets.
+    Empty,
     /// It isn't the encoding of what it should be.
     Der(ParseError),
+    /// The same in words: where, and why.
+    Told(String),
 }
 
-/// Of an error of DER, what it says and where.
 impl fmt::Display for Refusal {
     fn fmt<W: fmt::Write>(&self, f: &mut fmt::Formatter<W>) -> fmt::Result {
         match self {
@@ -84,7 +88,9 @@ impl fmt::Display for Refusal {
             Refusal::Label(label) => write!(f, "the label {label} is of another kind, or of none"),
             Refusal::Encrypted => write!(f, "an encrypted key; `openssl pkey` decrypts it"),
             Refusal::Pem(error) => write!(f, "{error}"),
-            Refusal::Der(error) => write!(f, "{error} ({error:?})"),
+            Refusal::Empty => write!(f, "the input has no octets"),
+            Refusal::Der(error) => write!(f, "{error}"),
+            Refusal::Told(words) => write!(f, "{words}"),
         }
     }
 }
@@ -251,6 +257,56 @@ pub fn answer_to<'a>(alloc: Global, kind: Kind, octets: &'a [u8]) -> Result<Answ
     }
 }
 
+/// The octet of an error, counted from 0: behind the octets at the front with which any others, here 0xff, are rejected
+/// with this error too. So it is where the contents octets begin that are no value, or those under another tag. `None`
+/// if octets are missing, or follow a value within.
+fn octet_of(
+    alloc: Global,
+    kind: Kind,
+    octets: &[u8],
+    error: &ParseError,
+) -> Result<Option<usize>, Fault> {
+    match error.kind() {
+        ParseErrorKind::ShortData { .. } => return Ok(None),
+        ParseErrorKind::ExtraData => {
+            let whole = strip_tlv(octets)
+                .ok()
+                .map(|(whole, _)| whole.full_data().len());
+            return Ok(whole.filter(|_| *error == ParseError::new(ParseErrorKind::ExtraData)));
+        }
+        _ => {}
+    }
+    let (mut low, mut high) = (0usize, octets.len());
+    // Each turn halves what is between.
+    for _ in 0..usize::BITS {
+        let middle = low.saturating_add(high.saturating_sub(low) / 2);
+        let mut changed = Vec::new(alloc);
+        changed.extend_from_slice(octets.get(..middle).unwrap_or(octets))?;
+        changed.resize(octets.len(), 0xff)?;
+        match answer_to(alloc, kind, changed.as_slice())? {
+            Answer::Rejected(Refusal::Der(other)) if other == *error => high = middle,
+            _ => low = middle.saturating_add(1),
+        }
+        if low >= high {
+            break;
+        }
+    }
+    Ok(Some(high))
+}
+
+/// What an object in DER is answered with if this kind is asked for, an error in words.
+fn told(alloc: Global, kind: Kind, octets: &[u8]) -> Result<Answer, Fault> {
+    let error = match answer_to(alloc, kind, octets)? {
+        Answer::Rejected(Refusal::Der(error)) => error,
+        answer => return Ok(answer),
+    };
+    let mut words = in_words(alloc, &error)?;
+    if let Some(octet) = octet_of(alloc, kind, octets, &error)? {
+        write!(words, " (octet {octet})")?;
+    }
+    Ok(Answer::Rejected(Refusal::Told(words)))
+}
+
 /// What an object in DER is answered with if no kind is named: the lines of the only kind that reads it.
 fn answer_to_any(alloc: Global, octets: &[u8]) -> Result<Answer, Fault> {
     let mut found = None;
@@ -304,7 +360,7 @@ fn answer_to_object(
         (told, asked) => told.or(asked),
     };
     match kind {
-        Some(kind) => answer_to(alloc, kind, octets),
+        Some(kind) => told(alloc, kind, octets),
         None => {
             let label = text_of(alloc, object.label)?;
             Ok(Answer::Rejected(Refusal::Label(label)))
@@ -342,7 +398,8 @@ pub fn report_on(alloc: Global, kind: Option<Kind>, input: &[u8]) -> Result<Repo
     };
     if !is_pem(input) {
         let answer = match kind {
-            Some(kind) => answer_to(alloc, kind, input)?,
+            _ if input.is_empty() => Answer::Rejected(Refusal::Empty),
+            Some(kind) => told(alloc, kind, input)?,
             None => answer_to_any(alloc, input)?,
         };
         report.add("", answer)?;

@@ -2,6 +2,7 @@
 
 use crate::answers::Fault;
 use crate::common::short_name;
+use crate::errors::in_words;
 use crate::show::{Show, line, optional, part, read_again, whole_octets, within};
 use pkix::certificate::access::AccessDescription;
 use pkix::certificate::distribution::{DistributionPoint, DistributionPointName};
@@ -187,8 +188,13 @@ impl Show for Extension<'_> {
             }
             Err(error) => {
                 part(alloc, place, "extnValue", &self.extn_value, out)?;
-                let reason = format!(in alloc; "{error} ({error:?})")?;
-                line(alloc, place, "rejected", reason.as_str(), out)
+                line(
+                    alloc,
+                    place,
+                    "rejected",
+                    in_words(alloc, &error)?.as_str(),
+                    out,
+                )
             }
         }
     }

@@ -4,6 +4,7 @@
 mod answers;
 mod certificate;
 mod common;
+mod errors;
 mod extensions;
 mod general_names;
 mod identifiers;

@@ -1,0 +1,135 @@
+//! Errors of DER in words.
+
+use asn1::{ParseError, ParseErrorKind, Tag, TagClass};
+use std::alloc::{AllocError, Global};
+
+/// Universal tags by number, in the words of X.680.
+const UNIVERSAL: [(u32, &str); 20] = [
+    (1, "BOOLEAN"),
+    (2, "INTEGER"),
+    (3, "BIT STRING"),
+    (4, "OCTET STRING"),
+    (5, "NULL"),
+    (6, "OBJECT IDENTIFIER"),
+    (10, "ENUMERATED"),
+    (12, "UTF8String"),
+    (16, "SEQUENCE"),
+    (17, "SET"),
+    (18, "NumericString"),
+    (19, "PrintableString"),
+    (20, "TeletexString"),
+    (22, "IA5String"),
+    (23, "UTCTime"),
+    (24, "GeneralizedTime"),
+    (26, "VisibleString"),
+    (27, "GeneralString"),
+    (28, "UniversalString"),
+    (30, "BMPString"),
+];
+
+/// Fields whose names in the documents have other capitals than their words have here.
+const NAMES: [(&str, &str); 7] = [
+    ("ca", "cA"),
+    ("crl_issuer", "cRLIssuer"),
+    ("extn_id", "extnID"),
+    ("issuer_unique_id", "issuerUniqueID"),
+    ("subject_pk_info", "subjectPKInfo"),
+    ("subject_unique_id", "subjectUniqueID"),
+    ("type_id", "type"),
+];
+
+/// Appends a tag: its type, or its class and number.
+fn push_tag(out: &mut String, tag: Tag) -> Result<(), AllocError> {
+    let number = tag.value();
+    let class = match tag.class() {
+        TagClass::Universal => "UNIVERSAL ",
+        TagClass::Application => "APPLICATION ",
+        TagClass::ContextSpecific => "",
+        TagClass::Private => "PRIVATE ",
+    };
+    let known = UNIVERSAL.iter().find(|row| row.0 == number);
+    match known {
+        Some((_, name)) if tag.class() == TagClass::Universal => {
+            let has_parts = number == 16 || number == 17;
+            let form = match tag.is_constructed() {
+                true if !has_parts => "constructed ",
+                false if has_parts => "primitive ",
+                _ => "",
+            };
+            write!(out, "{form}{name}")
+        }
+        _ => write!(out, "[{class}{number}]"),
+    }
+}
+
+/// Appends the name of a field as the lines have it.
+fn push_field(out: &mut String, field: &str) -> Result<(), AllocError> {
+    if let Some((_, name)) = NAMES.iter().find(|row| row.0 == field) {
+        return out.push_str(name);
+    }
+    let mut is_next = false;
+    for letter in field.chars() {
+        if letter == '_' {
+            is_next = true;
+        } else {
+            out.push(if is_next {
+                letter.to_ascii_uppercase()
+            } else {
+                letter
+            })?;
+            is_next = false;
+        }
+    }
+    Ok(())
+}
+
+/// Appends the locations of the error, the outermost first, with a colon behind them; nothing if there are none.
+fn push_location(alloc: Global, out: &mut String, error: &ParseError) -> Result<(), AllocError> {
+    // An error tells its locations in its `Debug` alone: names in quotes, and numbers of items.
+    let shown = format!(in alloc; "{error:?}")?;
+    let Some((_, locations)) = shown.as_str().split_once(", location: [") else {
+        return Ok(());
+    };
+    let mut mark = "";
+    for location in locations.trim_end_matches("] }").split(", ") {
+        out.push_str(mark)?;
+        let name = location.trim_matches('"');
+        push_field(out, name.rsplit_once("::").map_or(name, |parts| parts.1))?;
+        mark = ".";
+    }
+    out.push_str(": ")
+}
+
+/// Why octets aren't the encoding of a value, in words, behind the location in the value.
+pub(crate) fn in_words(alloc: Global, error: &ParseError) -> Result<String, AllocError> {
+    let mut out = String::new(alloc);
+    push_location(alloc, &mut out, error)?;
+    match error.kind() {
+        ParseErrorKind::InvalidValue => out.push_str("the contents octets encode no value")?,
+        ParseErrorKind::InvalidTag => out.push_str("the identifier octets are malformed")?,
+        ParseErrorKind::InvalidLength => {
+            out.push_str("the length is indefinite, too large, or not in its fewest octets")?
+        }
+        ParseErrorKind::InvalidSize { min, max, actual } if actual < min => {
+            write!(out, "{actual} items are fewer than {min}")?
+        }
+        ParseErrorKind::InvalidSize { min, max, actual } => {
+            write!(out, "{actual} items are more than {max}")?
+        }
+        ParseErrorKind::UnexpectedTag { actual } => {
+            push_tag(&mut out, actual)?;
+            out.push_str(" isn't expected")?
+        }
+        ParseErrorKind::ShortData { needed } => {
+            write!(out, "{needed} octets or more are missing")?
+        }
+        ParseErrorKind::IntegerOverflow => out.push_str("the number is out of range")?,
+        ParseErrorKind::ExtraData => out.push_str("octets follow the value")?,
+        ParseErrorKind::InvalidSetOrdering => out.push_str("the elements are out of order")?,
+        ParseErrorKind::EncodedDefault => out.push_str("the default is encoded")?,
+        ParseErrorKind::OidTooLong => out.push_str("the identifier has more than 63 octets")?,
+        ParseErrorKind::UnknownDefinedBy => out.push_str("the identifier is unknown")?,
+        ParseErrorKind::AllocationError => out.push_str("out of memory")?,
+    }
+    Ok(out)
+}
