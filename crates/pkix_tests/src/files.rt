@@ -217,7 +217,7 @@ fn errors_are_told(rt: HostRuntime) -> Result<(), Fail> {
     let wanted = "pkix: octets follow the value (octet 848)\n";
     is_answered(alloc, kind, octets.as_slice(), "", wanted)?;
     octets.truncate(847);
-    let wanted = "pkix: 1 octets or more are missing\n";
+    let wanted = "pkix: octets are missing: at least 1\n";
     is_answered(alloc, kind, octets.as_slice(), "", wanted)
 }
 

@@ -121,7 +121,7 @@ pub(crate) fn in_words(alloc: Global, error: &ParseError) -> Result<String, Allo
             out.push_str(" isn't expected")?
         }
         ParseErrorKind::ShortData { needed } => {
-            write!(out, "{needed} octets or more are missing")?
+            write!(out, "octets are missing: at least {needed}")?
         }
         ParseErrorKind::IntegerOverflow => out.push_str("the number is out of range")?,
         ParseErrorKind::ExtraData => out.push_str("octets follow the value")?,
