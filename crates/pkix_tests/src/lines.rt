@@ -150,13 +150,44 @@ fn values_of_extensions_that_are_not_der(rt: HostRuntime) -> Result<(), Fail> {
     let changed = with_octets(alloc, objects::FULL, 300, b"\x00")?;
     let text = lines(alloc, Kind::Certificate, changed.as_slice())?;
     same(
-        line(text.as_str(), "extensions.0.extnValue"),
+        line(text.as_str(), "extensions.0.extnValue:"),
         Some("extensions.0.extnValue: 3006010100020101"),
     )?;
     same(
-        line(text.as_str(), "extensions.0.rejected"),
-        Some("extensions.0.rejected: cA: the default is encoded"),
+        line(text.as_str(), "extensions.0.extnValue.rejected"),
+        Some("extensions.0.extnValue.rejected: cA: the default is encoded"),
     )
+}
+
+/// Other values inside, whose first INTEGER or identifier has the tag of a BOOLEAN: they are shown as octets, with the
+/// reason.
+#[test]
+fn values_inside_that_are_not_der(rt: HostRuntime) -> Result<(), Fail> {
+    let alloc = rt.alloc();
+    let rows = [
+        (
+            (Kind::Key, objects::EC_PKCS8, 31),
+            "privateKey.rejected: version: BOOLEAN isn't expected",
+        ),
+        (
+            (Kind::Request, objects::REQUEST, 184),
+            "attributes.0.extensionRequest.rejected: 0.extnID: BOOLEAN isn't expected",
+        ),
+        (
+            (Kind::TimestampResponse, objects::STAMP_RESPONSE, 32),
+            "timeStampToken.content.rejected: version: BOOLEAN isn't expected",
+        ),
+        (
+            (Kind::TimestampResponse, objects::STAMP_RESPONSE, 77),
+            "timeStampToken.content.encapContentInfo.eContent.rejected: version: BOOLEAN isn't expected",
+        ),
+    ];
+    for ((kind, object, place), wanted) in rows {
+        let changed = with_octets(alloc, object, place, b"\x01")?;
+        let text = lines(alloc, kind, changed.as_slice())?;
+        same(line(text.as_str(), wanted), Some(wanted))?;
+    }
+    Ok(())
 }
 
 #[test]

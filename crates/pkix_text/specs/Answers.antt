@@ -9,7 +9,7 @@ use Rattle.pkix_text.specs.declared.answers.Answer.TheVariants.{Shown, Rejected}
 abbrev pub IsRead : {V : Type 0} → Der V → List ℕ → Type 0
 IsRead der octets = IsOk (whole (der.read octets))
 
--- What is shown has the form. What has it may be rejected, since more may be looked at inside.
+-- What is shown has the form. What has it may be rejected: an encrypted key may have the form of another object.
 abbrev pub IsShownOnlyIf : Type 0 → Answer → Type 0
 IsShownOnlyIf Form (Shown text) = Form
 IsShownOnlyIf Form (Rejected refusal) = ⊤

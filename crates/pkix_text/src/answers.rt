@@ -32,8 +32,6 @@ pub enum Fault {
     Read,
     /// The output could not be written.
     Write,
-    /// What is inside isn't the encoding of what it is said to be.
-    Inside(ParseError),
 }
 
 impl fmt::Display for Fault {
@@ -42,7 +40,6 @@ impl fmt::Display for Fault {
             Fault::Memory => write!(f, "out of memory"),
             Fault::Read => write!(f, "the input could not be read"),
             Fault::Write => write!(f, "the output could not be written"),
-            Fault::Inside(error) => write!(f, "{error}"),
         }
     }
 }
@@ -50,12 +47,6 @@ impl fmt::Display for Fault {
 impl From<AllocError> for Fault {
     fn from(_error: AllocError) -> Fault {
         Fault::Memory
-    }
-}
-
-impl From<ParseError> for Fault {
-    fn from(error: ParseError) -> Fault {
-        Fault::Inside(error)
     }
 }
 
@@ -118,11 +109,7 @@ fn shown<'a, T: Asn1Readable<'a> + Asn1Writable<Error = WriteError> + Show>(
         Err(error) => return Ok(Answer::Rejected(Refusal::Der(error))),
     };
     let mut text = String::new(alloc);
-    match value.show(alloc, "", &mut text) {
-        Ok(()) => {}
-        Err(Fault::Inside(error)) => return Ok(Answer::Rejected(Refusal::Der(error))),
-        Err(fault) => return Err(fault),
-    }
+    value.show(alloc, "", &mut text)?;
     let Ok(written) = write_single(alloc, &value) else {
         return Err(Fault::Memory);
     };
@@ -223,8 +210,7 @@ fn signature<'a>(alloc: Global, start: Start, octets: &'a [u8]) -> Result<Answer
 }
 
 /// The lines of the value of this kind whose encoding the octets are. An encrypted key is rejected as that for each
-/// kind, and other octets with the first error of the kind's type, or of a part that is shown too. `Memory` where out
-/// of memory.
+/// kind, and other octets with the first error of the kind's type. `Memory` where out of memory.
 pub fn answer_to<'a>(alloc: Global, kind: Kind, octets: &'a [u8]) -> Result<Answer, Fault>
     ensures { IfOk result (IsShownOnlyIf (elim kind as (λ _. Type 0) [
       | kinds.Certificate ↦ IsRead ⟦<Certificate<'a> as Asn1Type>⟧.der octets.entry.now

@@ -2,7 +2,7 @@
 
 use crate::answers::Fault;
 use crate::identifiers::name_of;
-use crate::show::{Show, empty, item, line, part, read_again, within};
+use crate::show::{Show, empty, inner, item, line, part, read_again, within};
 use asn1::{BigInt, ObjectIdentifier, SetOf, Tlv, parse_single};
 use pkix::algorithm_parameters::KnownAlgorithm;
 use pkix::common::{
@@ -96,10 +96,7 @@ fn value(
     if name != "extensionRequest" {
         return part(alloc, place, name, value, out);
     }
-    match parse_single::<Extensions<'_>>(alloc, value.full_data()) {
-        Ok(extensions) => part(alloc, place, name, &extensions, out),
-        Err(_) => part(alloc, place, name, value, out),
-    }
+    inner::<Extensions<'_>>(alloc, place, name, value.full_data(), out)
 }
 
 /// Each value, with the attribute's type as its place.

@@ -2,8 +2,7 @@
 
 use crate::answers::Fault;
 use crate::common::short_name;
-use crate::errors::in_words;
-use crate::show::{Show, line, optional, part, read_again, whole_octets, within};
+use crate::show::{Show, line, optional, part, read_again, rejected, whole_octets, within};
 use pkix::certificate::access::AccessDescription;
 use pkix::certificate::distribution::{DistributionPoint, DistributionPointName};
 use pkix::certificate::extensions::{AuthorityKeyIdentifier, BasicConstraints};
@@ -186,16 +185,7 @@ impl Show for Extension<'_> {
                 let name = short_name(alloc, &self.extn_id)?;
                 part(alloc, place, name.as_str(), &value, out)
             }
-            Err(error) => {
-                part(alloc, place, "extnValue", &self.extn_value, out)?;
-                line(
-                    alloc,
-                    place,
-                    "rejected",
-                    in_words(alloc, &error)?.as_str(),
-                    out,
-                )
-            }
+            Err(error) => rejected(alloc, place, "extnValue", self.extn_value, &error, out),
         }
     }
 }

@@ -2,8 +2,7 @@
 
 use crate::answers::Fault;
 use crate::common::short_name;
-use crate::show::{Show, optional, part};
-use asn1::parse_single;
+use crate::show::{Show, inner, optional, part};
 use pkix::keys::{EcPrivateKey, OneAsymmetricKey, RsaPrivateKey, RsaPublicKey};
 use std::alloc::Global;
 
@@ -37,8 +36,7 @@ impl Show for EcPrivateKey<'_> {
     }
 }
 
-/// Appends the lines of the key itself: its numbers, where its algorithm is a known one and it has that one's form, and
-/// else its octets.
+/// Appends the lines of the key itself: its numbers if its algorithm is a known one, and else its octets.
 fn private_key(
     alloc: Global,
     place: &str,
@@ -48,14 +46,8 @@ fn private_key(
     let octets = key.private_key;
     let algorithm = short_name(alloc, &key.private_key_algorithm.algorithm)?;
     match algorithm.as_str() {
-        "rsaEncryption" => match parse_single::<RsaPrivateKey<'_>>(alloc, octets) {
-            Ok(numbers) => part(alloc, place, "privateKey", &numbers, out),
-            Err(_) => part(alloc, place, "privateKey", &octets, out),
-        },
-        "ecPublicKey" => match parse_single::<EcPrivateKey<'_>>(alloc, octets) {
-            Ok(numbers) => part(alloc, place, "privateKey", &numbers, out),
-            Err(_) => part(alloc, place, "privateKey", &octets, out),
-        },
+        "rsaEncryption" => inner::<RsaPrivateKey<'_>>(alloc, place, "privateKey", octets, out),
+        "ecPublicKey" => inner::<EcPrivateKey<'_>>(alloc, place, "privateKey", octets, out),
         _ => part(alloc, place, "privateKey", &octets, out),
     }
 }

@@ -1,11 +1,12 @@
 //! Lines of text, and how values of the simple types are shown.
 
 use crate::answers::Fault;
+use crate::errors::in_words;
 use crate::identifiers::name_of;
 use asn1::{
     Asn1Readable, BMPString, BigInt, BigUint, BitString, DateTime, GeneralizedTime, IA5String,
-    ObjectIdentifier, ParseResult, PrintableString, SequenceOf, Tlv, Utf8String, VisibleString,
-    parse_single,
+    ObjectIdentifier, ParseError, ParseResult, PrintableString, SequenceOf, Tlv, Utf8String,
+    VisibleString, parse_single,
 };
 use pkix::common::{NamedBits, Time};
 use std::alloc::{AllocError, Global};
@@ -66,6 +67,42 @@ pub(crate) fn optional<T: Show>(
     match value {
         Some(value) => part(alloc, place, name, value, out),
         None => Ok(()),
+    }
+}
+
+/// Appends the line of octets that should be the encoding of a value at this part of the place, and the reason why they
+/// aren't.
+pub(crate) fn rejected(
+    alloc: Global,
+    place: &str,
+    name: &str,
+    octets: &[u8],
+    error: &ParseError,
+    out: &mut String,
+) -> Result<(), Fault> {
+    let place = within(alloc, place, name)?;
+    octets.show(alloc, place.as_str(), out)?;
+    line(
+        alloc,
+        place.as_str(),
+        "rejected",
+        in_words(alloc, error)?.as_str(),
+        out,
+    )
+}
+
+/// Appends the lines of the value whose encoding the octets are, at this part of the place; or if they aren't, the
+/// octets, and why.
+pub(crate) fn inner<'a, T: Asn1Readable<'a> + Show>(
+    alloc: Global,
+    place: &str,
+    name: &str,
+    octets: &'a [u8],
+    out: &mut String,
+) -> Result<(), Fault> {
+    match parse_single::<T>(alloc, octets) {
+        Ok(value) => part(alloc, place, name, &value, out),
+        Err(error) => rejected(alloc, place, name, octets, &error, out),
     }
 }
 

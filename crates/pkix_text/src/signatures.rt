@@ -2,8 +2,8 @@
 
 use crate::answers::Fault;
 use crate::common::short_name;
-use crate::show::{Show, empty, item, optional, part, read_again, within};
-use asn1::{Asn1Readable, Asn1Writable, SetOf, parse_single};
+use crate::show::{Show, empty, inner, item, optional, part, read_again, within};
+use asn1::{Asn1Readable, Asn1Writable, SetOf};
 use pkix::signatures::{
     ContentInfo, DigestInfo, EcdsaSigValue, EncapsulatedContentInfo, IssuerAndSerialNumber,
     SignedData, SignerIdentifier, SignerInfo,
@@ -70,7 +70,7 @@ impl Show for SignerInfo<'_> {
     }
 }
 
-/// The content is shown as a TSTInfo where it is one, and else as octets.
+/// The content is shown as a TSTInfo if its type is that, and else as octets.
 impl Show for EncapsulatedContentInfo<'_> {
     fn show(&self, alloc: Global, place: &str, out: &mut String) -> Result<(), Fault> {
         part(alloc, place, "eContentType", &self.e_content_type, out)?;
@@ -81,8 +81,7 @@ impl Show for EncapsulatedContentInfo<'_> {
         if name.as_str() != "tSTInfo" {
             return part(alloc, place, "eContent", &octets, out);
         }
-        let info = parse_single::<TstInfo<'_>>(alloc, octets)?;
-        part(alloc, place, "eContent", &info, out)
+        inner::<TstInfo<'_>>(alloc, place, "eContent", octets, out)
     }
 }
 
@@ -131,7 +130,7 @@ impl Show for SignedData<'_> {
     }
 }
 
-/// The content is shown as SignedData where it is that, and else as octets.
+/// The content is shown as SignedData if its type is that, and else as octets.
 impl Show for ContentInfo<'_> {
     fn show(&self, alloc: Global, place: &str, out: &mut String) -> Result<(), Fault> {
         part(alloc, place, "contentType", &self.content_type, out)?;
@@ -140,7 +139,6 @@ impl Show for ContentInfo<'_> {
         if name.as_str() != "signedData" {
             return part(alloc, place, "content", &octets, out);
         }
-        let data = parse_single::<SignedData<'_>>(alloc, octets)?;
-        part(alloc, place, "content", &data, out)
+        inner::<SignedData<'_>>(alloc, place, "content", octets, out)
     }
 }
