@@ -224,5 +224,5 @@ def holds_choice(module, type):
 
 
 def holds(module, type):
-    """Whether a type is a struct or an enum that is declared beside it, or holds one."""
-    return type.name in module.items or any(holds(module, inner) for inner in type.inner)
+    """Whether a type is declared here or imported, or holds one that is."""
+    return type.name in (*module.items, *module.imported) or any(holds(module, inner) for inner in type.inner)
