@@ -43,38 +43,6 @@ pub struct Tagged<'a> {
     pub level: i8,
 }
 
-/// A name of one of nine forms (RFC 5280, 4.2.1.6), some of whose types stand for longer ones.
-#[derive(asn1::Asn1Read, asn1::Asn1Write, Debug, PartialEq, Eq)]
-pub enum GeneralName<'a> {
-    /// A name by a type that is named by an identifier.
-    #[implicit(0)]
-    OtherName(Signature),
-    /// A mailbox.
-    #[implicit(1)]
-    Rfc822Name(asn1::IA5String<'a>),
-    /// A host.
-    #[implicit(2)]
-    DNSName(asn1::IA5String<'a>),
-    /// An address of X.400.
-    #[implicit(3)]
-    X400Address(asn1::Sequence<'a>),
-    /// A name.
-    #[explicit(4)]
-    DirectoryName(Strings<'a>),
-    /// A party.
-    #[implicit(5)]
-    EDIPartyName(asn1::Sequence<'a>),
-    /// A location.
-    #[implicit(6)]
-    UniformResourceIdentifier(asn1::IA5String<'a>),
-    /// An address.
-    #[implicit(7)]
-    IPAddress(&'a [u8]),
-    /// An identifier.
-    #[implicit(8)]
-    RegisteredID(asn1::ObjectIdentifier),
-}
-
 /// Strings, in the order of a set.
 pub type Strings<'a> = asn1::SetOf<'a, asn1::PrintableString<'a>>;
 
@@ -92,8 +60,8 @@ pub enum ResponderId<'a> {
 /// A choice that stands in a structure, where it may be missing.
 #[derive(asn1::Asn1Read, asn1::Asn1Write, Debug, PartialEq, Eq)]
 pub struct Alternative<'a> {
-    /// The name, if there is one.
-    pub name: Option<GeneralName<'a>>,
+    /// Who answers, if anyone does.
+    pub responder: Option<ResponderId<'a>>,
 }
 
 /// Whether a bag is full, and the numbers in it: it is made in code, and only written.

@@ -1,5 +1,5 @@
 //! Structures and choices: each attribute of the original's derives for them, once.
-// Printed by scripts/derive from declarations/page.rs, with the sum 4baf1be1.
+// Printed by scripts/derive from declarations/page.rs, with the sum dddf674c.
 
 ghost use Rattle.std.specs.Prelude.{◌≡◌, ◌∷◌, [], codes, negsuc, false, OnErr};
 ghost use Rattle.std.proofs.Common.{inl, inr};
@@ -11,10 +11,10 @@ ghost use Rattle.asn1.specs.Structures.{defaulted, explicit, implicit, structure
 
 use asn1::fields::{Fields2, Fields7, Last, NoFields, Row, plain_length, write_plain};
 use asn1::{
-    Asn1Readable, Asn1Type, Asn1Writable, Choice2, Choice3, DefaultValue, Defaulted, Explicit,
-    IA5String, Implicit, ObjectIdentifier, ParseResult, Parser, PrintableString, Sequence,
-    SequenceOf, SetOf, SetOfWriter, SimpleAsn1Readable, SimpleAsn1Writable, Tag, WriteBuf,
-    WriteError, WriteResult, Writer, fields_length, known_fields, read_fields, write_fields,
+    Asn1Readable, Asn1Type, Asn1Writable, Choice2, DefaultValue, Defaulted, Explicit, Implicit,
+    ParseResult, Parser, PrintableString, SequenceOf, SetOf, SetOfWriter, SimpleAsn1Readable,
+    SimpleAsn1Writable, Tag, WriteBuf, WriteError, WriteResult, Writer, fields_length,
+    known_fields, read_fields, write_fields,
 };
 use std::alloc::Global;
 
@@ -244,169 +244,6 @@ impl<'a> SimpleAsn1Writable for Tagged<'a> {
     }
 }
 
-type GeneralNameChoice<'a> = Choice3<
-    Implicit<Signature, 0>,
-    Implicit<IA5String<'a>, 1>,
-    GeneralNameFrom3<'a>,
->;
-
-type GeneralNameFrom3<'a> = Choice3<
-    Implicit<IA5String<'a>, 2>,
-    Implicit<Sequence<'a>, 3>,
-    GeneralNameFrom5<'a>,
->;
-
-type GeneralNameFrom5<'a> = Choice3<
-    Explicit<Strings<'a>, 4>,
-    Implicit<Sequence<'a>, 5>,
-    GeneralNameFrom7<'a>,
->;
-
-type GeneralNameFrom7<'a> = Choice3<
-    Implicit<IA5String<'a>, 6>,
-    Implicit<&'a [u8], 7>,
-    Implicit<ObjectIdentifier, 8>,
->;
-
-/// A name of one of nine forms (RFC 5280, 4.2.1.6), some of whose types stand for longer ones.
-#[derive(Debug, PartialEq, Eq, Drop)]
-pub enum GeneralName<'a> {
-    /// A name by a type that is named by an identifier.
-    OtherName(Signature),
-    /// A mailbox.
-    Rfc822Name(IA5String<'a>),
-    /// A host.
-    DNSName(IA5String<'a>),
-    /// An address of X.400.
-    X400Address(Sequence<'a>),
-    /// A name.
-    DirectoryName(Strings<'a>),
-    /// A party.
-    EDIPartyName(Sequence<'a>),
-    /// A location.
-    UniformResourceIdentifier(IA5String<'a>),
-    /// An address.
-    IPAddress(&'a [u8]),
-    /// An identifier.
-    RegisteredID(ObjectIdentifier),
-}
-
-impl<'a> Asn1Type for GeneralName<'a> {
-    ghost use Rattle.derived.specs.declared.page.GeneralName.TheVariants.{OtherName, Rfc822Name, DNSName, X400Address, DirectoryName, EDIPartyName, UniformResourceIdentifier, IPAddress, RegisteredID};
-
-    ghost der = { choice_der (elim [
-      | OtherName x ↦ inl (⟦<Signature as Asn1Type>⟧.der.meaning x)
-      | Rfc822Name x ↦ inr (inl (⟦<IA5String<'a> as Asn1Type>⟧.der.meaning x))
-      | DNSName x ↦ inr (inr (inl (⟦<IA5String<'a> as Asn1Type>⟧.der.meaning x)))
-      | X400Address x ↦ inr (inr (inr (inl (⟦<Sequence<'a> as Asn1Type>⟧.der.meaning x))))
-      | DirectoryName x ↦ inr (inr (inr (inr (inl (⟦<Strings<'a> as Asn1Type>⟧.der.meaning x)))))
-      | EDIPartyName x ↦ inr (inr (inr (inr (inr (inl (⟦<Sequence<'a> as Asn1Type>⟧.der.meaning
-          x))))))
-      | UniformResourceIdentifier x ↦ inr (inr (inr (inr (inr (inr (inl
-          (⟦<IA5String<'a> as Asn1Type>⟧.der.meaning x)))))))
-      | IPAddress x ↦ inr (inr (inr (inr (inr (inr (inr (inl (⟦<&'a [u8] as Asn1Type>⟧.der.meaning
-          x))))))))
-      | RegisteredID x ↦ inr (inr (inr (inr (inr (inr (inr (inr
-          (⟦<ObjectIdentifier as Asn1Type>⟧.der.meaning x))))))))
-    ]) (or
-        ⟦<Implicit<Signature, 0> as Asn1Type>⟧.der (or
-        ⟦<Implicit<IA5String<'a>, 1> as Asn1Type>⟧.der (only
-        ⟦<GeneralNameFrom3<'a> as Asn1Type>⟧.der))) };
-
-    fn known(&self) {
-        match self {
-            GeneralName::OtherName(x) => x.known(),
-            GeneralName::Rfc822Name(x) => x.known(),
-            GeneralName::DNSName(x) => x.known(),
-            GeneralName::X400Address(x) => x.known(),
-            GeneralName::DirectoryName(x) => x.known(),
-            GeneralName::EDIPartyName(x) => x.known(),
-            GeneralName::UniformResourceIdentifier(x) => x.known(),
-            GeneralName::IPAddress(x) => x.known(),
-            GeneralName::RegisteredID(x) => x.known(),
-        }
-    }
-}
-
-impl<'a> Asn1Readable<'a> for GeneralName<'a> {
-    fn parse(parser: &mut Parser<'a>) -> ParseResult<GeneralName<'a>>
-        ensures answers { ReadsPrefix ⟦<GeneralName<'a> as Asn1Type>⟧.der parser.old parser.new
-            result }
-        ensures rest { EndsWith parser.old parser.new }
-        ensures stops { OnErr result (⟦<GeneralName<'a> as Asn1Type>⟧.der.stops parser.old
-            parser.new) }
-    {
-        match parser.read_element::<GeneralNameChoice<'a>>()? {
-            Choice3::ChoiceA(x) => Ok(GeneralName::OtherName(x.into_inner())),
-            Choice3::ChoiceB(x) => Ok(GeneralName::Rfc822Name(x.into_inner())),
-            Choice3::ChoiceC(Choice3::ChoiceA(x)) => Ok(GeneralName::DNSName(x.into_inner())),
-            Choice3::ChoiceC(Choice3::ChoiceB(x)) => Ok(GeneralName::X400Address(x.into_inner())),
-            Choice3::ChoiceC(Choice3::ChoiceC(Choice3::ChoiceA(x))) => Ok(
-                GeneralName::DirectoryName(x.into_inner()),
-            ),
-            Choice3::ChoiceC(Choice3::ChoiceC(Choice3::ChoiceB(x))) => Ok(GeneralName::EDIPartyName(
-                x.into_inner(),
-            )),
-            Choice3::ChoiceC(Choice3::ChoiceC(Choice3::ChoiceC(Choice3::ChoiceA(x)))) => Ok(
-                GeneralName::UniformResourceIdentifier(x.into_inner()),
-            ),
-            Choice3::ChoiceC(Choice3::ChoiceC(Choice3::ChoiceC(Choice3::ChoiceB(x)))) => Ok(
-                GeneralName::IPAddress(x.into_inner()),
-            ),
-            Choice3::ChoiceC(Choice3::ChoiceC(Choice3::ChoiceC(Choice3::ChoiceC(x)))) => Ok(
-                GeneralName::RegisteredID(x.into_inner()),
-            ),
-        }
-    }
-
-    fn can_parse(tag: Tag) -> bool
-        ensures value { result ≡ ⟦<GeneralName<'a> as Asn1Type>⟧.der.accepts tag }
-        ensures plain { ⟦<GeneralName<'a> as Asn1Type>⟧.der.plain }
-    {
-        <GeneralNameChoice<'a> as Asn1Readable<'a>>::can_parse(tag)
-    }
-}
-
-impl<'a> Asn1Writable for GeneralName<'a> {
-    type Error = WriteError;
-
-    fn write(&self, dest: &mut Writer<'_>) -> WriteResult<()> {
-        match self {
-            GeneralName::OtherName(x) => write_plain::<Implicit<Signature, 0>, _>(x, dest),
-            GeneralName::Rfc822Name(x) => write_plain::<Implicit<IA5String<'a>, 1>, _>(x, dest),
-            GeneralName::DNSName(x) => write_plain::<Implicit<IA5String<'a>, 2>, _>(x, dest),
-            GeneralName::X400Address(x) => write_plain::<Implicit<Sequence<'a>, 3>, _>(x, dest),
-            GeneralName::DirectoryName(x) => write_plain::<Explicit<Strings<'a>, 4>, _>(x, dest),
-            GeneralName::EDIPartyName(x) => write_plain::<Implicit<Sequence<'a>, 5>, _>(x, dest),
-            GeneralName::UniformResourceIdentifier(x) => write_plain::<
-                Implicit<IA5String<'a>, 6>,
-                _,
-            >(x, dest),
-            GeneralName::IPAddress(x) => write_plain::<Implicit<&'a [u8], 7>, _>(x, dest),
-            GeneralName::RegisteredID(x) => write_plain::<Implicit<ObjectIdentifier, 8>, _>(
-                x, dest,
-            ),
-        }
-    }
-
-    fn encoded_length(&self) -> Option<usize> {
-        match self {
-            GeneralName::OtherName(x) => plain_length::<Implicit<Signature, 0>, _>(x),
-            GeneralName::Rfc822Name(x) => plain_length::<Implicit<IA5String<'a>, 1>, _>(x),
-            GeneralName::DNSName(x) => plain_length::<Implicit<IA5String<'a>, 2>, _>(x),
-            GeneralName::X400Address(x) => plain_length::<Implicit<Sequence<'a>, 3>, _>(x),
-            GeneralName::DirectoryName(x) => plain_length::<Explicit<Strings<'a>, 4>, _>(x),
-            GeneralName::EDIPartyName(x) => plain_length::<Implicit<Sequence<'a>, 5>, _>(x),
-            GeneralName::UniformResourceIdentifier(x) => plain_length::<
-                Implicit<IA5String<'a>, 6>,
-                _,
-            >(x),
-            GeneralName::IPAddress(x) => plain_length::<Implicit<&'a [u8], 7>, _>(x),
-            GeneralName::RegisteredID(x) => plain_length::<Implicit<ObjectIdentifier, 8>, _>(x),
-        }
-    }
-}
-
 /// Strings, in the order of a set.
 pub type Strings<'a> = SetOf<'a, PrintableString<'a>>;
 
@@ -482,18 +319,18 @@ impl<'a> Asn1Writable for ResponderId<'a> {
 /// A choice that stands in a structure, where it may be missing.
 #[derive(Debug, PartialEq, Eq, Drop)]
 pub struct Alternative<'a> {
-    /// The name, if there is one.
-    pub name: Option<GeneralName<'a>>,
+    /// Who answers, if anyone does.
+    pub responder: Option<ResponderId<'a>>,
 }
 
-type AlternativeFields<'a> = Last<Option<GeneralName<'a>>>;
+type AlternativeFields<'a> = Last<Option<ResponderId<'a>>>;
 
 impl<'a> Asn1Type for Alternative<'a> {
-    ghost der = { structure (λ v. fields1 v.name) ⟦<AlternativeFields<'a> as Row>⟧.list
-        (codes "Alternative::name" ∷ []) };
+    ghost der = { structure (λ v. fields1 v.responder) ⟦<AlternativeFields<'a> as Row>⟧.list
+        (codes "Alternative::responder" ∷ []) };
 
     fn known(&self) {
-        known_fields!(self; name)
+        known_fields!(self; responder)
     }
 }
 
@@ -509,7 +346,7 @@ impl<'a> SimpleAsn1Readable<'a> for Alternative<'a> {
     fn parse_data(alloc: Global, data: &'a [u8]) -> ParseResult<Alternative<'a>>
         ensures { ReadsContents ⟦<Alternative<'a> as Asn1Type>⟧.der «data».entry.now result }
     {
-        read_fields!(AlternativeFields<'a>, alloc, data => Alternative { name })
+        read_fields!(AlternativeFields<'a>, alloc, data => Alternative { responder })
     }
 }
 
@@ -524,11 +361,11 @@ impl<'a> SimpleAsn1Writable for Alternative<'a> {
     }
 
     fn write_data(&self, dest: &mut WriteBuf) -> WriteResult<()> {
-        write_fields!(self, dest; name)
+        write_fields!(self, dest; responder)
     }
 
     fn data_length(&self) -> Option<usize> {
-        fields_length!(self; name)
+        fields_length!(self; responder)
     }
 }
 
@@ -592,38 +429,6 @@ pub fn tagged_is_lawful()
     signature_is_lawful();
 }
 
-/// Each value of `GeneralNameFrom7` has one encoding, which is read back.
-#[tactic(auto, using(asn1::specs::Lemmas::Fields::tags_differ))]
-fn general_name_from7_is_lawful()
-    ensures { HasOneEncoding ⟦<GeneralNameFrom7<'static> as Asn1Type>⟧.der }
-{}
-
-/// Each value of `GeneralNameFrom5` has one encoding, which is read back.
-#[tactic(auto, using(asn1::specs::Lemmas::Fields::tags_differ))]
-fn general_name_from5_is_lawful()
-    ensures { HasOneEncoding ⟦<GeneralNameFrom5<'static> as Asn1Type>⟧.der }
-{
-    strings_is_lawful();
-    general_name_from7_is_lawful();
-}
-
-/// Each value of `GeneralNameFrom3` has one encoding, which is read back.
-#[tactic(auto, using(asn1::specs::Lemmas::Fields::tags_differ))]
-fn general_name_from3_is_lawful()
-    ensures { HasOneEncoding ⟦<GeneralNameFrom3<'static> as Asn1Type>⟧.der }
-{
-    general_name_from5_is_lawful();
-}
-
-/// Each value of `GeneralName` has one encoding, which is read back.
-#[tactic(auto, using(asn1::specs::Lemmas::Fields::tags_differ))]
-pub fn general_name_is_lawful()
-    ensures { HasOneEncoding ⟦<GeneralName<'static> as Asn1Type>⟧.der }
-{
-    signature_is_lawful();
-    general_name_from3_is_lawful();
-}
-
 /// Each value of `Strings` has one encoding, which is read back.
 pub fn strings_is_lawful()
     ensures { HasOneEncoding ⟦<Strings<'static> as Asn1Type>⟧.der }
@@ -641,5 +446,5 @@ pub fn responder_id_is_lawful()
 pub fn alternative_is_lawful()
     ensures { HasOneEncoding ⟦<Alternative<'static> as Asn1Type>⟧.der }
 {
-    general_name_is_lawful();
+    responder_id_is_lawful();
 }

@@ -11,7 +11,7 @@ use derived::items::{
     AnyContent, AnyContentUnknown, AnySequence, Content, Entry, Letter, Listed, MySequence, Notice,
     other_oid, sha256_with_rsa, some_oid,
 };
-use derived::page::{Alternative, Bag, GeneralName, Nothing, ResponderId, Signature, Tagged};
+use derived::page::{Alternative, Bag, Nothing, ResponderId, Signature, Tagged};
 use std::alloc::Global;
 use std::test::Fail;
 use testing::{are_both_ways, are_refused_with, both_ways, refused};
@@ -118,34 +118,6 @@ fn rejected_fields(rt: HostRuntime) -> Result<(), Fail> {
     )
 }
 
-/// A name of each form (RFC 5280, 4.2.1.6), by its tag.
-const NAMES: [&[u8]; 9] = [
-    &[0xa0, 6, 2, 1, 7, 2, 1, 9],
-    &[0x81, 3, b'a', b'@', b'b'],
-    &[0x82, 1, b'a'],
-    &[0xa3, 0],
-    &[0xa4, 7, 0x31, 5, 0x13, 3, b'a', b'b', b'c'],
-    &[0xa5, 0],
-    &[0x86, 2, b'x', b':'],
-    &[0x87, 4, 127, 0, 0, 1],
-    &[0x88, 2, 0x2a, 3],
-];
-
-#[test]
-fn names_of_each_form(rt: HostRuntime) -> Result<(), Fail> {
-    let alloc = rt.alloc();
-    for octets in NAMES {
-        assert!(rt; is_written_back::<GeneralName<'_>>(alloc, octets)?);
-    }
-    match parse_single::<GeneralName<'_>>(alloc, NAMES[7])? {
-        GeneralName::IPAddress(address) => assert_eq!(rt; address, [127u8, 0, 0, 1].as_slice()),
-        _ => assert!(rt; false),
-    }
-    let nobody = refused::<GeneralName<'_>>(alloc, &[5, 0]);
-    assert!(rt; matches!(nobody, Some(ParseErrorKind::UnexpectedTag { .. })));
-    Ok(())
-}
-
 #[test]
 fn who_answers(rt: HostRuntime) -> Result<(), Fail> {
     let alloc = rt.alloc();
@@ -155,20 +127,22 @@ fn who_answers(rt: HostRuntime) -> Result<(), Fail> {
     )?;
     let name: &[u8] = &[0xa1, 7, 0x31, 5, 0x13, 3, b'a', b'b', b'c'];
     assert!(rt; is_written_back::<ResponderId<'_>>(alloc, name)?);
+    let nobody = refused::<ResponderId<'_>>(alloc, &[5, 0]);
+    assert!(rt; matches!(nobody, Some(ParseErrorKind::UnexpectedTag { .. })));
     Ok(())
 }
 
 #[test]
-fn a_name_that_may_be_missing(rt: HostRuntime) -> Result<(), Fail> {
+fn a_choice_that_may_be_missing(rt: HostRuntime) -> Result<(), Fail> {
     let alloc = rt.alloc();
     for octets in [
-        [0x30u8, 4, 0xa3, 2, 5, 0].as_slice(),
+        [0x30u8, 6, 0xa2, 4, 4, 2, b'a', b'b'].as_slice(),
         [0x30u8, 0].as_slice(),
     ] {
         assert!(rt; is_written_back::<Alternative<'_>>(alloc, octets)?);
     }
     let missing = parse_single::<Alternative<'_>>(alloc, &[0x30, 0])?;
-    assert!(rt; missing.name.is_none());
+    assert!(rt; missing.responder.is_none());
     Ok(())
 }
 
