@@ -10,6 +10,7 @@ mod identifiers;
 mod keys;
 mod kinds;
 mod pem;
+mod policies;
 mod program;
 mod requests;
 mod revocation;
