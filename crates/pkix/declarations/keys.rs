@@ -1,4 +1,4 @@
-//! Keys (RFC 5958, 8017, 5915 and 5480).
+//! Keys, and the parameters of their algorithms (RFC 5958, 8017, 5915, 5480, 3279 and 4055).
 
 use crate::common::{
     AlgorithmIdentifier, Attributes, algorithm_identifier_is_lawful, attributes_is_lawful,
@@ -21,6 +21,15 @@ pub struct OneAsymmetricKey<'a> {
     /// The public key, whose bits the algorithm defines.
     #[implicit(1)]
     pub public_key: Option<asn1::BitString<'a>>,
+}
+
+/// EncryptedPrivateKeyInfo (RFC 5958, 3), a SEQUENCE: a private key that is encrypted.
+#[derive(asn1::Asn1Read, asn1::Asn1Write, Debug, Clone, PartialEq, Eq)]
+pub struct EncryptedPrivateKeyInfo<'a> {
+    /// The algorithm that encrypted it.
+    pub encryption_algorithm: AlgorithmIdentifier<'a>,
+    /// The encoding of a OneAsymmetricKey, encrypted.
+    pub encrypted_data: &'a [u8],
 }
 
 /// RSAPublicKey (RFC 8017, A.1.1), a SEQUENCE. Its numbers aren't negative.
@@ -69,4 +78,35 @@ pub struct EcPrivateKey<'a> {
     /// The public key, a point.
     #[explicit(1)]
     pub public_key: Option<asn1::BitString<'a>>,
+}
+
+/// Dss-Parms (RFC 3279, 2.3.2), a SEQUENCE: the parameters of DSA. Its numbers aren't negative.
+#[derive(asn1::Asn1Read, asn1::Asn1Write, Debug, Clone, PartialEq, Eq)]
+pub struct DssParms<'a> {
+    /// The prime that numbers are taken modulo.
+    pub p: asn1::BigUint<'a>,
+    /// The prime divisor of p - 1.
+    pub q: asn1::BigUint<'a>,
+    /// The generator, whose order is q.
+    pub g: asn1::BigUint<'a>,
+}
+
+/// RSASSA-PSS-params (RFC 4055, 3.1), a SEQUENCE. The defaults of its algorithms are structures: each is `None` if it
+/// is left out, and if it is encoded, which DER forbids, it is read.
+#[derive(asn1::Asn1Read, asn1::Asn1Write, Debug, Clone, PartialEq, Eq)]
+pub struct RsassaPssParams<'a> {
+    /// The digest, by default SHA-1 (`sha1Identifier`).
+    #[explicit(0)]
+    pub hash_algorithm: Option<AlgorithmIdentifier<'a>>,
+    /// The function that makes masks, by default MGF1 with SHA-1 (`mgf1SHA1`).
+    #[explicit(1)]
+    pub mask_gen_algorithm: Option<AlgorithmIdentifier<'a>>,
+    /// The number of the salt's octets. A number of 2^32 or more is rejected.
+    #[explicit(2)]
+    #[default(20)]
+    pub salt_length: u32,
+    /// The octets at the end: the RFC allows 1 alone. A number of 2^32 or more is rejected.
+    #[explicit(3)]
+    #[default(1)]
+    pub trailer_field: u32,
 }

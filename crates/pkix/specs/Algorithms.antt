@@ -3,7 +3,7 @@ use Rattle.std.specs.Prelude.{ℕ, ◌≡◌, List, [], ◌∷◌, Option, Some,
 use Rattle.std.specs.List.{find}
 use Rattle.std.specs.Str.{bytes_eq}
 use Rattle.asn1.specs.declared.Tlv.{Tlv}
-use Rattle.asn1.specs.Der.{simple_der, option_der}
+use Rattle.asn1.specs.Der.{Der, simple_der, option_der}
 use Rattle.asn1.specs.Fault.{Fault}
 use Rattle.asn1.specs.IdentifierValues.{identifier_basic, identifier_of}
 use Rattle.asn1.specs.OctetContents.{null_content}
@@ -18,6 +18,8 @@ use Rattle.pkix.specs.declared.algorithm_parameters.KnownAlgorithm.TheVariants a
 use Rattle.pkix.specs.declared.algorithm_parameters.ParametersForm.{ParametersForm}
 use Rattle.pkix.specs.declared.algorithm_parameters.ParametersForm.TheVariants as form
 use Rattle.pkix.specs.declared.algorithm_parameters.TheConstants.KnownAlgorithm.{ALL}
+use Rattle.pkix.specs.declared.keys.DssParms.{DssParms}
+use Rattle.pkix.specs.declared.keys.RsassaPssParams.{RsassaPssParams}
 
 -- The identifier of each known algorithm.
 abbrev pub algorithm_numbers : KnownAlgorithm → List ℕ
@@ -27,6 +29,8 @@ algorithm_numbers known.Sha224WithRsaEncryption = of_arcs (1 ∷ 2 ∷ 840 ∷ 1
 algorithm_numbers known.Sha256WithRsaEncryption = of_arcs (1 ∷ 2 ∷ 840 ∷ 113549 ∷ 1 ∷ 1 ∷ 11 ∷ [])
 algorithm_numbers known.Sha384WithRsaEncryption = of_arcs (1 ∷ 2 ∷ 840 ∷ 113549 ∷ 1 ∷ 1 ∷ 12 ∷ [])
 algorithm_numbers known.Sha512WithRsaEncryption = of_arcs (1 ∷ 2 ∷ 840 ∷ 113549 ∷ 1 ∷ 1 ∷ 13 ∷ [])
+algorithm_numbers known.RsassaPss = of_arcs (1 ∷ 2 ∷ 840 ∷ 113549 ∷ 1 ∷ 1 ∷ 10 ∷ [])
+algorithm_numbers known.Dsa = of_arcs (1 ∷ 2 ∷ 840 ∷ 10040 ∷ 4 ∷ 1 ∷ [])
 algorithm_numbers known.DsaWithSha1 = of_arcs (1 ∷ 2 ∷ 840 ∷ 10040 ∷ 4 ∷ 3 ∷ [])
 algorithm_numbers known.DsaWithSha224 = of_arcs (2 ∷ 16 ∷ 840 ∷ 1 ∷ 101 ∷ 3 ∷ 4 ∷ 3 ∷ 1 ∷ [])
 algorithm_numbers known.DsaWithSha256 = of_arcs (2 ∷ 16 ∷ 840 ∷ 1 ∷ 101 ∷ 3 ∷ 4 ∷ 3 ∷ 2 ∷ [])
@@ -60,6 +64,8 @@ form_of known.Sha224WithRsaEncryption = form.NullOrAbsent  -- RFC 4055, 5
 form_of known.Sha256WithRsaEncryption = form.NullOrAbsent  -- RFC 4055, 5
 form_of known.Sha384WithRsaEncryption = form.NullOrAbsent  -- RFC 4055, 5
 form_of known.Sha512WithRsaEncryption = form.NullOrAbsent  -- RFC 4055, 5
+form_of known.RsassaPss = form.RsassaPssOrAbsent  -- RFC 4055, 3.1
+form_of known.Dsa = form.DssOrAbsent  -- RFC 3279, 2.3.2
 form_of known.DsaWithSha1 = form.Absent  -- RFC 3279, 2.2.2
 form_of known.DsaWithSha224 = form.Absent  -- RFC 5758, 3.1
 form_of known.DsaWithSha256 = form.Absent  -- RFC 5758, 3.1
@@ -81,17 +87,19 @@ form_of known.Sha256 = form.NullOrAbsent  -- RFC 5754, 2.2
 form_of known.Sha384 = form.NullOrAbsent  -- RFC 5754, 2.3
 form_of known.Sha512 = form.NullOrAbsent  -- RFC 5754, 2.4
 
--- NULL, or none.
-abbrev pub null_or_absent : Option (Unit {0}) → AlgorithmParameters
-null_or_absent (Some null) = parameters.Null
-null_or_absent None = parameters.Absent
+-- Parameters in their variant, or none.
+abbrev pub or_absent : {V : Type 0} → (V → AlgorithmParameters) → Option V → AlgorithmParameters
+or_absent variant (Some value) = variant value
+or_absent variant None = parameters.Absent
 
--- What reading all of these octets as parameters of that form returns.
-abbrev pub ReadsForm : ParametersForm → List ℕ → Result AlgorithmParameters Fault → Type 0
-ReadsForm form.Null octets result = ReadsTyped (typed (simple_der (λ m. m) null_content) (λ null. parameters.Null)) octets result
-ReadsForm form.NamedCurve octets result = ReadsTyped (typed (simple_der identifier_of identifier_basic) parameters.NamedCurve) octets result
-ReadsForm form.Absent octets result = result ≡ all_taken parameters.Absent octets
-ReadsForm form.NullOrAbsent octets result = ReadsTyped (typed (option_der (simple_der (λ m. m) null_content)) null_or_absent) octets result
+-- What reading all of these octets as parameters of that form returns, with what Dss-Parms and RSASSA-PSS-params mean.
+abbrev pub ReadsForm : Der DssParms → Der RsassaPssParams → ParametersForm → List ℕ → Result AlgorithmParameters Fault → Type 0
+ReadsForm dss pss form.Null octets result = ReadsTyped (typed (simple_der (λ m. m) null_content) (λ null. parameters.Null)) octets result
+ReadsForm dss pss form.NamedCurve octets result = ReadsTyped (typed (simple_der identifier_of identifier_basic) parameters.NamedCurve) octets result
+ReadsForm dss pss form.Absent octets result = result ≡ all_taken parameters.Absent octets
+ReadsForm dss pss form.NullOrAbsent octets result = ReadsTyped (typed (option_der (simple_der (λ m. m) null_content)) (or_absent (λ null. parameters.Null))) octets result
+ReadsForm dss pss form.DssOrAbsent octets result = ReadsTyped (typed (option_der dss) (or_absent parameters.Dss)) octets result
+ReadsForm dss pss form.RsassaPssOrAbsent octets result = ReadsTyped (typed (option_der pss) (or_absent parameters.RsassaPss)) octets result
 
 -- The encoding of the element, or no octets where there is none.
 abbrev pub parameter_octets : Option Tlv → List ℕ
@@ -99,6 +107,6 @@ parameter_octets (Some element) = full_octets element
 parameter_octets None = []
 
 -- What reading the parameters of a known algorithm returns; those of every other stay as they are.
-abbrev pub ReadsParameters : Option KnownAlgorithm → Option Tlv → Result AlgorithmParameters Fault → Type 0
-ReadsParameters (Some algorithm) element result = ReadsForm (form_of algorithm) (parameter_octets element) result
-ReadsParameters None element result = result ≡ Ok (parameters.Other element)
+abbrev pub ReadsParameters : Der DssParms → Der RsassaPssParams → Option KnownAlgorithm → Option Tlv → Result AlgorithmParameters Fault → Type 0
+ReadsParameters dss pss (Some algorithm) element result = ReadsForm dss pss (form_of algorithm) (parameter_octets element) result
+ReadsParameters dss pss None element result = result ≡ Ok (parameters.Other element)

@@ -6,8 +6,11 @@ ghost use Rattle.asn1.specs.IdentifierValues.{identifier_of};
 ghost use Rattle.pkix.specs.Algorithms.{algorithm_numbers, algorithm_with, form_of, parameter_octets, ReadsForm, ReadsParameters};
 
 use crate::common::AlgorithmIdentifier;
+use crate::keys::{DssParms, RsassaPssParams};
 use asn1::fields::{is_identifier, known_identifier};
-use asn1::{ObjectIdentifier, ParseError, ParseErrorKind, ParseResult, Tlv, parse_single};
+use asn1::{
+    Asn1Type, ObjectIdentifier, ParseError, ParseErrorKind, ParseResult, Tlv, parse_single,
+};
 use std::alloc::Global;
 
 /// An algorithm whose parameters have a type here.
@@ -25,6 +28,10 @@ pub enum KnownAlgorithm {
     Sha384WithRsaEncryption,
     /// sha512WithRSAEncryption (RFC 4055, 5).
     Sha512WithRsaEncryption,
+    /// id-RSASSA-PSS (RFC 4055, 3).
+    RsassaPss,
+    /// id-dsa (RFC 3279, 2.3.2).
+    Dsa,
     /// dsa-with-sha1 (RFC 3279, 2.2.2).
     DsaWithSha1,
     /// dsa-with-sha224 (RFC 5758, 3.1).
@@ -78,6 +85,10 @@ pub(crate) enum ParametersForm {
     Absent,
     /// NULL, or none.
     NullOrAbsent,
+    /// Dss-Parms, or none.
+    DssOrAbsent,
+    /// RSASSA-PSS-params, or none.
+    RsassaPssOrAbsent,
 }
 
 impl KnownAlgorithm {
@@ -89,6 +100,8 @@ impl KnownAlgorithm {
         KnownAlgorithm::Sha256WithRsaEncryption,
         KnownAlgorithm::Sha384WithRsaEncryption,
         KnownAlgorithm::Sha512WithRsaEncryption,
+        KnownAlgorithm::RsassaPss,
+        KnownAlgorithm::Dsa,
         KnownAlgorithm::DsaWithSha1,
         KnownAlgorithm::DsaWithSha224,
         KnownAlgorithm::DsaWithSha256,
@@ -123,6 +136,8 @@ impl KnownAlgorithm {
             KnownAlgorithm::Sha256WithRsaEncryption => b"\x2a\x86\x48\x86\xf7\x0d\x01\x01\x0b",
             KnownAlgorithm::Sha384WithRsaEncryption => b"\x2a\x86\x48\x86\xf7\x0d\x01\x01\x0c",
             KnownAlgorithm::Sha512WithRsaEncryption => b"\x2a\x86\x48\x86\xf7\x0d\x01\x01\x0d",
+            KnownAlgorithm::RsassaPss => b"\x2a\x86\x48\x86\xf7\x0d\x01\x01\x0a",
+            KnownAlgorithm::Dsa => b"\x2a\x86\x48\xce\x38\x04\x01",
             KnownAlgorithm::DsaWithSha1 => b"\x2a\x86\x48\xce\x38\x04\x03",
             KnownAlgorithm::DsaWithSha224 => b"\x60\x86\x48\x01\x65\x03\x04\x03\x01",
             KnownAlgorithm::DsaWithSha256 => b"\x60\x86\x48\x01\x65\x03\x04\x03\x02",
@@ -175,6 +190,8 @@ impl KnownAlgorithm {
             KnownAlgorithm::EcPublicKey | KnownAlgorithm::EcDh | KnownAlgorithm::EcMqv => {
                 ParametersForm::NamedCurve
             }
+            KnownAlgorithm::RsassaPss => ParametersForm::RsassaPssOrAbsent,
+            KnownAlgorithm::Dsa => ParametersForm::DssOrAbsent,
             KnownAlgorithm::DsaWithSha1
             | KnownAlgorithm::DsaWithSha224
             | KnownAlgorithm::DsaWithSha256
@@ -207,7 +224,8 @@ impl ParametersForm {
         alloc: Global,
         octets: &'a [u8],
     ) -> ParseResult<AlgorithmParameters<'a>>
-        ensures { ReadsForm self octets.entry.now result }
+        ensures { ReadsForm ⟦<DssParms<'a> as Asn1Type>⟧.der
+            ⟦<RsassaPssParams<'a> as Asn1Type>⟧.der self octets.entry.now result }
     {
         match self {
             ParametersForm::Null => {
@@ -228,6 +246,14 @@ impl ParametersForm {
                 Some(()) => Ok(AlgorithmParameters::Null),
                 None => Ok(AlgorithmParameters::Absent),
             },
+            ParametersForm::DssOrAbsent => match parse_single(alloc, octets)? {
+                Some(parameters) => Ok(AlgorithmParameters::Dss(parameters)),
+                None => Ok(AlgorithmParameters::Absent),
+            },
+            ParametersForm::RsassaPssOrAbsent => match parse_single(alloc, octets)? {
+                Some(parameters) => Ok(AlgorithmParameters::RsassaPss(parameters)),
+                None => Ok(AlgorithmParameters::Absent),
+            },
         }
     }
 }
@@ -237,9 +263,15 @@ impl ParametersForm {
 pub enum AlgorithmParameters<'a> {
     /// NULL: of RSA, which has to have it, but for signatures with SHA-2, and of digests, which may have it.
     Null,
-    /// None: of DSA, ECDSA and the algorithms of RFC 8410, which may have none, of digests, and of signatures by RSA
-    /// with SHA-2, which are written with NULL and have to be read without it too (RFC 4055, 5).
+    /// None: of signatures by DSA and ECDSA and the algorithms of RFC 8410, which may have none, of digests, and of
+    /// signatures by RSA with SHA-2, which are written with NULL and have to be read without it too (RFC 4055, 5). Of
+    /// id-dsa, if they are inherited (RFC 3279, 2.3.2), and of id-RSASSA-PSS, which has to have them in a signature but
+    /// not with a key (RFC 4055, 3.1): where they stand isn't looked at.
     Absent,
+    /// Those of DSA, with a key.
+    Dss(DssParms<'a>),
+    /// Those of RSASSA-PSS.
+    RsassaPss(RsassaPssParams<'a>),
     /// The identifier of a curve, which the algorithms of RFC 5480 have to have.
     NamedCurve(ObjectIdentifier),
     /// The parameters of every other algorithm, as they are.
@@ -262,10 +294,12 @@ impl<'a> AlgorithmIdentifier<'a> {
     ///
     /// Returns the first error of the element's octets, or of no octets where there is no element: `ShortData` where
     /// there have to be parameters and are none, `UnexpectedTag` or `InvalidValue` where they aren't of that type, and
-    /// `ExtraData` where there may be none, and they are there, or aren't NULL where that may be there.
+    /// `ExtraData` where there may be none, and they are there, or have another tag than that which may be there. Of a
+    /// structure it returns the first error of a field too.
     pub fn read_parameters(&self, alloc: Global) -> ParseResult<AlgorithmParameters<'a>>
-        ensures { ReadsParameters (algorithm_with (identifier_of self.now.algorithm))
-            self.now.parameters result }
+        ensures { ReadsParameters ⟦<DssParms<'a> as Asn1Type>⟧.der
+            ⟦<RsassaPssParams<'a> as Asn1Type>⟧.der
+            (algorithm_with (identifier_of self.now.algorithm)) self.now.parameters result }
     {
         let Some(algorithm) = KnownAlgorithm::with_identifier(&self.algorithm) else {
             return Ok(AlgorithmParameters::Other(self.parameters));

@@ -3,6 +3,7 @@
 pub mod access;
 pub mod distribution;
 pub mod extensions;
+pub mod policies;
 mod whole;
 
 pub use whole::{

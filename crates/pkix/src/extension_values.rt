@@ -9,13 +9,16 @@ ghost use Rattle.pkix.specs.declared.extension_values.ExtensionValue.TheVariants
 ghost use Rattle.pkix.specs.declared.extension_values.KnownExtension.TheVariants as known;
 
 use crate::certificate::access::AuthorityInfoAccess;
-use crate::certificate::distribution::CrlDistributionPoints;
+use crate::certificate::distribution::{CrlDistributionPoints, IssuingDistributionPoint};
 use crate::certificate::extensions::{
     AuthorityKeyIdentifier, BasicConstraints, ExtendedKeyUsage, KeyUsage, SubjectAltName,
     SubjectKeyIdentifier,
 };
+use crate::certificate::policies::{
+    CertificatePolicies, InhibitAnyPolicy, NameConstraints, PolicyConstraints, PolicyMappings,
+};
 use crate::common::{Extension, GeneralNames};
-use crate::revocation::extensions::{CrlNumber, CrlReason};
+use crate::revocation::extensions::{BaseCrlNumber, CrlNumber, CrlReason, InvalidityDate};
 use asn1::fields::{is_identifier, known_identifier};
 use asn1::{Asn1Type, ObjectIdentifier, ParseResult, parse_single};
 use std::alloc::Global;
@@ -29,20 +32,42 @@ pub enum KnownExtension {
     AuthorityKeyIdentifier,
     /// Whether the subject may sign certificates.
     BasicConstraints,
+    /// Who issued the certificate of an entry of a revocation list.
+    CertificateIssuer,
+    /// The policies of a certificate.
+    CertificatePolicies,
     /// Where revocation lists are.
     CrlDistributionPoints,
     /// The number of a revocation list.
     CrlNumber,
     /// Why a certificate was revoked.
     CrlReason,
+    /// Which revocation list this one completes.
+    DeltaCrlIndicator,
     /// The purposes of a key.
     ExtendedKeyUsage,
+    /// Where the lists are that complete revocation lists.
+    FreshestCrl,
+    /// After how many certificates anyPolicy stands for no others.
+    InhibitAnyPolicy,
+    /// Since when a key may be known to others.
+    InvalidityDate,
     /// Other names of the issuer.
     IssuerAltName,
+    /// Where a revocation list is, and what it has.
+    IssuingDistributionPoint,
     /// What a key may be used for.
     KeyUsage,
+    /// The names that subjects of later certificates may have.
+    NameConstraints,
+    /// After how many certificates policies have to be accepted, or may not be mapped.
+    PolicyConstraints,
+    /// Policies that are equal for the issuer.
+    PolicyMappings,
     /// Other names of the subject.
     SubjectAltName,
+    /// Where other data of the subject is.
+    SubjectInfoAccess,
     /// Which key the subject has.
     SubjectKeyIdentifier,
 }
@@ -53,13 +78,24 @@ impl KnownExtension {
         KnownExtension::AuthorityInfoAccess,
         KnownExtension::AuthorityKeyIdentifier,
         KnownExtension::BasicConstraints,
+        KnownExtension::CertificateIssuer,
+        KnownExtension::CertificatePolicies,
         KnownExtension::CrlDistributionPoints,
         KnownExtension::CrlNumber,
         KnownExtension::CrlReason,
+        KnownExtension::DeltaCrlIndicator,
         KnownExtension::ExtendedKeyUsage,
+        KnownExtension::FreshestCrl,
+        KnownExtension::InhibitAnyPolicy,
+        KnownExtension::InvalidityDate,
         KnownExtension::IssuerAltName,
+        KnownExtension::IssuingDistributionPoint,
         KnownExtension::KeyUsage,
+        KnownExtension::NameConstraints,
+        KnownExtension::PolicyConstraints,
+        KnownExtension::PolicyMappings,
         KnownExtension::SubjectAltName,
+        KnownExtension::SubjectInfoAccess,
         KnownExtension::SubjectKeyIdentifier,
     ];
 
@@ -72,13 +108,24 @@ impl KnownExtension {
             KnownExtension::AuthorityInfoAccess => b"\x2b\x06\x01\x05\x05\x07\x01\x01",
             KnownExtension::AuthorityKeyIdentifier => b"\x55\x1d\x23",
             KnownExtension::BasicConstraints => b"\x55\x1d\x13",
+            KnownExtension::CertificateIssuer => b"\x55\x1d\x1d",
+            KnownExtension::CertificatePolicies => b"\x55\x1d\x20",
             KnownExtension::CrlDistributionPoints => b"\x55\x1d\x1f",
             KnownExtension::CrlNumber => b"\x55\x1d\x14",
             KnownExtension::CrlReason => b"\x55\x1d\x15",
+            KnownExtension::DeltaCrlIndicator => b"\x55\x1d\x1b",
             KnownExtension::ExtendedKeyUsage => b"\x55\x1d\x25",
+            KnownExtension::FreshestCrl => b"\x55\x1d\x2e",
+            KnownExtension::InhibitAnyPolicy => b"\x55\x1d\x36",
+            KnownExtension::InvalidityDate => b"\x55\x1d\x18",
             KnownExtension::IssuerAltName => b"\x55\x1d\x12",
+            KnownExtension::IssuingDistributionPoint => b"\x55\x1d\x1c",
             KnownExtension::KeyUsage => b"\x55\x1d\x0f",
+            KnownExtension::NameConstraints => b"\x55\x1d\x1e",
+            KnownExtension::PolicyConstraints => b"\x55\x1d\x24",
+            KnownExtension::PolicyMappings => b"\x55\x1d\x21",
             KnownExtension::SubjectAltName => b"\x55\x1d\x11",
+            KnownExtension::SubjectInfoAccess => b"\x2b\x06\x01\x05\x05\x07\x01\x0b",
             KnownExtension::SubjectKeyIdentifier => b"\x55\x1d\x0e",
         }
     }
@@ -111,20 +158,42 @@ pub enum ExtensionValue<'a> {
     AuthorityKeyIdentifier(AuthorityKeyIdentifier<'a>),
     /// Of basicConstraints (RFC 5280, 4.2.1.9).
     BasicConstraints(BasicConstraints<'a>),
+    /// Of certificateIssuer (RFC 5280, 5.3.3), GeneralNames.
+    CertificateIssuer(GeneralNames<'a>),
+    /// Of certificatePolicies (RFC 5280, 4.2.1.4).
+    CertificatePolicies(CertificatePolicies<'a>),
     /// Of cRLDistributionPoints (RFC 5280, 4.2.1.13).
     CrlDistributionPoints(CrlDistributionPoints<'a>),
     /// Of cRLNumber (RFC 5280, 5.2.3).
     CrlNumber(CrlNumber<'a>),
     /// Of reasonCode (RFC 5280, 5.3.1).
     CrlReason(CrlReason),
+    /// Of deltaCRLIndicator (RFC 5280, 5.2.4), BaseCRLNumber.
+    DeltaCrlIndicator(BaseCrlNumber<'a>),
     /// Of extKeyUsage (RFC 5280, 4.2.1.12).
     ExtendedKeyUsage(ExtendedKeyUsage<'a>),
+    /// Of freshestCRL (RFC 5280, 4.2.1.15 and 5.2.6), CRLDistributionPoints.
+    FreshestCrl(CrlDistributionPoints<'a>),
+    /// Of inhibitAnyPolicy (RFC 5280, 4.2.1.14).
+    InhibitAnyPolicy(InhibitAnyPolicy<'a>),
+    /// Of invalidityDate (RFC 5280, 5.3.2).
+    InvalidityDate(InvalidityDate),
     /// Of issuerAltName (RFC 5280, 4.2.1.7), GeneralNames.
     IssuerAltName(GeneralNames<'a>),
+    /// Of issuingDistributionPoint (RFC 5280, 5.2.5).
+    IssuingDistributionPoint(IssuingDistributionPoint<'a>),
     /// Of keyUsage (RFC 5280, 4.2.1.3).
     KeyUsage(KeyUsage<'a>),
+    /// Of nameConstraints (RFC 5280, 4.2.1.10).
+    NameConstraints(NameConstraints<'a>),
+    /// Of policyConstraints (RFC 5280, 4.2.1.11).
+    PolicyConstraints(PolicyConstraints<'a>),
+    /// Of policyMappings (RFC 5280, 4.2.1.5).
+    PolicyMappings(PolicyMappings<'a>),
     /// Of subjectAltName (RFC 5280, 4.2.1.6).
     SubjectAltName(SubjectAltName<'a>),
+    /// Of subjectInfoAccess (RFC 5280, 4.2.2.2), of the type of authorityInfoAccess.
+    SubjectInfoAccess(AuthorityInfoAccess<'a>),
     /// Of subjectKeyIdentifier (RFC 5280, 4.2.1.2).
     SubjectKeyIdentifier(SubjectKeyIdentifier<'a>),
     /// The octets of every other extension.
@@ -143,20 +212,42 @@ impl<'a> Extension<'a> {
               value.AuthorityKeyIdentifier
           | known.BasicConstraints ↦ typed ⟦<BasicConstraints<'a> as Asn1Type>⟧.der
               value.BasicConstraints
+          | known.CertificateIssuer ↦ typed ⟦<GeneralNames<'a> as Asn1Type>⟧.der
+              value.CertificateIssuer
+          | known.CertificatePolicies ↦ typed ⟦<CertificatePolicies<'a> as Asn1Type>⟧.der
+              value.CertificatePolicies
           | known.CrlDistributionPoints ↦ typed ⟦<CrlDistributionPoints<'a> as Asn1Type>⟧.der
               value.CrlDistributionPoints
           | known.CrlNumber ↦ typed ⟦<CrlNumber<'a> as Asn1Type>⟧.der
               value.CrlNumber
           | known.CrlReason ↦ typed ⟦<CrlReason as Asn1Type>⟧.der
               value.CrlReason
+          | known.DeltaCrlIndicator ↦ typed ⟦<BaseCrlNumber<'a> as Asn1Type>⟧.der
+              value.DeltaCrlIndicator
           | known.ExtendedKeyUsage ↦ typed ⟦<ExtendedKeyUsage<'a> as Asn1Type>⟧.der
               value.ExtendedKeyUsage
+          | known.FreshestCrl ↦ typed ⟦<CrlDistributionPoints<'a> as Asn1Type>⟧.der
+              value.FreshestCrl
+          | known.InhibitAnyPolicy ↦ typed ⟦<InhibitAnyPolicy<'a> as Asn1Type>⟧.der
+              value.InhibitAnyPolicy
+          | known.InvalidityDate ↦ typed ⟦<InvalidityDate as Asn1Type>⟧.der
+              value.InvalidityDate
           | known.IssuerAltName ↦ typed ⟦<GeneralNames<'a> as Asn1Type>⟧.der
               value.IssuerAltName
+          | known.IssuingDistributionPoint ↦ typed ⟦<IssuingDistributionPoint<'a> as Asn1Type>⟧.der
+              value.IssuingDistributionPoint
           | known.KeyUsage ↦ typed ⟦<KeyUsage<'a> as Asn1Type>⟧.der
               value.KeyUsage
+          | known.NameConstraints ↦ typed ⟦<NameConstraints<'a> as Asn1Type>⟧.der
+              value.NameConstraints
+          | known.PolicyConstraints ↦ typed ⟦<PolicyConstraints<'a> as Asn1Type>⟧.der
+              value.PolicyConstraints
+          | known.PolicyMappings ↦ typed ⟦<PolicyMappings<'a> as Asn1Type>⟧.der
+              value.PolicyMappings
           | known.SubjectAltName ↦ typed ⟦<SubjectAltName<'a> as Asn1Type>⟧.der
               value.SubjectAltName
+          | known.SubjectInfoAccess ↦ typed ⟦<AuthorityInfoAccess<'a> as Asn1Type>⟧.der
+              value.SubjectInfoAccess
           | known.SubjectKeyIdentifier ↦ typed ⟦<SubjectKeyIdentifier<'a> as Asn1Type>⟧.der
               value.SubjectKeyIdentifier
         ]) value.Other (extension_with (identifier_of self.now.extn_id))
@@ -176,6 +267,12 @@ impl<'a> Extension<'a> {
             KnownExtension::BasicConstraints => Ok(ExtensionValue::BasicConstraints(parse_single(
                 alloc, octets,
             )?)),
+            KnownExtension::CertificateIssuer => Ok(ExtensionValue::CertificateIssuer(parse_single(
+                alloc, octets,
+            )?)),
+            KnownExtension::CertificatePolicies => Ok(ExtensionValue::CertificatePolicies(
+                parse_single(alloc, octets)?,
+            )),
             KnownExtension::CrlDistributionPoints => Ok(ExtensionValue::CrlDistributionPoints(
                 parse_single(alloc, octets)?,
             )),
@@ -185,14 +282,41 @@ impl<'a> Extension<'a> {
             KnownExtension::CrlReason => Ok(ExtensionValue::CrlReason(parse_single(
                 alloc, octets,
             )?)),
+            KnownExtension::DeltaCrlIndicator => Ok(ExtensionValue::DeltaCrlIndicator(parse_single(
+                alloc, octets,
+            )?)),
             KnownExtension::ExtendedKeyUsage => Ok(ExtensionValue::ExtendedKeyUsage(parse_single(
+                alloc, octets,
+            )?)),
+            KnownExtension::FreshestCrl => Ok(ExtensionValue::FreshestCrl(parse_single(
+                alloc, octets,
+            )?)),
+            KnownExtension::InhibitAnyPolicy => Ok(ExtensionValue::InhibitAnyPolicy(parse_single(
+                alloc, octets,
+            )?)),
+            KnownExtension::InvalidityDate => Ok(ExtensionValue::InvalidityDate(parse_single(
                 alloc, octets,
             )?)),
             KnownExtension::IssuerAltName => Ok(ExtensionValue::IssuerAltName(parse_single(
                 alloc, octets,
             )?)),
+            KnownExtension::IssuingDistributionPoint => Ok(ExtensionValue::IssuingDistributionPoint(
+                parse_single(alloc, octets)?,
+            )),
             KnownExtension::KeyUsage => Ok(ExtensionValue::KeyUsage(parse_single(alloc, octets)?)),
+            KnownExtension::NameConstraints => Ok(ExtensionValue::NameConstraints(parse_single(
+                alloc, octets,
+            )?)),
+            KnownExtension::PolicyConstraints => Ok(ExtensionValue::PolicyConstraints(parse_single(
+                alloc, octets,
+            )?)),
+            KnownExtension::PolicyMappings => Ok(ExtensionValue::PolicyMappings(parse_single(
+                alloc, octets,
+            )?)),
             KnownExtension::SubjectAltName => Ok(ExtensionValue::SubjectAltName(parse_single(
+                alloc, octets,
+            )?)),
+            KnownExtension::SubjectInfoAccess => Ok(ExtensionValue::SubjectInfoAccess(parse_single(
                 alloc, octets,
             )?)),
             KnownExtension::SubjectKeyIdentifier => Ok(ExtensionValue::SubjectKeyIdentifier(

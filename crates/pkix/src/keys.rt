@@ -1,19 +1,19 @@
-//! Keys (RFC 5958, 8017, 5915 and 5480).
-// Printed by scripts/derive from declarations/keys.rs, with the sum 7f8d3703.
+//! Keys, and the parameters of their algorithms (RFC 5958, 8017, 5915, 5480, 3279 and 4055).
+// Printed by scripts/derive from declarations/keys.rs, with the sum eb694217.
 
 ghost use Rattle.std.specs.Prelude.{◌≡◌, ◌∷◌, [], codes};
 ghost use Rattle.asn1.specs.Options.{option_meaning};
 ghost use Rattle.asn1.specs.Reads.{HasOneEncoding, ReadsContents};
-ghost use Rattle.asn1.specs.Structures.{explicit, implicit, structure, fields2, fields4, fields5, fields9};
+ghost use Rattle.asn1.specs.Structures.{defaulted, explicit, implicit, structure, fields2, fields3, fields4, fields5, fields9};
 
 use crate::common::{
     AlgorithmIdentifier, Attributes, algorithm_identifier_is_lawful, attributes_is_lawful,
 };
-use asn1::fields::{Fields2, Fields4, Fields5, Fields9, Row};
+use asn1::fields::{Fields2, Fields3, Fields4, Fields5, Fields9, Row};
 use asn1::{
-    Asn1Type, BigUint, BitString, Explicit, Implicit, ObjectIdentifier, ParseResult,
-    SimpleAsn1Readable, SimpleAsn1Writable, Tag, WriteBuf, WriteError, WriteResult, fields_length,
-    known_fields, read_fields, write_fields,
+    Asn1Type, BigUint, BitString, DefaultValue, Defaulted, Explicit, Implicit, ObjectIdentifier,
+    ParseResult, SimpleAsn1Readable, SimpleAsn1Writable, Tag, WriteBuf, WriteError, WriteResult,
+    fields_length, known_fields, read_fields, write_fields,
 };
 use std::alloc::Global;
 
@@ -103,6 +103,66 @@ impl<'a> SimpleAsn1Writable for OneAsymmetricKey<'a> {
             version, private_key_algorithm, private_key,
             attributes: OneAsymmetricKeyAttributesField<'a>,
             public_key: OneAsymmetricKeyPublicKeyField<'a>)
+    }
+}
+
+/// EncryptedPrivateKeyInfo (RFC 5958, 3), a SEQUENCE: a private key that is encrypted.
+#[derive(Debug, Clone, PartialEq, Eq, Drop)]
+pub struct EncryptedPrivateKeyInfo<'a> {
+    /// The algorithm that encrypted it.
+    pub encryption_algorithm: AlgorithmIdentifier<'a>,
+    /// The encoding of a OneAsymmetricKey, encrypted.
+    pub encrypted_data: &'a [u8],
+}
+
+type EncryptedPrivateKeyInfoFields<'a> = Fields2<AlgorithmIdentifier<'a>, &'a [u8]>;
+
+impl<'a> Asn1Type for EncryptedPrivateKeyInfo<'a> {
+    ghost der = { structure (λ v. fields2 v.encryption_algorithm v.encrypted_data)
+        ⟦<EncryptedPrivateKeyInfoFields<'a> as Row>⟧.list
+        (codes "EncryptedPrivateKeyInfo::encryption_algorithm" ∷
+        codes "EncryptedPrivateKeyInfo::encrypted_data" ∷ []) };
+
+    fn known(&self) {
+        known_fields!(self; encryption_algorithm, encrypted_data)
+    }
+}
+
+impl<'a> SimpleAsn1Readable<'a> for EncryptedPrivateKeyInfo<'a> {
+    fn tag() -> Tag
+        ensures value { result ≡ ⟦<EncryptedPrivateKeyInfo<'a> as Asn1Type>⟧.der.content.tag }
+        ensures simple { ⟦<EncryptedPrivateKeyInfo<'a> as Asn1Type>⟧.der.is_simple }
+        ensures plain { ⟦<EncryptedPrivateKeyInfo<'a> as Asn1Type>⟧.der.plain }
+    {
+        Tag::constructed(0x10)
+    }
+
+    fn parse_data(alloc: Global, data: &'a [u8]) -> ParseResult<EncryptedPrivateKeyInfo<'a>>
+        ensures { ReadsContents ⟦<EncryptedPrivateKeyInfo<'a> as Asn1Type>⟧.der «data».entry.now
+            result }
+    {
+        read_fields!(EncryptedPrivateKeyInfoFields<'a>, alloc, data => EncryptedPrivateKeyInfo {
+            encryption_algorithm, encrypted_data
+        })
+    }
+}
+
+impl<'a> SimpleAsn1Writable for EncryptedPrivateKeyInfo<'a> {
+    type Error = WriteError;
+
+    fn tag() -> Tag
+        ensures value { result ≡ ⟦<EncryptedPrivateKeyInfo<'a> as Asn1Type>⟧.der.content.tag }
+        ensures simple { ⟦<EncryptedPrivateKeyInfo<'a> as Asn1Type>⟧.der.is_simple }
+    {
+        Tag::constructed(0x10)
+    }
+
+    fn write_data(&self, dest: &mut WriteBuf) -> WriteResult<()> {
+        write_fields!(self, dest; encryption_algorithm, encrypted_data)
+    }
+
+    fn data_length(&self) -> Option<usize> {
+        fields_length!(self; encryption_algorithm, encrypted_data)
     }
 }
 
@@ -337,6 +397,180 @@ impl<'a> SimpleAsn1Writable for EcPrivateKey<'a> {
     }
 }
 
+/// Dss-Parms (RFC 3279, 2.3.2), a SEQUENCE: the parameters of DSA. Its numbers aren't negative.
+#[derive(Debug, Clone, PartialEq, Eq, Drop)]
+pub struct DssParms<'a> {
+    /// The prime that numbers are taken modulo.
+    pub p: BigUint<'a>,
+    /// The prime divisor of p - 1.
+    pub q: BigUint<'a>,
+    /// The generator, whose order is q.
+    pub g: BigUint<'a>,
+}
+
+type DssParmsFields<'a> = Fields3<BigUint<'a>, BigUint<'a>, BigUint<'a>>;
+
+impl<'a> Asn1Type for DssParms<'a> {
+    ghost der = { structure (λ v. fields3 v.p v.q v.g) ⟦<DssParmsFields<'a> as Row>⟧.list
+        (codes "DssParms::p" ∷ codes "DssParms::q" ∷ codes "DssParms::g" ∷ []) };
+
+    fn known(&self) {
+        known_fields!(self; p, q, g)
+    }
+}
+
+impl<'a> SimpleAsn1Readable<'a> for DssParms<'a> {
+    fn tag() -> Tag
+        ensures value { result ≡ ⟦<DssParms<'a> as Asn1Type>⟧.der.content.tag }
+        ensures simple { ⟦<DssParms<'a> as Asn1Type>⟧.der.is_simple }
+        ensures plain { ⟦<DssParms<'a> as Asn1Type>⟧.der.plain }
+    {
+        Tag::constructed(0x10)
+    }
+
+    fn parse_data(alloc: Global, data: &'a [u8]) -> ParseResult<DssParms<'a>>
+        ensures { ReadsContents ⟦<DssParms<'a> as Asn1Type>⟧.der «data».entry.now result }
+    {
+        read_fields!(DssParmsFields<'a>, alloc, data => DssParms { p, q, g })
+    }
+}
+
+impl<'a> SimpleAsn1Writable for DssParms<'a> {
+    type Error = WriteError;
+
+    fn tag() -> Tag
+        ensures value { result ≡ ⟦<DssParms<'a> as Asn1Type>⟧.der.content.tag }
+        ensures simple { ⟦<DssParms<'a> as Asn1Type>⟧.der.is_simple }
+    {
+        Tag::constructed(0x10)
+    }
+
+    fn write_data(&self, dest: &mut WriteBuf) -> WriteResult<()> {
+        write_fields!(self, dest; p, q, g)
+    }
+
+    fn data_length(&self) -> Option<usize> {
+        fields_length!(self; p, q, g)
+    }
+}
+
+/// RSASSA-PSS-params (RFC 4055, 3.1), a SEQUENCE. The defaults of its algorithms are structures: each is `None` if it
+/// is left out, and if it is encoded, which DER forbids, it is read.
+#[derive(Debug, Clone, PartialEq, Eq, Drop)]
+pub struct RsassaPssParams<'a> {
+    /// The digest, by default SHA-1 (`sha1Identifier`).
+    pub hash_algorithm: Option<AlgorithmIdentifier<'a>>,
+    /// The function that makes masks, by default MGF1 with SHA-1 (`mgf1SHA1`).
+    pub mask_gen_algorithm: Option<AlgorithmIdentifier<'a>>,
+    /// The number of the salt's octets. A number of 2^32 or more is rejected.
+    pub salt_length: u32,
+    /// The octets at the end: the RFC allows 1 alone. A number of 2^32 or more is rejected.
+    pub trailer_field: u32,
+}
+
+/// What `salt_length` is where it is left out.
+#[derive(Debug, PartialEq, Eq, Drop)]
+pub struct RsassaPssParamsSaltLength;
+
+impl DefaultValue<Explicit<u32, 2>> for RsassaPssParamsSaltLength {
+    ghost default = { record { inner = 20 } };
+
+    fn value() -> Explicit<u32, 2> {
+        Explicit::new(20)
+    }
+}
+
+/// What `trailer_field` is where it is left out.
+#[derive(Debug, PartialEq, Eq, Drop)]
+pub struct RsassaPssParamsTrailerField;
+
+impl DefaultValue<Explicit<u32, 3>> for RsassaPssParamsTrailerField {
+    ghost default = { record { inner = 1 } };
+
+    fn value() -> Explicit<u32, 3> {
+        Explicit::new(1)
+    }
+}
+
+type RsassaPssParamsHashAlgorithmField<'a> = Option<Explicit<AlgorithmIdentifier<'a>, 0>>;
+
+type RsassaPssParamsMaskGenAlgorithmField<'a> = Option<Explicit<AlgorithmIdentifier<'a>, 1>>;
+
+type RsassaPssParamsSaltLengthField = Defaulted<Explicit<u32, 2>, RsassaPssParamsSaltLength>;
+
+type RsassaPssParamsTrailerFieldField = Defaulted<Explicit<u32, 3>, RsassaPssParamsTrailerField>;
+
+type RsassaPssParamsFields<'a> = Fields4<
+    RsassaPssParamsHashAlgorithmField<'a>,
+    RsassaPssParamsMaskGenAlgorithmField<'a>,
+    RsassaPssParamsSaltLengthField,
+    RsassaPssParamsTrailerFieldField,
+>;
+
+impl<'a> Asn1Type for RsassaPssParams<'a> {
+    ghost der = { structure (λ v. fields4 (option_meaning explicit v.hash_algorithm) (option_meaning
+        explicit v.mask_gen_algorithm) (defaulted (explicit v.salt_length)) (defaulted (explicit
+        v.trailer_field))) ⟦<RsassaPssParamsFields<'a> as Row>⟧.list
+        (codes "RsassaPssParams::hash_algorithm" ∷ codes "RsassaPssParams::mask_gen_algorithm" ∷
+        codes "RsassaPssParams::salt_length" ∷ codes "RsassaPssParams::trailer_field" ∷ []) };
+
+    fn known(&self) {
+        known_fields!(self;
+            hash_algorithm: RsassaPssParamsHashAlgorithmField<'a>,
+            mask_gen_algorithm: RsassaPssParamsMaskGenAlgorithmField<'a>,
+            salt_length: RsassaPssParamsSaltLengthField,
+            trailer_field: RsassaPssParamsTrailerFieldField)
+    }
+}
+
+impl<'a> SimpleAsn1Readable<'a> for RsassaPssParams<'a> {
+    fn tag() -> Tag
+        ensures value { result ≡ ⟦<RsassaPssParams<'a> as Asn1Type>⟧.der.content.tag }
+        ensures simple { ⟦<RsassaPssParams<'a> as Asn1Type>⟧.der.is_simple }
+        ensures plain { ⟦<RsassaPssParams<'a> as Asn1Type>⟧.der.plain }
+    {
+        Tag::constructed(0x10)
+    }
+
+    fn parse_data(alloc: Global, data: &'a [u8]) -> ParseResult<RsassaPssParams<'a>>
+        ensures { ReadsContents ⟦<RsassaPssParams<'a> as Asn1Type>⟧.der «data».entry.now result }
+    {
+        read_fields!(RsassaPssParamsFields<'a>, alloc, data => RsassaPssParams {
+            hash_algorithm: RsassaPssParamsHashAlgorithmField<'a>,
+            mask_gen_algorithm: RsassaPssParamsMaskGenAlgorithmField<'a>,
+            salt_length: RsassaPssParamsSaltLengthField,
+            trailer_field: RsassaPssParamsTrailerFieldField
+        })
+    }
+}
+
+impl<'a> SimpleAsn1Writable for RsassaPssParams<'a> {
+    type Error = WriteError;
+
+    fn tag() -> Tag
+        ensures value { result ≡ ⟦<RsassaPssParams<'a> as Asn1Type>⟧.der.content.tag }
+        ensures simple { ⟦<RsassaPssParams<'a> as Asn1Type>⟧.der.is_simple }
+    {
+        Tag::constructed(0x10)
+    }
+
+    fn write_data(&self, dest: &mut WriteBuf) -> WriteResult<()> {
+        write_fields!(self, dest;
+            hash_algorithm: RsassaPssParamsHashAlgorithmField<'a>,
+            mask_gen_algorithm: RsassaPssParamsMaskGenAlgorithmField<'a>,
+            salt_length: RsassaPssParamsSaltLengthField,
+            trailer_field: RsassaPssParamsTrailerFieldField)
+    }
+
+    fn data_length(&self) -> Option<usize> {
+        fields_length!(self;
+            hash_algorithm: RsassaPssParamsHashAlgorithmField<'a>,
+            mask_gen_algorithm: RsassaPssParamsMaskGenAlgorithmField<'a>,
+            salt_length: RsassaPssParamsSaltLengthField,
+            trailer_field: RsassaPssParamsTrailerFieldField)
+    }
+}
+
 /// Each value of `OneAsymmetricKey` has one encoding, which is read back.
 #[tactic(auto, using(asn1::specs::Lemmas::Fields::tags_differ))]
 pub fn one_asymmetric_key_is_lawful()
@@ -344,6 +578,13 @@ pub fn one_asymmetric_key_is_lawful()
 {
     algorithm_identifier_is_lawful();
     attributes_is_lawful();
+}
+
+/// Each value of `EncryptedPrivateKeyInfo` has one encoding, which is read back.
+pub fn encrypted_private_key_info_is_lawful()
+    ensures { HasOneEncoding ⟦<EncryptedPrivateKeyInfo<'static> as Asn1Type>⟧.der }
+{
+    algorithm_identifier_is_lawful();
 }
 
 /// Each value of `RsaPublicKey` has one encoding, which is read back.
@@ -361,3 +602,16 @@ pub fn rsa_private_key_is_lawful()
 pub fn ec_private_key_is_lawful()
     ensures { HasOneEncoding ⟦<EcPrivateKey<'static> as Asn1Type>⟧.der }
 {}
+
+/// Each value of `DssParms` has one encoding, which is read back.
+pub fn dss_parms_is_lawful()
+    ensures { HasOneEncoding ⟦<DssParms<'static> as Asn1Type>⟧.der }
+{}
+
+/// Each value of `RsassaPssParams` has one encoding, which is read back.
+#[tactic(auto, using(asn1::specs::Lemmas::Fields::tags_differ))]
+pub fn rsassa_pss_params_is_lawful()
+    ensures { HasOneEncoding ⟦<RsassaPssParams<'static> as Asn1Type>⟧.der }
+{
+    algorithm_identifier_is_lawful();
+}

@@ -1,18 +1,19 @@
 //! Parameters of algorithms, read by their identifiers (RFC 3279, 3370, 4055, 5480, 5754, 5758, 8410).
 
-use crate::objects::{CURVE, DIGEST, EC_PKCS8, ED_PKCS8, RSA, RSA_PKCS8};
+use crate::objects::{CURVE, DIGEST, DSA_PUBLIC, EC_PKCS8, ED_PKCS8, RSA, RSA_PKCS8};
+use crate::walks::{changed, walk};
 use asn1::{ObjectIdentifier, ParseErrorKind, ParseResult, Tag, Tlv, parse_single};
 use pkix::algorithm_parameters::{AlgorithmParameters, KnownAlgorithm};
 use pkix::certificate::Certificate;
-use pkix::common::AlgorithmIdentifier;
-use pkix::keys::OneAsymmetricKey;
+use pkix::common::{AlgorithmIdentifier, SubjectPublicKeyInfo};
+use pkix::keys::{DssParms, OneAsymmetricKey, RsassaPssParams};
 use pkix::signatures::DigestInfo;
 use std::alloc::Global;
 use std::test::Fail;
-use testing::{all_same, kind_of, same, same_at};
+use testing::{all_same, are_written_back, kind_of, same, same_at};
 
 /// Each known algorithm with its identifier.
-const IDENTIFIERS: [(KnownAlgorithm, &str); 26] = [
+const IDENTIFIERS: [(KnownAlgorithm, &str); 28] = [
     (KnownAlgorithm::RsaEncryption, "1.2.840.113549.1.1.1"),
     (
         KnownAlgorithm::Sha1WithRsaEncryption,
@@ -34,6 +35,8 @@ const IDENTIFIERS: [(KnownAlgorithm, &str); 26] = [
         KnownAlgorithm::Sha512WithRsaEncryption,
         "1.2.840.113549.1.1.13",
     ),
+    (KnownAlgorithm::RsassaPss, "1.2.840.113549.1.1.10"),
+    (KnownAlgorithm::Dsa, "1.2.840.10040.4.1"),
     (KnownAlgorithm::DsaWithSha1, "1.2.840.10040.4.3"),
     (KnownAlgorithm::DsaWithSha224, "2.16.840.1.101.3.4.3.1"),
     (KnownAlgorithm::DsaWithSha256, "2.16.840.1.101.3.4.3.2"),
@@ -263,12 +266,12 @@ fn parameters_that_may_be_absent(rt: HostRuntime) -> Result<(), Fail> {
     )
 }
 
-/// Digests without parameters, and an algorithm that isn't known: id-dsa (RFC 3279, 2.3.2).
+/// Digests without parameters, and an algorithm that isn't known: md5WithRSAEncryption (RFC 3279, 2.2.1).
 #[test]
 fn other_parameters(rt: HostRuntime) -> Result<(), Fail> {
     let alloc = rt.alloc();
     let digest = read(alloc, KnownAlgorithm::Sha256.identifier(), NONE)?;
-    let Some(other) = ObjectIdentifier::from_string("1.2.840.10040.4.1") else {
+    let Some(other) = ObjectIdentifier::from_string("1.2.840.113549.1.1.4") else {
         return Err(Fail::new(format_args!("no identifier")));
     };
     let none = read(alloc, other.clone()?, NONE)?;
@@ -278,5 +281,87 @@ fn other_parameters(rt: HostRuntime) -> Result<(), Fail> {
         (digest, AlgorithmParameters::Absent),
         (none, AlgorithmParameters::Other(None)),
         (null, AlgorithmParameters::Other(Some(element))),
+    ])
+}
+
+/// Of a key, as OpenSSL lists them; inherited ones, which are none; and others.
+#[test]
+fn parameters_of_dsa(rt: HostRuntime) -> Result<(), Fail> {
+    let alloc = rt.alloc();
+    let octets = hex::decode(alloc, DSA_PUBLIC)?;
+    let key = parse_single::<SubjectPublicKeyInfo<'_>>(alloc, octets.as_slice())?;
+    let AlgorithmParameters::Dss(found) = key.algorithm.read_parameters(alloc)? else {
+        return Err(Fail::new(format_args!("no parameters of DSA")));
+    };
+    let rows = [
+        (found.p.as_bytes(), 24, 153),
+        (found.q.as_bytes(), 155, 176),
+        (found.g.as_bytes(), 179, 307),
+    ];
+    for (number, start, end) in rows {
+        same(Some(number), octets.as_slice().get(start..end))?;
+    }
+    let Some(parameters) = octets.as_slice().get(17..307) else {
+        return Err(Fail::new(format_args!("no octets")));
+    };
+    are_written_back::<DssParms<'_>>(alloc, &[parameters])?;
+    are_answered(
+        alloc,
+        &[KnownAlgorithm::Dsa],
+        &[
+            (NONE, None),
+            (parameters, None),
+            (NULL, Some(ParseErrorKind::ExtraData)),
+            (b"\x30\x00", Some(ParseErrorKind::ShortData { needed: 1 })),
+        ],
+    )
+}
+
+/// The parameters of RSASSA-PSS in the certificate: SHA-256, MGF1 with it, and 32 octets of salt.
+const PSS: &str = "\
+3034a00f300d06096086480165030402010500a11c301a06092a864886f70d010108300d\
+06096086480165030402010500a203020120";
+
+/// Each of the defaults, as none; those that are structures also encoded, which isn't rejected; and other numbers.
+#[test]
+fn parameters_of_pss(rt: HostRuntime) -> Result<(), Fail> {
+    let alloc = rt.alloc();
+    let whole = hex::decode(alloc, PSS)?;
+    let others = changed(alloc, whole.as_slice())?;
+    walk::<RsassaPssParams<'_>>(alloc, whole.as_slice(), others.as_slice())?;
+    let sha1 = b"\x30\x0d\xa0\x0b\x30\x09\x06\x05\x2b\x0e\x03\x02\x1a\x05\x00";
+    let trailer = b"\x30\x05\xa3\x03\x02\x01\x02";
+    are_written_back::<RsassaPssParams<'_>>(alloc, &[b"\x30\x00", sha1, trailer])?;
+    are_answered(
+        alloc,
+        &[KnownAlgorithm::RsassaPss],
+        &[
+            (NONE, None),
+            (b"\x30\x00", None),
+            (sha1, None),
+            (whole.as_slice(), None),
+            (NULL, Some(ParseErrorKind::ExtraData)),
+            (
+                b"\x30\x05\xa2\x03\x02\x01\x14",
+                Some(ParseErrorKind::EncodedDefault),
+            ),
+        ],
+    )?;
+    let defaults = RsassaPssParams {
+        hash_algorithm: None,
+        mask_gen_algorithm: None,
+        salt_length: 20,
+        trailer_field: 1,
+    };
+    let pss = KnownAlgorithm::RsassaPss;
+    all_same(&[
+        (
+            read(alloc, pss.identifier(), NONE)?,
+            AlgorithmParameters::Absent,
+        ),
+        (
+            read(alloc, pss.identifier(), b"\x30\x00")?,
+            AlgorithmParameters::RsassaPss(defaults),
+        ),
     ])
 }

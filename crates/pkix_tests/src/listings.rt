@@ -481,3 +481,147 @@ content.signerInfos: (empty)\n\
 sha256: 9db730d9f31f720362c71dd72f72392032f3bce6b852ccd3e4e260f890219332\n\
 same\n\
 ";
+
+/// The lines of the certificate with policies and constraints.
+pub const POLICIES: &str = "\
+version: 02\n\
+serialNumber: 51\n\
+signature: 1.2.840.113549.1.1.10 (RSASSA-PSS)\n\
+signature.parameters.hashAlgorithm: 2.16.840.1.101.3.4.2.1 (sha256)\n\
+signature.parameters.hashAlgorithm.parameters: 0500\n\
+signature.parameters.maskGenAlgorithm: 1.2.840.113549.1.1.8 (mgf1)\n\
+signature.parameters.maskGenAlgorithm.parameters: 300d06096086480165030402010500\n\
+signature.parameters.saltLength: 20\n\
+signature.parameters.trailerField: 01\n\
+issuer.0.commonName: policies.example\n\
+validity.notBefore: 2026-11-26T08:46:37Z\n\
+validity.notAfter: 2036-11-23T08:46:37Z\n\
+subject.0.commonName: policies.example\n\
+subjectPublicKeyInfo.algorithm: 1.2.840.113549.1.1.10 (RSASSA-PSS)\n\
+subjectPublicKeyInfo.algorithm.parameters.hashAlgorithm: 2.16.840.1.101.3.4.2.1 (sha256)\n\
+subjectPublicKeyInfo.algorithm.parameters.hashAlgorithm.parameters: 0500\n\
+subjectPublicKeyInfo.algorithm.parameters.maskGenAlgorithm: 1.2.840.113549.1.1.8 (mgf1)\n\
+subjectPublicKeyInfo.algorithm.parameters.maskGenAlgorithm.parameters: 300d06096086480165030402010500\n\
+subjectPublicKeyInfo.algorithm.parameters.saltLength: 20\n\
+subjectPublicKeyInfo.algorithm.parameters.trailerField: 01\n\
+subjectPublicKeyInfo.subjectPublicKey: 30818902818100b81a2f970e5a32720ef0ac0a753c79b63550f2e7bc63b69ad4352d41c\
+196294aaee2096d07912b52113cc3281a47b7ce6436779024a25221fd90020936cc34a212f78cb9f2b4cf2060c16048c46e8ea3a819a98\
+fd33218454e025956fcf63d755cdc89e0ed02a254c6b70f5578b7d06c0549558802713f06f57672c0d7c686a90203010001\n\
+extensions.0.extnID: 2.5.29.32 (certificatePolicies)\n\
+extensions.0.critical: true\n\
+extensions.0.certificatePolicies.0.policyIdentifier: 1.2.3.4\n\
+extensions.0.certificatePolicies.1.policyIdentifier: 1.2.3.5\n\
+extensions.0.certificatePolicies.1.policyQualifiers.0.policyQualifierId: 1.3.6.1.5.5.7.2.1 (cps)\n\
+extensions.0.certificatePolicies.1.policyQualifiers.0.qualifier: (IA5String) http://policies.example/\n\
+extensions.0.certificatePolicies.1.policyQualifiers.1.policyQualifierId: 1.3.6.1.5.5.7.2.2 (unotice)\n\
+extensions.0.certificatePolicies.1.policyQualifiers.1.qualifier: #302430171a0d4578616d706c6520576f726b73300602\
+01010201020c09526561642074686973\n\
+extensions.0.certificatePolicies.2.policyIdentifier: 2.5.29.32.0 (anyPolicy)\n\
+extensions.1.extnID: 2.5.29.33 (policyMappings)\n\
+extensions.1.critical: false\n\
+extensions.1.policyMappings.0.issuerDomainPolicy: 1.2.3.4\n\
+extensions.1.policyMappings.0.subjectDomainPolicy: 1.2.3.5\n\
+extensions.1.policyMappings.1.issuerDomainPolicy: 1.2.3.6\n\
+extensions.1.policyMappings.1.subjectDomainPolicy: 1.2.3.7\n\
+extensions.2.extnID: 2.5.29.30 (nameConstraints)\n\
+extensions.2.critical: true\n\
+extensions.2.nameConstraints.permittedSubtrees.0.base.dNSName: example\n\
+extensions.2.nameConstraints.permittedSubtrees.0.minimum: 00\n\
+extensions.2.nameConstraints.permittedSubtrees.1.base.iPAddress: 192.0.2.0/255.255.255.0\n\
+extensions.2.nameConstraints.permittedSubtrees.1.minimum: 00\n\
+extensions.2.nameConstraints.excludedSubtrees.0.base.rfc822Name: .example\n\
+extensions.2.nameConstraints.excludedSubtrees.0.minimum: 00\n\
+extensions.2.nameConstraints.excludedSubtrees.1.base.directoryName.0.countryName: AT\n\
+extensions.2.nameConstraints.excludedSubtrees.1.minimum: 00\n\
+extensions.3.extnID: 2.5.29.36 (policyConstraints)\n\
+extensions.3.critical: true\n\
+extensions.3.policyConstraints.requireExplicitPolicy: 03\n\
+extensions.3.policyConstraints.inhibitPolicyMapping: 00\n\
+extensions.4.extnID: 2.5.29.54 (inhibitAnyPolicy)\n\
+extensions.4.critical: true\n\
+extensions.4.inhibitAnyPolicy: 02\n\
+extensions.5.extnID: 2.5.29.46 (freshestCRL)\n\
+extensions.5.critical: false\n\
+extensions.5.freshestCRL.0.distributionPoint.fullName.0.uniformResourceIdentifier: http://crl.example/delta.cr\
+l\n\
+extensions.6.extnID: 1.3.6.1.5.5.7.1.11 (subjectInfoAccess)\n\
+extensions.6.critical: false\n\
+extensions.6.subjectInfoAccess.0.accessMethod: 1.3.6.1.5.5.7.48.5 (caRepository)\n\
+extensions.6.subjectInfoAccess.0.accessLocation.uniformResourceIdentifier: http://ca.example/all.p7c\n\
+extensions.7.extnID: 2.5.29.14 (subjectKeyIdentifier)\n\
+extensions.7.critical: false\n\
+extensions.7.subjectKeyIdentifier: b97d26f1bfe29f94eb249765fd40112b92b74e48\n\
+signatureAlgorithm: 1.2.840.113549.1.1.10 (RSASSA-PSS)\n\
+signatureAlgorithm.parameters.hashAlgorithm: 2.16.840.1.101.3.4.2.1 (sha256)\n\
+signatureAlgorithm.parameters.hashAlgorithm.parameters: 0500\n\
+signatureAlgorithm.parameters.maskGenAlgorithm: 1.2.840.113549.1.1.8 (mgf1)\n\
+signatureAlgorithm.parameters.maskGenAlgorithm.parameters: 300d06096086480165030402010500\n\
+signatureAlgorithm.parameters.saltLength: 20\n\
+signatureAlgorithm.parameters.trailerField: 01\n\
+signatureValue: a29fd29084fa469ae8d10d609f3cc713cb8e0b68e10cc09a85e6f2b686131d0cc5557d8292337ae12a9c9ca5be1d05\
+cced316286c2f89b2bd9164ff4f3d3caaa440e075c6e5f9aab2355e25d3caa8ed15afbdbaacc324ca0da777a4e01bfe7d67b125538fd46\
+56122b939e862df54575fe95aeb468a83c43b32d9634204866e0\n\
+sha256: 7b519b7c073562b0b44b3e62d91c19c7c570d6edce379acf3efc2a33fa663538\n\
+same\n\
+";
+
+/// The lines of the revocation list that completes another.
+pub const DELTA_CRL: &str = "\
+version: 01\n\
+signature: 1.2.840.10045.4.3.2 (ecdsa-with-SHA256)\n\
+issuer.0.commonName: policies.example\n\
+thisUpdate: 2026-11-26T08:47:01Z\n\
+nextUpdate: 2026-12-26T08:47:01Z\n\
+revokedCertificates.0.userCertificate: 0b\n\
+revokedCertificates.0.revocationDate: 2026-11-01T00:00:00Z\n\
+revokedCertificates.0.crlEntryExtensions.0.extnID: 2.5.29.21 (cRLReason)\n\
+revokedCertificates.0.crlEntryExtensions.0.critical: false\n\
+revokedCertificates.0.crlEntryExtensions.0.cRLReason: 01 (keyCompromise)\n\
+revokedCertificates.0.crlEntryExtensions.1.extnID: 2.5.29.24 (invalidityDate)\n\
+revokedCertificates.0.crlEntryExtensions.1.critical: false\n\
+revokedCertificates.0.crlEntryExtensions.1.invalidityDate: 2026-10-31T23:59:59Z\n\
+crlExtensions.0.extnID: 2.5.29.28 (issuingDistributionPoint)\n\
+crlExtensions.0.critical: true\n\
+crlExtensions.0.issuingDistributionPoint.distributionPoint.fullName.0.uniformResourceIdentifier: http://crl.ex\
+ample/some.crl\n\
+crlExtensions.0.issuingDistributionPoint.onlyContainsUserCerts: true\n\
+crlExtensions.0.issuingDistributionPoint.onlyContainsCACerts: false\n\
+crlExtensions.0.issuingDistributionPoint.onlySomeReasons: 60\n\
+crlExtensions.0.issuingDistributionPoint.onlySomeReasons.unusedBits: 05\n\
+crlExtensions.0.issuingDistributionPoint.onlySomeReasons.keyCompromise: true\n\
+crlExtensions.0.issuingDistributionPoint.onlySomeReasons.cACompromise: true\n\
+crlExtensions.0.issuingDistributionPoint.indirectCRL: true\n\
+crlExtensions.0.issuingDistributionPoint.onlyContainsAttributeCerts: false\n\
+crlExtensions.1.extnID: 2.5.29.27 (deltaCRLIndicator)\n\
+crlExtensions.1.critical: true\n\
+crlExtensions.1.deltaCRLIndicator: 05\n\
+crlExtensions.2.extnID: 2.5.29.46 (freshestCRL)\n\
+crlExtensions.2.critical: false\n\
+crlExtensions.2.freshestCRL.0.distributionPoint.fullName.0.uniformResourceIdentifier: http://crl.example/delta\
+.crl\n\
+crlExtensions.3.extnID: 2.5.29.20 (cRLNumber)\n\
+crlExtensions.3.critical: false\n\
+crlExtensions.3.cRLNumber: 06\n\
+signatureAlgorithm: 1.2.840.10045.4.3.2 (ecdsa-with-SHA256)\n\
+signatureValue: 30450220186536471da65daeb7606aff92c068437b2546d2562b6002687b646e562e2a68022100a96ebf2bcb837a43\
+14ebb80df40daefd9ba59b34dff7396755c955f12b2af9c5\n\
+sha256: 28628889da8a52909a1789567dce997e22d9977e4d547cc4bbd38124e5d97a74\n\
+same\n\
+";
+
+/// The lines of the key of DSA.
+pub const DSA_PUBLIC: &str = "\
+algorithm: 1.2.840.10040.4.1 (dsa)\n\
+algorithm.parameters.p: 008cdb6aaa968df365a022d8ae6ec6779f0a50c6cff8c827ae640bedc23a55f7ea03d32d94ee972c0b4058\
+add429eeae773426bbeef1f19ba5b6690c474c646da146e8c21d995088375ee88fc6523f8d746645b9d64b8af6cc1a026674be8c291331\
+abe5f2c57682c00b1dda2309069047ab51a862d9847bd8a1b6ebbb8c3c5fb3\n\
+algorithm.parameters.q: 00ae5437fa4c41a5fae65519af66d81509f712d781\n\
+algorithm.parameters.g: 3cef0e4b98410fc7a6d72d738e11e024063cd2b698bb980491e63de5fadf497be788ffc1c885d2a931e834\
+2f55f5c56ff58e40a4a20eb8101297767a48d0edf30a09b651a6480444efcfa0a826d4d38ceaac3080bb8731deb6a41baad244304a84e2\
+3b9c4025621eb4f0161da12d02dfc2e6d2e798cdecdd377fbabc5487b225\n\
+subjectPublicKey: 028180763c9d843a164605c87256eae91d6208d13923a3f24171f4464ef929b44cb2d86afd4ff6d7ac916dbfa39e\
+6bb2612a0a26a2d3987be3514bd22b798ad3b5982d63862e7ad8f55abc5023bd8319d5d0653368b716007c7b4e6812b746bd6fa0289ada\
+04b9e72c402493ea16aac7aebbe498349627074934fc117152c678b17bef\n\
+sha256: 7bf52dac56c3f1e64e7e346abea51e591d8abdb3ed4d45a8e5460f8a7ca42e73\n\
+same\n\
+";

@@ -4,6 +4,7 @@ use asn1::{ParseError, ParseErrorKind, ParseLocation};
 use pkix::certificate::Validity;
 use pkix::certificate::extensions::BasicConstraints;
 use pkix::common::{Extension, Name};
+use pkix::keys::{DssParms, EncryptedPrivateKeyInfo, RsassaPssParams};
 use pkix::signatures::EcdsaSigValue;
 use std::test::Fail;
 use testing::are_refused_with;
@@ -83,6 +84,52 @@ fn sets_out_of_order(rt: HostRuntime) -> Result<(), Fail> {
         &[(
             b"\x30\x16\x31\x14\x30\x08\x06\x03\x55\x04\x05\x0c\x01a\x30\x08\x06\x03\x55\x04\x03\x0c\x01b",
             second,
+        )],
+    )
+}
+
+/// Defaults that are encoded (X.690 11.5), fields that are missing, and a negative number.
+#[test]
+fn parameters_and_encrypted_keys(rt: HostRuntime) -> Result<(), Fail> {
+    let alloc = rt.alloc();
+    let short = ParseErrorKind::ShortData { needed: 1 };
+    are_refused_with::<RsassaPssParams<'_>>(
+        alloc,
+        &[
+            (
+                b"\x30\x05\xa2\x03\x02\x01\x14",
+                at(
+                    "RsassaPssParams::salt_length",
+                    ParseErrorKind::EncodedDefault,
+                ),
+            ),
+            (
+                b"\x30\x05\xa3\x03\x02\x01\x01",
+                at(
+                    "RsassaPssParams::trailer_field",
+                    ParseErrorKind::EncodedDefault,
+                ),
+            ),
+        ],
+    )?;
+    are_refused_with::<DssParms<'_>>(
+        alloc,
+        &[
+            (
+                b"\x30\x06\x02\x01\x01\x02\x01\x01",
+                at("DssParms::g", short),
+            ),
+            (
+                b"\x30\x09\x02\x01\xff\x02\x01\x01\x02\x01\x01",
+                at("DssParms::p", ParseErrorKind::InvalidValue),
+            ),
+        ],
+    )?;
+    are_refused_with::<EncryptedPrivateKeyInfo<'_>>(
+        alloc,
+        &[(
+            b"\x30\x06\x30\x04\x06\x02\x2a\x03",
+            at("EncryptedPrivateKeyInfo::encrypted_data", short),
         )],
     )
 }

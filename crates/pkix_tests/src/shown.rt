@@ -1,10 +1,28 @@
-//! Values whose lines no real object here has, in a request made by hand.
+//! Objects whose values have types that few objects have, and values that no real object here has, in a request made by
+//! hand.
 
 use crate::lines::{line, lines};
+use crate::{listings, objects};
 use pkix_text::Kind;
 use std::alloc::Global;
 use std::test::Fail;
 use testing::same;
+
+/// Each object with its lines.
+#[test]
+fn objects_of_other_types(rt: HostRuntime) -> Result<(), Fail> {
+    let alloc = rt.alloc();
+    let rows = [
+        (Kind::Certificate, objects::POLICIES, listings::POLICIES),
+        (Kind::Crl, objects::DELTA_CRL, listings::DELTA_CRL),
+        (Kind::Key, objects::DSA_PUBLIC, listings::DSA_PUBLIC),
+    ];
+    for (kind, object, wanted) in rows {
+        let octets = hex::decode(alloc, object)?;
+        same(lines(alloc, kind, octets.as_slice())?.as_str(), wanted)?;
+    }
+    Ok(())
+}
 
 /// An element whose contents are these octets, fewer than 128.
 fn element(alloc: Global, tag: u8, start: &[u8], rest: &[u8]) -> Result<Vec<u8>, Fail> {
@@ -65,6 +83,62 @@ fn character_strings(rt: HostRuntime) -> Result<(), Fail> {
     Ok(())
 }
 
+/// A request that asks for the extension 2.5.29.n with this value.
+fn asking_for(alloc: Global, n: u8, value: &[u8]) -> Result<Vec<u8>, Fail> {
+    let identifier = [0x06, 0x03, 0x55, 0x1d, n];
+    let value = element(alloc, 0x04, b"", value)?;
+    let extension = element(alloc, 0x30, identifier.as_slice(), value.as_slice())?;
+    let extensions = element(alloc, 0x30, b"", extension.as_slice())?;
+    let values = element(alloc, 0x31, b"", extensions.as_slice())?;
+    let requested = b"\x06\x09\x2a\x86\x48\x86\xf7\x0d\x01\x09\x0e";
+    let attribute = element(alloc, 0x30, requested, values.as_slice())?;
+    request(alloc, b"\x0c\x00", attribute.as_slice())
+}
+
+#[test]
+fn values_of_extensions(rt: HostRuntime) -> Result<(), Fail> {
+    let alloc = rt.alloc();
+    let rows: [(u8, &[u8], &str, &str); 6] = [
+        (29, b"\x30\x03\x82\x01a", "certificateIssuer.0.dNSName", "a"),
+        (
+            30,
+            b"\x30\x0e\xa0\x0c\x30\x0a\x82\x01a\x80\x01\x01\x81\x02\x01\x2c",
+            "nameConstraints.permittedSubtrees.0.minimum",
+            "01",
+        ),
+        (
+            30,
+            b"\x30\x0e\xa1\x0c\x30\x0a\x82\x01a\x80\x01\x01\x81\x02\x01\x2c",
+            "nameConstraints.excludedSubtrees.0.maximum",
+            "012c",
+        ),
+        (
+            28,
+            b"\x30\x03\x82\x01\xff",
+            "issuingDistributionPoint.onlyContainsCACerts",
+            "true",
+        ),
+        (
+            28,
+            b"\x30\x03\x85\x01\xff",
+            "issuingDistributionPoint.onlyContainsAttributeCerts",
+            "true",
+        ),
+        (
+            28,
+            b"\x30\x11\xa0\x0c\xa1\x0a\x30\x08\x06\x03\x55\x04\x03\x0c\x01a\x85\x01\xff",
+            "issuingDistributionPoint.distributionPoint.nameRelativeToCRLIssuer.commonName",
+            "a",
+        ),
+    ];
+    for (n, value, place, wanted) in rows {
+        let octets = asking_for(alloc, n, value)?;
+        let place = format!(in alloc; "attributes.0.extensionRequest.0.{place}")?;
+        has_line(alloc, octets.as_slice(), place.as_str(), wanted)?;
+    }
+    Ok(())
+}
+
 #[test]
 fn addresses(rt: HostRuntime) -> Result<(), Fail> {
     let alloc = rt.alloc();
@@ -81,13 +155,7 @@ fn addresses(rt: HostRuntime) -> Result<(), Fail> {
         let octets = hex::decode(alloc, digits)?;
         let address = element(alloc, 0x87, b"", octets.as_slice())?;
         let names = element(alloc, 0x30, b"", address.as_slice())?;
-        let value = element(alloc, 0x04, b"", names.as_slice())?;
-        let extension = element(alloc, 0x30, b"\x06\x03\x55\x1d\x11", value.as_slice())?;
-        let extensions = element(alloc, 0x30, b"", extension.as_slice())?;
-        let values = element(alloc, 0x31, b"", extensions.as_slice())?;
-        let requested = b"\x06\x09\x2a\x86\x48\x86\xf7\x0d\x01\x09\x0e";
-        let attribute = element(alloc, 0x30, requested, values.as_slice())?;
-        let octets = request(alloc, b"\x0c\x00", attribute.as_slice())?;
+        let octets = asking_for(alloc, 0x11, names.as_slice())?;
         let place = "attributes.0.extensionRequest.0.subjectAltName.0.iPAddress";
         has_line(alloc, octets.as_slice(), place, wanted)?;
     }

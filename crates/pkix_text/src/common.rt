@@ -1,15 +1,16 @@
 //! What certificates, revocation lists, requests and keys have in common.
 
 use crate::answers::Fault;
+use crate::errors::in_words;
 use crate::identifiers::name_of;
 use crate::show::{Show, empty, inner, item, line, part, read_again, within};
 use asn1::{BigInt, ObjectIdentifier, SetOf, Tlv, parse_single};
-use pkix::algorithm_parameters::KnownAlgorithm;
+use pkix::algorithm_parameters::{AlgorithmParameters, KnownAlgorithm};
 use pkix::common::{
     AlgorithmIdentifier, Attribute, AttributeTypeAndValue, Attributes, Extensions,
     SubjectPublicKeyInfo,
 };
-use pkix::keys::RsaPublicKey;
+use pkix::keys::{DssParms, RsaPublicKey, RsassaPssParams};
 use std::alloc::{AllocError, Global};
 
 /// The identifier's name where it is a known one, else its dotted form.
@@ -24,16 +25,86 @@ pub(crate) fn short_name(
     }
 }
 
-/// The algorithm, and its parameters: an identifier, as that of a curve, or the octets of another element.
+/// Appends the line of the parameters as an element, if there is one: an identifier, as that of a curve, or the octets.
+fn element(
+    alloc: Global,
+    place: &str,
+    algorithm: &AlgorithmIdentifier<'_>,
+    out: &mut String,
+) -> Result<(), Fault> {
+    let Some(parameters) = algorithm.parameters else {
+        return Ok(());
+    };
+    match parse_single::<ObjectIdentifier>(alloc, parameters.full_data()) {
+        Ok(identifier) => part(alloc, place, "parameters", &identifier, out),
+        Err(_) => part(alloc, place, "parameters", &parameters.full_data(), out),
+    }
+}
+
+/// Appends the lines of an algorithm within the parameters of another, if there is one: with its own as an element, as
+/// they could have algorithms again.
+fn inner_algorithm(
+    alloc: Global,
+    place: &str,
+    name: &str,
+    algorithm: Option<&AlgorithmIdentifier<'_>>,
+    out: &mut String,
+) -> Result<(), Fault> {
+    let Some(algorithm) = algorithm else {
+        return Ok(());
+    };
+    let place = within(alloc, place, name)?;
+    algorithm.algorithm.show(alloc, place.as_str(), out)?;
+    element(alloc, place.as_str(), algorithm, out)
+}
+
+impl Show for DssParms<'_> {
+    fn show(&self, alloc: Global, place: &str, out: &mut String) -> Result<(), Fault> {
+        part(alloc, place, "p", &self.p, out)?;
+        part(alloc, place, "q", &self.q, out)?;
+        part(alloc, place, "g", &self.g, out)
+    }
+}
+
+impl Show for RsassaPssParams<'_> {
+    fn show(&self, alloc: Global, place: &str, out: &mut String) -> Result<(), Fault> {
+        inner_algorithm(
+            alloc,
+            place,
+            "hashAlgorithm",
+            self.hash_algorithm.as_ref(),
+            out,
+        )?;
+        inner_algorithm(
+            alloc,
+            place,
+            "maskGenAlgorithm",
+            self.mask_gen_algorithm.as_ref(),
+            out,
+        )?;
+        part(alloc, place, "saltLength", &self.salt_length, out)?;
+        part(alloc, place, "trailerField", &self.trailer_field, out)
+    }
+}
+
+/// The algorithm, and its parameters: by their fields if they are read as a structure, and else as an element, with the
+/// reason if they aren't those of a known algorithm.
 impl Show for AlgorithmIdentifier<'_> {
     fn show(&self, alloc: Global, place: &str, out: &mut String) -> Result<(), Fault> {
         self.algorithm.show(alloc, place, out)?;
-        let Some(parameters) = self.parameters else {
-            return Ok(());
-        };
-        match parse_single::<ObjectIdentifier>(alloc, parameters.full_data()) {
-            Ok(identifier) => part(alloc, place, "parameters", &identifier, out),
-            Err(_) => part(alloc, place, "parameters", &parameters.full_data(), out),
+        match self.read_parameters(alloc) {
+            Ok(AlgorithmParameters::Dss(parameters)) => {
+                part(alloc, place, "parameters", &parameters, out)
+            }
+            Ok(AlgorithmParameters::RsassaPss(parameters)) => {
+                part(alloc, place, "parameters", &parameters, out)
+            }
+            Ok(_) => element(alloc, place, self, out),
+            Err(error) => {
+                element(alloc, place, self, out)?;
+                let reason = in_words(alloc, &error)?;
+                line(alloc, place, "parameters.rejected", reason.as_str(), out)
+            }
         }
     }
 }

@@ -4,7 +4,9 @@ use crate::answers::Fault;
 use crate::common::short_name;
 use crate::show::{Show, line, optional, part, read_again, rejected, whole_octets, within};
 use pkix::certificate::access::AccessDescription;
-use pkix::certificate::distribution::{DistributionPoint, DistributionPointName};
+use pkix::certificate::distribution::{
+    DistributionPoint, DistributionPointName, IssuingDistributionPoint,
+};
 use pkix::certificate::extensions::{AuthorityKeyIdentifier, BasicConstraints};
 use pkix::common::{Extension, NamedBits};
 use pkix::extension_values::ExtensionValue;
@@ -153,6 +155,44 @@ impl Show for DistributionPoint<'_> {
     }
 }
 
+impl Show for IssuingDistributionPoint<'_> {
+    fn show(&self, alloc: Global, place: &str, out: &mut String) -> Result<(), Fault> {
+        optional(
+            alloc,
+            place,
+            "distributionPoint",
+            self.distribution_point.as_ref(),
+            out,
+        )?;
+        part(
+            alloc,
+            place,
+            "onlyContainsUserCerts",
+            &self.only_contains_user_certs,
+            out,
+        )?;
+        part(
+            alloc,
+            place,
+            "onlyContainsCACerts",
+            &self.only_contains_ca_certs,
+            out,
+        )?;
+        if let Some(reasons) = &self.only_some_reasons {
+            let place = within(alloc, place, "onlySomeReasons")?;
+            bits(alloc, place.as_str(), reasons, &REASONS, out)?;
+        }
+        part(alloc, place, "indirectCRL", &self.indirect_crl, out)?;
+        part(
+            alloc,
+            place,
+            "onlyContainsAttributeCerts",
+            &self.only_contains_attribute_certs,
+            out,
+        )
+    }
+}
+
 /// The lines of the value, whichever type it has: of key usage the bits, and the name of each that is set.
 impl Show for ExtensionValue<'_> {
     fn show(&self, alloc: Global, place: &str, out: &mut String) -> Result<(), Fault> {
@@ -160,13 +200,24 @@ impl Show for ExtensionValue<'_> {
             ExtensionValue::AuthorityInfoAccess(value) => value.show(alloc, place, out),
             ExtensionValue::AuthorityKeyIdentifier(value) => value.show(alloc, place, out),
             ExtensionValue::BasicConstraints(value) => value.show(alloc, place, out),
+            ExtensionValue::CertificateIssuer(value) => value.show(alloc, place, out),
+            ExtensionValue::CertificatePolicies(value) => value.show(alloc, place, out),
             ExtensionValue::CrlDistributionPoints(value) => value.show(alloc, place, out),
             ExtensionValue::CrlNumber(value) => value.show(alloc, place, out),
             ExtensionValue::CrlReason(value) => reason(alloc, place, value, out),
+            ExtensionValue::DeltaCrlIndicator(value) => value.show(alloc, place, out),
             ExtensionValue::ExtendedKeyUsage(value) => value.show(alloc, place, out),
+            ExtensionValue::FreshestCrl(value) => value.show(alloc, place, out),
+            ExtensionValue::InhibitAnyPolicy(value) => value.show(alloc, place, out),
+            ExtensionValue::InvalidityDate(value) => value.show(alloc, place, out),
             ExtensionValue::IssuerAltName(value) => value.show(alloc, place, out),
+            ExtensionValue::IssuingDistributionPoint(value) => value.show(alloc, place, out),
             ExtensionValue::KeyUsage(value) => bits(alloc, place, value, &USAGES, out),
+            ExtensionValue::NameConstraints(value) => value.show(alloc, place, out),
+            ExtensionValue::PolicyConstraints(value) => value.show(alloc, place, out),
+            ExtensionValue::PolicyMappings(value) => value.show(alloc, place, out),
             ExtensionValue::SubjectAltName(value) => value.show(alloc, place, out),
+            ExtensionValue::SubjectInfoAccess(value) => value.show(alloc, place, out),
             ExtensionValue::SubjectKeyIdentifier(value) => value.show(alloc, place, out),
             ExtensionValue::Other(value) => value.show(alloc, place, out),
         }

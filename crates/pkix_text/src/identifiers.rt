@@ -1,7 +1,7 @@
 //! The names of object identifiers that are met often.
 
 /// Each with its name in the document that defines it.
-const NAMES: [(&str, &str); 80] = [
+const NAMES: [(&str, &str); 93] = [
     ("0.9.2342.19200300.100.1.1", "userId"),
     ("0.9.2342.19200300.100.1.25", "domainComponent"),
     ("1.2.840.10040.4.1", "dsa"),
@@ -45,6 +45,9 @@ const NAMES: [(&str, &str); 80] = [
     ("1.3.14.3.2.26", "sha1"),
     ("1.3.6.1.4.1.11129.2.4.2", "signedCertificateTimestampList"),
     ("1.3.6.1.5.5.7.1.1", "authorityInfoAccess"),
+    ("1.3.6.1.5.5.7.1.11", "subjectInfoAccess"),
+    ("1.3.6.1.5.5.7.2.1", "cps"),
+    ("1.3.6.1.5.5.7.2.2", "unotice"),
     ("1.3.6.1.5.5.7.3.1", "serverAuth"),
     ("1.3.6.1.5.5.7.3.2", "clientAuth"),
     ("1.3.6.1.5.5.7.3.3", "codeSigning"),
@@ -53,6 +56,7 @@ const NAMES: [(&str, &str); 80] = [
     ("1.3.6.1.5.5.7.3.9", "OCSPSigning"),
     ("1.3.6.1.5.5.7.48.1", "ocsp"),
     ("1.3.6.1.5.5.7.48.2", "caIssuers"),
+    ("1.3.6.1.5.5.7.48.5", "caRepository"),
     ("2.16.840.1.101.3.4.2.1", "sha256"),
     ("2.16.840.1.101.3.4.2.2", "sha384"),
     ("2.16.840.1.101.3.4.2.3", "sha512"),
@@ -66,11 +70,20 @@ const NAMES: [(&str, &str); 80] = [
     ("2.5.29.19", "basicConstraints"),
     ("2.5.29.20", "cRLNumber"),
     ("2.5.29.21", "cRLReason"),
+    ("2.5.29.24", "invalidityDate"),
+    ("2.5.29.27", "deltaCRLIndicator"),
+    ("2.5.29.28", "issuingDistributionPoint"),
+    ("2.5.29.29", "certificateIssuer"),
     ("2.5.29.30", "nameConstraints"),
     ("2.5.29.31", "cRLDistributionPoints"),
     ("2.5.29.32", "certificatePolicies"),
+    ("2.5.29.32.0", "anyPolicy"),
+    ("2.5.29.33", "policyMappings"),
     ("2.5.29.35", "authorityKeyIdentifier"),
+    ("2.5.29.36", "policyConstraints"),
     ("2.5.29.37", "extKeyUsage"),
+    ("2.5.29.46", "freshestCRL"),
+    ("2.5.29.54", "inhibitAnyPolicy"),
     ("2.5.4.10", "organizationName"),
     ("2.5.4.11", "organizationalUnitName"),
     ("2.5.4.12", "title"),

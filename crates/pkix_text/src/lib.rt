@@ -11,6 +11,7 @@ mod identifiers;
 mod keys;
 mod kinds;
 mod pem;
+mod policies;
 mod program;
 mod requests;
 mod revocation;

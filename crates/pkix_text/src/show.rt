@@ -6,7 +6,7 @@ use crate::identifiers::name_of;
 use asn1::{
     Asn1Readable, BMPString, BigInt, BigUint, BitString, DateTime, GeneralizedTime, IA5String,
     ObjectIdentifier, ParseError, ParseResult, PrintableString, SequenceOf, Tlv, Utf8String,
-    VisibleString, parse_single,
+    VisibleString, X509GeneralizedTime, parse_single,
 };
 use pkix::common::{NamedBits, Time};
 use std::alloc::{AllocError, Global};
@@ -172,6 +172,15 @@ impl Show for u16 {
     }
 }
 
+/// In hex, by whole octets.
+impl Show for u32 {
+    fn show(&self, alloc: Global, place: &str, out: &mut String) -> Result<(), Fault> {
+        let digits = whole_octets(alloc, *self)?;
+        writeln!(out, "{place}: {digits}")?;
+        Ok(())
+    }
+}
+
 /// Octets in hex.
 impl Show for &[u8] {
     fn show(&self, alloc: Global, place: &str, out: &mut String) -> Result<(), Fault> {
@@ -235,6 +244,14 @@ impl Show for Time {
             Time::UtcTime(time) => date(alloc, time.as_datetime())?,
             Time::GeneralTime(time) => date(alloc, time.as_datetime())?,
         };
+        writeln!(out, "{place}: {text}Z")?;
+        Ok(())
+    }
+}
+
+impl Show for X509GeneralizedTime {
+    fn show(&self, alloc: Global, place: &str, out: &mut String) -> Result<(), Fault> {
+        let text = date(alloc, self.as_datetime())?;
         writeln!(out, "{place}: {text}Z")?;
         Ok(())
     }

@@ -1,4 +1,4 @@
-//! Where other data of an issuer is (RFC 5280, 4.2.2.1).
+//! Where other data of an issuer or a subject is (RFC 5280, 4.2.2).
 
 use crate::common::{GeneralName, general_name_is_lawful};
 
@@ -12,5 +12,5 @@ pub struct AccessDescription<'a> {
 }
 
 /// AuthorityInfoAccessSyntax (RFC 5280, 4.2.2.1), a SEQUENCE of at least one AccessDescription; identifier
-/// 1.3.6.1.5.5.7.1.1.
+/// 1.3.6.1.5.5.7.1.1. SubjectInfoAccessSyntax (4.2.2.2), identifier 1.3.6.1.5.5.7.1.11, is this type too.
 pub type AuthorityInfoAccess<'a> = asn1::SequenceOf<'a, AccessDescription<'a>, 1>;

@@ -1,4 +1,4 @@
-//! Where revocation lists are found: the CRL distribution points of a certificate (RFC 5280, 4.2.1.13).
+//! Where revocation lists are found, and what they have (RFC 5280, 4.2.1.13 and 5.2.5).
 
 use crate::common::{
     AttributeTypeAndValue, GeneralNames, NamedBits, attribute_type_and_value_is_lawful,
@@ -32,5 +32,34 @@ pub struct DistributionPoint<'a> {
     pub crl_issuer: Option<GeneralNames<'a>>,
 }
 
-/// CRLDistributionPoints (RFC 5280, 4.2.1.13), a SEQUENCE of at least one DistributionPoint; identifier 2.5.29.31.
+/// CRLDistributionPoints (RFC 5280, 4.2.1.13), a SEQUENCE of at least one DistributionPoint; identifier 2.5.29.31. The
+/// value of freshestCRL (4.2.1.15 and 5.2.6), identifier 2.5.29.46, is of this type too.
 pub type CrlDistributionPoints<'a> = asn1::SequenceOf<'a, DistributionPoint<'a>, 1>;
+
+/// IssuingDistributionPoint (RFC 5280, 5.2.5), a SEQUENCE: where this revocation list is, and what it has; identifier
+/// 2.5.29.28. One without fields is read, and one where several of `onlyContains` are true: the RFC forbids both.
+#[derive(asn1::Asn1Read, asn1::Asn1Write, Debug, Clone, PartialEq, Eq)]
+pub struct IssuingDistributionPoint<'a> {
+    /// Where the list is.
+    #[explicit(0)]
+    pub distribution_point: Option<DistributionPointName<'a>>,
+    /// Whether all its certificates are of users.
+    #[implicit(1)]
+    #[default(false)]
+    pub only_contains_user_certs: bool,
+    /// Whether all its certificates are of authorities.
+    #[implicit(2)]
+    #[default(false)]
+    pub only_contains_ca_certs: bool,
+    /// The reasons that the list has; all of them if there are none here.
+    #[implicit(3)]
+    pub only_some_reasons: Option<NamedBits<'a>>,
+    /// Whether it may have certificates of other issuers.
+    #[implicit(4)]
+    #[default(false)]
+    pub indirect_crl: bool,
+    /// Whether all its certificates are of attributes.
+    #[implicit(5)]
+    #[default(false)]
+    pub only_contains_attribute_certs: bool,
+}

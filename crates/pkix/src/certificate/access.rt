@@ -1,5 +1,5 @@
-//! Where other data of an issuer is (RFC 5280, 4.2.2.1).
-// Printed by scripts/derive from declarations/certificate/access.rs, with the sum bf4ffa42.
+//! Where other data of an issuer or a subject is (RFC 5280, 4.2.2).
+// Printed by scripts/derive from declarations/certificate/access.rs, with the sum e130dbf1.
 
 ghost use Rattle.std.specs.Prelude.{◌≡◌, ◌∷◌, [], codes};
 ghost use Rattle.asn1.specs.Reads.{HasOneEncoding, ReadsContents};
@@ -72,7 +72,7 @@ impl<'a> SimpleAsn1Writable for AccessDescription<'a> {
 }
 
 /// AuthorityInfoAccessSyntax (RFC 5280, 4.2.2.1), a SEQUENCE of at least one AccessDescription; identifier
-/// 1.3.6.1.5.5.7.1.1.
+/// 1.3.6.1.5.5.7.1.1. SubjectInfoAccessSyntax (4.2.2.2), identifier 1.3.6.1.5.5.7.1.11, is this type too.
 pub type AuthorityInfoAccess<'a> = SequenceOf<'a, AccessDescription<'a>, 1, { usize::MAX }>;
 
 /// Each value of `AccessDescription` has one encoding, which is read back.

@@ -1,23 +1,23 @@
-//! Where revocation lists are found: the CRL distribution points of a certificate (RFC 5280, 4.2.1.13).
-// Printed by scripts/derive from declarations/certificate/distribution.rs, with the sum c56fa6b4.
+//! Where revocation lists are found, and what they have (RFC 5280, 4.2.1.13 and 5.2.5).
+// Printed by scripts/derive from declarations/certificate/distribution.rs, with the sum 1e9715b5.
 
-ghost use Rattle.std.specs.Prelude.{◌≡◌, ◌∷◌, [], codes, OnErr};
+ghost use Rattle.std.specs.Prelude.{◌≡◌, ◌∷◌, [], codes, false, OnErr};
 ghost use Rattle.std.proofs.Common.{inl, inr};
 ghost use Rattle.asn1.specs.Choices.{choice_der, only, or};
 ghost use Rattle.asn1.specs.Options.{option_meaning};
 ghost use Rattle.asn1.specs.Reading.{EndsWith};
 ghost use Rattle.asn1.specs.Reads.{HasOneEncoding, ReadsContents, ReadsPrefix};
-ghost use Rattle.asn1.specs.Structures.{explicit, implicit, structure, fields3};
+ghost use Rattle.asn1.specs.Structures.{defaulted, explicit, implicit, structure, fields3, fields6};
 
 use crate::common::{
     AttributeTypeAndValue, GeneralNames, NamedBits, attribute_type_and_value_is_lawful,
     general_names_is_lawful, named_bits_is_lawful,
 };
-use asn1::fields::{Fields3, Row, plain_length, write_plain};
+use asn1::fields::{Fields3, Fields6, Row, plain_length, write_plain};
 use asn1::{
-    Asn1Readable, Asn1Type, Asn1Writable, Choice2, Explicit, Implicit, ParseResult, Parser,
-    SequenceOf, SetOf, SimpleAsn1Readable, SimpleAsn1Writable, Tag, WriteBuf, WriteError,
-    WriteResult, Writer, fields_length, known_fields, read_fields, write_fields,
+    Asn1Readable, Asn1Type, Asn1Writable, Choice2, DefaultValue, Defaulted, Explicit, Implicit,
+    ParseResult, Parser, SequenceOf, SetOf, SimpleAsn1Readable, SimpleAsn1Writable, Tag, WriteBuf,
+    WriteError, WriteResult, Writer, fields_length, known_fields, read_fields, write_fields,
 };
 use std::alloc::Global;
 
@@ -191,8 +191,189 @@ impl<'a> SimpleAsn1Writable for DistributionPoint<'a> {
     }
 }
 
-/// CRLDistributionPoints (RFC 5280, 4.2.1.13), a SEQUENCE of at least one DistributionPoint; identifier 2.5.29.31.
+/// CRLDistributionPoints (RFC 5280, 4.2.1.13), a SEQUENCE of at least one DistributionPoint; identifier 2.5.29.31. The
+/// value of freshestCRL (4.2.1.15 and 5.2.6), identifier 2.5.29.46, is of this type too.
 pub type CrlDistributionPoints<'a> = SequenceOf<'a, DistributionPoint<'a>, 1, { usize::MAX }>;
+
+/// IssuingDistributionPoint (RFC 5280, 5.2.5), a SEQUENCE: where this revocation list is, and what it has; identifier
+/// 2.5.29.28. One without fields is read, and one where several of `onlyContains` are true: the RFC forbids both.
+#[derive(Debug, Clone, PartialEq, Eq, Drop)]
+pub struct IssuingDistributionPoint<'a> {
+    /// Where the list is.
+    pub distribution_point: Option<DistributionPointName<'a>>,
+    /// Whether all its certificates are of users.
+    pub only_contains_user_certs: bool,
+    /// Whether all its certificates are of authorities.
+    pub only_contains_ca_certs: bool,
+    /// The reasons that the list has; all of them if there are none here.
+    pub only_some_reasons: Option<NamedBits<'a>>,
+    /// Whether it may have certificates of other issuers.
+    pub indirect_crl: bool,
+    /// Whether all its certificates are of attributes.
+    pub only_contains_attribute_certs: bool,
+}
+
+/// What `only_contains_user_certs` is where it is left out.
+#[derive(Debug, PartialEq, Eq, Drop)]
+pub struct IssuingDistributionPointOnlyContainsUserCerts;
+
+impl DefaultValue<Implicit<bool, 1>> for IssuingDistributionPointOnlyContainsUserCerts {
+    ghost default = { record { inner = false } };
+
+    fn value() -> Implicit<bool, 1> {
+        Implicit::new(false)
+    }
+}
+
+/// What `only_contains_ca_certs` is where it is left out.
+#[derive(Debug, PartialEq, Eq, Drop)]
+pub struct IssuingDistributionPointOnlyContainsCaCerts;
+
+impl DefaultValue<Implicit<bool, 2>> for IssuingDistributionPointOnlyContainsCaCerts {
+    ghost default = { record { inner = false } };
+
+    fn value() -> Implicit<bool, 2> {
+        Implicit::new(false)
+    }
+}
+
+/// What `indirect_crl` is where it is left out.
+#[derive(Debug, PartialEq, Eq, Drop)]
+pub struct IssuingDistributionPointIndirectCrl;
+
+impl DefaultValue<Implicit<bool, 4>> for IssuingDistributionPointIndirectCrl {
+    ghost default = { record { inner = false } };
+
+    fn value() -> Implicit<bool, 4> {
+        Implicit::new(false)
+    }
+}
+
+/// What `only_contains_attribute_certs` is where it is left out.
+#[derive(Debug, PartialEq, Eq, Drop)]
+pub struct IssuingDistributionPointOnlyContainsAttributeCerts;
+
+impl DefaultValue<Implicit<bool, 5>> for IssuingDistributionPointOnlyContainsAttributeCerts {
+    ghost default = { record { inner = false } };
+
+    fn value() -> Implicit<bool, 5> {
+        Implicit::new(false)
+    }
+}
+
+type IssuingDistributionPointDistributionPointField<'a> = Option<
+    Explicit<DistributionPointName<'a>, 0>,
+>;
+
+type IssuingDistributionPointOnlyContainsUserCertsField = Defaulted<
+    Implicit<bool, 1>,
+    IssuingDistributionPointOnlyContainsUserCerts,
+>;
+
+type IssuingDistributionPointOnlyContainsCaCertsField = Defaulted<
+    Implicit<bool, 2>,
+    IssuingDistributionPointOnlyContainsCaCerts,
+>;
+
+type IssuingDistributionPointOnlySomeReasonsField<'a> = Option<Implicit<NamedBits<'a>, 3>>;
+
+type IssuingDistributionPointIndirectCrlField = Defaulted<
+    Implicit<bool, 4>,
+    IssuingDistributionPointIndirectCrl,
+>;
+
+type IssuingDistributionPointOnlyContainsAttributeCertsField = Defaulted<
+    Implicit<bool, 5>,
+    IssuingDistributionPointOnlyContainsAttributeCerts,
+>;
+
+type IssuingDistributionPointFields<'a> = Fields6<
+    IssuingDistributionPointDistributionPointField<'a>,
+    IssuingDistributionPointOnlyContainsUserCertsField,
+    IssuingDistributionPointOnlyContainsCaCertsField,
+    IssuingDistributionPointOnlySomeReasonsField<'a>,
+    IssuingDistributionPointIndirectCrlField,
+    IssuingDistributionPointOnlyContainsAttributeCertsField,
+>;
+
+impl<'a> Asn1Type for IssuingDistributionPoint<'a> {
+    ghost der = { structure (λ v. fields6 (option_meaning explicit v.distribution_point) (defaulted
+        (implicit v.only_contains_user_certs)) (defaulted (implicit v.only_contains_ca_certs))
+        (option_meaning implicit v.only_some_reasons) (defaulted (implicit v.indirect_crl))
+        (defaulted (implicit v.only_contains_attribute_certs)))
+        ⟦<IssuingDistributionPointFields<'a> as Row>⟧.list
+        (codes "IssuingDistributionPoint::distribution_point" ∷
+        codes "IssuingDistributionPoint::only_contains_user_certs" ∷
+        codes "IssuingDistributionPoint::only_contains_ca_certs" ∷
+        codes "IssuingDistributionPoint::only_some_reasons" ∷
+        codes "IssuingDistributionPoint::indirect_crl" ∷
+        codes "IssuingDistributionPoint::only_contains_attribute_certs" ∷ []) };
+
+    fn known(&self) {
+        known_fields!(self;
+            distribution_point: IssuingDistributionPointDistributionPointField<'a>,
+            only_contains_user_certs: IssuingDistributionPointOnlyContainsUserCertsField,
+            only_contains_ca_certs: IssuingDistributionPointOnlyContainsCaCertsField,
+            only_some_reasons: IssuingDistributionPointOnlySomeReasonsField<'a>,
+            indirect_crl: IssuingDistributionPointIndirectCrlField,
+            only_contains_attribute_certs: IssuingDistributionPointOnlyContainsAttributeCertsField)
+    }
+}
+
+impl<'a> SimpleAsn1Readable<'a> for IssuingDistributionPoint<'a> {
+    fn tag() -> Tag
+        ensures value { result ≡ ⟦<IssuingDistributionPoint<'a> as Asn1Type>⟧.der.content.tag }
+        ensures simple { ⟦<IssuingDistributionPoint<'a> as Asn1Type>⟧.der.is_simple }
+        ensures plain { ⟦<IssuingDistributionPoint<'a> as Asn1Type>⟧.der.plain }
+    {
+        Tag::constructed(0x10)
+    }
+
+    fn parse_data(alloc: Global, data: &'a [u8]) -> ParseResult<IssuingDistributionPoint<'a>>
+        ensures { ReadsContents ⟦<IssuingDistributionPoint<'a> as Asn1Type>⟧.der «data».entry.now
+            result }
+    {
+        read_fields!(IssuingDistributionPointFields<'a>, alloc, data => IssuingDistributionPoint {
+            distribution_point: IssuingDistributionPointDistributionPointField<'a>,
+            only_contains_user_certs: IssuingDistributionPointOnlyContainsUserCertsField,
+            only_contains_ca_certs: IssuingDistributionPointOnlyContainsCaCertsField,
+            only_some_reasons: IssuingDistributionPointOnlySomeReasonsField<'a>,
+            indirect_crl: IssuingDistributionPointIndirectCrlField,
+            only_contains_attribute_certs: IssuingDistributionPointOnlyContainsAttributeCertsField
+        })
+    }
+}
+
+impl<'a> SimpleAsn1Writable for IssuingDistributionPoint<'a> {
+    type Error = WriteError;
+
+    fn tag() -> Tag
+        ensures value { result ≡ ⟦<IssuingDistributionPoint<'a> as Asn1Type>⟧.der.content.tag }
+        ensures simple { ⟦<IssuingDistributionPoint<'a> as Asn1Type>⟧.der.is_simple }
+    {
+        Tag::constructed(0x10)
+    }
+
+    fn write_data(&self, dest: &mut WriteBuf) -> WriteResult<()> {
+        write_fields!(self, dest;
+            distribution_point: IssuingDistributionPointDistributionPointField<'a>,
+            only_contains_user_certs: IssuingDistributionPointOnlyContainsUserCertsField,
+            only_contains_ca_certs: IssuingDistributionPointOnlyContainsCaCertsField,
+            only_some_reasons: IssuingDistributionPointOnlySomeReasonsField<'a>,
+            indirect_crl: IssuingDistributionPointIndirectCrlField,
+            only_contains_attribute_certs: IssuingDistributionPointOnlyContainsAttributeCertsField)
+    }
+
+    fn data_length(&self) -> Option<usize> {
+        fields_length!(self;
+            distribution_point: IssuingDistributionPointDistributionPointField<'a>,
+            only_contains_user_certs: IssuingDistributionPointOnlyContainsUserCertsField,
+            only_contains_ca_certs: IssuingDistributionPointOnlyContainsCaCertsField,
+            only_some_reasons: IssuingDistributionPointOnlySomeReasonsField<'a>,
+            indirect_crl: IssuingDistributionPointIndirectCrlField,
+            only_contains_attribute_certs: IssuingDistributionPointOnlyContainsAttributeCertsField)
+    }
+}
 
 /// Each value of `DistributionPointName` has one encoding, which is read back.
 #[tactic(auto, using(asn1::specs::Lemmas::Fields::tags_differ))]
@@ -218,4 +399,13 @@ pub fn crl_distribution_points_is_lawful()
     ensures { HasOneEncoding ⟦<CrlDistributionPoints<'static> as Asn1Type>⟧.der }
 {
     distribution_point_is_lawful();
+}
+
+/// Each value of `IssuingDistributionPoint` has one encoding, which is read back.
+#[tactic(auto, using(asn1::specs::Lemmas::Fields::tags_differ))]
+pub fn issuing_distribution_point_is_lawful()
+    ensures { HasOneEncoding ⟦<IssuingDistributionPoint<'static> as Asn1Type>⟧.der }
+{
+    distribution_point_name_is_lawful();
+    named_bits_is_lawful();
 }

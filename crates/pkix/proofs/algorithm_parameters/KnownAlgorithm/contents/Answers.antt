@@ -27,6 +27,14 @@ pub returns-in-Sha512WithRsaEncryption-clause-octets : goal.returns-in-Sha512Wit
 unfolding read_identifier numbers_in number_front
 returns-in-Sha512WithRsaEncryption-clause-octets c = rw c.in-Sha512WithRsaEncryption.is refl
 
+pub returns-in-RsassaPss-clause-octets : goal.returns-in-RsassaPss-clause-octets
+unfolding read_identifier numbers_in number_front
+returns-in-RsassaPss-clause-octets c = rw c.in-RsassaPss.is refl
+
+pub returns-in-Dsa-clause-octets : goal.returns-in-Dsa-clause-octets
+unfolding read_identifier numbers_in number_front
+returns-in-Dsa-clause-octets c = rw c.in-Dsa.is refl
+
 pub returns-in-DsaWithSha1-clause-octets : goal.returns-in-DsaWithSha1-clause-octets
 unfolding read_identifier numbers_in number_front
 returns-in-DsaWithSha1-clause-octets c = rw c.in-DsaWithSha1.is refl

@@ -15,6 +15,14 @@ pub returns-in-BasicConstraints-clause-octets : goal.returns-in-BasicConstraints
 unfolding read_identifier numbers_in number_front
 returns-in-BasicConstraints-clause-octets c = rw c.in-BasicConstraints.is refl
 
+pub returns-in-CertificateIssuer-clause-octets : goal.returns-in-CertificateIssuer-clause-octets
+unfolding read_identifier numbers_in number_front
+returns-in-CertificateIssuer-clause-octets c = rw c.in-CertificateIssuer.is refl
+
+pub returns-in-CertificatePolicies-clause-octets : goal.returns-in-CertificatePolicies-clause-octets
+unfolding read_identifier numbers_in number_front
+returns-in-CertificatePolicies-clause-octets c = rw c.in-CertificatePolicies.is refl
+
 pub returns-in-CrlDistributionPoints-clause-octets : goal.returns-in-CrlDistributionPoints-clause-octets
 unfolding read_identifier numbers_in number_front
 returns-in-CrlDistributionPoints-clause-octets c = rw c.in-CrlDistributionPoints.is refl
@@ -27,21 +35,57 @@ pub returns-in-CrlReason-clause-octets : goal.returns-in-CrlReason-clause-octets
 unfolding read_identifier numbers_in number_front
 returns-in-CrlReason-clause-octets c = rw c.in-CrlReason.is refl
 
+pub returns-in-DeltaCrlIndicator-clause-octets : goal.returns-in-DeltaCrlIndicator-clause-octets
+unfolding read_identifier numbers_in number_front
+returns-in-DeltaCrlIndicator-clause-octets c = rw c.in-DeltaCrlIndicator.is refl
+
 pub returns-in-ExtendedKeyUsage-clause-octets : goal.returns-in-ExtendedKeyUsage-clause-octets
 unfolding read_identifier numbers_in number_front
 returns-in-ExtendedKeyUsage-clause-octets c = rw c.in-ExtendedKeyUsage.is refl
+
+pub returns-in-FreshestCrl-clause-octets : goal.returns-in-FreshestCrl-clause-octets
+unfolding read_identifier numbers_in number_front
+returns-in-FreshestCrl-clause-octets c = rw c.in-FreshestCrl.is refl
+
+pub returns-in-InhibitAnyPolicy-clause-octets : goal.returns-in-InhibitAnyPolicy-clause-octets
+unfolding read_identifier numbers_in number_front
+returns-in-InhibitAnyPolicy-clause-octets c = rw c.in-InhibitAnyPolicy.is refl
+
+pub returns-in-InvalidityDate-clause-octets : goal.returns-in-InvalidityDate-clause-octets
+unfolding read_identifier numbers_in number_front
+returns-in-InvalidityDate-clause-octets c = rw c.in-InvalidityDate.is refl
 
 pub returns-in-IssuerAltName-clause-octets : goal.returns-in-IssuerAltName-clause-octets
 unfolding read_identifier numbers_in number_front
 returns-in-IssuerAltName-clause-octets c = rw c.in-IssuerAltName.is refl
 
+pub returns-in-IssuingDistributionPoint-clause-octets : goal.returns-in-IssuingDistributionPoint-clause-octets
+unfolding read_identifier numbers_in number_front
+returns-in-IssuingDistributionPoint-clause-octets c = rw c.in-IssuingDistributionPoint.is refl
+
 pub returns-in-KeyUsage-clause-octets : goal.returns-in-KeyUsage-clause-octets
 unfolding read_identifier numbers_in number_front
 returns-in-KeyUsage-clause-octets c = rw c.in-KeyUsage.is refl
 
+pub returns-in-NameConstraints-clause-octets : goal.returns-in-NameConstraints-clause-octets
+unfolding read_identifier numbers_in number_front
+returns-in-NameConstraints-clause-octets c = rw c.in-NameConstraints.is refl
+
+pub returns-in-PolicyConstraints-clause-octets : goal.returns-in-PolicyConstraints-clause-octets
+unfolding read_identifier numbers_in number_front
+returns-in-PolicyConstraints-clause-octets c = rw c.in-PolicyConstraints.is refl
+
+pub returns-in-PolicyMappings-clause-octets : goal.returns-in-PolicyMappings-clause-octets
+unfolding read_identifier numbers_in number_front
+returns-in-PolicyMappings-clause-octets c = rw c.in-PolicyMappings.is refl
+
 pub returns-in-SubjectAltName-clause-octets : goal.returns-in-SubjectAltName-clause-octets
 unfolding read_identifier numbers_in number_front
 returns-in-SubjectAltName-clause-octets c = rw c.in-SubjectAltName.is refl
+
+pub returns-in-SubjectInfoAccess-clause-octets : goal.returns-in-SubjectInfoAccess-clause-octets
+unfolding read_identifier numbers_in number_front
+returns-in-SubjectInfoAccess-clause-octets c = rw c.in-SubjectInfoAccess.is refl
 
 pub returns-in-SubjectKeyIdentifier-clause-octets : goal.returns-in-SubjectKeyIdentifier-clause-octets
 unfolding read_identifier numbers_in number_front

@@ -1,0 +1,84 @@
+//! The policies of a certificate, and what it demands of those that follow it in a path (RFC 5280, 4.2.1.4, 4.2.1.5,
+//! 4.2.1.10, 4.2.1.11 and 4.2.1.14).
+
+use crate::common::{GeneralName, general_name_is_lawful};
+
+/// PolicyQualifierInfo (RFC 5280, 4.2.1.4), a SEQUENCE: what else is told of a policy.
+#[derive(asn1::Asn1Read, asn1::Asn1Write, Debug, Clone, PartialEq, Eq)]
+pub struct PolicyQualifierInfo<'a> {
+    /// What it is: the RFC has id-qt-cps and id-qt-unotice. Any identifier is read.
+    pub policy_qualifier_id: asn1::ObjectIdentifier,
+    /// The qualifier: an element of the type that `policy_qualifier_id` defines, which isn't looked at.
+    pub qualifier: asn1::Tlv<'a>,
+}
+
+/// PolicyInformation (RFC 5280, 4.2.1.4), a SEQUENCE: a policy.
+#[derive(asn1::Asn1Read, asn1::Asn1Write, Debug, Clone, PartialEq, Eq)]
+pub struct PolicyInformation<'a> {
+    /// Which policy it is.
+    pub policy_identifier: asn1::ObjectIdentifier,
+    /// What else is told of it, a SEQUENCE of at least one PolicyQualifierInfo.
+    pub policy_qualifiers: Option<asn1::SequenceOf<'a, PolicyQualifierInfo<'a>, 1>>,
+}
+
+/// CertificatePolicies (RFC 5280, 4.2.1.4), a SEQUENCE of at least one PolicyInformation; identifier 2.5.29.32. That
+/// each policy stands once isn't looked at.
+pub type CertificatePolicies<'a> = asn1::SequenceOf<'a, PolicyInformation<'a>, 1>;
+
+/// An item of PolicyMappings (RFC 5280, 4.2.1.5), a SEQUENCE: two policies that are equal for the issuer. That neither
+/// is anyPolicy isn't looked at.
+#[derive(asn1::Asn1Read, asn1::Asn1Write, Debug, Clone, PartialEq, Eq)]
+pub struct PolicyMapping {
+    /// The issuer's policy.
+    pub issuer_domain_policy: asn1::ObjectIdentifier,
+    /// The subject's policy.
+    pub subject_domain_policy: asn1::ObjectIdentifier,
+}
+
+/// PolicyMappings (RFC 5280, 4.2.1.5), a SEQUENCE of at least one item; identifier 2.5.29.33.
+pub type PolicyMappings<'a> = asn1::SequenceOf<'a, PolicyMapping, 1>;
+
+/// GeneralSubtree (RFC 5280, 4.2.1.10), a SEQUENCE: the names below one.
+#[derive(asn1::Asn1Read, asn1::Asn1Write, Debug, Clone, PartialEq, Eq)]
+pub struct GeneralSubtree<'a> {
+    /// The name.
+    pub base: GeneralName<'a>,
+    /// How far below it they begin: the RFC allows 0 alone. A number of 2^32 or more is rejected.
+    #[implicit(0)]
+    #[default(0)]
+    pub minimum: u32,
+    /// How far below it they end. The RFC allows none here, which isn't looked at.
+    #[implicit(1)]
+    pub maximum: Option<asn1::BigUint<'a>>,
+}
+
+/// GeneralSubtrees (RFC 5280, 4.2.1.10), a SEQUENCE of at least one GeneralSubtree.
+pub type GeneralSubtrees<'a> = asn1::SequenceOf<'a, GeneralSubtree<'a>, 1>;
+
+/// NameConstraints (RFC 5280, 4.2.1.10), a SEQUENCE: the names that the subjects of later certificates may have;
+/// identifier 2.5.29.30. One without fields is read, which the RFC forbids.
+#[derive(asn1::Asn1Read, asn1::Asn1Write, Debug, Clone, PartialEq, Eq)]
+pub struct NameConstraints<'a> {
+    /// The names that they may have.
+    #[implicit(0)]
+    pub permitted_subtrees: Option<GeneralSubtrees<'a>>,
+    /// The names that they may not have.
+    #[implicit(1)]
+    pub excluded_subtrees: Option<GeneralSubtrees<'a>>,
+}
+
+/// PolicyConstraints (RFC 5280, 4.2.1.11), a SEQUENCE; identifier 2.5.29.36. One without fields is read, which the RFC
+/// forbids. Its numbers are SkipCerts, of certificates that may come before.
+#[derive(asn1::Asn1Read, asn1::Asn1Write, Debug, Clone, PartialEq, Eq)]
+pub struct PolicyConstraints<'a> {
+    /// After how many certificates each has to have a policy that is accepted.
+    #[implicit(0)]
+    pub require_explicit_policy: Option<asn1::BigUint<'a>>,
+    /// After how many certificates policies may not be mapped.
+    #[implicit(1)]
+    pub inhibit_policy_mapping: Option<asn1::BigUint<'a>>,
+}
+
+/// InhibitAnyPolicy (RFC 5280, 4.2.1.14), an INTEGER from 0: after how many certificates anyPolicy stands for no
+/// others; identifier 2.5.29.54.
+pub type InhibitAnyPolicy<'a> = asn1::BigUint<'a>;
