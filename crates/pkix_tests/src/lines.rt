@@ -159,12 +159,16 @@ fn values_of_extensions_that_are_not_der(rt: HostRuntime) -> Result<(), Fail> {
     )
 }
 
-/// Other values inside, whose first INTEGER or identifier has the tag of a BOOLEAN: they are shown as octets, with the
-/// reason.
+/// Other values inside, which have the tag of a BOOLEAN in place of an INTEGER or an identifier: they are shown as octets,
+/// with the reason.
 #[test]
 fn values_inside_that_are_not_der(rt: HostRuntime) -> Result<(), Fail> {
     let alloc = rt.alloc();
     let rows = [
+        (
+            (Kind::Certificate, objects::FULL, 198),
+            "subjectPublicKeyInfo.algorithm.parameters.rejected: BOOLEAN isn't expected",
+        ),
         (
             (Kind::Key, objects::EC_PKCS8, 31),
             "privateKey.rejected: version: BOOLEAN isn't expected",
