@@ -90,12 +90,13 @@ fn push_location(alloc: Global, out: &mut String, error: &ParseError) -> Result<
     let Some((_, locations)) = shown.as_str().split_once(", location: [") else {
         return Ok(());
     };
-    let mut mark = "";
-    for location in locations.trim_end_matches("] }").split(", ") {
-        out.push_str(mark)?;
+    let locations = locations.trim_end_matches("] }").split(", ");
+    for (number, location) in locations.enumerate() {
+        if number > 0 {
+            out.push('.')?;
+        }
         let name = location.trim_matches('"');
         push_field(out, name.rsplit_once("::").map_or(name, |parts| parts.1))?;
-        mark = ".";
     }
     out.push_str(": ")
 }
