@@ -243,25 +243,16 @@ pub fn answer_to<'a>(alloc: Global, kind: Kind, octets: &'a [u8]) -> Result<Answ
     }
 }
 
-/// The octet of an error, counted from 0: behind the octets at the front with which any others, here 0xff, are rejected
-/// with this error too. So it is where the contents octets begin that are no value, or those under another tag. `None`
-/// if octets are missing, or follow a value within.
-fn octet_of(
-    alloc: Global,
-    kind: Kind,
-    octets: &[u8],
-    error: &ParseError,
-) -> Result<Option<usize>, Fault> {
-    match error.kind() {
-        ParseErrorKind::ShortData { .. } => return Ok(None),
-        ParseErrorKind::ExtraData => {
-            let whole = strip_tlv(octets)
-                .ok()
-                .map(|(whole, _)| whole.full_data().len());
-            return Ok(whole.filter(|_| *error == ParseError::new(ParseErrorKind::ExtraData)));
-        }
-        _ => {}
+/// Whether an object is rejected with this error of DER.
+fn is_rejected_with(answer: &Answer, error: &ParseError) -> bool {
+    match answer {
+        Answer::Rejected(Refusal::Der(other)) => other == error,
+        _ => false,
     }
+}
+
+/// How many octets at the front decide this error: any others behind them, here 0xff, are rejected with it too.
+fn octets_of(alloc: Global, kind: Kind, octets: &[u8], error: &ParseError) -> Result<usize, Fault> {
     let (mut low, mut high) = (0usize, octets.len());
     // Each turn halves what is between.
     for _ in 0..usize::BITS {
@@ -269,28 +260,60 @@ fn octet_of(
         let mut changed = Vec::new(alloc);
         changed.extend_from_slice(octets.get(..middle).unwrap_or(octets))?;
         changed.resize(octets.len(), 0xff)?;
-        match answer_to(alloc, kind, changed.as_slice())? {
-            Answer::Rejected(Refusal::Der(other)) if other == *error => high = middle,
-            _ => low = middle.saturating_add(1),
+        let answer = answer_to(alloc, kind, changed.as_slice())?;
+        if is_rejected_with(&answer, error) {
+            high = middle;
+        } else {
+            low = middle.saturating_add(1);
         }
         if low >= high {
             break;
         }
     }
-    Ok(Some(high))
+    Ok(high)
+}
+
+/// The octet of an error, counted from 0: where the contents octets begin that are no value, or those under another tag;
+/// or the first octet after the whole value. `None` if octets are missing, or follow a value within.
+fn octet_of(
+    alloc: Global,
+    kind: Kind,
+    octets: &[u8],
+    error: &ParseError,
+) -> Result<Option<usize>, Fault> {
+    match error.kind() {
+        ParseErrorKind::ShortData { .. } => Ok(None),
+        ParseErrorKind::ExtraData => match strip_tlv(octets) {
+            Ok((whole, _rest)) if *error == ParseError::new(ParseErrorKind::ExtraData) => {
+                Ok(Some(whole.full_data().len()))
+            }
+            _ => Ok(None),
+        },
+        _ => Ok(Some(octets_of(alloc, kind, octets, error)?)),
+    }
+}
+
+/// An error of DER in words, with its octet.
+fn words_of(alloc: Global, kind: Kind, octets: &[u8], error: &ParseError) -> Result<String, Fault> {
+    let mut words = in_words(alloc, error)?;
+    if let Some(octet) = octet_of(alloc, kind, octets, error)? {
+        write!(words, " (octet {octet})")?;
+    }
+    Ok(words)
 }
 
 /// What an object in DER is answered with if this kind is asked for, an error in words.
 fn told(alloc: Global, kind: Kind, octets: &[u8]) -> Result<Answer, Fault> {
-    let error = match answer_to(alloc, kind, octets)? {
-        Answer::Rejected(Refusal::Der(error)) => error,
-        answer => return Ok(answer),
-    };
-    let mut words = in_words(alloc, &error)?;
-    if let Some(octet) = octet_of(alloc, kind, octets, &error)? {
-        write!(words, " (octet {octet})")?;
+    match answer_to(alloc, kind, octets)? {
+        Answer::Shown(lines) => Ok(Answer::Shown(lines)),
+        Answer::Rejected(refusal) => match refusal {
+            Refusal::Der(error) => {
+                let words = words_of(alloc, kind, octets, &error)?;
+                Ok(Answer::Rejected(Refusal::Told(words)))
+            }
+            other => Ok(Answer::Rejected(other)),
+        },
     }
-    Ok(Answer::Rejected(Refusal::Told(words)))
 }
 
 /// What an object in DER is answered with if no kind is named: the lines of the only kind that reads it.
