@@ -273,8 +273,8 @@ fn octets_of(alloc: Global, kind: Kind, octets: &[u8], error: &ParseError) -> Re
     Ok(high)
 }
 
-/// The octet of an error, counted from 0: where the contents octets begin that are no value, or are under another tag; or
-/// the first octet after the whole value. `None` if octets are missing, or follow a value within.
+/// The octet of an error, counted from 0: where the contents octets begin that are no value, or are under another tag;
+/// or the first octet after the whole value. `None` if octets are missing, or follow a value within.
 fn octet_of(
     alloc: Global,
     kind: Kind,
