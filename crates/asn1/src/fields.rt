@@ -1,5 +1,6 @@
 //! Fields of structures. A structure of one's own is a struct with public fields. It is read as a row of fields, which
-//! the macro `read_fields` moves to the struct, and written field by field, by `write_fields` and `fields_length`.
+//! the macro `read_fields` moves to the struct, and written as a row of references to them, by `write_fields` and
+//! `fields_length`.
 
 ghost use Rattle.std.specs.Prelude.{◌≡◌, List, ℕ};
 ghost use Rattle.asn1_core.specs.Reading.{Answers, rest_refused};
@@ -23,12 +24,7 @@ pub use defined::{
 pub use plain::{
     Wrapped, Wraps, WrapsWritable, into_plain, known_plain, plain_length, write_plain,
 };
-pub use writes::{
-    length_1, length_2, length_3, length_4, length_5, length_6, length_7, length_8, length_9,
-    length_10, length_11, length_12, length_13, length_14, length_15, length_16, write_1, write_2,
-    write_3, write_4, write_5, write_6, write_7, write_8, write_9, write_10, write_11, write_12,
-    write_13, write_14, write_15, write_16,
-};
+pub use writes::{Four, RowWritable};
 
 /// Names of fields, in order.
 #[derive(Clone, Copy)]

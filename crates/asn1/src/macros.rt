@@ -82,7 +82,10 @@ macro_rules! write_fields {
         Ok(())
     }};
     ($of:expr, $dest:expr; $($name:ident $(of $value:ident)? $(by $item:ty)? $(: $type:ty)?),+ $(,)?) => {
-        $crate::write_values!($dest; $($crate::field_value!($of, $name $(of $value)? $(by $item)? $(: $type)?)),+)
+        $crate::fields::RowWritable::write(
+            &$crate::row!($($crate::field_value!($of, $name $(of $value)? $(by $item)? $(: $type)?)),+),
+            $dest,
+        )
     };
 }
 
@@ -92,7 +95,9 @@ macro_rules! write_fields {
 macro_rules! fields_length {
     ($of:expr;) => { Some(0) };
     ($of:expr; $($name:ident $(of $value:ident)? $(by $item:ty)? $(: $type:ty)?),+ $(,)?) => {
-        $crate::values_length!($($crate::field_value!($of, $name $(of $value)? $(by $item)? $(: $type)?)),+)
+        $crate::fields::RowWritable::length(
+            &$crate::row!($($crate::field_value!($of, $name $(of $value)? $(by $item)? $(: $type)?)),+),
+        )
     };
 }
 
@@ -111,108 +116,15 @@ macro_rules! field_value {
     ($of:expr, $name:ident) => { &$of.$name };
 }
 
-/// Appends the encodings of these values: at most sixteen.
+/// The values as a row, which is written: four at a time, since the prover follows no row that is nested more than nine
+/// deep.
 #[macro_export]
-macro_rules! write_values {
-    ($dest:expr; $a:expr) => {
-        $crate::fields::write_1($a, $dest)
+macro_rules! row {
+    ($a:expr, $b:expr, $c:expr, $d:expr, $($rest:expr),+) => {
+        $crate::fields::Four { a: $a, b: $b, c: $c, d: $d, rest: $crate::row!($($rest),+) }
     };
-    ($dest:expr; $a:expr, $b:expr) => {
-        $crate::fields::write_2($a, $b, $dest)
+    ($value:expr, $($rest:expr),+) => {
+        $crate::fields::Field { value: $value, rest: $crate::row!($($rest),+) }
     };
-    ($dest:expr; $a:expr, $b:expr, $c:expr) => {
-        $crate::fields::write_3($a, $b, $c, $dest)
-    };
-    ($dest:expr; $a:expr, $b:expr, $c:expr, $d:expr) => {
-        $crate::fields::write_4($a, $b, $c, $d, $dest)
-    };
-    ($dest:expr; $a:expr, $b:expr, $c:expr, $d:expr, $e:expr) => {
-        $crate::fields::write_5($a, $b, $c, $d, $e, $dest)
-    };
-    ($dest:expr; $a:expr, $b:expr, $c:expr, $d:expr, $e:expr, $f:expr) => {
-        $crate::fields::write_6($a, $b, $c, $d, $e, $f, $dest)
-    };
-    ($dest:expr; $a:expr, $b:expr, $c:expr, $d:expr, $e:expr, $f:expr, $g:expr) => {
-        $crate::fields::write_7($a, $b, $c, $d, $e, $f, $g, $dest)
-    };
-    ($dest:expr; $a:expr, $b:expr, $c:expr, $d:expr, $e:expr, $f:expr, $g:expr, $h:expr) => {
-        $crate::fields::write_8($a, $b, $c, $d, $e, $f, $g, $h, $dest)
-    };
-    ($dest:expr; $a:expr, $b:expr, $c:expr, $d:expr, $e:expr, $f:expr, $g:expr, $h:expr, $i:expr) => {
-        $crate::fields::write_9($a, $b, $c, $d, $e, $f, $g, $h, $i, $dest)
-    };
-    ($dest:expr; $a:expr, $b:expr, $c:expr, $d:expr, $e:expr, $f:expr, $g:expr, $h:expr, $i:expr, $j:expr) => {
-        $crate::fields::write_10($a, $b, $c, $d, $e, $f, $g, $h, $i, $j, $dest)
-    };
-    ($dest:expr; $a:expr, $b:expr, $c:expr, $d:expr, $e:expr, $f:expr, $g:expr, $h:expr, $i:expr, $j:expr, $k:expr) => {
-        $crate::fields::write_11($a, $b, $c, $d, $e, $f, $g, $h, $i, $j, $k, $dest)
-    };
-    ($dest:expr; $a:expr, $b:expr, $c:expr, $d:expr, $e:expr, $f:expr, $g:expr, $h:expr, $i:expr, $j:expr, $k:expr, $l:expr) => {
-        $crate::fields::write_12($a, $b, $c, $d, $e, $f, $g, $h, $i, $j, $k, $l, $dest)
-    };
-    ($dest:expr; $a:expr, $b:expr, $c:expr, $d:expr, $e:expr, $f:expr, $g:expr, $h:expr, $i:expr, $j:expr, $k:expr, $l:expr, $m:expr) => {
-        $crate::fields::write_13($a, $b, $c, $d, $e, $f, $g, $h, $i, $j, $k, $l, $m, $dest)
-    };
-    ($dest:expr; $a:expr, $b:expr, $c:expr, $d:expr, $e:expr, $f:expr, $g:expr, $h:expr, $i:expr, $j:expr, $k:expr, $l:expr, $m:expr, $n:expr) => {
-        $crate::fields::write_14($a, $b, $c, $d, $e, $f, $g, $h, $i, $j, $k, $l, $m, $n, $dest)
-    };
-    ($dest:expr; $a:expr, $b:expr, $c:expr, $d:expr, $e:expr, $f:expr, $g:expr, $h:expr, $i:expr, $j:expr, $k:expr, $l:expr, $m:expr, $n:expr, $o:expr) => {
-        $crate::fields::write_15($a, $b, $c, $d, $e, $f, $g, $h, $i, $j, $k, $l, $m, $n, $o, $dest)
-    };
-    ($dest:expr; $a:expr, $b:expr, $c:expr, $d:expr, $e:expr, $f:expr, $g:expr, $h:expr, $i:expr, $j:expr, $k:expr, $l:expr, $m:expr, $n:expr, $o:expr, $p:expr) => {
-        $crate::fields::write_16($a, $b, $c, $d, $e, $f, $g, $h, $i, $j, $k, $l, $m, $n, $o, $p, $dest)
-    };
-}
-
-/// How many octets these values have together, where that is known: at most sixteen.
-#[macro_export]
-macro_rules! values_length {
-    ($a:expr) => {
-        $crate::fields::length_1($a)
-    };
-    ($a:expr, $b:expr) => {
-        $crate::fields::length_2($a, $b)
-    };
-    ($a:expr, $b:expr, $c:expr) => {
-        $crate::fields::length_3($a, $b, $c)
-    };
-    ($a:expr, $b:expr, $c:expr, $d:expr) => {
-        $crate::fields::length_4($a, $b, $c, $d)
-    };
-    ($a:expr, $b:expr, $c:expr, $d:expr, $e:expr) => {
-        $crate::fields::length_5($a, $b, $c, $d, $e)
-    };
-    ($a:expr, $b:expr, $c:expr, $d:expr, $e:expr, $f:expr) => {
-        $crate::fields::length_6($a, $b, $c, $d, $e, $f)
-    };
-    ($a:expr, $b:expr, $c:expr, $d:expr, $e:expr, $f:expr, $g:expr) => {
-        $crate::fields::length_7($a, $b, $c, $d, $e, $f, $g)
-    };
-    ($a:expr, $b:expr, $c:expr, $d:expr, $e:expr, $f:expr, $g:expr, $h:expr) => {
-        $crate::fields::length_8($a, $b, $c, $d, $e, $f, $g, $h)
-    };
-    ($a:expr, $b:expr, $c:expr, $d:expr, $e:expr, $f:expr, $g:expr, $h:expr, $i:expr) => {
-        $crate::fields::length_9($a, $b, $c, $d, $e, $f, $g, $h, $i)
-    };
-    ($a:expr, $b:expr, $c:expr, $d:expr, $e:expr, $f:expr, $g:expr, $h:expr, $i:expr, $j:expr) => {
-        $crate::fields::length_10($a, $b, $c, $d, $e, $f, $g, $h, $i, $j)
-    };
-    ($a:expr, $b:expr, $c:expr, $d:expr, $e:expr, $f:expr, $g:expr, $h:expr, $i:expr, $j:expr, $k:expr) => {
-        $crate::fields::length_11($a, $b, $c, $d, $e, $f, $g, $h, $i, $j, $k)
-    };
-    ($a:expr, $b:expr, $c:expr, $d:expr, $e:expr, $f:expr, $g:expr, $h:expr, $i:expr, $j:expr, $k:expr, $l:expr) => {
-        $crate::fields::length_12($a, $b, $c, $d, $e, $f, $g, $h, $i, $j, $k, $l)
-    };
-    ($a:expr, $b:expr, $c:expr, $d:expr, $e:expr, $f:expr, $g:expr, $h:expr, $i:expr, $j:expr, $k:expr, $l:expr, $m:expr) => {
-        $crate::fields::length_13($a, $b, $c, $d, $e, $f, $g, $h, $i, $j, $k, $l, $m)
-    };
-    ($a:expr, $b:expr, $c:expr, $d:expr, $e:expr, $f:expr, $g:expr, $h:expr, $i:expr, $j:expr, $k:expr, $l:expr, $m:expr, $n:expr) => {
-        $crate::fields::length_14($a, $b, $c, $d, $e, $f, $g, $h, $i, $j, $k, $l, $m, $n)
-    };
-    ($a:expr, $b:expr, $c:expr, $d:expr, $e:expr, $f:expr, $g:expr, $h:expr, $i:expr, $j:expr, $k:expr, $l:expr, $m:expr, $n:expr, $o:expr) => {
-        $crate::fields::length_15($a, $b, $c, $d, $e, $f, $g, $h, $i, $j, $k, $l, $m, $n, $o)
-    };
-    ($a:expr, $b:expr, $c:expr, $d:expr, $e:expr, $f:expr, $g:expr, $h:expr, $i:expr, $j:expr, $k:expr, $l:expr, $m:expr, $n:expr, $o:expr, $p:expr) => {
-        $crate::fields::length_16($a, $b, $c, $d, $e, $f, $g, $h, $i, $j, $k, $l, $m, $n, $o, $p)
-    };
+    ($value:expr) => { $crate::fields::Last { value: $value } };
 }

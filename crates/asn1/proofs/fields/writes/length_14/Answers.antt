@@ -1,5 +1,0 @@
-use Rattle.asn1.specs.Lemmas.FieldSteps.{sum_known}
-use Rattle.asn1.proofs.fields.writes.length_14.Goals as goal
-
-pub returns : goal.returns
-returns g c = sum_known _ _ _ _ _ _ _ c.encoded_length.ensures c.length_13.ensures c.sum.ensures
