@@ -1,6 +1,6 @@
 """What is known of declared types: their tags, their derives, and how a field stands in its row.
 
-What has no form is rejected here, but for what the reader of declarations doesn't take.
+What has no form is rejected here, except what the reader of declarations doesn't take.
 """
 
 import re
@@ -21,7 +21,7 @@ SHAPES = {
     "SequenceOf": "'Tn?n?",
 }
 BITS = {sign + size: int(size) for sign in "ui" for size in ("8", "16", "32", "64")}
-MOST_FIELDS, MOST_VARIANTS, LARGEST_TAG = 16, 36, 2**32 - 1
+MOST_FIELDS, MOST_VARIANTS, LARGEST_TAG = 30, 36, 2**32 - 1
 ANY = "any"
 
 

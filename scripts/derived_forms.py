@@ -108,8 +108,9 @@ def field_value(part):
 
 
 def row_of(item):
-    """The row's type, and a struct's value as one of the row: nested up to the last value that an item defines."""
-    end = max([at for at, part in enumerate(item.parts, 1) if part.item], default=0)
+    """The row's type, and a struct's value as one of the row: nested up to the last value that an item defines, or to
+    the last sixteen fields, the most that have a row with a name."""
+    end = max(0, len(item.parts) - 16, *(at for at, part in enumerate(item.parts, 1) if part.item))
     types = [field_type(item, part) for part in item.parts[end:]]
     name = "Last" if len(types) == 1 else f"Fields{len(types)}"
     row = f"{name}<{', '.join(types)}>" if types else "NoFields"

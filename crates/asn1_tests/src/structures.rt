@@ -12,7 +12,7 @@ ghost use Rattle.asn1.specs.Structures.{
   structure,
 };
 
-use asn1::fields::{Fields2, Fields3, Fields16, Row};
+use asn1::fields::{Field, Fields2, Fields3, Fields16, Row};
 use asn1::{
     Asn1Type, Asn1Writable, DefaultValue, Defaulted, Explicit, Implicit, ParseError,
     ParseErrorKind, ParseLocation, ParseResult, SimpleAsn1Readable, SimpleAsn1Writable, Tag,
@@ -238,9 +238,9 @@ fn defaults_under_tags(rt: HostRuntime) -> Result<(), Fail> {
     Ok(())
 }
 
-/// Sixteen numbers, the most that a structure has.
+/// Eighteen numbers: more fields than have a row with a name.
 #[derive(Debug, Clone, PartialEq, Eq, Drop)]
-pub struct Sixteen {
+pub struct Eighteen {
     pub a: u8,
     pub b: u8,
     pub c: u8,
@@ -257,36 +257,49 @@ pub struct Sixteen {
     pub n: u8,
     pub o: u8,
     pub p: u8,
+    pub q: u8,
+    pub r: u8,
 }
 
-type SixteenFields = Fields16<u8, u8, u8, u8, u8, u8, u8, u8, u8, u8, u8, u8, u8, u8, u8, u8>;
+type EighteenFields = Field<
+    u8,
+    Field<u8, Fields16<u8, u8, u8, u8, u8, u8, u8, u8, u8, u8, u8, u8, u8, u8, u8, u8>>,
+>;
 
-impl Asn1Type for Sixteen {
-    ghost der = { structure (λ v. fields16 v.a v.b v.c v.d v.e v.f v.g v.h v.i v.j v.k v.l v.m v.n
-        v.o v.p) ⟦<SixteenFields as Row>⟧.list (codes "Sixteen::a" ∷ codes "Sixteen::b" ∷
-        codes "Sixteen::c" ∷ codes "Sixteen::d" ∷ codes "Sixteen::e" ∷ codes "Sixteen::f" ∷
-        codes "Sixteen::g" ∷ codes "Sixteen::h" ∷ codes "Sixteen::i" ∷ codes "Sixteen::j" ∷
-        codes "Sixteen::k" ∷ codes "Sixteen::l" ∷ codes "Sixteen::m" ∷ codes "Sixteen::n" ∷
-        codes "Sixteen::o" ∷ codes "Sixteen::p" ∷ []) };
+impl Asn1Type for Eighteen {
+    ghost der = { structure (λ v. record {
+      value = v.a;
+      rest = record {
+        value = v.b;
+        rest =
+            fields16 v.c v.d v.e v.f v.g v.h v.i v.j v.k v.l v.m v.n v.o v.p v.q v.r;
+      };
+    })
+        ⟦<EighteenFields as Row>⟧.list (codes "Eighteen::a" ∷ codes "Eighteen::b" ∷
+        codes "Eighteen::c" ∷ codes "Eighteen::d" ∷ codes "Eighteen::e" ∷ codes "Eighteen::f" ∷
+        codes "Eighteen::g" ∷ codes "Eighteen::h" ∷ codes "Eighteen::i" ∷ codes "Eighteen::j" ∷
+        codes "Eighteen::k" ∷ codes "Eighteen::l" ∷ codes "Eighteen::m" ∷ codes "Eighteen::n" ∷
+        codes "Eighteen::o" ∷ codes "Eighteen::p" ∷ codes "Eighteen::q" ∷ codes "Eighteen::r" ∷
+        []) };
 
     fn known(&self) {
-        known_fields!(self; a, b, c, d, e, f, g, h, i, j, k, l, m, n, o, p)
+        known_fields!(self; a, b, c, d, e, f, g, h, i, j, k, l, m, n, o, p, q, r)
     }
 }
 
-impl<'a> SimpleAsn1Readable<'a> for Sixteen {
+impl<'a> SimpleAsn1Readable<'a> for Eighteen {
     fn tag() -> Tag {
         Tag::constructed(0x10)
     }
 
-    fn parse_data(alloc: Global, data: &'a [u8]) -> ParseResult<Sixteen> {
-        read_fields!(SixteenFields, alloc, data => Sixteen {
-            a, b, c, d, e, f, g, h, i, j, k, l, m, n, o, p
+    fn parse_data(alloc: Global, data: &'a [u8]) -> ParseResult<Eighteen> {
+        read_fields!(EighteenFields, alloc, data => Eighteen {
+            a, b, c, d, e, f, g, h, i, j, k, l, m, n, o, p, q, r
         })
     }
 }
 
-impl SimpleAsn1Writable for Sixteen {
+impl SimpleAsn1Writable for Eighteen {
     type Error = WriteError;
 
     ghost length_known = { λ _. Unit {0} };
@@ -296,18 +309,18 @@ impl SimpleAsn1Writable for Sixteen {
     }
 
     fn write_data(&self, dest: &mut WriteBuf) -> WriteResult<()> {
-        write_fields!(self, dest; a, b, c, d, e, f, g, h, i, j, k, l, m, n, o, p)
+        write_fields!(self, dest; a, b, c, d, e, f, g, h, i, j, k, l, m, n, o, p, q, r)
     }
 
     fn data_length(&self) -> Option<usize> {
-        fields_length!(self; a, b, c, d, e, f, g, h, i, j, k, l, m, n, o, p)
+        fields_length!(self; a, b, c, d, e, f, g, h, i, j, k, l, m, n, o, p, q, r)
     }
 }
 
 #[test]
-fn sixteen_fields(rt: HostRuntime) -> Result<(), Fail> {
+fn eighteen_fields(rt: HostRuntime) -> Result<(), Fail> {
     let alloc = rt.alloc();
-    let value = Sixteen {
+    let value = Eighteen {
         a: 0,
         b: 1,
         c: 2,
@@ -324,20 +337,22 @@ fn sixteen_fields(rt: HostRuntime) -> Result<(), Fail> {
         n: 13,
         o: 14,
         p: 15,
+        q: 16,
+        r: 17,
     };
     let octets: &[u8] = &[
-        0x30, 48, 2, 1, 0, 2, 1, 1, 2, 1, 2, 2, 1, 3, 2, 1, 4, 2, 1, 5, 2, 1, 6, 2, 1, 7, 2, 1, 8,
-        2, 1, 9, 2, 1, 10, 2, 1, 11, 2, 1, 12, 2, 1, 13, 2, 1, 14, 2, 1, 15,
+        0x30, 54, 2, 1, 0, 2, 1, 1, 2, 1, 2, 2, 1, 3, 2, 1, 4, 2, 1, 5, 2, 1, 6, 2, 1, 7, 2, 1, 8,
+        2, 1, 9, 2, 1, 10, 2, 1, 11, 2, 1, 12, 2, 1, 13, 2, 1, 14, 2, 1, 15, 2, 1, 16, 2, 1, 17,
     ];
     both_ways(alloc, value.clone()?, octets)?;
-    same(value.encoded_length(), Some(50))?;
+    same(value.encoded_length(), Some(56))?;
     let short = ParseErrorKind::ShortData { needed: 1 };
-    let last = error_of(parse_single::<Sixteen>(
+    let last = error_of(parse_single::<Eighteen>(
         alloc,
         &[
-            0x30, 45, 2, 1, 0, 2, 1, 1, 2, 1, 2, 2, 1, 3, 2, 1, 4, 2, 1, 5, 2, 1, 6, 2, 1, 7, 2, 1,
-            8, 2, 1, 9, 2, 1, 10, 2, 1, 11, 2, 1, 12, 2, 1, 13, 2, 1, 14,
+            0x30, 51, 2, 1, 0, 2, 1, 1, 2, 1, 2, 2, 1, 3, 2, 1, 4, 2, 1, 5, 2, 1, 6, 2, 1, 7, 2, 1,
+            8, 2, 1, 9, 2, 1, 10, 2, 1, 11, 2, 1, 12, 2, 1, 13, 2, 1, 14, 2, 1, 15, 2, 1, 16,
         ],
     ));
-    same(&last, &at("Sixteen::p", short))
+    same(&last, &at("Eighteen::r", short))
 }
