@@ -10,7 +10,7 @@ use crate::pem::{Object, PemError, is_pem, objects};
 use crate::show::{Show, push_escaped};
 use asn1::{
     Asn1Readable, Asn1Type, Asn1Writable, ParseError, ParseErrorKind, Tag, WriteError,
-    parse_single, strip_tlv, write_single,
+    parse_single, strip_tlv, write_readable,
 };
 use pkix::certificate::Certificate;
 use pkix::common::SubjectPublicKeyInfo;
@@ -89,19 +89,17 @@ impl fmt::Display for Refusal {
 /// What an object is answered with.
 #[derive(Debug, Drop)]
 pub enum Answer {
-    /// The lines of its fields, the SHA-256 of its octets, and `same` or `different`: whether it is written back as
-    /// these octets.
+    /// The lines of its fields, the SHA-256 of what it is written back as, and `same`: these are its octets.
     Shown(String),
     /// Why it is rejected.
     Rejected(Refusal),
 }
 
-/// The lines of the value whose encoding the octets are.
+/// The lines of the value whose encoding the octets are. It has one encoding, so it is written back as these octets.
 fn shown<'a, T: Asn1Readable<'a> + Asn1Writable<Error = WriteError> + Show>(
     alloc: Global,
     octets: &'a [u8],
 ) -> Result<Answer, Fault>
-    requires plain { T.der.plain }
     ensures { IfOk result (IsShownOnlyIf (IsRead T.der octets.entry.now)) }
 {
     let value = match parse_single::<T>(alloc, octets) {
@@ -110,16 +108,12 @@ fn shown<'a, T: Asn1Readable<'a> + Asn1Writable<Error = WriteError> + Show>(
     };
     let mut text = String::new(alloc);
     value.show(alloc, "", &mut text)?;
-    let Ok(written) = write_single(alloc, &value) else {
+    let Ok(written) = write_readable(alloc, &value) else {
         return Err(Fault::Memory);
     };
-    let digest = hex::encode(alloc, &Sha256::digest(octets))?;
-    let end = if written.as_slice() == octets {
-        "same"
-    } else {
-        "different"
-    };
-    write!(text, "sha256: {digest}\n{end}\n")?;
+    let digest = hex::encode(alloc, &Sha256::digest(written.as_slice()))?;
+    writeln!(text, "sha256: {digest}")?;
+    text.push_str("same\n")?;
     Ok(Answer::Shown(text))
 }
 
