@@ -45,7 +45,7 @@ pub record LacksLast (text : List ℕ) (lines : List (List ℕ)) : Type 0 where
   pub some : last ≢ []
   pub is : text ≡ ended front ++ last
 
--- The lines hold no line feed, and with a line feed behind each they are the text, but for the last line feed.
+-- The lines hold no line feed, and with a line feed behind each they are the text, which may lack the last one.
 pub record AreLines (text : List ℕ) (lines : List (List ℕ)) : Type 0 where
   pub apart : AllByRecursion (HasNone 10) lines
   pub whole : (text ≡ ended lines) ⊎ LacksLast text lines

@@ -3,8 +3,8 @@
 ghost use Rattle.dercheck.specs.Frames.{EachTextHasAFraming, TextsHaveOneFraming};
 ghost use Rattle.dercheck.specs.Laws.{LinesAreRight, RequestsAreRight, BadLinesAreBad, ValuesAreOk, OkLinesAreOk, FaultsAreErr};
 
-/// The lines of an input hold no line feed, and the input is the lines each with a line feed after it, but for a last
-/// line feed that may be missing. No other lines are so.
+/// The lines of an input hold no line feed, and the input is the lines, each with a line feed after it. Only the last
+/// line feed may be missing. No other lines are so.
 pub fn lines_are_right()
     ensures { LinesAreRight }
 {}

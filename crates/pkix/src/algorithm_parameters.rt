@@ -261,7 +261,7 @@ impl ParametersForm {
 /// The parameters of an algorithm, read as what its identifier says that they are.
 #[derive(Debug, Clone, PartialEq, Eq, Drop)]
 pub enum AlgorithmParameters<'a> {
-    /// NULL: of RSA, which has to have it, but for signatures with SHA-2, and of digests, which may have it.
+    /// NULL: of RSA, which has to have it except in signatures with SHA-2, and of digests, which may have it.
     Null,
     /// None: of signatures by DSA and ECDSA and the algorithms of RFC 8410, which may have none, of digests, and of
     /// signatures by RSA with SHA-2, which are written with NULL and have to be read without it too (RFC 4055, 5). Of
