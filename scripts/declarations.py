@@ -4,19 +4,24 @@ import re
 from dataclasses import dataclass, field
 
 WORD, LIFE, NUMBER = r"[A-Za-z_]\w*", r"'[A-Za-z_]\w*", r"\d\w*"
-SKIP = r"\s+|//(?!/)[^\n]*|/\*.*?\*/"
-TOKEN = re.compile(rf"///[^\n]*|{SKIP}|{LIFE}(?!')|{WORD}|{NUMBER}|\"(?:\\.|[^\"\\])*\"|::|->|.", re.S)
+SKIP, STRING = r"\s+|//(?!/)[^\n]*|/\*.*?\*/", r"\"(?:\\.|[^\"\\])*\""
+TOKEN = re.compile(rf"(?P<skip>{SKIP})|///[^\n]*|{LIFE}(?!')|{WORD}|{NUMBER}|{STRING}|::|->|.", re.S)
+END = "the end of the file"
 # Words of Rust and of Rattle, which no item, field or variant may have as its name; and those of clauses, which no
 # function may have.
 WORDS = """
-    _ Self Type abstract as async await become box break const continue crate do dyn else ensures enum extern false final
-    fn for gen ghost if impl in let loop macro match mod move mut override priv pub ref requires return self static
-    struct super trait true try type typeof unsafe unsized use virtual where while yield""".split()
+    _ Self Type abstract as async await become box break const continue crate do dyn else ensures enum extern false
+    final fn for gen ghost if impl in let loop macro match mod move mut override priv pub ref requires return self
+    static struct super trait true try type typeof unsafe unsized use virtual where while yield""".split()
 OF_CLAUSES = """
     abbrev axiom coe com data deriving elim fcoe hcom infix infixl infixr module mutual open package record ruleset
     tcoe unfold unfoldable unfolding""".split()
 ATTRIBUTES = ("derive", "implicit", "explicit", "default", "defined_by")
 ORIGINAL = ("asn1", "std", "core", "alloc")
+
+
+def angle(life):
+    return f"<{life}>" if life else ""
 
 
 class Rejected(Exception):
@@ -38,20 +43,22 @@ class Type:
 
     def __str__(self):
         args = [*map(str, self.args)]
-        if self.name in ("&", "[u8; N]"):
-            return "&" + " ".join(args) if self.name == "&" else f"[u8; {args[0]}]"
+        if self.name == "&":
+            return "&" + " ".join(args)
+        if self.name == "[u8; N]":
+            return f"[u8; {args[0]}]"
         if self.name == "SequenceOf":
             args += ["0", "{ usize::MAX }"][len(args) - 2 :]
-        return self.name + (f"<{', '.join(args)}>" if args else "")
+        return self.name + angle(", ".join(args))
 
     @property
     def inner(self):
         return [arg for arg in self.args if isinstance(arg, Type)]
 
+    @property
     def lives(self):
         """The lifetimes that the type names."""
-        own = [arg for arg in self.args if isinstance(arg, str) and arg.startswith("'")]
-        return own + [life for arg in self.inner for life in arg.lives()]
+        return re.findall(LIFE, str(self))
 
 
 @dataclass
@@ -67,6 +74,11 @@ class Item:
     attributes: dict = field(default_factory=dict)
     parts: list = field(default_factory=list)
     arcs: list = field(default_factory=list)
+    # Of a marker the value that its item defines, and of this value the item's type.
+    value: "Item" = None
+    item: Type = None
+    # What is said of the derives that are left out.
+    note: str = ""
 
     def reject(self, wrong, reason):
         """Rejects what is wrong with the item, by a reason that begins with its name."""
@@ -75,13 +87,16 @@ class Item:
     @property
     def own(self):
         """The item's type."""
-        return str(Type(self.name, [self.life] if self.life else []))
+        return self.named("")
+
+    def named(self, suffix):
+        """A type with the item's name in front, and its lifetime."""
+        return self.name + suffix + angle(self.life)
 
     @property
     def wanted(self):
         """The derives that the declaration asks for."""
-        lists = " ".join(self.attributes.get("derive", [])).split(",")
-        return [name.split()[-1] for name in lists if name.split()]
+        return re.findall(r"([^\s,]+) ,", " ".join(self.attributes.get("derive", [])))
 
     @property
     def is_defined(self):
@@ -93,12 +108,10 @@ class Reader:
     """Reads declarations from the tokens of a source."""
 
     def __init__(self, source):
-        self.tokens, self.at, line = [], 0, 1
-        for token in TOKEN.findall(source):
-            if not re.fullmatch(SKIP, token, re.S):
-                self.tokens.append((token, line))
-            line += token.count("\n")
-        self.tokens += [("the end of the file", line)] * 3
+        found = [token for token in TOKEN.finditer(source) if not token["skip"]]
+        self.tokens = [(token[0], source.count("\n", 0, token.start()) + 1) for token in found]
+        self.tokens += [(END, source.count("\n") + 1)] * 3
+        self.at = 0
 
     @property
     def line(self):
@@ -121,7 +134,7 @@ class Reader:
         """The tokens up to this one, which is left out; brackets are passed over as a whole."""
         words, depth = [], 0
         while depth or not self.takes(end):
-            word = self.expect(r"(?!the end)[\s\S]*", f"`{end[-1]}`")
+            word = self.expect(rf"(?!{END})[\s\S]*", f"`{end[-1]}`")
             depth += {"(": 1, "[": 1, "{": 1, ")": -1, "]": -1, "}": -1}.get(word, 0)
             words.append(word)
         return words
@@ -130,13 +143,9 @@ class Reader:
         """A declaration, or a field or a variant, up to its name. Its visibility isn't kept."""
         found = Item()
         while word := self.takes("///.*") or self.takes("#"):
-            if word == "#":
-                self.attribute(found)
-            else:
-                found.doc.append(word)
-        if self.takes("pub", r"\("):
+            found.doc += self.attribute(found.attributes) if word == "#" else [word]
+        if self.takes("pub") and self.takes(r"\("):
             self.until(r"\)")
-        self.takes("pub")
         found.line, found.kind = self.line, "" if is_part else self.expect(WORD, "a declaration")
         is_other = found.kind not in ("", "struct", "enum", "type", "const")
         reject(is_other, found.line, f"`{found.kind}` isn't a struct, an enum, an alias or an identifier's constant")
@@ -144,18 +153,18 @@ class Reader:
         reject(found.name in WORDS, line, f"`{found.name}` is a word of Rust or Rattle: name it otherwise")
         return found
 
-    def attribute(self, item):
+    def attribute(self, attributes):
+        """Adds an attribute to these; or returns the comment that it is, if any."""
         line = self.line
         self.expect(r"\[")
         name, words = self.expect(WORD, "an attribute"), self.until("]")
         if name == "doc" and len(words) == 2 and words[0] == "=":
-            item.doc.append("///" + words[1][1:-1])
-        elif name in ATTRIBUTES:
-            is_twice = name in item.attributes and name != "derive"
-            reject(is_twice, line, f"the attribute `{name}` stands here twice")
-            item.attributes[name] = item.attributes.get(name, []) + [*words[1:-1], ","]
-        else:
-            reject(name != "allow", line, f"the attribute `{name}` isn't known")
+            return ["///" + words[1][1:-1]]
+        if name != "allow":
+            reject(name not in ATTRIBUTES, line, f"the attribute `{name}` isn't known")
+            reject(name in attributes and name != "derive", line, f"the attribute `{name}` stands here twice")
+            attributes.setdefault(name, []).extend([*words[1:-1], ","])
+        return []
 
     def path(self):
         """A path's last name, with what stands in front of it unless this is the crate `asn1` or a part of std."""
@@ -170,23 +179,16 @@ class Reader:
             return Type("&", [self.expect(LIFE, "a lifetime"), self.type()], line)
         if self.takes(r"\[", "u8", ";"):
             return Type("[u8; N]", ["".join(self.until("]"))], line)
-        if self.takes(r"\[", "u8", "]") or self.takes(r"\(", r"\)"):
-            return Type("[u8]" if self.tokens[self.at - 1][0] == "]" else "()", [], line)
+        if self.takes(r"\(", r"\)"):
+            return Type("()", [], line)
+        if self.takes(r"\[", "u8", "]"):
+            return Type("[u8]", [], line)
         return Type(self.path(), self.parts(self.argument, ">") if self.takes("<") else [], line)
 
     def argument(self):
         if self.takes("{"):
             return "{ " + "".join(self.until("}")) + " }"
         return self.takes(LIFE) or self.takes(NUMBER) or self.type()
-
-    def life(self):
-        """The one lifetime of a declaration."""
-        if not self.takes("<"):
-            return ""
-        line, found = self.line, self.takes(LIFE)
-        reject(not found, line, "type parameters have no form here: a declaration has one lifetime at most")
-        reject(not self.takes(">"), line, "a declaration has one lifetime at most, and no bounds")
-        return found
 
     def field(self):
         found = self.item("a field's name")
@@ -198,8 +200,8 @@ class Reader:
         found = self.item("a variant's name")
         found.parts = self.parts(self.type, r"\)") if self.takes(r"\(") else []
         found.reject(not found.parts, "has no unnamed field: a variant has exactly one")
-        is_one = len(found.parts) == 1 or "default" in found.attributes
-        found.reject(not is_one, "has more than one field: a variant has exactly one")
+        has_more = len(found.parts) > 1 and "default" not in found.attributes
+        found.reject(has_more, "has more than one field: a variant has exactly one")
         found.type = found.parts[-1]
         return found
 
@@ -214,10 +216,14 @@ class Reader:
         return found
 
     def declaration(self):
+        """A declaration, with one lifetime at most."""
         found = self.item("a name", is_part=False)
         if found.kind == "const":
             return self.constant(found)
-        found.life = self.life()
+        if self.takes("<"):
+            line, found.life = self.line, self.takes(LIFE)
+            reject(not found.life, line, "type parameters have no form here: a declaration has one lifetime at most")
+            reject(not self.takes(">"), line, "a declaration has one lifetime at most, and no bounds")
         if found.kind == "type":
             self.expect("=")
             found.type = self.type()
@@ -244,7 +250,7 @@ class Reader:
     def file(self):
         """The file's imports other than those of the original, and its declarations."""
         uses, found = [], []
-        while not self.takes("the end of the file"):
+        while not self.takes(END):
             if self.takes("use"):
                 words = self.until(";")
                 uses += [] if words[0] in ORIGINAL else ["use " + " ".join(words) + ";"]

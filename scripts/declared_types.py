@@ -4,7 +4,7 @@ What has no form is rejected here, except what the reader of declarations doesn'
 """
 
 import re
-from dataclasses import dataclass
+from dataclasses import dataclass, replace
 
 from declarations import Type, reject
 
@@ -20,7 +20,8 @@ SHAPES = {
     **dict.fromkeys(LISTS, "'T"),
     "SequenceOf": "'Tn?n?",
 }
-BITS = {sign + size: int(size) for sign in "ui" for size in ("8", "16", "32", "64")}
+INTEGERS = {f"u{bits}": range(2**bits) for bits in (8, 16, 32, 64)}
+INTEGERS.update({f"i{bits}": range(-(2**bits) // 2, 2**bits // 2) for bits in (8, 16, 32, 64)})
 MOST_FIELDS, MOST_VARIANTS, LARGEST_TAG = 30, 36, 2**32 - 1
 ANY = "any"
 
@@ -45,7 +46,7 @@ def tagged(number, is_constructed=False, kind="universal"):
 LIBRARY = {
     name: (Known(tagged(int(number), number in ("16", "17")), derives), shape)
     for derives, shape, types in (
-        (COPY, "", "1 bool, 4 [u8], 5 (), 5 Null, " + ", ".join(f"2 {name}" for name in BITS)),
+        (COPY, "", "1 bool, 4 [u8], 5 (), 5 Null, " + ", ".join(f"2 {name}" for name in INTEGERS)),
         (COPY, "'", "2 BigInt, 2 BigUint, 16 Sequence"),
         (COPY, "n", "4 [u8; N]"),
         (ALL, "", "2 OwnedBigInt, 2 OwnedBigUint, 3 OwnedBitString, 6 ObjectIdentifier"),
@@ -60,10 +61,10 @@ LIBRARY["Tlv"] = (Known(ANY, is_simple=False), "'")
 
 
 class Module:
-    """The declarations of a file, and what is known of their types."""
+    """The declarations of a file, what is known of their types, and the path of their specs."""
 
-    def __init__(self, items, imported):
-        self.items, self.imported, self.seen = {item.name: item for item in items}, imported, {}
+    def __init__(self, items, imported, specs):
+        self.items, self.imported, self.specs, self.seen = {item.name: item for item in items}, imported, specs, {}
         for named in (items, *(item.parts for item in items)):
             for at, one in enumerate(named):
                 one.reject(one.name in [before.name for before in named[:at]], "is declared twice")
@@ -79,6 +80,12 @@ class Module:
                 self.check_part(item, part)
                 self.check_tags(item, part, item.parts[at + 1 :])
 
+    def within(self, type):
+        """A type, and those that it is made of."""
+        item = self.items.get(type.name)
+        inner = type.inner if not item else [item.type] if item.type else [part.base for part in item.parts]
+        return [type, *(one for each in inner for one in self.within(each))]
+
     def check_item(self, item):
         """A declaration is none of a type of the library, of a size that has a form, and of one lifetime."""
         is_other = item.name in SHAPES or item.name in self.imported
@@ -88,8 +95,8 @@ class Module:
         item.reject(has_no_form, f"has no variant, or more than {MOST_VARIANTS}")
         types = [item.type] if item.type else [type for part in item.parts for type in part.parts or [part.type]]
         for type in types:
-            reject(set(type.lives()) - {item.life}, type.line, f"a lifetime that `{item.name}` doesn't declare")
-        is_unused = item.life and not any(type.lives() for type in types)
+            reject(set(type.lives) - {item.life}, type.line, f"a lifetime that `{item.name}` doesn't declare")
+        is_unused = item.life and not any(type.lives for type in types)
         item.reject(is_unused, "declares a lifetime, and nothing in it has one")
 
     def known(self, type):
@@ -113,27 +120,28 @@ class Module:
 
     def known_around(self, type, inside=Known(), *others):
         """What is known of a type that is made of another."""
-        name, tags, derives, fails = type.name, inside.tags, inside.derives, inside.fails
+        name = type.name
         if name == "&":
             reject(type.inner[0].name != "[u8]", type.line, "a reference other than one to `[u8]` isn't read")
             return inside
-        if name in ("Implicit", "Explicit"):
-            is_large = not re.fullmatch(r"\d+", type.args[1]) or int(type.args[1]) > LARGEST_TAG
-            reject(is_large, type.line, f"a tag isn't a number from 0 to {LARGEST_TAG}")
-            has_no_tag = name == "Implicit" and not inside.is_simple
-            reject(has_no_tag, type.line, f"`{type.inner[0]}` is implicit, and has no tag of its own")
-            is_constructed = name == "Explicit" or bool(tags and next(iter(tags))[2])
-            return Known(tagged(int(type.args[1]), is_constructed, "context"), derives, fails=fails)
-        if name in LISTS:
-            is_made = name.endswith("Writer")
-            own = derives & ALL if is_made else ALL - ({"Debug"} - derives)
-            return Known(tagged(17 if name.startswith("Set") else 16, True), own, fails=is_made)
-        if name == "OctetStringEncoded":
-            return Known(tagged(4), derives, fails=fails)
         if name in ("Option", "Defaulted"):
             reject(inside.is_missing, type.line, "an option or a default of what may be missing itself")
-            return Known(tags, derives, True, False, fails)
-        return Known(tags, derives & ALL, inside.is_missing, inside.is_simple, fails)
+            return replace(inside, is_missing=True, is_simple=False)
+        if name in LISTS:
+            is_made = name.endswith("Writer")
+            derives = inside.derives & ALL if is_made else ALL - ({"Debug"} - inside.derives)
+            return Known(tagged(17 if name.startswith("Set") else 16, True), derives, fails=is_made)
+        if name == "OctetStringEncoded":
+            return replace(inside, tags=tagged(4), is_missing=False, is_simple=True)
+        if name not in ("Implicit", "Explicit"):
+            return replace(inside, derives=inside.derives & ALL)
+        is_large = not re.fullmatch(r"\d+", type.args[1]) or int(type.args[1]) > LARGEST_TAG
+        reject(is_large, type.line, f"a tag isn't a number from 0 to {LARGEST_TAG}")
+        has_no_tag = name == "Implicit" and not inside.is_simple
+        reject(has_no_tag, type.line, f"`{type.inner[0]}` is implicit, and has no tag of its own")
+        is_constructed = name == "Explicit" or bool(inside.tags and next(iter(inside.tags))[2])
+        tags = tagged(int(type.args[1]), is_constructed, "context")
+        return replace(inside, tags=tags, is_missing=False, is_simple=True)
 
     def known_item(self, item):
         """What is known of a declared type, by what it is made of."""
@@ -158,7 +166,7 @@ class Module:
         type, known = self.known(part.type), self.known(part.form)
         is_choice = item.kind == "enum" and part.tag and not type.is_simple and type.tags != ANY
         part.reject(is_choice, "is a choice or an option under a tag: put a struct around it")
-        declared = self.items.get((part.type.inner[0] if part.is_option else part.type).name)
+        declared = self.items.get((part.type.inner[0] if part.type.name == "Option" else part.type).name)
         by, is_value = item.kind == "struct" and "defined_by" in part.attributes, declared and declared.is_defined
         part.reject(is_value and not by, "is defined by an item: it follows that, with `#[defined_by(..)]`")
         is_wrapped = part.form.name in ("Option", "Implicit", "Defaulted")
@@ -214,11 +222,13 @@ def set_form(item, part):
     is_unclear = in_struct and part.tag and not has_default and is_option == required
     part.reject(is_unclear, "has a tag: either it is an option, or the tag says `required = true`")
     is_around = is_option and part.tag and in_struct and part.type.inner
-    part.is_option, part.base = is_option, part.type.inner[0] if is_around else part.type
+    part.base = part.type.inner[0] if is_around else part.type
     part.form = Type(part.tag.capitalize(), [part.base, number], part.line) if part.tag else part.base
     part.form = Type("Option", [part.form], part.line) if is_around else part.form
+    # The struct's name and the field's, as that of a type.
+    part.title = item.name + "".join(word.capitalize() for word in part.name.split("_"))
     part.default = literal(part) if has_default else None
-    part.form = Type("Defaulted", [part.form, item.name + camel(part.name)], part.line) if has_default else part.form
+    part.form = Type("Defaulted", [part.form, part.title], part.line) if has_default else part.form
     # Whether the type in the row is another than the field's.
     part.is_wrapped = in_struct and part.form is not part.type and "defined_by" not in attributes
 
@@ -239,16 +249,7 @@ def literal(part):
     is_boolean = value in ("true", "false")
     is_literal = is_boolean or re.fullmatch(r"-?\d[\d_]*(?:[ui]\d+)?", value)
     reject(not is_literal, part.line, f"the default of `{part.name}` isn't a literal: `true`, `false` or a number")
-    value, bits = re.sub(r"_|[ui]\d+$", "", value), BITS.get(type, 0)
-    least, most = (0, 2**bits) if type[0] == "u" else (-(2**bits) // 2, 2**bits // 2)
-    fits = is_boolean if type == "bool" else bits and not is_boolean and least <= int(value) < most
+    value = re.sub(r"_|[ui]\d+$", "", value)
+    fits = is_boolean if type == "bool" else not is_boolean and int(value) in INTEGERS.get(type, ())
     reject(not fits, part.line, f"`{value}` is no value of `{type}`: a default is of a Boolean or an integer type")
     return value
-
-
-def camel(name):
-    return "".join(part.capitalize() for part in name.split("_"))
-
-
-def snake(name):
-    return re.sub(r"(?<=[a-z0-9])(?=[A-Z])|(?<=[A-Z])(?=[A-Z][a-z])", "_", name).lower()
