@@ -1,5 +1,11 @@
-//! Tests of the types that `scripts/derive` printed.
+//! Types that `scripts/derive` printed from the declarations in `declarations`, as it printed them, and their tests.
 #![tactic(auto)]
 
+#[cfg(test)]
+mod ec_private_key;
+#[cfg(test)]
+mod items;
+#[cfg(test)]
+mod page;
 #[cfg(test)]
 mod tests;

@@ -2,16 +2,16 @@
 
 mod ec_private_key;
 
+use crate::items::{
+    AnyContent, AnyContentUnknown, AnySequence, Content, Entry, Letter, Listed, MySequence, Notice,
+    other_oid, sha256_with_rsa, some_oid,
+};
+use crate::page::{Alternative, Bag, Nothing, ResponderId, Signature, Tagged};
 use asn1::{
     Asn1Readable, Asn1Writable, DefinedByMarker, Explicit, ObjectIdentifier, OctetStringEncoded,
     ParseError, ParseErrorKind, ParseLocation, SetOfWriter, Tlv, WriteError, parse_single,
     write_readable, write_single,
 };
-use derived::items::{
-    AnyContent, AnyContentUnknown, AnySequence, Content, Entry, Letter, Listed, MySequence, Notice,
-    other_oid, sha256_with_rsa, some_oid,
-};
-use derived::page::{Alternative, Bag, Nothing, ResponderId, Signature, Tagged};
 use std::alloc::Global;
 use std::test::Fail;
 use testing::{are_both_ways, are_refused_with, both_ways, refused};

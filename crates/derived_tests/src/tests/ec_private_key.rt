@@ -1,7 +1,7 @@
 //! A private key that openssl made.
 
+use crate::ec_private_key::EcPrivateKey;
 use asn1::{parse_single, write_readable};
-use derived::ec_private_key::EcPrivateKey;
 use std::test::Fail;
 
 /// A throwaway key of P-256, without the curve's identifier.

@@ -1,7 +1,7 @@
--- Printed by scripts/derive from declarations/items.rs, with the sum 1097dfdd.
+-- Printed by scripts/derive from declarations/items.rs, with the sum 7e39b82f.
 use Rattle.std.proofs.Common.{inl, rules}
 use Rattle.asn1.specs.Lemmas.Variants.{unmoved_keeps_front}
-use Rattle.derived.proofs.items.ListedAsn1DefinedByWritableObjectIdentifier.write.Goals as goal
+use Rattle.derived_tests.proofs.items.ListedAsn1DefinedByWritableObjectIdentifier.write.Goals as goal
 
 pub write_element-requires : goal.write_element-requires
 write_element-requires c = inl (search rules)

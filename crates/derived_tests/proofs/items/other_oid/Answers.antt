@@ -1,9 +1,9 @@
--- Printed by scripts/derive from declarations/items.rs, with the sum a774e50c.
+-- Printed by scripts/derive from declarations/items.rs, with the sum e8525b2c.
 use Rattle.std.proofs.Common.{refl, sym}
 use Rattle.asn1.specs.Base128.{number_front}
 use Rattle.asn1.specs.Identifier.{numbers_in, read_identifier}
 use Rattle.asn1.specs.Lemmas.Results.{ok_is}
-use Rattle.derived.proofs.items.some_oid.Goals as goal
+use Rattle.derived_tests.proofs.items.other_oid.Goals as goal
 
 pub known_identifier-requires : goal.known_identifier-requires
 unfolding read_identifier numbers_in number_front

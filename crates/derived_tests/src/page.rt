@@ -1,5 +1,5 @@
 //! Structures and choices: each attribute of the original's derives for them, once.
-// Printed by scripts/derive from declarations/page.rs, with the sum dddf674c.
+// Printed by scripts/derive from declarations/page.rs, with the sum b60e4c41.
 
 ghost use Rattle.std.specs.Prelude.{◌≡◌, ◌∷◌, [], codes, negsuc, false, OnErr};
 ghost use Rattle.std.proofs.Common.{inl, inr};
@@ -259,7 +259,7 @@ pub enum ResponderId<'a> {
 }
 
 impl<'a> Asn1Type for ResponderId<'a> {
-    ghost use Rattle.derived.specs.declared.page.ResponderId.TheVariants.{ByName, ByKey};
+    ghost use Rattle.derived_tests.specs.declared.page.ResponderId.TheVariants.{ByName, ByKey};
 
     ghost der = { choice_der (elim [
       | ByName x ↦ inl (⟦<Strings<'a> as Asn1Type>⟧.der.meaning x)

@@ -1,5 +1,5 @@
 //! Values that an item before them defines: each attribute of the original's derives for them, once.
-// Printed by scripts/derive from declarations/items.rs, with the sum ace81e36.
+// Printed by scripts/derive from declarations/items.rs, with the sum 9f16380f.
 
 ghost use Rattle.std.specs.Prelude.{◌≡◌, ◌⊎◌, ◌∷◌, [], codes, true, false, ⊤, MatchOption, OnErr};
 ghost use Rattle.std.specs.Str.{bytes_eq};
@@ -11,7 +11,7 @@ ghost use Rattle.asn1.specs.Reading.{EndsWith};
 ghost use Rattle.asn1.specs.Reads.{HasOneEncoding, ReadsContents, ReadsDefined};
 ghost use Rattle.asn1.specs.Structures.{defaulted, implicit, structure, fields1};
 ghost use Rattle.asn1.specs.Variants.{any_variant, identifier_with, or_variant, variant};
-ghost use Rattle.derived.specs.declared.items.TheConstants.{OTHER_OID_NUMBERS, SHA256_WITH_RSA_NUMBERS, SOME_OID_NUMBERS};
+ghost use Rattle.derived_tests.specs.declared.items.TheConstants.{OTHER_OID_NUMBERS, SHA256_WITH_RSA_NUMBERS, SOME_OID_NUMBERS};
 
 use crate::page::{Tagged, tagged_is_lawful};
 use asn1::fields::{
@@ -119,7 +119,7 @@ pub enum Content {
 }
 
 impl Asn1DefinedBy<ObjectIdentifier> for Content {
-    ghost use Rattle.derived.specs.declared.items.Content.TheVariants.{SomeVariant, RsaParameters};
+    ghost use Rattle.derived_tests.specs.declared.items.Content.TheVariants.{SomeVariant, RsaParameters};
 
     ghost by = { by_item (record {
       item = ⟦<ObjectIdentifier as Asn1Type>⟧.der;
@@ -263,7 +263,7 @@ pub enum AnyContent<'a> {
 }
 
 impl<'a> Asn1DefinedBy<ObjectIdentifier> for AnyContent<'a> {
-    ghost use Rattle.derived.specs.declared.items.AnyContent.TheVariants.{Octets, Number, Flag, Unknown};
+    ghost use Rattle.derived_tests.specs.declared.items.AnyContent.TheVariants.{Octets, Number, Flag, Unknown};
 
     ghost by = { by_item (record {
       item = ⟦<ObjectIdentifier as Asn1Type>⟧.der;
@@ -673,7 +673,7 @@ pub enum Listed<'a> {
 }
 
 impl<'a> Asn1DefinedBy<ObjectIdentifier> for Listed<'a> {
-    ghost use Rattle.derived.specs.declared.items.Listed.TheVariants.{Tagged, Numbers, Unknown};
+    ghost use Rattle.derived_tests.specs.declared.items.Listed.TheVariants.{Tagged, Numbers, Unknown};
 
     ghost by = { by_item (record {
       item = ⟦<ObjectIdentifier as Asn1Type>⟧.der;
