@@ -35,7 +35,7 @@ def reject(wrong, line, reason):
 
 @dataclass
 class Type:
-    """A type as it is written: its name, and what stands in its angle brackets."""
+    """A type as it is written: its name, and what is in its angle brackets."""
 
     name: str
     args: list = field(default_factory=list)
@@ -118,16 +118,16 @@ class Reader:
         return self.tokens[self.at][1]
 
     def takes(self, *patterns):
-        """The next token, where these match it and those behind it; else nothing is taken."""
+        """The next token, if these match it and those after it; else nothing is taken."""
         tokens = [token for token, _ in self.tokens[self.at : self.at + len(patterns)]]
         found = all(map(re.fullmatch, patterns, tokens))
         self.at += len(patterns) if found else 0
         return tokens[0] if found else ""
 
     def expect(self, pattern, what=""):
-        stands, found = self.tokens[self.at][0], self.takes(pattern)
+        word, found = self.tokens[self.at][0], self.takes(pattern)
         what = what or f"`{pattern.replace(chr(92), '')}`"
-        reject(not found, self.line, f"{what} was expected, and `{stands}` stands here")
+        reject(not found, self.line, f"{what} was expected, and found `{word}`")
         return found
 
     def until(self, end):
@@ -162,12 +162,12 @@ class Reader:
             return ["///" + words[1][1:-1]]
         if name != "allow":
             reject(name not in ATTRIBUTES, line, f"the attribute `{name}` isn't known")
-            reject(name in attributes and name != "derive", line, f"the attribute `{name}` stands here twice")
+            reject(name in attributes and name != "derive", line, f"the attribute `{name}` is here twice")
             attributes.setdefault(name, []).extend([*words[1:-1], ","])
         return []
 
     def path(self):
-        """A path's last name, with what stands in front of it unless this is the crate `asn1` or a part of std."""
+        """A path's last name, with what is before it unless this is the crate `asn1` or a part of std."""
         names = [self.expect(WORD, "a type")]
         while self.takes("::"):
             names.append(self.expect(WORD, "a name"))
@@ -206,7 +206,7 @@ class Reader:
         return found
 
     def parts(self, read, end):
-        """What stands between brackets, with commas between."""
+        """What is between brackets, with commas between."""
         found = []
         while not self.takes(end):
             found.append(read())

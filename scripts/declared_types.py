@@ -1,4 +1,4 @@
-"""What is known of declared types: their tags, their derives, and how a field stands in its row.
+"""What is known of declared types: their tags, their derives, and what a field is in its row.
 
 What has no form is rejected here, except what the reader of declarations doesn't take.
 """
@@ -13,7 +13,7 @@ COPY = frozenset(KEPT)
 ALL = COPY - {"Copy"}
 ASN1 = ("Asn1Read", "Asn1Write", "Asn1DefinedByRead", "Asn1DefinedByWrite")
 LISTS = ("SequenceOf", "SetOf", "SequenceOfWriter", "SetOfWriter")
-# What stands in a type's brackets: a lifetime, a type, or a number.
+# What is in a type's brackets: a lifetime, a type, or a number.
 SHAPES = {
     **dict.fromkeys(("Option", "Box", "OctetStringEncoded", "DefinedByMarker"), "T"),
     **dict.fromkeys(("Implicit", "Explicit"), "Tn"),
@@ -42,7 +42,7 @@ def tagged(number, is_constructed=False, kind="universal"):
     return frozenset({(kind, number, is_constructed)})
 
 
-# Types by their derives and by what stands in their brackets, each name behind the number of its tag.
+# Types by their derives and by what is in their brackets, each name after the number of its tag.
 LIBRARY = {
     name: (Known(tagged(int(number), number in ("16", "17")), derives), shape)
     for derives, shape, types in (
@@ -100,7 +100,7 @@ class Module:
         item.reject(is_unused, "declares a lifetime, and nothing in it has one")
 
     def known(self, type):
-        """What is known of a type; nothing where it is declared elsewhere."""
+        """What is known of a type; nothing if it is declared elsewhere."""
         name, item = type.name, self.items.get(type.name)
         found, shape = LIBRARY.get(name, (None, SHAPES.get(name)))
         if item:
@@ -162,7 +162,7 @@ class Module:
         return Known(tags, derives, any(known.is_missing for _, known in parts), False)
 
     def check_part(self, item, part):
-        """A value that an item defines stands behind it, and under an explicit tag at most."""
+        """A value that an item defines comes after it, and under an explicit tag at most."""
         type, known = self.known(part.type), self.known(part.form)
         is_choice = item.kind == "enum" and part.tag and not type.is_simple and type.tags != ANY
         part.reject(is_choice, "is a choice or an option under a tag: put a struct around it")
@@ -173,10 +173,10 @@ class Module:
         part.reject(by and is_wrapped, "is defined by an item: it is there, with an explicit tag or none")
         is_other = not is_value and (declared or part.base.name in LIBRARY or part.base.name in SHAPES)
         part.reject(by and is_other, "is defined by an item, and its type is not")
-        # The trait whose impl says which errors a write returns, where these are not none.
+        # The trait whose impl says which errors a write returns, if any.
         part.fails = known.fails and ("SimpleAsn1Writable" if known.is_simple else "Asn1Writable")
         is_read = item.reads or item.kind == "enum"
-        part.reject(part.fails and is_read, "is a list made in code: it stands only in a struct that isn't read")
+        part.reject(part.fails and is_read, "is a list made in code, and may be only in a struct that isn't read")
 
     def check_tags(self, item, part, others):
         """A field that may be missing is told from what may follow it, and a variant from the others."""

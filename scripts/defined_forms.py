@@ -37,11 +37,11 @@ def octets_of(item):
 
 
 def identifier(item):
-    """A function that returns an identifier: its clause has the numbers, of which the first stands for two."""
+    """A function that returns an identifier: its clause has the numbers, of which the first means two."""
     numbers, octets = octets_of(item)
     contents = "".join(f"\\x{octet:02x}" for octet in octets)
     return f"""
-/// The numbers of [`{item.name.lower()}`], as they are encoded: the first stands for two.
+/// The numbers of [`{item.name.lower()}`], as they are encoded: the first means two.
 pub const {item.name}_NUMBERS: [{"u64" if max(numbers) < 2**64 else "u128"}; {len(numbers)}] = {numbers};
 
 {comment(item, f"The identifier {'.'.join(item.arcs)}.")}
@@ -54,7 +54,7 @@ pub fn {item.name.lower()}() -> ObjectIdentifier
 
 
 class Defined(Alternatives):
-    """An enum with a variant for each identifier that is known, where the last may serve every other."""
+    """An enum with a variant for each identifier that is known; the last may serve every other."""
 
     def __init__(self, item, module):
         super().__init__(item, module)
@@ -122,7 +122,7 @@ pub struct {of} {{
 }}
 
 impl<{self.life}> {of} {{
-    /// Of this identifier and this value; `None` where another variant is for the identifier.
+    /// Of this identifier and this value; `None` if another variant is for the identifier.
     pub fn new(item: {ITEM}, value: Tlv<{self.life}>) -> Option<{of}>
         ensures {{ MatchOption result {served} (λ v. (v.item ≡ item) × (v.value ≡ value.entry)) }}
     {{
@@ -143,7 +143,7 @@ impl<{self.life}> {of} {{
 """
 
     def clone(self):
-        """The impl of `Clone` for what the default keeps: it isn't derived where a ghost field stands."""
+        """The impl of `Clone` for what the default keeps: it isn't derived, because of the ghost field."""
         return f"""
 impl<{self.life}> Clone for {self.kept}<{self.life}> {{
     ghost is_clone = {{ λ x y. (identifier_of y.item ≡ identifier_of x.item) × (y.value ≡ x.value) }};

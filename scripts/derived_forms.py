@@ -45,7 +45,7 @@ class Form:
         return f"{text}pub {self.item.kind} {self.item.own} {{\n{parts}\n}}\n"
 
     def impl(self, trait, *members):
-        """An impl of a trait. Clauses are written where the type has a lifetime: else they are the trait's."""
+        """An impl of a trait. Clauses are written if the type has a lifetime; else they are the trait's."""
         head, text = f"{trait} for {self.item.own}", textwrap.indent("\n".join(members), "    ")
         text = text if self.item.life else re.sub(r"\n *ensures .*", "", text)
         generics = angle(self.life) if "'" in head else ""
@@ -88,14 +88,14 @@ class Structure(Form):
         return text
 
     def pair_items(self):
-        """Gives each marker its value, and each such value the type of its item."""
+        """Gives each marker its value, and each of these values the type of its item."""
         paired = [part for part in self.parts if part.type.name == "DefinedByMarker" or "defined_by" in part.attributes]
         for marker, value in zip_longest(paired[::2], paired[1::2]):
-            marker.reject("defined_by" in marker.attributes, "doesn't stand after the marker of its item")
+            marker.reject("defined_by" in marker.attributes, "isn't after the marker of its item")
             follows = f"`#[defined_by({marker.name})]` has to follow, with no other marker between"
             marker.reject(not value or "defined_by" not in value.attributes, f"marks an item: {follows}")
             is_behind = value.attributes["defined_by"] == [marker.name, ","]
-            value.reject(not is_behind, "doesn't stand after the marker of its item")
+            value.reject(not is_behind, "isn't after the marker of its item")
             marker.value, value.item = value, marker.type.inner[0]
 
     def in_row(self, part):
@@ -135,7 +135,7 @@ class Structure(Form):
         return part.name + of + (f": {self.in_row(part)}" if part.value or part.is_wrapped else "")
 
     def errors(self):
-        """Which errors a write may return, where there are any: those of lists that are made in code."""
+        """Which errors a write may return, if any: those of lists that are made in code."""
         lists = [part for part in self.parts if part.fails]
         errors = [f"{quoted(part.form, part.fails)}.write_errors {group(self.seen(part))} e" for part in lists]
         return f"ghost write_errors = {{ λ v e. {' ⊎ '.join(errors)} }};" if errors else ""
@@ -149,7 +149,7 @@ class Structure(Form):
         if part.tag:
             term, made = f"record {{ inner = {term} }}", f"{part.tag.capitalize()}::new({value})"
         return f"""
-/// What `{part.name}` is where it is left out.
+/// What `{part.name}` is if it is left out.
 #[derive(Debug, PartialEq, Eq, Drop)]
 pub struct {part.title};
 
@@ -164,7 +164,7 @@ class Alternatives(Form):
     """What a choice and an enum that an item defines have both."""
 
     def variants(self):
-        """The import of the variants, which stands in the impl: there no other enum's variants have these names."""
+        """The import of the variants, in the impl: there no other enum's variants have these names."""
         names = ", ".join(part.name for part in self.parts)
         return f"ghost use Rattle.{self.module.specs}{self.name}.TheVariants.{{{names}}};"
 
@@ -243,12 +243,12 @@ def choices_of(item, parts, name):
 
 
 def side(at, count):
-    """Where the meaning of one of so many stands in their sum."""
+    """Where the meaning of one of this many alternatives is in their sum."""
     return "(inr " * at + ("(inl {})" if at < count - 1 else "{}") + ")" * at
 
 
 def places_of(parts, pattern="{}", place="{}"):
-    """Of each variant: the pattern of the library's choice, and where its meaning stands in the sum of all."""
+    """Of each variant: the pattern of the library's choice, and where its meaning is in the sum of all."""
     branches = branches_of(parts)
     for at, branch in enumerate(branches):
         inner = pattern.format(f"Choice{len(branches)}::Choice{'ABC'[at]}({{}})")
@@ -266,7 +266,7 @@ def lawful(module, item):
 
 
 def law(module, own, types):
-    """The law of a type of these types, whose laws it calls. Where one may be missing, or for a choice, tags differ."""
+    """The law of a type of these types, whose laws it calls. If one may be missing, or for a choice, tags differ."""
     name = own.split("<")[0]
     declared = module.items.get(name)
     is_choice = not declared or declared.kind == "enum"

@@ -17,7 +17,7 @@ CLAUSE = re.compile(r"\b(?:requires|(ensures))(?:\s+(\w+))?\s+\{|\bghost (\w+)(?
 
 
 def report(results, tells_all=False):
-    """Prints each result that isn't well, or all, and how many are; the status is 1 where one isn't, or none is."""
+    """Prints each result that isn't well, or all, and how many are; the status is 1 if one isn't, or none is."""
     counts = {True: 0, False: 0}
     for is_well, said in results:
         counts[is_well] += 1
@@ -40,7 +40,7 @@ def libraries(*others):
 
 
 def spans_of_clauses(text):
-    """Each clause and ghost member: its name, 'unnamed' where it has none and nothing for `requires`; where it begins,
+    """Each clause and ghost member: its name, 'unnamed' if it has none and nothing for `requires`; where it begins,
     and where its text in braces begins and ends."""
     for found in CLAUSE.finditer(text):
         depth, end = 1, found.end()
@@ -73,7 +73,7 @@ def cut_generics(header):
 
 
 def word(named, parameters):
-    """A type or trait as it stands in the name of an impl; parameters and lifetimes are left out."""
+    """A type or trait as the name of an impl has it; parameters and lifetimes are left out."""
     if named.startswith("&"):
         return "Ref" + word(re.sub(r"^&('\w+ )?", "", named), parameters)
     if named.startswith("["):
@@ -88,7 +88,7 @@ def word(named, parameters):
 
 
 def impl_name(header):
-    """The name of an impl, and that of its trait, where it has one."""
+    """The name of an impl, and that of its trait, if it has one."""
     generics, rest = cut_generics(re.sub(r"\s+", " ", header.replace("->", "")).strip())
     parameters = {re.match(r"(?:const )?('?\w+)", part)[1] for part in parts(generics)}
     trait, _, of = rest.strip().rpartition(" for ")
@@ -143,7 +143,7 @@ def function_in(item, start, path, is_public, trait="", indent=""):
 
 def functions(crate):
     """The functions of a crate, those of its traits that have no body too. A method of no trait has the path of its type,
-    wherever its impl stands."""
+    wherever its impl is."""
     source, texts = CRATES / crate / "src", {}
     for file in sorted(source.rglob("*.rt")):
         path = [crate, *(part for part in file.relative_to(source).with_suffix("").parts if part != "lib")]

@@ -1,24 +1,24 @@
 """The wrong bodies in crates/NAME/must-fail and crates/NAME/wrong-bodies: reading them, putting them into a copy of a
 crate, and the state of a crate that scripts/planted.txt keeps. `rt ci` tries those of must-fail, and reads their lines
-file, old and new alone. Those of wrong-bodies/first the gate plants each time, the others where a crate changes.
+file, old and new alone. Those of wrong-bodies/first the gate plants each time, the others if a crate changes.
 
 A file holds one wrong body or several, parted by empty lines; a line that begins with # is a comment, which says what the
 body does, or the file's. Each is a few lines 'key: value':
 
 function: PATH      the function that has to be refused, by its path in the crate, as a check names it
-body: TEXT          what stands in place of its whole body; or
-first: TEXT         what stands in front of its body; or
+body: TEXT          what replaces its whole body; or
+first: TEXT         what comes before its body; or
 file: src/NAME.rt   a file, and pairs of
-old: TEXT           a text that stands in the file once, and
-new: TEXT           what stands in its place
-clause: NAMES       what the body breaks: clauses of the function, 'the only one' where it has one, or a goal by its name,
+old: TEXT           a text that the file has once, and
+new: TEXT           what replaces it
+clause: NAMES       what the body breaks: clauses of the function, 'the only one' if it has one, or a goal by its name,
                     as that of a struct's ghost field
-test: CRATE::PATH   the test that fails with it: where the function has a proof written by hand, or where the prover
+test: CRATE::PATH   the test that fails with it: if the function has a proof written by hand, or if the prover
                     finds a step without a proof and not a clause; or
 no test: REASON     why none can
 must: WORDS         in a folder canaries alone: what has to come out in place of a refusal
 
-A list such as {i8,i16} stands for each of its words in turn. In must-fail a file holds one body, with old and new texts
+A list such as {i8,i16} means each of its words in turn. In must-fail a file holds one body, with old and new texts
 and no list.
 """
 
@@ -59,7 +59,7 @@ def changes_of(crate, said, function):
     for (_, old), (_, new) in zip(*[iter(pair for pair in said if pair[0] in ("old", "new"))] * 2):
         text = file.read_text()
         if text.count(old) != 1:
-            raise ValueError("an old text that stands there not once")
+            raise ValueError("an old text that the file doesn't have once")
         changes.append(Change(file.relative_to(CRATES / crate), text.index(old), text.index(old) + len(old), new))
     return changes
 
@@ -161,7 +161,7 @@ def without_bodies(file):
 def state_of(name):
     """A hash of all that decides whether a crate's wrong bodies are refused: its sources, specs, proofs and wrong bodies,
     and of the crates below the specs and the contracts, which its own cite; their bodies and proofs show nowhere above.
-    In which file a wrong body stands decides nothing, and no check of the prover runs its test.
+    In which file a wrong body is decides nothing, and no check of the prover runs its test.
     """
     places = [(name, folder, without_comments) for folder in ["src", "specs", "proofs"]]
     places += [(crate, *it) for crate in below(name) for it in (("src", without_bodies), ("specs", without_comments))]

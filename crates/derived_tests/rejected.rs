@@ -129,7 +129,7 @@ struct TwiceMissing {
 
 #[derive(asn1::Asn1Read)]
 struct Written<'a> {
-    items: asn1::SequenceOfWriter<'a, u8>, //~ `items` is a list made in code: it stands only in a struct that isn't read
+    items: asn1::SequenceOfWriter<'a, u8>, //~ `items` is a list made in code, and may be only in a struct that isn't read
 }
 
 #[derive(asn1::Asn1Read)]
@@ -264,7 +264,7 @@ use crate::content::Content;
 struct Unmarked {
     kind: asn1::ObjectIdentifier,
     #[defined_by(kind)]
-    content: Content, //~ `content` doesn't stand after the marker of its item
+    content: Content, //~ `content` isn't after the marker of its item
 }
 
 const WRONG: asn1::ObjectIdentifier = asn1::oid!(1, 40, 1); //~ `WRONG` is no identifier: its second number is below 40 after 0 and 1
@@ -309,7 +309,7 @@ struct Ghost {
 
 #[derive(asn1::Asn1Read)]
 struct Raw {
-    r#type: bool, //~ `:` was expected, and `#` stands here
+    r#type: bool, //~ `:` was expected, and found `#`
 }
 
 #[derive(asn1::Asn1Read)]
@@ -402,7 +402,7 @@ enum OptionalVariant {
 
 #[derive(asn1::Asn1Write)]
 enum ListOfCode<'a> {
-    List(asn1::SetOfWriter<'a, u8>), //~ `List` is a list made in code: it stands only in a struct that isn't read
+    List(asn1::SetOfWriter<'a, u8>), //~ `List` is a list made in code, and may be only in a struct that isn't read
     Number(u8),
 }
 

@@ -1,4 +1,4 @@
--- Sets of the same octets have the same multisets of element texts, and the other way round.
+-- Sets have the same octets exactly if they have the same multiset of encodings of elements.
 use Rattle.std.proofs.Common.{ℕ, List, [], ◌∷◌, map, ap, subst}
 use Rattle.asn1_core.specs.Element.{element, element_text}
 use Rattle.asn1_core.specs.Reading.{Fits}

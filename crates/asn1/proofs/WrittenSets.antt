@@ -1,4 +1,4 @@
--- Elements that were written one behind another in order are the content of a set.
+-- Elements that were written one after another in order are the contents octets of a set.
 use Rattle.std.proofs.Common.{◌≡◌, ◌<◌, ◌≤◌, ◌^◌, ◌++◌, ◌∙◌, ℕ, List, [], ◌∷◌, length, Option, Some, None, Result, false, refl, sym, ap, subst, arith, append_assoc, length-append}
 use Rattle.std.proofs.lemmas.List.{append-nil}
 use Rattle.std.specs.Fn.{Once}
@@ -19,7 +19,7 @@ last_tag [] = None
 last_tag (e ∷ []) = Some e.tag
 last_tag (e ∷ f ∷ es) = last_tag (f ∷ es)
 
--- elements with small tags, joined in order
+-- elements with tag numbers below 2^32, concatenated in the order of their tags
 record Ordered (done : List ℕ) (last : Option Tag) : Type 0 where
   pub elements : List Element
   pub small : Each (λ e. e.tag.value < 2 ^ 32) elements

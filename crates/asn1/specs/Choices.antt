@@ -13,7 +13,7 @@ use Rattle.asn1.specs.Alternatives.{Disjoint, either, either_text, only_read, or
 use Rattle.asn1.specs.Lemmas.Choices.{only_takes, only_again, only_faults, or_takes, or_again, or_faults, or_shape, or_accepted, or_one, or_both, or_pair, or_weaker, or_all, or_memory, choice_takes, choice_again, choice_faults}
 use Rattle.std.proofs.Common.{inl, inr, sym, ◌∙◌}
 
--- One or more alternatives, whose values mean an M: what an element is read as, and the laws.
+-- One or more alternatives, whose abstract values are an M: what an element is read as, and the laws.
 pub record Alternatives (M : Type 0) : Type 1 where
   pub text : M → List ℕ
   pub texts : M → List ℕ → Type 0

@@ -1,11 +1,11 @@
--- What a field with a default means (X.690 11.5), and what is asked of the equality of its type.
+-- What a field with a default means (X.690 11.5), and what is required of the equality of its type.
 use Rattle.std.specs.Prelude.{◌≡◌, ◌⊎◌, ℕ, Bool, true, false, List, Ok}
 use Rattle.asn1_core.specs.Options.{option_out}
 use Rattle.asn1_core.specs.Der.{Der, no_content}
 use Rattle.asn1.specs.Defaults.{same_text, unless, default_text, default_read}
 use Rattle.asn1.specs.Lemmas.Defaults.{default_takes, default_shape, default_accepted, default_again, default_faults, default_one, default_both, default_weaker}
 
--- Values that are equal mean the same, and values with the same text are equal.
+-- Equal values mean the same, and values with the same encoding are equal.
 pub record EqualityTells {V M : Type 0} (meaning : V → M) (text : M → List ℕ) (same : V → V → Bool) (a b : V) : Type 0 where
   pub means : same a b ≡ true → meaning a ≡ meaning b
   pub equal : text (meaning a) ≡ text (meaning b) → same a b ≡ true
@@ -14,7 +14,7 @@ pub record EqualityTells {V M : Type 0} (meaning : V → M) (text : M → List �
 abbrev pub ContentTells : {V M : Type 0} → (V → M) → (M → List ℕ) → (V → V → Bool) → V → V → Type 0
 ContentTells meaning text same a b = text (meaning a) ≡ text (meaning b) → same a b ≡ true
 
--- A value of the type that has no text where that would be the text of the default.
+-- A value of the type, which is encoded as nothing if its encoding is the encoding of the default.
 abbrev pub default_der : {V W : Type 0} → (W → V) → (d : Der V) → d.Meaning → Der W
 default_der view d default = record {
   Meaning = d.Meaning;

@@ -1,11 +1,11 @@
--- What reading a value returns whose type an item defines: an element, or a variant that a test of the item knows.
+-- What reading returns for a value whose type an item defines: an element, or a variant whose item a test knows.
 use Rattle.std.proofs.Common.{◌≡◌, ℕ, Bool, List, Result, Ok, inr, true, if◌then◌else◌, Err, ◌⊎◌, inl}
 use Rattle.asn1_core.specs.Element.{element_text, ◌>>=◌}
 use Rattle.asn1_core.specs.Fault.{Fault, fault}
 use Rattle.asn1_core.specs.Reading.{element_front, whole}
 use Rattle.asn1_core.specs.declared.parser.ParseErrorKind.TheVariants.{UnknownDefinedBy}
 
--- a content that is one element, read as it stands and then as a value
+-- contents octets that are one element, which is framed and then read as a value
 abbrev pub element_read : {M : Type 0} → (List ℕ → Result (M × List ℕ) Fault) → List ℕ → Result M Fault
 element_read read c = whole (element_front c) >>= λ e. whole (read (element_text e))
 
@@ -26,6 +26,6 @@ or_item i items (inr n) = items n
 abbrev pub or_known : {M N : Type 0} → Bool → (List ℕ → Result (M × List ℕ) Fault) → (List ℕ → Result (N × List ℕ) Fault) → List ℕ → Result ((M ⊎ N) × List ℕ) Fault
 or_known known read others t = if known then (read t >>= λ x. Ok (inl x.0, x.1)) else others t >>= λ x. Ok (inr x.0, x.1)
 
--- A value of every item, which keeps the item.
+-- A value for any item, which keeps the item.
 abbrev pub with_item : {I M : Type 0} → I → M × List ℕ → Result ((I × M) × List ℕ) Fault
 with_item i x = Ok ((i, x.0), x.1)

@@ -1,4 +1,4 @@
--- That the equality of a type tells its values by their texts: what is said once for each kind of type.
+-- The equality of a type tells its values by their encodings. This is proved once for each kind of type.
 use Rattle.std.proofs.Common.{◌≡◌, ℕ, ℤ, pos, Bool, true, false, List, [], ◌∷◌, ◌++◌, length, drop, Option, Some, None, Result, Ok, refl, sym, ap, ◌∙◌, inl, inr, arith}
 use Rattle.std.specs.Prelude.{nat_eq, ◌&&◌}
 use Rattle.std.specs.Option.{option_eq}
@@ -40,7 +40,7 @@ use Rattle.asn1_values.specs.Lemmas.Fractions.{instant_again}
 use Rattle.asn1_values.specs.Lemmas.Big.{content_of_signed, signed_form}
 use Rattle.asn1.specs.Defaulted.{EqualityTells, ContentTells}
 
--- ---- elements with the same tag and the same text have the same content
+-- ---- elements with the same tag and the same encoding have the same contents octets
 
 heads : (x y : ℕ) (xs ys : List ℕ) → x ∷ xs ≡ y ∷ ys → (x ≡ y) × (xs ≡ ys)
 heads x y xs ys e = (cc, cc)
@@ -73,7 +73,7 @@ content_alone tag c d e = lengths_apart c d (append_cancel_left (tag_text tag) _
 
 -- ---- the types
 
--- a simple type, by its content
+-- a simple type, by its contents octets
 pub simple_tells : {V M : Type 0} (view : V → M) (tag : Tag) (text : M → List ℕ) (same : V → V → Bool) (a b : V) → (same a b ≡ true → view a ≡ view b) → (text (view a) ≡ text (view b) → same a b ≡ true) → EqualityTells view (λ m. element_text (element tag (text m))) same a b
 simple_tells view tag text same a b means equal = record { means = means; equal = λ e. equal (content_alone tag (text (view a)) (text (view b)) e) }
 
@@ -105,18 +105,18 @@ natural_of a b e = cc
 abbrev pub number_text : Tag → ℤ → List ℕ
 number_text tag z = element_text (element tag (integer_content z))
 
--- integers, by the number that a value stands for
+-- integers, by the number that a value means
 pub integers_tell : (tag : Tag) (a b : ℤ) → EqualityTells (λ z. z) (number_text tag) int_eq a b
 integers_tell tag a b = simple_tells (λ z. z) tag integer_content int_eq a b (Decides-int_eq a b).0 (λ e. (Decides-int_eq a b).1 (numbers_alone a b e))
 
 pub naturals_tell : (tag : Tag) (a b : ℕ) → EqualityTells (λ n. pos n) (number_text tag) nat_eq a b
 naturals_tell tag a b = simple_tells (λ n. pos n) tag integer_content nat_eq a b (λ e. ap (λ (n : ℕ). pos n) ((Decides-eqb a b).0 e)) (λ e. (Decides-eqb a b).1 (natural_of a b (numbers_alone (pos a) (pos b) e)))
 
--- octets that are the content themselves
+-- values whose octets are the contents octets
 pub octets_tell : {V : Type 0} (view : V → List ℕ) (tag : Tag) (same : V → V → Bool) (a b : V) → Decides (same a b) (view a ≡ view b) → EqualityTells view (λ m. element_text (element tag m)) same a b
 octets_tell view tag same a b decides = simple_tells view tag (λ m. m) same a b decides.0 decides.1
 
--- ---- the same of contents alone
+-- ---- the same of contents octets alone
 
 pub bools_content_tells : (same : Bool → Bool → Bool) → same true true ≡ true → same false false ≡ true → (a b : Bool) → ContentTells (λ x. x) bool_content_text same a b
 bools_content_tells same both none a b e = bools_equal same both none a b (bools_alone a b e)
@@ -258,14 +258,14 @@ generalized_times_tell = read_back_tells instant_of instant_text read_instant sa
 
 -- ---- wrappers
 
--- values that are seen through something, as the inner value of a wrapper
+-- values that are seen as others, for example a wrapper as its inner value
 pub seen_tells : {V W M : Type 0} (view : W → V) (meaning : V → M) (text : M → List ℕ) (same : V → V → Bool) (a b : W) → EqualityTells meaning text same (view a) (view b) → EqualityTells (λ w. meaning (view w)) text (λ x y. same (view x) (view y)) a b
 seen_tells view meaning text same a b tells = record { means = tells.means; equal = tells.equal }
 
--- the same, in an element of its own
+-- the same, with the encoding as the contents octets of an element
 pub inside_tells : {V W M : Type 0} (view : W → V) (meaning : V → M) (tag : Tag) (text : M → List ℕ) (same : V → V → Bool) (a b : W) → EqualityTells meaning text same (view a) (view b) → EqualityTells (λ w. meaning (view w)) (λ m. element_text (element tag (text m))) (λ x y. same (view x) (view y)) a b
 inside_tells view meaning tag text same a b tells = record { means = tells.means; equal = λ e. tells.equal (content_alone tag (text (meaning (view a))) (text (meaning (view b))) e) }
 
--- the same content under another tag
+-- the same contents octets under another tag
 pub retagged_tells : {V W M : Type 0} (view : W → V) (meaning : V → M) (tag : Tag) (inner text : M → List ℕ) (same : V → V → Bool) (a b : W) → EqualityTells meaning inner same (view a) (view b) → ContentTells meaning text same (view a) (view b) → EqualityTells (λ w. meaning (view w)) (λ m. element_text (element tag (text m))) (λ x y. same (view x) (view y)) a b
 retagged_tells view meaning tag inner text same a b tells content = simple_tells (λ w. meaning (view w)) tag text (λ x y. same (view x) (view y)) a b tells.means content

@@ -4,6 +4,6 @@ use Rattle.asn1_core.specs.Tag.{universal}
 use Rattle.asn1_core.specs.Element.{element, element_text}
 use Rattle.asn1_core.specs.Boolean.{bool_content_text}
 
--- the text of a truth value
+-- the encoding of a Boolean
 abbrev pub bool_text : Bool → List ℕ
 bool_text value = element_text (element (universal 1) (bool_content_text value))

@@ -7,7 +7,7 @@ use Rattle.asn1_core.specs.Element.{◌>>=◌}
 use Rattle.asn1_core.specs.Fault.{Fault, add, within}
 use Rattle.asn1_core.specs.Reading.{all_taken}
 
--- A fault in a field gets the field's place.
+-- An error in a field gets the field's location.
 abbrev pub in_field : {A : Type 0} → List ℕ → Result A Fault → Result A Fault
 in_field name (Ok x) = Ok x
 in_field name (Err f) = Err (within (Field name) f)
@@ -15,18 +15,18 @@ in_field name (Err f) = Err (within (Field name) f)
 abbrev pub field_out : List ℕ → (List ℕ → List Place → Type 0) → List ℕ → List Place → Type 0
 field_out name out c places = (inner : List Place) × out c inner × (places ≡ add (Field name) inner)
 
--- The last field: nothing may be left behind it.
+-- The last field: nothing may remain after it.
 abbrev pub last_read : {M : Type 0} → List ℕ → (List ℕ → Result (M × List ℕ) Fault) → List ℕ → Result M Fault
 last_read name read c = in_field name (read c) >>= λ x. all_taken x.0 x.1
 
--- A field, and the others behind it.
+-- A field, and the others after it.
 abbrev pub field_read : {M N : Type 0} → List ℕ → (List ℕ → Result (M × List ℕ) Fault) → (List ℕ → Result N Fault) → List ℕ → Result (M × N) Fault
 field_read name read others c = in_field name (read c) >>= λ x. others x.1 >>= λ n. Ok (x.0, n)
 
 abbrev pub others_out : {M : Type 0} → (List ℕ → Result (M × List ℕ) Fault) → (List ℕ → List Place → Type 0) → List ℕ → List Place → Type 0
 others_out {M} read out c places = (x : M × List ℕ) × (read c ≡ Ok x) × out x.1 places
 
--- A text of each, one behind the other.
+-- An encoding of the first, and then an encoding of the second.
 pub record Both (texts1 texts2 : List ℕ → Type 0) (t : List ℕ) : Type 0 where
   pub front : List ℕ
   pub back : List ℕ
@@ -40,7 +40,7 @@ item_read name read behind c = in_field name (read c) >>= λ x. behind x.0 x.1
 abbrev pub behind_out : {I : Type 0} → (List ℕ → Result (I × List ℕ) Fault) → (I → List ℕ → List Place → Type 0) → List ℕ → List Place → Type 0
 behind_out {I} read out c places = (x : I × List ℕ) × (read c ≡ Ok x) × out x.0 x.1 places
 
--- a known length of both
+-- the length of both, if each is known and the sum is below 2^64
 abbrev pub IsSum : Option ℕ → Option ℕ → Option ℕ → Type 0
 IsSum (Some a) (Some b) n = SomeIff n (a + b < 2 ^ 64) (a + b)
 IsSum _ _ n = n ≡ None

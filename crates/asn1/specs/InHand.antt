@@ -1,4 +1,4 @@
--- Wrappers, choices, lists and sets in hand, to their callers.
+-- What the Rust values of wrappers, choices, lists and sets hold, for their callers.
 use Rattle.std.specs.Prelude.{ℕ, List, ◌⊎◌}
 use Rattle.asn1.specs.declared.wrappers.tagged.Explicit.{Explicit}
 use Rattle.asn1.specs.declared.wrappers.tagged.Implicit.{Implicit}
@@ -51,7 +51,7 @@ octets_of_set s = s.«data».now
 abbrev pub sequence_octets : Sequence → List ℕ
 sequence_octets s = s.«data».now
 
--- Any octets, as those of an octet string.
+-- Any octets, as in an octet string, under the tag of a sequence.
 abbrev pub sequence_content : Content (List ℕ)
 sequence_content = record octets_content { tag = sequence_tag }
 
@@ -67,7 +67,7 @@ choice3_meaning f g h (three.ChoiceA v) = inl (f v)
 choice3_meaning f g h (three.ChoiceB v) = inr (inl (g v))
 choice3_meaning f g h (three.ChoiceC v) = inr (inr (h v))
 
--- what is asked of the value that is there
+-- what is required of the value in a choice
 abbrev pub OfChoice1 : {A : Type 0} → (A → Type 0) → Choice1 A → Type 0
 OfChoice1 f (one.ChoiceA v) = f v
 
@@ -80,6 +80,6 @@ OfChoice3 f g h (three.ChoiceA v) = f v
 OfChoice3 f g h (three.ChoiceB v) = g v
 OfChoice3 f g h (three.ChoiceC v) = h v
 
--- An error that is made from one of these.
+-- An error that is made from one of these errors.
 abbrev pub MadeFrom : {A E : Type 0} → (A → E → Type 0) → (A → Type 0) → E → Type 0
 MadeFrom {A} gives one e = (a : A) × one a × gives a e

@@ -1,5 +1,5 @@
--- An item and a value that it defines, said together: for fields, which need what both mean, where each type says its
--- own part alone.
+-- An item and a value whose type it defines. Fields need what both mean, but each of the two types states only its own
+-- part.
 use Rattle.std.specs.Prelude.{ℕ, ◌≡◌, ◌↔◌, List, [], ◌∷◌, Result, Ok, Err, Bool, true, false, if◌then◌else◌}
 use Rattle.std.proofs.Common.{refl, ap, ◌∙◌, inl, inr}
 use Rattle.asn1_core.specs.declared.tag.Tag.{Tag}
@@ -16,16 +16,16 @@ use Rattle.asn1.specs.Defined.{by_inside, defined_inside}
 use Rattle.asn1_core.specs.Lemmas.Contents.{refuses_takes}
 use Rattle.asn1_core.specs.Lemmas.Faults.{refuses_faults}
 
--- What an item means, and what a value means that it defines.
+-- What an item means, and what a value means whose type the item defines.
 pub record ItemAndValue (T V : Type 0) : Type 1 where
   pub item : Der T
   pub value : DefinedBy item.Meaning V
 
--- the value's part of it
+-- the part of the value
 abbrev pub by_item : {T V : Type 0} → ItemAndValue T V → ByItem T V
 by_item both = record { Item = both.item.Meaning; seen = both.item.meaning; means = both.value }
 
--- What was read, with another meaning.
+-- The result of a read, with its abstract value mapped by f.
 abbrev pub seen_front : {M N : Type 0} → (M → N) → Result (M × List ℕ) Fault → Result (N × List ℕ) Fault
 seen_front f (Ok x) = Ok (f x.0, x.1)
 seen_front f (Err e) = Err e
@@ -34,7 +34,7 @@ abbrev pub seen_whole : {M N : Type 0} → (M → N) → Result M Fault → Resu
 seen_whole f (Ok m) = Ok (f m)
 seen_whole f (Err e) = Err e
 
--- Two sayings of what a type means agree: a meaning of the one stands for one of the other.
+-- Two statements of what a type means agree: each abstract value of the first is mapped to one of the second.
 pub record ItemAgrees {T : Type 0} (a b : Der T) : Type 0 where
   pub stands_for : a.Meaning → b.Meaning
   pub meaning : (v : T) → stands_for (a.meaning v) ≡ b.meaning v
@@ -56,7 +56,7 @@ pub record ValueAgrees {T V : Type 0} (by : ByItem T V) (both : ItemAndValue T V
   pub valid : (m : by.means.Meaning) → by.means.valid m → both.value.valid (stands_for m)
   pub plain : by.means.plain → both.value.plain
 
--- What a type and one that it defines say of themselves is what is said of both.
+-- The type of an item, and the type that the item defines, agree with what is stated of both together.
 abbrev pub Agrees : {T V : Type 0} → Der T → ByItem T V → ItemAndValue T V → Type 0
 Agrees d by both = ItemAgrees d both.item × ValueAgrees by both
 
@@ -64,7 +64,7 @@ same_front : {M : Type 0} (r : Result (M × List ℕ) Fault) → r ≡ seen_fron
 same_front (Ok x) = refl
 same_front (Err e) = refl
 
--- It is so where they say it word for word.
+-- They agree if they state the same, word for word.
 pub word_for_word : {T V : Type 0} (both : ItemAndValue T V) → Agrees both.item (by_item both) both
 word_for_word both = (
   record {
@@ -150,7 +150,7 @@ agrees_inside tag view d by both h =
       },
     )
 
--- The values of a type, meant by others.
+-- What a type states, for other values: `meaning` gives the abstract value of each.
 abbrev pub meant_by : {V W : Type 0} → (d : Der V) → (W → d.Meaning) → Der W
 meant_by d meaning = record {
   Meaning = d.Meaning;
@@ -197,7 +197,7 @@ meant_by d meaning = record {
 abbrev pub item_der : {T V W : Type 0} → (W → V) → ItemAndValue T V → Der W
 item_der view both = meant_by both.item (λ w. both.value.item (both.value.meaning (view w)))
 
--- A value without its item, which is only written: what it is read as depends on the item.
+-- A value without its item. This value is only written, since its reading depends on the item.
 abbrev pub written_value : {I V W : Type 0} → (W → V) → DefinedBy I V → Der W
 written_value view by = record {
   Meaning = by.Meaning;

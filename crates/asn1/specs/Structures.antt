@@ -12,11 +12,11 @@ use Rattle.asn1.specs.declared.wrappers.tagged.Explicit.{Explicit}
 use Rattle.asn1.specs.declared.wrappers.tagged.Implicit.{Implicit}
 use Rattle.asn1.specs.declared.wrappers.defaulted.Defaulted.{Defaulted}
 
--- A sequence of the fields as which a value is seen, with these names.
+-- A sequence of a row's fields with these names. Each value is seen as this row.
 abbrev pub structure : {V W : Type 0} → (W → V) → FieldList V → List (List ℕ) → Der W
 structure view row names = simple_der (λ w. row.meaning (view w)) (sequence row.fields names)
 
--- The same under another tag, such as that of a set (8.11) or of an application (8.14.3).
+-- The same under another tag, for example the tag of a set (8.11) or of an application (8.14.3).
 abbrev pub structure_with_tag : {V W : Type 0} → Tag → (W → V) → FieldList V → List (List ℕ) → Der W
 structure_with_tag tag view row names = simple_der (λ w. row.meaning (view w)) (retagged (λ own. tag) (sequence row.fields names))
 
@@ -27,7 +27,7 @@ encoded d v = d.texts (d.meaning v)
 abbrev pub owed : {V : Type 0} → Der V → V → Type 0
 owed d v = d.closures (d.meaning v)
 
--- ---- values of a struct's fields as values of a row's: under a tag, or with a default
+-- ---- values of a struct's fields as a row has them: under a tag, or with a default
 
 abbrev pub explicit : {T : Type 0} {tag : ℕ} → T → Explicit T tag
 explicit x = record { inner = x }

@@ -8,7 +8,7 @@ use Rattle.asn1.specs.Lemmas.Inside.{inside_takes, inside_again}
 use Rattle.asn1_core.specs.declared.tag.TagClass.TheVariants.{Application, Private}
 use Rattle.asn1_core.specs.Tag.{tag_with}
 
--- A content that is the text of one value. (X.690 8.14.2)
+-- Contents octets that are the encoding of one value. (X.690 8.14.2)
 abbrev pub one_inside : {V : Type 0} → Tag → (d : Der V) → Content d.Meaning
 one_inside tag d = record {
   tag = tag;
@@ -32,23 +32,23 @@ one_inside tag d = record {
   faults = λ c. whole_faults (d.read c) (d.faults c);
 }
 
--- The same content under another tag. (X.690 8.14.3)
+-- The same contents octets under another tag. (X.690 8.14.3)
 abbrev pub retagged : {M : Type 0} → (Tag → Tag) → Content M → Content M
 retagged change c = record c {
   tag = change c.tag;
 }
 
--- The tag with this number of the class application, and of the class private; whether it is constructed stands first.
+-- The tag with this number of the class application, or private. The first parameter is the constructed bit.
 abbrev pub application_tag : Bool → ℕ → Tag
 application_tag constructed n = tag_with Application constructed n
 
 abbrev pub private_tag : Bool → ℕ → Tag
 private_tag constructed n = tag_with Private constructed n
 
--- The values of a type with a tag of its own, seen in others, with this tag in place of that. (8.14.3)
+-- Values seen as values of a type, with this tag in place of the type's own tag. (8.14.3)
 abbrev pub seen_with_tag : {V W : Type 0} → (W → V) → Tag → Der V → Der W
 seen_with_tag view tag d = simple_der (λ w. d.meaning (view w)) (retagged (λ own. tag) d.content)
 
--- The values of a type, seen in others, under this tag: the contents octets are the whole encoding of a value. (8.14.2)
+-- Values seen as values of a type, under this tag: the contents octets are the whole encoding of a value. (8.14.2)
 abbrev pub seen_under_tag : {V W : Type 0} → (W → V) → Tag → Der V → Der W
 seen_under_tag view tag d = simple_der (λ w. d.meaning (view w)) (one_inside tag d)

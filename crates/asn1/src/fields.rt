@@ -1,6 +1,6 @@
-//! Fields of structures. A structure of one's own is a struct with public fields. It is read as a row of fields, which
-//! the macro `read_fields` moves to the struct, and written as a row of references to them, by `write_fields` and
-//! `fields_length`.
+//! Fields of structures. A user's own structure is a struct with public fields. It is read as a row of fields, which
+//! the macro `read_fields` moves to the struct. `write_fields` and `fields_length` write it as a row of references to
+//! its fields.
 
 ghost use Rattle.std.specs.Prelude.{◌≡◌, List, ℕ};
 ghost use Rattle.asn1_core.specs.Reading.{Answers, rest_refused};
@@ -33,15 +33,15 @@ pub struct Names {
     pub list: &'static [&'static str],
 }
 
-/// Names that are given one by one, as a row is read.
+/// Names, of which reading a row takes one after another.
 pub trait NameSource: Copy {
     ghost texts: { Self → List (List ℕ) };
 
-    /// The first.
+    /// The first name.
     fn first(self) -> &'static str
         ensures { result.now ≡ first_name (texts self) };
 
-    /// The others.
+    /// The other names.
     fn others(self) -> Self
         ensures { texts result ≡ other_names (texts self) };
 }
@@ -71,14 +71,14 @@ pub trait Row: Sized {
 
 /// Fields that are read.
 pub trait RowReadable<'a>: Row + Sized + Drop {
-    /// Reads the fields, in order. Errors: the first of a field, with the field's name as location; `ExtraData`,
-    /// without a location, where octets remain after the last.
+    /// Reads the fields, in order. Errors: the first error of a field, with the field's name as location;
+    /// `ExtraData`, without a location, if octets remain after the last field.
     fn read<S: NameSource>(parser: Parser<'a>, names: S) -> ParseResult<Self>
         ensures { Answers Self.list.meaning (Self.list.fields.runs_out (S.texts names) parser.entry)
             result (Self.list.fields.read (S.texts names) parser.entry) };
 }
 
-/// Reads fields with these names as the contents octets of a structure. Errors are those of [`RowReadable::read`].
+/// Reads fields with these names from the contents octets of a structure. Errors are those of [`RowReadable::read`].
 pub fn read_fields<'a, R: RowReadable<'a>, S: NameSource>(
     alloc: Global,
     data: &'a [u8],
@@ -101,7 +101,7 @@ pub struct Last<A> {
     pub value: A,
 }
 
-/// A field, and those behind it.
+/// A field, and those after it.
 #[derive(Drop)]
 pub struct Field<A, R> {
     /// The first field's value.
@@ -173,7 +173,7 @@ pub type Fields16<A, B, C, D, E, F, G, H, I, J, K, L, M, N, O, P> = Field<
     Fields15<B, C, D, E, F, G, H, I, J, K, L, M, N, O, P>,
 >;
 
-/// A fault of a field gets the field's place.
+/// The result of reading a field. An error gets the field's name as location.
 pub fn placed<T: Drop>(answer: ParseResult<T>, name: &'static str) -> ParseResult<T>
     ensures { result ≡ in_field name.now answer }
 {
@@ -183,7 +183,7 @@ pub fn placed<T: Drop>(answer: ParseResult<T>, name: &'static str) -> ParseResul
     }
 }
 
-/// Refuses what is left behind the last field.
+/// Rejects octets that remain after the last field.
 pub fn finish(parser: Parser<'_>) -> ParseResult<()>
     ensures { result ≡ rest_refused parser.entry }
 {
@@ -193,7 +193,7 @@ pub fn finish(parser: Parser<'_>) -> ParseResult<()>
     Ok(())
 }
 
-/// The length of two texts, one behind the other, where both are known and the sum fits.
+/// The sum of two lengths, if both are known and the sum fits in a `usize`.
 pub fn sum(a: Option<usize>, b: Option<usize>) -> Option<usize>
     ensures { IsSum a b result }
 {

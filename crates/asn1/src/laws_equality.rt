@@ -1,5 +1,5 @@
-//! How elements, wrappers and choices compare. Lists and sets of items compare by the remaining octets, which
-//! [`crate::laws::equal_items`] tells of. Each law is the contract of a function that does nothing.
+//! How elements, wrappers and choices compare. Lists and sets of items compare by the remaining octets (see
+//! [`crate::laws::equal_items`]). Each law is the contract of a function that does nothing.
 
 ghost use Rattle.asn1_core.specs.Tlv.{element_of};
 ghost use Rattle.asn1_values.specs.Comparisons.{ClonesAreEqual, HashesAlike, IsEqualityOf, NeverFails};
@@ -12,8 +12,8 @@ use crate::{
 use asn1_core::Asn1Type;
 use std::hash::Hash;
 
-/// Elements are equal exactly where tag and contents octets are, and then hash alike. A clone never fails, and equals
-/// its source.
+/// Elements are equal exactly if tag and contents octets are, and then have the same hash. A clone never fails, and
+/// equals its source.
 pub fn elements_compare()
     ensures equality { IsEqualityOf element_of ⟦<Tlv<'static> as PartialEq>⟧.eq }
     ensures hash { HashesAlike element_of ⟦<Tlv<'static> as Hash>⟧.hash_input }
@@ -22,7 +22,7 @@ pub fn elements_compare()
         ⟦<Tlv<'static> as PartialEq>⟧.eq }
 {}
 
-/// `Sequence` and `Set` are equal exactly where their contents octets are, and then hash alike.
+/// Values of `Sequence`, and of `Set`, are equal exactly if their contents octets are, and then have the same hash.
 pub fn contents_compare()
     ensures sequence { IsEqualityOf sequence_octets ⟦<Sequence<'static> as PartialEq>⟧.eq }
     ensures sequence_hash { HashesAlike sequence_octets ⟦<Sequence<'static> as Hash>⟧.hash_input }
@@ -30,7 +30,7 @@ pub fn contents_compare()
     ensures set_hash { HashesAlike octets_of_set ⟦<Set<'static> as Hash>⟧.hash_input }
 {}
 
-/// Where the equality of a type is that of what its values mean, so is that of its wrappers.
+/// If the equality of a type compares what values mean, so does the equality of its wrappers.
 pub fn wrappers_compare<T: Asn1Type + PartialEq, const TAG: u32>()
     ensures explicit { IsEqualityOf T.der.meaning T.eq
         → IsEqualityOf ⟦<Explicit<T, TAG> as Asn1Type>⟧.der.meaning
@@ -47,7 +47,7 @@ pub fn wrappers_compare<T: Asn1Type + PartialEq, const TAG: u32>()
         → IsEqualityOf ⟦<Choice1<T> as Asn1Type>⟧.der.meaning ⟦<Choice1<T> as PartialEq>⟧.eq }
 {}
 
-/// Where the equality of each alternative is that of what its values mean, so is that of the choice.
+/// If the equality of each alternative compares what values mean, so does the equality of the choice.
 pub fn choices_compare<
     T1: Asn1Type + PartialEq,
     T2: Asn1Type + PartialEq,
@@ -62,7 +62,7 @@ pub fn choices_compare<
         ⟦<Choice3<T1, T2, T3> as PartialEq>⟧.eq }
 {}
 
-/// Where values of a type that mean the same hash alike, so do those of its wrappers.
+/// If values of a type that mean the same have the same hash, those of its wrappers do too.
 pub fn wrappers_hash<T: Asn1Type + Hash, const TAG: u32>()
     ensures explicit { HashesAlike T.der.meaning T.hash_input
         → HashesAlike ⟦<Explicit<T, TAG> as Asn1Type>⟧.der.meaning
@@ -77,7 +77,7 @@ pub fn wrappers_hash<T: Asn1Type + Hash, const TAG: u32>()
         → HashesAlike ⟦<Choice1<T> as Asn1Type>⟧.der.meaning ⟦<Choice1<T> as Hash>⟧.hash_input }
 {}
 
-/// Where values of each alternative that mean the same hash alike, so do those of the choice.
+/// If values of each alternative that mean the same have the same hash, those of the choice do too.
 pub fn choices_hash<T1: Asn1Type + Hash, T2: Asn1Type + Hash, T3: Asn1Type + Hash>()
     ensures choice2 { HashesAlike T1.der.meaning T1.hash_input
         → HashesAlike T2.der.meaning T2.hash_input
@@ -90,8 +90,8 @@ pub fn choices_hash<T1: Asn1Type + Hash, T2: Asn1Type + Hash, T3: Asn1Type + Has
         ⟦<Choice3<T1, T2, T3> as Hash>⟧.hash_input }
 {}
 
-/// Where a clone of a type equals its source, so does one of its wrappers, and of a field with a default. Where a clone
-/// of the type never fails, theirs doesn't either.
+/// If a clone of a type equals its source, so does a clone of one of its wrappers, or of a field with a default. If a
+/// clone of the type never fails, theirs doesn't either.
 pub fn wrappers_are_cloned<T: Clone + PartialEq, D, const TAG: u32>()
     ensures explicit { ClonesAreEqual T.is_clone T.eq
         → ClonesAreEqual ⟦<Explicit<T, TAG> as Clone>⟧.is_clone
@@ -135,21 +135,21 @@ pub fn choices_are_cloned<T1: Clone + PartialEq, T2: Clone + PartialEq, T3: Clon
         → NeverFails ⟦<Choice3<T1, T2, T3> as Clone>⟧.is_infallible }
 {}
 
-/// A value whose writes fail with another error compares as it does otherwise.
+/// A value whose writes fail with another error compares as the value itself does.
 pub fn error_into_compares<T: Asn1Type + PartialEq, E>()
     ensures { IsEqualityOf T.der.meaning T.eq
         → IsEqualityOf ⟦<ErrorInto<T, E> as Asn1Type>⟧.der.meaning
         ⟦<ErrorInto<T, E> as PartialEq>⟧.eq }
 {}
 
-/// It hashes as it does otherwise.
+/// A value in [`ErrorInto`] hashes as the value itself does.
 pub fn error_into_hashes<T: Asn1Type + Hash, E>()
     ensures { HashesAlike T.der.meaning T.hash_input
         → HashesAlike ⟦<ErrorInto<T, E> as Asn1Type>⟧.der.meaning
         ⟦<ErrorInto<T, E> as Hash>⟧.hash_input }
 {}
 
-/// It is cloned as it is otherwise.
+/// A value in [`ErrorInto`] is cloned as the value itself is.
 pub fn error_into_is_cloned<T: Clone + PartialEq, E>()
     ensures clone { ClonesAreEqual T.is_clone T.eq
         → ClonesAreEqual ⟦<ErrorInto<T, E> as Clone>⟧.is_clone

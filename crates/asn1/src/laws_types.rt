@@ -1,4 +1,4 @@
-//! Which types are lawful, have one encoding for each value, take memory and have bounds, each the contract of a
+//! Which types are lawful, have one encoding for each value, allocate and have bounds. Each law is the contract of a
 //! function that does nothing. A type with parts is as its parts are.
 
 ghost use Rattle.std.specs.Prelude.{◌≡◌, List, false, ℕ};
@@ -16,7 +16,7 @@ use crate::{
 };
 use asn1_core::Asn1Type;
 
-/// Types of numbers without parts.
+/// Types of numbers are lawful, have one encoding for each value, don't allocate and have no bounds.
 pub fn numbers_are_sound()
     ensures boolean { IsSound ⟦<bool as Asn1Type>⟧.der }
     ensures i8 { IsSound ⟦<i8 as Asn1Type>⟧.der }
@@ -32,7 +32,7 @@ pub fn numbers_are_sound()
     ensures enumerated { IsSound ⟦<Enumerated as Asn1Type>⟧.der }
 {}
 
-/// Types of octets, bits, characters, object identifiers and times.
+/// The same of types of octets, bits, characters, object identifiers and times.
 pub fn values_are_sound<const N: usize>()
     ensures null { IsSound ⟦<Null as Asn1Type>⟧.der }
     ensures octets { IsSound ⟦<&'static [u8] as Asn1Type>⟧.der }
@@ -50,21 +50,21 @@ pub fn values_are_sound<const N: usize>()
     ensures generalized { IsSound ⟦<GeneralizedTime as Asn1Type>⟧.der }
 {}
 
-/// Elements as they are encoded.
+/// The same of elements as they are encoded.
 pub fn elements_are_sound()
     ensures any { IsSound ⟦<Tlv<'static> as Asn1Type>⟧.der }
     ensures sequence { IsSound ⟦<Sequence<'static> as Asn1Type>⟧.der }
     ensures set { IsSound ⟦<Set<'static> as Asn1Type>⟧.der }
 {}
 
-/// Types that own memory, which reading takes. So do boxes, whatever they hold.
+/// The same of types that own memory, except that reading them allocates. So does reading boxes, whatever they hold.
 pub fn owned_types_are_sound()
     ensures big_int { IsSoundOwned ⟦<OwnedBigInt as Asn1Type>⟧.der }
     ensures big_uint { IsSoundOwned ⟦<OwnedBigUint as Asn1Type>⟧.der }
     ensures bits { IsSoundOwned ⟦<OwnedBitString as Asn1Type>⟧.der }
 {}
 
-/// Boxes and references are lawful where what they hold is, and have its encoding.
+/// Boxes and references are lawful if what they hold is, and have its encoding.
 pub fn references_are_lawful<'a, T: Asn1Type + 'a>()
     ensures boxed { T.der.lawful → ⟦<Box<T> as Asn1Type>⟧.der.lawful }
     ensures box_plain { T.der.plain → ⟦<Box<T> as Asn1Type>⟧.der.plain }
@@ -91,7 +91,7 @@ pub fn lists_are_lawful<'a, T: Asn1Type + 'a, const MIN: usize, const MAX: usize
     ensures set_slice_plain { T.der.plain → ⟦<SetOfWriter<'a, T> as Asn1Type>⟧.der.plain }
 {}
 
-/// Wrappers have one encoding for each value, take memory and have bounds as their parts do.
+/// Wrappers have one encoding for each value, allocate and have bounds as their parts do.
 pub fn wrappers_inherit<T: Asn1Type, const TAG: u32>()
     ensures option { Inherits T.der ⟦<Option<T> as Asn1Type>⟧.der }
     ensures explicit { Inherits T.der ⟦<Explicit<T, TAG> as Asn1Type>⟧.der }
@@ -99,25 +99,25 @@ pub fn wrappers_inherit<T: Asn1Type, const TAG: u32>()
     ensures choice { Inherits T.der ⟦<Choice1<T> as Asn1Type>⟧.der }
 {}
 
-/// A field with a default does so too, by its type.
+/// The same of a field with a default, by its type.
 pub fn defaults_inherit<T: MeaningEq, D: DefaultValue<T>>()
     ensures { Inherits T.der ⟦<Defaulted<T, D> as Asn1Type>⟧.der }
 {}
 
-/// A value whose writes fail with another error does so too.
+/// The same of a value whose writes fail with another error.
 pub fn error_into_inherits<T: Asn1Type, E>()
     ensures { Inherits T.der ⟦<ErrorInto<T, E> as Asn1Type>⟧.der }
 {}
 
-/// Choices do so too, by each of their alternatives.
+/// The same of choices, by each of their alternatives.
 pub fn choices_inherit<T1: Asn1Type, T2: Asn1Type, T3: Asn1Type>()
     ensures choice2 { InheritsBoth T1.der T2.der ⟦<Choice2<T1, T2> as Asn1Type>⟧.der }
     ensures choice3 { InheritsBoth T1.der ⟦<Choice2<T2, T3> as Asn1Type>⟧.der
         ⟦<Choice3<T1, T2, T3> as Asn1Type>⟧.der }
 {}
 
-/// A row of lawful fields is lawful where one that may be missing is told by its tag from those that may stand
-/// behind it.
+/// A row of lawful fields is lawful if a field that may be missing accepts no tag with which the fields after it may
+/// begin.
 pub fn rows_are_lawful<A: Asn1Type, R: Row>()
     ensures last { A.der.lawful → ⟦<Last<A> as Row>⟧.list.fields.lawful }
     ensures element { A.der.lawful → A.der.is_element → R.list.fields.lawful →
@@ -127,7 +127,7 @@ pub fn rows_are_lawful<A: Asn1Type, R: Row>()
         R.list.fields.lawful → ⟦<Field<A, R> as Row>⟧.list.fields.lawful }
 {}
 
-/// A row has one text, takes memory and has bounds as its fields do.
+/// A row has one encoding for each value, allocates and has bounds as its fields do.
 pub fn rows_inherit<A: Asn1Type, R: Row>()
     ensures last_plain { A.der.plain → ⟦<Last<A> as Row>⟧.list.fields.plain }
     ensures last_takes_none { (A.der.takes_memory → ⊥) →

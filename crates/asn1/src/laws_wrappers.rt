@@ -9,9 +9,9 @@ use crate::{
 };
 use asn1_core::{Asn1DefinedBy, Asn1Type};
 
-/// Each wrapper of a lawful part is lawful: what is written is read back, and means the same. An option's part has to
-/// be an element wherever it is there, since else nothing tells an option that is there from one that isn't; and a part
-/// under an implicit tag has to be a type with a tag of its own. So the law goes over any nesting.
+/// Each wrapper of a lawful part is lawful: what is written is read back, and means the same. The part of an option
+/// has to be an element, since else nothing distinguishes an option with a value from one without. A part under an
+/// implicit tag has to be a type with a tag of its own. So the law holds for any nesting.
 pub fn wrappers_are_lawful<T: Asn1Type, const TAG: u32>()
     ensures option { T.der.lawful → T.der.is_element → ⟦<Option<T> as Asn1Type>⟧.der.lawful }
     ensures explicit { T.der.lawful → ⟦<Explicit<T, TAG> as Asn1Type>⟧.der.lawful }
@@ -20,18 +20,18 @@ pub fn wrappers_are_lawful<T: Asn1Type, const TAG: u32>()
     ensures octet_string { T.der.lawful → ⟦<OctetStringEncoded<T> as Asn1Type>⟧.der.lawful }
 {}
 
-/// A field with a default is lawful where its part is, and where that is an element, as for an option.
+/// A field with a default is lawful if its part is, and if that part is an element, as for an option.
 pub fn defaults_are_lawful<T: MeaningEq, D: DefaultValue<T>>()
     ensures { T.der.lawful → T.der.is_element → ⟦<Defaulted<T, D> as Asn1Type>⟧.der.lawful }
 {}
 
-/// A value whose writes fail with another error is lawful, and an element, where it is so otherwise.
+/// A value whose writes fail with another error is lawful, and an element, if the value itself is.
 pub fn error_into_is_lawful<T: Asn1Type, E>()
     ensures lawful { T.der.lawful → ⟦<ErrorInto<T, E> as Asn1Type>⟧.der.lawful }
     ensures element { T.der.is_element → ⟦<ErrorInto<T, E> as Asn1Type>⟧.der.is_element }
 {}
 
-/// A choice of lawful elements is lawful where no tag is accepted by two alternatives.
+/// A choice of lawful elements is lawful if no tag is accepted by two alternatives.
 pub fn choices_are_lawful<T1: Asn1Type, T2: Asn1Type, T3: Asn1Type>()
     ensures choice1 { T1.der.lawful → T1.der.is_element → ⟦<Choice1<T1> as Asn1Type>⟧.der.lawful }
     ensures choice2 { T1.der.lawful → T1.der.is_element → T2.der.lawful → T2.der.is_element
@@ -55,8 +55,8 @@ pub fn choices_are_elements<T1: Asn1Type, T2: Asn1Type, T3: Asn1Type>()
     ensures choice3 { ⟦<Choice3<T1, T2, T3> as Asn1Type>⟧.der.is_element }
 {}
 
-/// A type that an item defines is lawful under an explicit tag where it is lawful and its encoding is an element, and
-/// is as it otherwise.
+/// A type that an item defines is lawful under an explicit tag if the type is lawful and its encoding is an element.
+/// Its other properties are those without the tag.
 pub fn defined_types_are_lawful<T: Asn1Type, U: Asn1DefinedBy<T>, const TAG: u32>()
     ensures lawful { U.by.means.lawful → U.by.means.is_element →
         ⟦<Explicit<U, TAG> as Asn1DefinedBy<T>>⟧.by.means.lawful }

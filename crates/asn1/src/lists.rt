@@ -16,7 +16,7 @@ pub use sequence_of::SequenceOf;
 pub use sets::{Set, SetOf};
 pub use writers::{SequenceOfWriter, SequenceWriter};
 
-/// The error with the location of the item at an index. It stands apart from the readers, since few reads come here.
+/// The error with the location of the item at an index. Few reads need it, so it is apart from the readers.
 #[cold]
 pub(crate) fn at_item(error: ParseError, index: usize) -> ParseError
     ensures { result ≡ within (Index index) error }

@@ -1,9 +1,9 @@
 //! Macros for the bodies of a structure's impls. An entry of their list of fields is
 //!
 //! - `name`, a field;
-//! - `name: Type`, a field under a tag or with a default, where `Type` is the type that says so, such as
-//!   `Option<Implicit<u64, 0>>` or `Defaulted<bool, No>`;
-//! - `name of value: Type`, the place of an item of this type, which the field `value` tells;
+//! - `name: Type`, a field under a tag or with a default, which `Type` states, as `Option<Implicit<u64, 0>>` or
+//!   `Defaulted<bool, No>` do;
+//! - `name of value: Type`, the position of an item of this type, which the field `value` determines;
 //! - `name by Type`, a value that an item of this type defines.
 
 /// States that the fields are valid: the body of `known`. `known_fields!(self; r, s)`
@@ -66,7 +66,7 @@ macro_rules! take_fields {
     }};
 }
 
-/// The value of a field as it stands in a struct.
+/// The value of a field as a struct has it.
 #[macro_export]
 macro_rules! taken_field {
     ($value:expr) => { $value };
@@ -89,7 +89,7 @@ macro_rules! write_fields {
     };
 }
 
-/// How many octets the fields have together, where that is known: the body of `data_length`.
+/// How many octets the encodings of the fields have together, if that is known: the body of `data_length`.
 /// `fields_length!(self; r, s)`
 #[macro_export]
 macro_rules! fields_length {
@@ -116,8 +116,8 @@ macro_rules! field_value {
     ($of:expr, $name:ident) => { &$of.$name };
 }
 
-/// The values as a row, which is written: four at a time, since the prover follows no row that is nested more than nine
-/// deep.
+/// The values as a row, which is written: four at a time, since the kit finds the lifetimes of a row that is nested
+/// nine deep, and of none that is nested deeper, if a field has a lifetime of its own.
 #[macro_export]
 macro_rules! row {
     ($a:expr, $b:expr, $c:expr, $d:expr, $($rest:expr),+) => {

@@ -1,5 +1,5 @@
 //! What is read is written back, and what is written is read back. A type that is read holds no closures, so writing
-//! asks nothing of its values.
+//! requires nothing of its values.
 
 ghost use Rattle.std.specs.Prelude.{◌≡◌, Ok, IfOk, IfErr};
 ghost use Rattle.asn1_core.specs.Reading.{Answers, Fits, IsRefusal, whole};
@@ -8,7 +8,7 @@ ghost use Rattle.asn1_core.specs.Writing.{Refuses};
 use asn1_core::{Asn1Readable, Asn1Writable, ParseResult, Tag, parse_single, write_single};
 use std::alloc::Global;
 
-/// Writes a value of a type that is also read, and returns its one encoding. Errors: `AllocationError` where out of
+/// Writes a value of a type that is also read, and returns its one encoding. Errors: `AllocationError` if out of
 /// memory, or one that the type names. The caller has nothing to prove.
 pub fn write_readable<'a, T: Asn1Readable<'a> + Asn1Writable>(
     alloc: Global,
@@ -17,13 +17,13 @@ pub fn write_readable<'a, T: Asn1Readable<'a> + Asn1Writable>(
     ensures text { IfOk result (λ v. v.items ≡ T.der.text (T.der.meaning value.now)) }
     ensures error { IfErr result (Refuses T.Error.from_gives (T.write_errors value.now)) }
 {
-    // The call tells that each value has one encoding.
+    // By this call's contract each value has one encoding.
     let _accepted = T::can_parse(Tag::primitive(0));
     write_single(alloc, value)
 }
 
-/// Reads one value and writes it back: the same octets, where both succeed. The outer error is that of reading, as
-/// [`parse_single`] returns it, and the inner one that of writing.
+/// Reads one value and writes it back. If both succeed, the result is the same octets. The outer error is that of
+/// reading, as [`parse_single`] returns it, and the inner one that of writing.
 pub fn read_and_write_back<'a, T: Asn1Readable<'a> + Asn1Writable>(
     alloc: Global,
     data: &'a [u8],
@@ -36,8 +36,8 @@ pub fn read_and_write_back<'a, T: Asn1Readable<'a> + Asn1Writable>(
     Ok(write_readable(alloc, &value))
 }
 
-/// Writes a value into `store` and reads it back: a value that means the same, or `AllocationError` where the type
-/// takes memory. The outer error is that of writing.
+/// Writes a value into `store` and reads it back. The result is a value that means the same; a type whose reading
+/// allocates may return `AllocationError` instead. The outer error is that of writing.
 ///
 /// The caller has to prove (`requires`) that the type is lawful, that the value may be read back (a list has as many
 /// items as its bounds allow), and that its encoding is empty or an element that is short enough to be read.

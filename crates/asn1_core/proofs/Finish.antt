@@ -1,4 +1,4 @@
--- What the end of a text gives.
+-- What is returned at the end of the input.
 use Rattle.std.proofs.Common.{◌≡◌, ℕ, List, [], ◌∷◌, Result, Ok, Err, refl, subst}
 use Rattle.std.specs.Prelude.{IsErrAnd}
 use Rattle.asn1_core.specs.declared.parser.ParseErrorKind.TheVariants.{ExtraData}

@@ -1,4 +1,4 @@
--- The number of a text's first octets, and the order of texts.
+-- The number of the first octets of an encoding, and the order of encodings.
 use Rattle.std.proofs.Common.{◌≡◌, ℕ, zero, suc, ◌+◌, ◌-◌, ◌*◌, ◌^◌, min, ◌<◌, ◌≤◌, ◌++◌, Bool, true, false, List, [], ◌∷◌, length, take, drop, get_or, if◌then◌else◌, nat_le, replicate, refl, sym, ap, subst, ◌∙◌, ⊎_elim, arith, lit<}
 use Rattle.std.proofs.lemmas.Bool.{lt-ltb, le-ltb, eq-eqb, cases_lt, cases_eq}
 use Rattle.std.proofs.lemmas.List.{length-take-le, length-append, length-replicate, take_all, take-replicate, drop-replicate}
@@ -31,7 +31,7 @@ take_text zero t is = tt
 take_text (suc k) [] is = tt
 take_text (suc k) (x ∷ xs) is = (is.0, take_text k xs is.1)
 
--- the first k octets of a text behind which n zeros stand
+-- the first k octets of an encoding with n zeros after it
 abbrev firsts : ℕ → ℕ → List ℕ → List ℕ
 firsts n k t = take k (t ++ replicate n 0)
 
@@ -49,7 +49,7 @@ firsts_none n k h = ap number (take-replicate {X = ℕ} k n 0 h) ∙ zeros_numbe
 firsts_more : (n k x : ℕ) (xs : List ℕ) → k ≤ n → number (firsts n (suc k) (x ∷ xs)) ≡ x * 256 ^ k + number (firsts n k xs)
 firsts_more n k x xs h = ap (λ (m : ℕ). x * 256 ^ m + number (firsts n k xs)) (firsts_length n k xs h)
 
--- the number in front decides
+-- the leading number decides
 decided : {A : Type 0} (x y p r s : ℕ) → x * p + r < y * p + s → r < p → s < p → (x < y → A) → (x ≡ y → r < s → A) → A
 decided x y p r s less hr hs below same = ⊎_elim
     below
@@ -71,14 +71,14 @@ firsts_less n (suc k) (x ∷ xs) (y ∷ ys) f g h less =
 pub first_less : (a b : List ℕ) → IsText a → IsText b → first_number a < first_number b → text_less a b ≡ true
 first_less a b f g less = firsts_less 8 8 a b f g (omega arith) less
 
--- a text is taken whole, and what it lacks from behind it
+-- all of the octets are taken, and what they lack from the octets after them
 take_past : (t r : List ℕ) (n : ℕ) → length t ≤ n → take n (t ++ r) ≡ t ++ take (n - length t) r
 take_past [] r n h = ap (λ (m : ℕ). take m r) (omega arith)
 take_past (x ∷ xs) r zero h = absurd (omega (arith, h))
 take_past (x ∷ xs) r (suc n) h =
     ap (λ (u : List ℕ). x ∷ u) (take_past xs r n (omega (arith, h))) ∙ ap (λ (m : ℕ). x ∷ xs ++ take m r) (omega arith)
 
--- the octets that there are, and zeros behind them
+-- the octets that there are, and zeros after them
 filled_firsts : (n : ℕ) (t ys : List ℕ) (count : ℕ) → count ≡ min (length t) n → ys ≡ take count t → ys ++ drop count (replicate n 0) ≡ firsts n n t
 filled_firsts n t ys count e f = ⊎_elim
     (λ (h : length t < n).

@@ -1,4 +1,4 @@
--- Integers as the code reads and writes them: sixteen octets, of which a content is the last.
+-- Integers as the code reads and writes them: sixteen octets, of which the last are the contents octets.
 use Rattle.std.proofs.Common.{◌≡◌, ℕ, zero, suc, ◌+◌, ◌-◌, ◌*◌, ◌/◌, ◌%◌, ◌^◌, ◌<◌, ◌≤◌, ◌⊎◌, Bool, true, false, if◌then◌else◌, leb, Ok, Err, List, [], ◌∷◌, ◌++◌, length, get_or, take, drop, replicate, refl, sym, ap, subst, ◌∙◌, inl, inr, arith, lit<, lit≤}
 use Rattle.std.specs.Prelude.{ℤ, pos, negsuc, neg_ℤ, ◌≤ℤ◌, ◌<ℤ◌, int_lt, unsigned_abs, FitsSigned}
 use Rattle.std.specs.Int.Digits.{digits_of}
@@ -21,7 +21,7 @@ use Rattle.asn1_core.specs.Lemmas.Lengths.{number_lt}
 use Rattle.asn1_core.specs.Lemmas.Texts.{IsText-from_reads}
 use Rattle.asn1_core.specs.Lemmas.Integers.{zero_front, signed_low, signed_high, turned_length, turned_text, turned_low, turned_number, turned_shortest, shortest_nine, fewer_same, content_only, content_text, content_shortest, content_value, range_ok, range_below, range_above, sized_ok, sized_refused}
 
--- ---- an octet more
+-- ---- one more octet
 
 number_more : (t : List ℕ) (x : ℕ) → number (t ++ x ∷ []) ≡ number t * 256 + x
 number_more t x = sym (number_by_digits (t ++ x ∷ [])) ∙ number_push 256 t x ∙ ap (λ (n : ℕ). n * 256 + x) (number_by_digits t)
@@ -29,7 +29,7 @@ number_more t x = sym (number_by_digits (t ++ x ∷ [])) ∙ number_push 256 t x
 number_next : (t : List ℕ) (i : ℕ) → i < length t → number (take i t) * 256 + get_or t i 0 ≡ number (take (i + 1) t)
 number_next t i h = sym (number_more (take i t) (get_or t i 0)) ∙ ap number (sym (take_more t i 0 h))
 
--- ---- contents of more than nine octets
+-- ---- more than nine contents octets
 
 long_number : (x y r p q : ℕ) → 0 < nine_bits x y → 2 ^ 64 ≤ p → q ≡ p * 256 → 2 ^ 71 ≤ x * q + (y * p + r)
 long_number zero y r p q some most e = omega (arith, mul-le-mul_right {m = 128} {n = y} p (omega arith))
@@ -95,9 +95,9 @@ pub sixteen : (z : ℤ) → FitsSigned w128 z → signed_number (to_be_bytes w12
 sixteen (pos m) fits = sixteen_low m fits.sfits
 sixteen (negsuc m) fits = sixteen_high m _ fits.sfits refl
 
--- ---- the content at the end of a text
+-- ---- the contents octets at the end of the octets
 
--- behind superfluous octets stands the content
+-- the contents octets come after superfluous octets
 pub record EndsWithContent (t c : List ℕ) : Type 0 where
   pub fewer : length c ≤ length t
   pub content : drop (length t - length c) t ≡ c
@@ -124,7 +124,7 @@ content_behind (x ∷ y ∷ ys) is l =
           subst (λ (z : ℤ). EndsWithContent (x ∷ y ∷ ys) (integer_content z)) (sym (fewer_same x y ys is e)) behind
     ]
 
--- ---- the weight of the octet in front
+-- ---- the weight of the first octet
 
 weight_power : (k : ℕ) → 2 ^ (8 * k) ≡ 256 ^ k
 weight_power zero = refl
@@ -132,7 +132,7 @@ weight_power (suc k) =
     let more : 8 * suc k ≡ 8 * k + 8 = omega arith in
     ap (λ (n : ℕ). 2 ^ n) more ∙ pow-add 2 (8 * k) 8 ∙ ap (λ (n : ℕ). n * 256) (weight_power k) ∙ sym (pow-suc 256 k)
 
--- ---- how many octets a content has, from its bits
+-- ---- how many contents octets a number has, from its bits
 
 bits_below : (k b n : ℕ) → 2 ^ k ≤ 2 * n + 1 → n < 2 ^ b → k ≤ b
 bits_below k b n most small =
@@ -183,7 +183,7 @@ low_bits (x ∷ y ∷ ys) k is e h small most =
     let bits : k / 8 ≡ length ys + 1 = bits_between k (length ys) (number (x ∷ y ∷ ys)) (256 ^ length ys) (weight_power (length ys)) least under small most in
     omega (arith, bits)
 
--- n, of n and of -n - 1
+-- n, for both n and -n - 1
 abbrev pub size_of : ℤ → ℕ
 size_of (pos n) = n
 size_of (negsuc n) = n
@@ -233,7 +233,7 @@ length_high (negsuc m) n fits e h =
 pub length_passed : (z : ℤ) (r : ℕ) → FitsSigned w128 z → r ≡ length (integer_content (cast_signed w128 (cast_unsigned w128 z))) → r ≡ length (integer_content z)
 length_passed z r fits e = e ∙ ap (λ (x : ℤ). length (integer_content x)) (to_z-of_z w128 z fits)
 
--- ---- the sign in front
+-- ---- the leading sign octets
 
 zeros_number : (k : ℕ) (c : List ℕ) → number (replicate k 0 ++ c) ≡ number c
 zeros_number zero c = refl
@@ -317,7 +317,7 @@ signed_sixteen t is l =
           ap (cast_signed w128) (from_sixteen t l ∙ value) ∙ to_z-neg w128 (number (turned t)) low ∙ sym (signed_high t is h)
     ]
 
--- ---- a content at the end of an array of its sign
+-- ---- contents octets at the end of an array of their sign
 
 put_at_end : (s n : ℕ) (ys : List ℕ) → n ≤ 16 → put_mid (16 - n) (16 - (16 - n)) (replicate 16 s) ys ≡ replicate (16 - n) s ++ ys
 put_at_end s n ys h =
@@ -341,7 +341,7 @@ extended s c ys z is few sign same value =
     let size : length (replicate k s ++ c) ≡ 16 = omega (arith, few, length-append (replicate k s) c, length-replicate {A = ℕ} k s) in
     value ∙ ap (λ (t : List ℕ). cast_signed w128 (from_be_bytes w128 t)) whole ∙ signed_sixteen (replicate k s ++ c) (sign_text k s c filled.0 is) size ∙ filled.1
 
--- ---- what reading refuses
+-- ---- what reading rejects
 
 pub refused_content : (low high : ℤ) (c : List ℕ) (f : Fault) → is_minimal c ≡ false → f ≡ fault InvalidValue → read_sized low high c ≡ Err f
 refused_content low high c f e same = sized_refused low high c e ∙ ap Err (sym same)

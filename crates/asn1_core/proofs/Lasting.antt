@@ -1,4 +1,4 @@
--- The right to read octets for good can be had twice. Assumes `Logic`.
+-- The right to read octets for good can be duplicated. Assumes `Logic`.
 use Rattle.std.proofs.Common.{ℕ, List, []}
 use seplogic.Ra.Ura.{Ura}
 use base.Logic.{ent, sep}
@@ -17,7 +17,7 @@ module _ {M : Type 1} {𝓤 : Ura M} (𝓛 : Logic 𝓤) where
   pub lasting_twice : (p : Ptr) (octets : List ℕ) → ent 𝓤 (sem 𝓛 (lasting p octets)) (sep 𝓤 (sem 𝓛 (lasting p octets)) (sem 𝓛 (lasting p octets)))
   lasting_twice p octets = contraction 𝓛 (elements_shared u8 octets (block_of p) (count_of p)) (elements_shr_laws u8 (uint_row_laws w8) octets (block_of p) (count_of p)) []
 
--- it names no thread
+-- the right names no thread
 pub lasting-keyless : (p : Ptr) (octets : List ℕ) → Keyless (lasting p octets)
 lasting-keyless p octets =
     let octet : IsSync u8 = search sendable in

@@ -8,7 +8,7 @@ use denote.RattleType.{RattleType, Valss}
 use denote.Steps.{nothing}
 use denote.Struct.Struct.{Struct, within}
 
--- a struct by its fields alone: what it owns does not read its name
+-- a struct by its fields alone: what a struct owns doesn't depend on its name
 abbrev pub plainly : List RattleType → RattleType
 plainly Rs = Struct (record { name = []; args = []; types = []; fields = Rs })
 

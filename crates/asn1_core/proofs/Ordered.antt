@@ -1,4 +1,4 @@
--- The test of the order answers the relation.
+-- The test of the order decides the relation.
 use Rattle.std.proofs.Common.{◌≡◌, ℕ, ◌<◌, ◌≤◌, Bool, true, false, List, [], ◌∷◌, ◌++◌, length, refl, sym, ap, ◌∙◌, inl, inr, ⊎_elim, arith}
 use Rattle.std.proofs.lemmas.Bool.{lt-ltb, le-ltb, eq-eqb, ne_eqb, cases_lt, cases_eq}
 use Rattle.asn1_core.specs.Order.{IsLess, text_less, OrderIsAnswered}

@@ -1,4 +1,4 @@
--- The octets after a length was put in place of one octet.
+-- The octets after length octets replaced one octet.
 use Rattle.std.proofs.Common.{◌≡◌, ◌+◌, ◌-◌, ◌<◌, ◌≤◌, ◌++◌, ◌^◌, [], ◌∷◌, zero, suc, length, take, drop, replicate, bit_or, ℕ, List, refl, sym, arith, length-drop}
 use Rattle.std.specs.Int.Digits.{digits_of}
 use Rattle.std.proofs.lemmas.Grind.{common_steps, numeral_or}

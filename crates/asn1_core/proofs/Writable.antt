@@ -1,4 +1,4 @@
--- What the closures in a value owe.
+-- What is asked of the closures in a value.
 use Rattle.std.proofs.Common.{inl, inr}
 use Rattle.asn1_core.specs.Der.{Der, Content, IsWritable, IsWritableContent}
 

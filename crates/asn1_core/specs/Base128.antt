@@ -1,4 +1,4 @@
--- Numbers in base 128, as tags and identifiers have them (X.690 8.1.2.4, 8.19.2).
+-- Numbers in base 128, as in tags and object identifiers (X.690 8.1.2.4, 8.19.2).
 use Rattle.std.specs.Prelude.{◌≡◌, ℕ, ◌+◌, ◌*◌, ◌/◌, ◌%◌, ◌^◌, ◌<◌, ◌≤◌, ◌⊎◌, if◌then◌else◌, ◌==◌, ◌||◌, nat_le, List, [], ◌∷◌, ◌++◌, length, slice_index, take, drop, map, Result, Ok, Err}
 use Rattle.std.specs.List.{AllByRecursion, prefix_len}
 use Rattle.std.specs.Int.Digits.{digits_of}
@@ -10,11 +10,11 @@ abbrev pub digits_number : List ℕ → ℕ
 digits_number [] = 0
 digits_number (octet ∷ octets) = octet % 128 * 128 ^ length octets + digits_number octets
 
--- Each octet has its top bit set, so more have to come. No octets are open too.
+-- Each octet has its top bit set, so more must come. The empty list is open too.
 abbrev pub IsOpen : List ℕ → Type 0
 IsOpen octets = AllByRecursion (λ octet. (128 ≤ octet) × (octet < 256)) octets
 
--- Each octet but the last has its top bit set. (8.1.2.4.2 a)
+-- Each octet except the last has its top bit set. (8.1.2.4.2 a)
 abbrev pub IsFinished : List ℕ → Type 0
 IsFinished [] = ⊥
 IsFinished (octet ∷ []) = octet < 128
@@ -24,30 +24,30 @@ IsFinished (octet ∷ next ∷ octets) = (128 ≤ octet) × (octet < 256) × IsF
 abbrev pub BeginsWithZero : List ℕ → Type 0
 BeginsWithZero octets = slice_index octets 0 ≡ 0x80
 
--- The octets are the text of n in base 128. (8.1.2.4.2, 8.19.2)
+-- The octets encode n in base 128. (8.1.2.4.2, 8.19.2)
 pub record IsNumberText (octets : List ℕ) (n : ℕ) : Type 0 where
   pub finished : IsFinished octets
   pub shortest : ¬ BeginsWithZero octets
   pub value : digits_number octets ≡ n
   pub small : n < 2 ^ 128
 
--- However they go on, the octets are no text of a number.
+-- Whatever octets follow, these encode no number.
 abbrev pub IsFaulty : List ℕ → Type 0
 IsFaulty octets = IsOpen octets × (BeginsWithZero octets ⊎ 19 ≤ length octets)
     ⊎ IsFinished octets × (BeginsWithZero octets ⊎ 2 ^ 128 ≤ digits_number octets)
 
--- What stands in front of a text, where a number in base 128 is wanted: a number and the rest; a fault; or too little.
+-- What octets begin with: a number in base 128 and the remaining octets; an error; or too few octets.
 abbrev pub IsNumberFront : List ℕ → Result (ℕ × List ℕ) ParseErrorKind → Type 0
 IsNumberFront text (Ok found) = (octets : List ℕ) × IsNumberText octets found.0 × (text ≡ octets ++ found.1)
 IsNumberFront text (Err InvalidValue) = (octets rest : List ℕ) × IsFaulty octets × (text ≡ octets ++ rest)
 IsNumberFront text (Err (ShortData needed)) = IsOpen text × ¬ IsFaulty text × (needed ≡ 1)
 IsNumberFront text (Err _) = ⊥
 
--- The text of n in base 128, as a function: the digits of n but the last, each with its top bit set, and the last.
+-- The encoding of n, as a function: the digits of n in base 128, each except the last with its top bit set.
 unfoldable pub number_text : ℕ → List ℕ
 number_text n = map (λ digit. 128 + digit) (digits_of 128 (n / 128)) ++ n % 128 ∷ []
 
--- What stands in front of a text, as a function.
+-- What octets begin with, as a function.
 unfoldable pub number_front : List ℕ → Result (ℕ × List ℕ) ParseErrorKind
 number_front text =
     let open_octets = prefix_len (λ octet. nat_le 128 octet) text in

@@ -1,5 +1,5 @@
--- What a type means in DER, for both directions: its values without where they lie in memory, their texts, what
--- reading and writing answer, and the laws that it keeps.
+-- What a type means in DER, for reading and writing: its values without their addresses in memory, their encodings,
+-- what a read returns and a write appends, and the laws of these.
 use Rattle.std.specs.Prelude.{ℕ, ◌<◌, ◌^◌, ◌≡◌, ◌⊎◌, ◌↔◌, List, [], ◌++◌, length, Result, Ok, IfErr, Bool, true, false, Option}
 use Rattle.std.proofs.Common.{inr, refl}
 use Rattle.asn1_core.specs.declared.tag.Tag.{Tag}
@@ -16,26 +16,26 @@ use Rattle.asn1_core.specs.Lemmas.Elements.{element_some}
 use Rattle.asn1_core.specs.Lemmas.Faults.{simple_faults, tlv_faults, refuses_faults}
 use Rattle.asn1_core.specs.Lemmas.Contents.{simple_takes, simple_shape, simple_accepted, simple_again, one_element, tlv_takes, tlv_again, refuses_takes}
 
--- the content of a simple type, whose values mean an M
+-- the content of a simple type with abstract values of type M: its contents octets, and their laws
 pub record Content (M : Type 0) : Type 1 where
   pub tag : Tag
-  -- the content of a value
+  -- the contents octets of a value
   pub text : M → List ℕ
-  -- what a write may append: the content, or what a closure may append
+  -- what a write may append: the contents octets, or what a closure may append
   pub texts : M → List ℕ → Type 0
-  -- the closures in a value keep what they owe
+  -- what a write requires of the closures in a value
   pub closures : M → Type 0
   -- the values of which the laws speak
   pub valid : M → Type 0
-  -- those that may be read back
+  -- the values that may be read back
   pub allowed : M → Type 0
   -- the type has bounds, so that some valid values may not be read back
   pub bounded : Type 0
-  -- a write appends the content and nothing else
+  -- a write appends the contents octets and nothing else
   pub plain : Type 0
   pub lawful : Type 0
   pub takes_memory : Type 0
-  -- places at which memory may run out
+  -- locations at which memory may run out
   pub runs_out : List ℕ → List Place → Type 0
   pub read : List ℕ → Result M Fault
   pub one_text : plain → (m : M) (t : List ℕ) → texts m t → t ≡ text m
@@ -47,34 +47,34 @@ pub record Content (M : Type 0) : Type 1 where
   pub faults : (c : List ℕ) → IfErr (read c) IsOfText
 
 pub record Der (V : Type 0) : Type 1 where
-  -- a value, without where it lies in memory
+  -- a value without its address in memory
   pub Meaning : Type 0
   pub meaning : V → Meaning
-  -- the text of a value
+  -- the encoding of a value
   pub text : Meaning → List ℕ
-  -- what a write may append: the text, or what a closure may append
+  -- what a write may append: the encoding, or what a closure may append
   pub texts : Meaning → List ℕ → Type 0
-  -- the closures in a value keep what they owe
+  -- what a write requires of the closures in a value
   pub closures : Meaning → Type 0
-  -- the values of which the laws speak: ranges and form
+  -- the values of which the laws speak: their numbers are in range, and they are well formed
   pub valid : Meaning → Type 0
-  -- those that may be read back: a list has as many items as its bounds allow
+  -- the values that may be read back: a list has as many items as its bounds allow
   pub allowed : Meaning → Type 0
   -- the type has bounds, so that some valid values may not be read back
   pub bounded : Type 0
-  -- a write appends the text and nothing else
+  -- a write appends the encoding and nothing else
   pub plain : Type 0
-  -- alternatives accept disjoint tags, and an option stands only where it may
+  -- alternatives accept disjoint tags, and options occur only where they may
   pub lawful : Type 0
-  -- each text is an element
+  -- each encoding is one element
   pub is_element : Type 0
   pub takes_memory : Type 0
-  -- places at which memory may run out
+  -- locations at which memory may run out
   pub runs_out : List ℕ → List Place → Type 0
   pub accepts : Tag → Bool
-  -- the value in front and the rest, or the first fault
+  -- the value at the start of the octets and the remaining octets, or the first error
   pub read : List ℕ → Result (Meaning × List ℕ) Fault
-  -- what a refused read leaves
+  -- what a read leaves at an error
   pub stops : List ℕ → List ℕ → Type 0
   -- the laws
   pub one_text : plain → (m : Meaning) (t : List ℕ) → texts m t → t ≡ text m
@@ -87,11 +87,11 @@ pub record Der (V : Type 0) : Type 1 where
   -- a type without bounds reads each valid value back
   pub unbounded : (bounded → ⊥) → (m : Meaning) → valid m → allowed m
   pub memory : (t : List ℕ) (places : List Place) → runs_out t places → takes_memory
-  -- memory runs out only where an element stands in front
+  -- memory runs out only if the octets begin with an element
   pub in_front : (t : List ℕ) (places : List Place) → runs_out t places → (f : Element × List ℕ) × (front t ≡ Ok f)
-  -- the first fault is never want of memory
+  -- the first error is never `AllocationError`
   pub faults : (t : List ℕ) → IfErr (read t) IsOfText
-  -- a simple type is one element with its tag and its content
+  -- a simple type is one element with its tag and its contents octets
   pub is_simple : Type 0
   pub content : Content Meaning
   pub as_closures : (m : Meaning) → closures m → content.closures m
@@ -104,9 +104,9 @@ pub record Der (V : Type 0) : Type 1 where
   pub as_out : is_simple → (t : List ℕ) (places : List Place) → simple_out content.tag content.runs_out t places ↔ runs_out t places
   pub as_stops : is_simple → (t rest : List ℕ) → simple_stops t rest ↔ stops t rest
 
--- The laws of a simple type, by its content. They are lemmas of their own, which don't unfold: the type of a list holds
--- what its items mean, laws included, and a comparison of two such types goes through them. At a lemma it compares the
--- content and no proof, and lists nest deeper.
+-- The laws of a simple type, by its content. They are separate lemmas, which don't unfold: the type of a list holds
+-- what its items mean, laws included, and a comparison of two types of lists compares these laws. At a lemma the
+-- contents are compared and no proofs, so lists can nest deeper.
 module _ {M : Type 0} (c : Content M) where
   pub simple_type_one_text : c.plain → (m : M) (t : List ℕ) → IsElementOf c.tag (c.texts m) t → t ≡ element_text (element c.tag (c.text m))
   simple_type_one_text p m = one_element c.tag (c.texts m) (c.text m) (c.one_text p m)
@@ -236,7 +236,7 @@ no_content {M = M} = record {
   faults = refuses_faults M;
 }
 
--- A type whose values are seen through something, as a reference.
+-- A type whose values are seen through something, for example a reference.
 abbrev pub seen : {V W : Type 0} → (W → V) → Der V → Der W
 seen view d = record {
   Meaning = d.Meaning;
@@ -279,7 +279,7 @@ seen view d = record {
   as_stops = d.as_stops;
 }
 
--- any element, as it stands
+-- any element, as its tag and contents octets
 abbrev pub tlv_der : {V : Type 0} → (V → Element) → Der V
 tlv_der view = record {
   Meaning = Element;
@@ -322,7 +322,7 @@ tlv_der view = record {
   as_stops = λ i. absurd i;
 }
 
--- a value of the type or nothing, told by the tag in front
+-- a value of the type or nothing; the leading tag tells which
 abbrev pub option_der : {V : Type 0} → Der V → Der (Option V)
 option_der d = record {
   Meaning = Option d.Meaning;
@@ -365,10 +365,10 @@ option_der d = record {
   as_stops = λ i. absurd i;
 }
 
--- The closures in a value keep what they owe. A plain type has none.
+-- The closures in a value are as a write requires them. A plain type has no closures.
 abbrev pub IsWritable : {V : Type 0} → (d : Der V) → d.Meaning → Type 0
 IsWritable d m = d.plain ⊎ d.closures m
 
--- The same of the content of a simple type.
+-- The same for the content of a simple type.
 abbrev pub IsWritableContent : {M : Type 0} → Content M → M → Type 0
 IsWritableContent c m = c.plain ⊎ c.closures m

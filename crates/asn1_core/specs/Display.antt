@@ -5,7 +5,7 @@ use Rattle.asn1_core.specs.declared.parser.ParseErrorKind.TheVariants.{InvalidVa
 use Rattle.asn1_core.specs.declared.writer.WriteError.{WriteError}
 use Rattle.asn1_core.specs.declared.writer.WriteError.TheVariants as writing
 
--- The text of a kind. That of an unexpected tag holds the tag's debug text, of which nothing is said.
+-- The text of a kind. The text of an unexpected tag holds the tag's debug text, of which nothing is stated.
 abbrev pub kind_text : ParseErrorKind → Option (List ℕ)
 kind_text InvalidValue = Some (codes "invalid value")
 kind_text InvalidTag = Some (codes "invalid tag")

@@ -1,4 +1,4 @@
--- Worked examples: what stands in front of given texts, and what text a length, a tag and a value have.
+-- Worked examples: what given octets begin with, and how a length, a tag and a value are encoded.
 use Rattle.std.specs.Prelude.{◌≡◌, ◌^◌, true, [], ◌∷◌, ◌++◌, replicate, Ok, Err}
 use Rattle.asn1_core.specs.declared.parser.ParseErrorKind.TheVariants.{InvalidValue, InvalidTag, InvalidLength, ShortData, UnexpectedTag, ExtraData}
 use Rattle.asn1_core.specs.declared.parser.Place.TheVariants.{Index}
@@ -42,7 +42,7 @@ pub record Booleans : Type 0 where
   pub other_tag : whole ((simple_der (λ b. b) bool_content).read (0x02 ∷ 0x01 ∷ 0x05 ∷ [])) ≡ Err (fault (UnexpectedTag (universal 2)))
   pub rest : whole ((simple_der (λ b. b) bool_content).read (0x01 ∷ 0x01 ∷ 0xff ∷ 0x00 ∷ [])) ≡ Err (fault ExtraData)
 
--- Places are given from the innermost outward: of nine, the innermost eight are kept.
+-- Locations are given from the innermost outward: of nine, the innermost eight are kept.
 pub record Places : Type 0 where
   pub three : (within (Index 3) (within (Index 2) (within (Index 1) (fault ExtraData)))).places ≡ Index 1 ∷ Index 2 ∷ Index 3 ∷ []
   pub eight : (within (Index 8) (within (Index 7) (within (Index 6) (within (Index 5) (within (Index 4) (within (Index 3) (within (Index 2) (within (Index 1) (fault ExtraData))))))))).places ≡ Index 1 ∷ Index 2 ∷ Index 3 ∷ Index 4 ∷ Index 5 ∷ Index 6 ∷ Index 7 ∷ Index 8 ∷ []

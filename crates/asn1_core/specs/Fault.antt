@@ -1,4 +1,4 @@
--- What a refusal of reading says: its kind, and the places around it, innermost first.
+-- An error of reading: its kind, and its locations, the innermost first.
 use Rattle.std.specs.Prelude.{◌≡◌, List, [], ◌∷◌, ◌++◌, take, Result, Ok, Err}
 use Rattle.asn1_core.specs.declared.parser.ParseErrorKind.{ParseErrorKind}
 use Rattle.asn1_core.specs.declared.parser.ParseErrorKind.TheVariants.{AllocationError}
@@ -12,38 +12,38 @@ pub record Fault : Type 0 where
   pub kind : ParseErrorKind
   pub places : List Place
 
--- A fault with no place around it.
+-- An error with no location.
 abbrev pub fault : ParseErrorKind → Fault
 fault kind = record { kind = kind; places = [] }
 
--- One more place around those that are there, of which the innermost are kept.
+-- One more location around those that are there, of which the innermost are kept.
 abbrev pub add : Place → List Place → List Place
 add place places = take MAX_PLACES (places ++ place ∷ [])
 
--- The fault, in one more place around it.
+-- The error, with one more location around it.
 abbrev pub within : Place → Fault → Fault
 within place f = record { kind = f.kind; places = add place f.places }
 
--- An answer of framing, whose faults have no place.
+-- A result of framing, whose errors have no location.
 abbrev pub framed : {A : Type 0} → Result A ParseErrorKind → Result A Fault
 framed (Ok x) = Ok x
 framed (Err kind) = Err (fault kind)
 
--- A call gave this answer, its value seen by view.
+-- A call returned this result, its value seen through `view`.
 abbrev pub AnswersKind : {V A : Type 0} → (V → A) → Result V ParseErrorKind → Result A ParseErrorKind → Type 0
 AnswersKind view (Ok v) answer = answer ≡ Ok (view v)
 AnswersKind view (Err kind) answer = answer ≡ Err kind
 
--- A call gave this answer, its value seen by view, or a fault of that kind with no place.
+-- A call returned this result, its value seen through `view`, or an error of that kind with no location.
 abbrev pub AnswersError : {V A : Type 0} → (V → A) → Result V Fault → Result A ParseErrorKind → Type 0
 AnswersError view (Ok v) answer = answer ≡ Ok (view v)
 AnswersError view (Err e) answer = (answer ≡ Err e.kind) × (e.places ≡ [])
 
--- The fault is one of the text, and not want of memory.
+-- The error is one of the input, and not `AllocationError`.
 abbrev pub IsOfText : Fault → Type 0
 IsOfText f = f.kind ≡ AllocationError → ⊥
 
--- A location as the place that is kept.
+-- A `ParseLocation` as the `Place` that is kept.
 abbrev pub place_of : ParseLocation → Place
 place_of (locations.Field name) = Field name.now
 place_of (locations.Index i) = Index i

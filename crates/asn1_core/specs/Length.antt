@@ -5,25 +5,25 @@ use Rattle.asn1_core.specs.declared.parser.ParseErrorKind.{ParseErrorKind}
 use Rattle.asn1_core.specs.declared.parser.ParseErrorKind.TheVariants.{InvalidLength, ShortData}
 use Rattle.asn1_core.specs.Text.{IsText, number}
 
--- The shortest text with this number.
+-- The octets encode this number, and no fewer octets do.
 pub record IsShortest (octets : List ℕ) (n : ℕ) : Type 0 where
   pub text : IsText octets
   pub value : number octets ≡ n
   pub shortest : (other : List ℕ) → IsText other → number other ≡ n → length octets ≤ length other
 
--- The octets are the text of the length n: one octet below 128 (8.1.3.4); else 0x80 and their count, and the
--- shortest text of n (8.1.3.5, 10.1).
+-- The length octets of n: one octet below 128 (8.1.3.4); else 0x80 plus the count of further octets, and then the
+-- fewest octets that encode n (8.1.3.5, 10.1).
 abbrev pub IsLengthText : List ℕ → ℕ → Type 0
 IsLengthText text n = (n < 128) × (text ≡ n ∷ [])
     ⊎ ((octets : List ℕ) × (128 ≤ n) × IsShortest octets n × (text ≡ (0x80 + length octets) ∷ octets))
 
--- The text of the length n, as a function: the digits of n in base 256 are the shortest text of n.
+-- The length octets of n, as a function: the digits of n in base 256 are the fewest octets that encode n.
 unfoldable pub length_text : ℕ → List ℕ
 length_text n = if nat_lt n 128 then n ∷ [] else (0x80 + length (digits_of 256 n)) ∷ digits_of 256 n
 
--- What stands in front of a text, where a length is wanted: a readable length and the rest; a first octet that
--- no readable length has, or further octets that are all there and aren't a length's text; or too little. That a
--- readable length has at most four further octets is the bound of this library.
+-- What octets begin with if a length is expected: a readable length and the remaining octets, or an error.
+-- `ShortData`: too few octets. `InvalidLength`: no readable length has the first octet, or the further octets are all
+-- there and with the first encode no length. At most four further octets are readable, the bound of this library.
 abbrev pub IsLengthFront : List ℕ → Result (ℕ × List ℕ) ParseErrorKind → Type 0
 IsLengthFront text (Ok found) = (found.0 < 2 ^ 32) × (text ≡ length_text found.0 ++ found.1)
 IsLengthFront text (Err InvalidLength) = ((first : ℕ) × (rest : List ℕ) × (first ≡ 0x80 ⊎ 0x85 ≤ first) × (text ≡ first ∷ rest))

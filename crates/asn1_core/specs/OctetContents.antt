@@ -1,4 +1,4 @@
--- The contents of octet strings and of null. A value is its octets, without where they lie in memory.
+-- The contents of octet strings and of null. A value is its octets, without their address in memory.
 use Rattle.std.specs.Prelude.{ℕ, ◌≡◌, List, [], length}
 use Rattle.std.proofs.Common.{refl}
 use Rattle.asn1_core.specs.Text.{IsText}
@@ -7,7 +7,7 @@ use Rattle.asn1_core.specs.Octets.{read_octets, read_sized_octets, read_null}
 use Rattle.asn1_core.specs.Der.{Content, basic}
 use Rattle.asn1_core.specs.Lemmas.Octets.{octets_takes, sized_octets_takes, sized_octets_again, sized_octets_faults, null_takes, null_again, null_faults}
 
--- An octet string has its octets as content. (X.690 8.7)
+-- The contents octets of an octet string are its octets. (X.690 8.7)
 abbrev pub octets_content : Content (List ℕ)
 octets_content = basic (record {
   tag = universal 4;
@@ -19,7 +19,7 @@ octets_content = basic (record {
   faults = λ c. tt;
 })
 
--- One of a fixed size.
+-- An octet string of a fixed size.
 abbrev pub sized_octets_content : ℕ → Content (List ℕ)
 sized_octets_content size = basic (record {
   tag = universal 4;
@@ -31,7 +31,7 @@ sized_octets_content size = basic (record {
   faults = sized_octets_faults size;
 })
 
--- Null has no content. (X.690 8.8)
+-- Null has no contents octets. (X.690 8.8)
 abbrev pub null_content : Content (Unit {0})
 null_content = basic (record {
   tag = universal 5;

@@ -11,11 +11,11 @@ use Rattle.asn1_core.specs.Reading.{stands}
 abbrev pub option_meaning : {V M : Type 0} → (V → M) → Option V → Option M
 option_meaning meaning o = option_map meaning o
 
--- What is asked of the value that is there.
+-- What is required of the value, if there is one.
 abbrev pub IfThere : {M : Type 0} → (M → Type 0) → Option M → Type 0
 IfThere good o = IfSome o good
 
--- The text of the value that is there, or nothing.
+-- The encoding of the value, or nothing if there is none.
 abbrev pub option_text : {M : Type 0} → (M → List ℕ) → Option M → List ℕ
 option_text text o = option_map_or text o []
 
@@ -23,14 +23,14 @@ abbrev pub option_texts : {M : Type 0} → (M → List ℕ → Type 0) → Optio
 option_texts texts None t = t ≡ []
 option_texts texts (Some m) t = texts m t
 
--- Where an accepted tag stands in front, a value is read; elsewhere nothing.
+-- If the octets begin with an accepted tag, a value is read; otherwise nothing.
 abbrev pub option_read : {M : Type 0} → (Tag → Bool) → (List ℕ → Result (M × List ℕ) Fault) → List ℕ → Result (Option M × List ℕ) Fault
 option_read accepts read t = if stands accepts t then (read t >>= λ x. Ok (Some x.0, x.1)) else Ok (None, t)
 
--- Memory may run out where a value is read.
+-- Memory may run out if a value is read.
 abbrev pub option_out : (Tag → Bool) → (List ℕ → List Place → Type 0) → List ℕ → List Place → Type 0
 option_out accepts out t places = (stands accepts t ≡ true) × out t places
 
--- The errors of the value that is there.
+-- The errors of the value, if there is one.
 abbrev pub OptionErrors : {T E : Type 0} → (T → E → Type 0) → Option T → E → Type 0
 OptionErrors named o e = IsSomeAnd o (λ v. named v e)

@@ -1,4 +1,4 @@
--- What readings answer.
+-- What reading returns.
 use Rattle.std.specs.Prelude.{ℕ, ◌<◌, ◌^◌, ◌≡◌, ◌⊎◌, List, [], ◌∷◌, ◌++◌, if◌then◌else◌, Result, Ok, Err, Bool, false, IsErrAnd}
 use Rattle.asn1_core.specs.declared.parser.ParseErrorKind.{ParseErrorKind}
 use Rattle.asn1_core.specs.declared.parser.ParseErrorKind.TheVariants.{AllocationError, ExtraData, InvalidValue, UnexpectedTag}
@@ -8,16 +8,16 @@ use Rattle.asn1_core.specs.Tag.{tag_eq, tag_front}
 use Rattle.asn1_core.specs.Element.{Element, element_text, IsReadable, front, ◌>>=◌}
 use Rattle.asn1_core.specs.Fault.{Fault, fault, framed}
 
--- A refusal says the first fault, or that memory ran out at one of the places.
+-- The error of a call is the first error, or `AllocationError` at one of the locations.
 abbrev pub IsRefusal : {M : Type 0} → (List Place → Type 0) → Result M Fault → Fault → Type 0
 IsRefusal out read e = (read ≡ Err e) ⊎ ((e.kind ≡ AllocationError) × out e.places)
 
--- What a call answered, its value seen by view, is what reading gives, or memory ran out at one of the places.
+-- A call returned what reading gives, its value seen through `view`; or memory ran out at one of the locations.
 abbrev pub Answers : {V M : Type 0} → (V → M) → (List Place → Type 0) → Result V Fault → Result M Fault → Type 0
 Answers view out (Ok v) read = read ≡ Ok (view v)
 Answers view out (Err e) read = IsRefusal out read e
 
--- The second text is a suffix of the first.
+-- The second octets are a suffix of the first.
 abbrev pub EndsWith : List ℕ → List ℕ → Type 0
 EndsWith text back = (taken : List ℕ) × (text ≡ taken ++ back)
 
@@ -25,55 +25,55 @@ abbrev pub all_taken : {M : Type 0} → M → List ℕ → Result M Fault
 all_taken m [] = Ok m
 all_taken m (octet ∷ octets) = Err (fault ExtraData)
 
--- Nothing may be left behind what was read.
+-- No octets may remain after what was read.
 abbrev pub whole : {M : Type 0} → Result (M × List ℕ) Fault → Result M Fault
 whole read = read >>= λ x. all_taken x.0 x.1
 
--- Nothing, or an element whose tag number and content's length are readable.
+-- Nothing, or the encoding of one readable element.
 abbrev pub Fits : List ℕ → Type 0
 Fits text = (text ≡ []) ⊎ ((e : Element) × IsReadable e × (text ≡ element_text e))
 
--- What is taken in front of a text is that text, which is nothing or one element.
+-- What is consumed at the start of `t` is `text`, which is nothing or one readable element.
 pub record Takes (t text rest : List ℕ) : Type 0 where
   pub is : t ≡ text ++ rest
   pub one : Fits text
 
--- The element in front and the rest, or the fault of framing.
+-- The element at the start and the remaining octets, or the error of framing.
 abbrev pub element_front : List ℕ → Result (Element × List ℕ) Fault
 element_front t = framed (front t)
 
 abbrev pub expected : {M : Type 0} → Tag → (List ℕ → Result M Fault) → Element × List ℕ → Result (M × List ℕ) Fault
 expected tag read f = if tag_eq f.0.tag tag then (read f.0.content >>= λ m. Ok (m, f.1)) else Err (fault (UnexpectedTag f.0.tag))
 
--- A simple type: the element, then its tag, then its content.
+-- A simple type: the element is read, then its tag is compared, then its contents octets are read.
 abbrev pub simple : {M : Type 0} → Tag → (List ℕ → Result M Fault) → List ℕ → Result (M × List ℕ) Fault
 simple tag read t = element_front t >>= expected tag read
 
--- The contents octets of the element in front, where it has this tag, and the rest.
+-- The contents octets of the first element, if it has this tag, and the remaining octets.
 abbrev pub content_of : Tag → Element × List ℕ → Result (List ℕ × List ℕ) ParseErrorKind
 content_of tag f = if tag_eq f.0.tag tag then Ok (f.0.content, f.1) else Err (UnexpectedTag f.0.tag)
 
 abbrev pub expected_front : Tag → List ℕ → Result (List ℕ × List ℕ) ParseErrorKind
 expected_front tag t = front t >>= content_of tag
 
--- Memory may run out for a simple type where it may for its content.
+-- Memory may run out for a simple type as for its contents octets, if the first element has its tag.
 abbrev pub simple_out : Tag → (List ℕ → List Place → Type 0) → List ℕ → List Place → Type 0
 simple_out tag out t places = (f : Element × List ℕ) × (front t ≡ Ok f) × (f.0.tag ≡ tag) × out f.0.content places
 
--- A refusal of framing takes nothing; one that comes after framing stands behind the element.
+-- An error of framing consumes nothing; a later error consumes the element.
 abbrev pub stops_behind : Result (Element × List ℕ) ParseErrorKind → List ℕ → List ℕ → Type 0
 stops_behind (Ok f) t rest = rest ≡ f.1
 stops_behind (Err kind) t rest = rest ≡ t
 
--- What a refused read of a simple type leaves.
+-- What a read of a simple type leaves at an error.
 abbrev pub simple_stops : List ℕ → List ℕ → Type 0
 simple_stops t rest = stops_behind (front t) t rest
 
--- A refused read of any element takes nothing.
+-- A failed read of any element consumes nothing.
 abbrev pub tlv_stops : List ℕ → List ℕ → Type 0
 tlv_stops t rest = rest ≡ t
 
--- Whether an accepted tag stands in front.
+-- Whether the octets begin with an accepted tag.
 abbrev pub accepts_front : (Tag → Bool) → Result (Tag × List ℕ) ParseErrorKind → Bool
 accepts_front accepts (Ok found) = accepts found.0
 accepts_front accepts (Err kind) = false
@@ -81,23 +81,23 @@ accepts_front accepts (Err kind) = false
 abbrev pub stands : (Tag → Bool) → List ℕ → Bool
 stands accepts t = accepts_front accepts (tag_front t)
 
--- An element with a readable tag.
+-- The encoding of an element with a readable tag.
 pub record IsOneElement (text : List ℕ) : Type 0 where
   pub element : Element
   pub is : text ≡ element_text element
   pub readable : element.tag.value < 2 ^ 32
 
--- What is left, where nothing may be left.
+-- Rejects the remaining octets with `ExtraData`, if there are any.
 abbrev pub rest_refused : List ℕ → Result (Unit {0}) Fault
 rest_refused [] = Ok tt
 rest_refused (octet ∷ octets) = Err (fault ExtraData)
 
--- What a closure's answer becomes, once nothing may be left of the text.
+-- A closure's result is passed on; but a value after which octets remain becomes an error, made from `ExtraData`.
 abbrev pub IsHandedOn : {T E : Type 0} → (Fault → E → Type 0) → Result T E → List ℕ → Result T E → Type 0
 IsHandedOn gives (Err e) rest result = result ≡ Err e
 IsHandedOn gives (Ok v) [] result = result ≡ Ok v
 IsHandedOn gives (Ok v) (octet ∷ octets) result = IsErrAnd result (gives (fault ExtraData))
 
--- The content of what is no simple type.
+-- Rejects all contents octets, for a type that isn't simple or is only written.
 abbrev pub refuses : {M : Type 0} → List ℕ → Result M Fault
 refuses c = Err (fault InvalidValue)

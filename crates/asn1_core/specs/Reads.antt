@@ -1,4 +1,4 @@
--- What calls that read return, a word for each: the value, or the first error, or out of memory.
+-- What calls that read return, a relation for each: the value, the first error, or out of memory.
 use Rattle.std.specs.Prelude.{ℕ, ◌≡◌, List, Result}
 use Rattle.asn1_core.specs.Fault.{Fault}
 use Rattle.asn1_core.specs.Tag.{implicit_tag_of, explicit_tag_of}
@@ -14,7 +14,7 @@ ReadsContents d contents result = Answers d.meaning (d.content.runs_out contents
 abbrev pub ReadsWhole : {V : Type 0} → Der V → List ℕ → Result V Fault → Type 0
 ReadsWhole d octets result = Answers d.meaning (d.runs_out octets) result (whole (d.read octets))
 
--- What reading a prefix of the first octets returns, where the second remain.
+-- What reading a prefix of the first octets returns, if the second octets remain.
 abbrev pub ReadsPrefix : {V : Type 0} → Der V → List ℕ → List ℕ → Result V Fault → Type 0
 ReadsPrefix d octets remaining result = Answers (λ v. (d.meaning v, remaining)) (d.runs_out octets) result (d.read octets)
 

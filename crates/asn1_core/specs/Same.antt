@@ -1,4 +1,4 @@
--- When two errors are the same: their kinds are, and the places that are kept.
+-- When two errors are the same: their kinds are, and the locations that are kept.
 use Rattle.std.specs.Prelude.{Bool, true, false, ◌==◌, ◌&&◌, bytes_eq}
 use Rattle.std.specs.Cmp.Lexicographic.{pointwise}
 use Rattle.asn1_core.specs.declared.parser.ParseErrorKind.{ParseErrorKind}

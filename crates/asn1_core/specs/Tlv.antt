@@ -1,4 +1,4 @@
--- An element in hand.
+-- What a `Tlv` means.
 use Rattle.std.specs.Prelude.{ℕ, List, Result, Ok, Err}
 use Rattle.std.specs.Borrow.{Bor}
 use Rattle.asn1_core.specs.declared.parser.ParseErrorKind.{ParseErrorKind}
@@ -6,15 +6,15 @@ use Rattle.asn1_core.specs.declared.types.Tlv.{Tlv}
 use Rattle.asn1_core.specs.Element.{Element, element}
 use Rattle.asn1_core.specs.Fault.{Fault}
 
--- Its tag and content, without where they lie in memory.
+-- The tag and the contents octets of a `Tlv`, without their address in memory.
 abbrev pub element_of : Tlv → Element
 element_of tlv = element tlv.tag tlv.«data».now
 
--- The octets that it lends as its full data.
+-- The octets that a `Tlv` borrows as its full data.
 abbrev pub full_octets : Tlv → List ℕ
 full_octets tlv = tlv.full_data.now
 
--- What a call of `strip_tlv` gave, without where its octets lie.
+-- What a call of `strip_tlv` returned, without the addresses of octets and the locations of an error.
 abbrev pub stripped : Result (Tlv × Bor (List ℕ)) Fault → Result (Element × List ℕ) ParseErrorKind
 stripped (Ok x) = Ok (element_of x.0, x.1.now)
 stripped (Err e) = Err e.kind

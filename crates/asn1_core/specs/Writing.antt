@@ -1,4 +1,4 @@
--- Writers to their callers, and the laws that writing keeps.
+-- Writers as their callers see them, and the laws of writing.
 use Rattle.std.specs.Prelude.{◌≡◌, ℕ, ◌+◌, ◌<◌, ◌^◌, List, length, ◌⊎◌, Option, Some, IfSome}
 use Rattle.asn1_core.specs.declared.tag.Tag.{Tag}
 use Rattle.asn1_core.specs.declared.writer.WriteError.{WriteError}
@@ -12,26 +12,26 @@ use Rattle.asn1_core.specs.declared.writer.sets.SetOfWriter.{SetOfWriter}
 use Rattle.asn1_core.specs.declared.writer.sets.SetWriter.{SetWriter}
 use Rattle.asn1_core.specs.Buffer.{Buffer}
 
--- a length that is known is that of each text
+-- if a length is known, each encoding has it
 abbrev pub KnowsLength : (List ℕ → Type 0) → Option ℕ → Type 0
 KnowsLength texts known = IfSome known (λ n. (t : List ℕ) → texts t → length t ≡ n)
 
--- it is that of each text, and it is known for a value that has it and a text whose length a `usize` holds
+-- the same; and the length of a value that has one is known, if a `usize` holds that length
 pub record GivesLength (has : Type 0) (texts : List ℕ → Type 0) (known : Option ℕ) : Type 0 where
   pub right : KnowsLength texts known
   pub told : has → (t : List ℕ) → texts t → length t < 2 ^ 64 → known ≡ Some (length t)
 
--- want of memory, or an error that is named
+-- out of memory, or an error that is named
 abbrev pub Refuses : {E : Type 0} → (WriteError → E → Type 0) → (E → Type 0) → E → Type 0
 Refuses gives named e = gives AllocationError e ⊎ named e
 
--- the elements with that tag and one of the contents
+-- the octets are the encoding of an element with that tag and one of these contents octets
 pub record IsElementOf (tag : Tag) (contents : List ℕ → Type 0) (text : List ℕ) : Type 0 where
   pub content : List ℕ
   pub is_content : contents content
   pub is : text ≡ element_text (element tag content)
 
--- The count of octets of an element with this tag and n octets of content.
+-- The count of octets of an element with this tag and n contents octets.
 unfoldable pub full_count : Tag → ℕ → ℕ
 full_count tag n = n + (length (tag_text tag) + length (length_text n))
 

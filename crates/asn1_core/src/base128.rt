@@ -1,4 +1,4 @@
-//! Numbers in base 128: groups of seven bits, the most significant first, where every octet but the last has its top
+//! Numbers in base 128: groups of seven bits, the most significant first, and every octet except the last has its top
 //! bit set (X.690 8.1.2.4.2, 8.19.2). A number is below 2^128, so its encoding has 1 to 19 octets.
 
 ghost use Rattle.std.specs.Prelude.{◌≡◌, ℕ, ◌+◌, ◌<◌, ◌≤◌, ◌++◌, List, length, drop, IfNone, IfSome};
@@ -12,9 +12,9 @@ const MAX_NUMBER_OCTETS: usize = 19;
 
 /// Reads the number at the start of `octets`: returns it and the remaining octets.
 ///
-/// Errors, without a location: `InvalidValue` where no number is encoded so, however the octets go on: the first is
+/// Errors, without a location: `InvalidValue` if the octets encode no number, whatever follows them: the first is
 /// 0x80, a leading group of zeros; or the number is 2^128 or more; or the first 19 octets all have their top bit set.
-/// `ShortData { needed: 1 }` where the octets end before the number does, also where there are none.
+/// `ShortData { needed: 1 }` if the octets end before the number does, also if there are none.
 pub fn read(octets: &[u8]) -> ParseResult<(u128, &[u8])>
     ensures { AnswersError (λ x. (x.0, x.1.now)) result (number_front octets.now) }
 {
@@ -57,8 +57,8 @@ pub fn length(n: u128) -> usize
     count
 }
 
-/// Writes the encoding of the number over the first of `octets`, leaves those after it as they were, and returns how
-/// many octets it has: 1 to 19. `None`, with all octets as they were, where there are fewer than that.
+/// Writes the encoding of the number over the first of `octets`, leaves the octets after it as they were, and returns
+/// how many octets it has: 1 to 19. `None` if `octets` has fewer; then all of them are as they were.
 pub fn write(n: u128, octets: &mut [u8]) -> Option<usize>
     ensures short { IfNone result ((length octets.old < length (number_text n))
         × (octets.new ≡ octets.old)) }

@@ -11,7 +11,7 @@ pub fn one_content()
     ensures { NumbersHaveOneContent }
 {}
 
-/// Reading returns the number of contents octets, and rejects all other octets.
+/// Reading returns the number that contents octets encode, and rejects all other octets.
 pub fn contents_alone_are_read()
     ensures { ReadsContentsAlone }
 {}

@@ -31,8 +31,8 @@ use std::marker::Model;
 /// Why input was rejected.
 #[derive(Clone, Copy, Debug, PartialEq, Eq)]
 pub enum ParseErrorKind {
-    /// The contents octets encode no value of the type. A constructor, such as that of a time, returns it for numbers
-    /// that make no value.
+    /// The contents octets encode no value of the type. A constructor, such as the one of a time, returns this error
+    /// for numbers that make no value.
     InvalidValue,
     /// The number of a tag is encoded wrongly: in the long form (X.690 8.1.2.4) it begins with 0x80, is below 31, is
     /// 2^32 or more, or doesn't end within 19 octets.
@@ -72,11 +72,11 @@ pub enum ParseErrorKind {
     OidTooLong,
     /// The value that defines another field, as an OBJECT IDENTIFIER does, has no known variant.
     UnknownDefinedBy,
-    /// Out of memory. Only types that own memory, a box among them, return it.
+    /// Out of memory. Only types that own memory, a box among them, return this error.
     AllocationError,
 }
 
-/// A location of an error: where it lies in a structure around it.
+/// A location of an error: its position in a structure around it.
 #[derive(Debug, PartialEq, Eq, Drop)]
 pub enum ParseLocation {
     /// In the field with this name.
@@ -179,8 +179,8 @@ impl ParseError {
         self.kind
     }
 
-    /// Adds a location around those that are there. The innermost [`MAX_PLACES`] are kept, and further ones are
-    /// dropped.
+    /// Adds a location around the locations that the error has. The innermost [`MAX_PLACES`] are kept, and further
+    /// ones are dropped.
     pub fn add_location(mut self, location: ParseLocation) -> ParseError
         ensures { result ≡ within (place_of location) self }
     {
@@ -257,7 +257,7 @@ impl fmt::Debug for ParseError {
     }
 }
 
-/// Equal exactly where the kinds are and the locations that are kept.
+/// Two errors are equal exactly if their kinds are, and the locations that they keep.
 impl PartialEq for ParseError {
     ghost eq = { fault_eq };
 
@@ -299,7 +299,7 @@ impl<'a> Model for Parser<'a> {
 }
 
 impl<'a> Parser<'a> {
-    /// A parser over `data`. Values that own memory take it from `alloc`.
+    /// A parser over `data`. Values that own memory allocate it from `alloc`.
     #[inline]
     pub fn new(alloc: Global, data: &'a [u8]) -> Parser<'a>
         ensures { result ≡ «data».entry.now }
@@ -331,7 +331,7 @@ impl<'a> Parser<'a> {
         self.data.is_empty()
     }
 
-    /// The tag at the start of the remaining octets, which isn't read. `None` where the identifier octets there are
+    /// The tag at the start of the remaining octets, which stay unread. `None` if the identifier octets there are
     /// incomplete, or are rejected with `InvalidTag`.
     pub fn peek_tag(&mut self) -> Option<Tag>
         ensures tag { result ≡ found_tag (tag_front self.old) }
@@ -399,16 +399,16 @@ impl<'a> Parser<'a> {
 
     /// Reads a value of the type `T`.
     ///
-    /// Returns what `T` returns: the value, or its first error in the order of the input. On an error the parser is
-    /// left before a suffix of what remained, as the type says: for a type with a tag of its own where it was, if
-    /// framing failed, and else after the element. Only a type that takes memory returns `AllocationError`.
+    /// Returns what `T` returns: the value, or the first error in the order of the input. An error leaves the parser
+    /// before a suffix of its octets, as the type says: for a type with a tag of its own where it was, if framing
+    /// failed, and else after the element. Only a type that allocates returns `AllocationError`.
     #[inline(always)]
     pub fn read_element<T: Asn1Readable<'a>>(&mut self) -> ParseResult<T>
         ensures answers { ReadsPrefix T.der self.old self.new result }
         ensures rest { EndsWith self.old self.new }
         ensures stops { OnErr result (T.der.stops self.old self.new) }
 
-        // A type whose reading takes no memory is never out of it.
+        // A type that doesn't allocate is never out of memory.
         ensures no_want { ¬ T.der.takes_memory → IfErr result IsOfText }
     {
         T::parse(self)
@@ -417,8 +417,8 @@ impl<'a> Parser<'a> {
     /// Reads a value of the type `T` under the explicit tag with the number `tag` (X.690 8.14): an element with this
     /// tag, whose contents octets are the encoding of the value and nothing else.
     ///
-    /// Errors: framing's, which leave the parser where it was; then, with the parser after the element,
-    /// `UnexpectedTag`, the first error of the value in the contents octets, and `ExtraData` where octets remain there.
+    /// Errors: those of framing, which leave the parser where it was; then, with the parser after the element,
+    /// `UnexpectedTag`, the first error of the value in the contents octets, and `ExtraData` if octets remain there.
     pub fn read_explicit_element<T: Asn1Readable<'a>>(&mut self, tag: u32) -> ParseResult<T>
         ensures answers { ReadsExplicit tag T.der self.old self.new result }
         ensures rest { EndsWith self.old self.new }
@@ -431,7 +431,7 @@ impl<'a> Parser<'a> {
 
     /// Reads a value of the type `T`, whose own tag is replaced by the implicit one with the number `tag` (X.690 8.14).
     ///
-    /// Errors: framing's, which leave the parser where it was; then, with the parser after the element,
+    /// Errors: those of framing, which leave the parser where it was; then, with the parser after the element,
     /// `UnexpectedTag`, and the first error of the contents octets.
     pub fn read_implicit_element<T: SimpleAsn1Readable<'a>>(&mut self, tag: u32) -> ParseResult<T>
         ensures answers { ReadsImplicit tag T.der self.old self.new result }
@@ -446,7 +446,7 @@ impl<'a> Parser<'a> {
 
 /// The result with its error as a [`ParseError`] without a location.
 ///
-/// Framing returns kinds alone, which are small, and takes no time to carry locations that it never has.
+/// Framing returns kinds alone. These are small, and framing spends no time on locations, which it never has.
 #[inline(always)]
 pub(crate) fn kind_as_error<T: Drop>(answer: Result<T, ParseErrorKind>) -> ParseResult<T>
     ensures { result ≡ framed answer }
@@ -498,11 +498,12 @@ fn read_length(octets: &[u8]) -> Result<(usize, &[u8]), ParseErrorKind>
     Ok((n, rest))
 }
 
-/// Cuts the element at the start of `data` off: returns it and the remaining octets. It takes no memory.
+/// Cuts off the element at the start of `data`: returns the element and the remaining octets. Allocates nothing.
 ///
 /// The first of identifier octets, length octets and contents octets that is wrong or incomplete decides the error:
-/// `InvalidTag`, `InvalidLength`, or `ShortData` with the number of octets that this part lacks at least. It has no
-/// location. A result other than `ShortData` stays the same however the input goes on, but for longer remaining octets.
+/// `InvalidTag`, `InvalidLength`, or `ShortData` with the number of octets that this part lacks at least. The error
+/// has no location. A result other than `ShortData` stays the same for every longer input, except that the remaining
+/// octets are longer.
 #[inline]
 pub fn strip_tlv(data: &[u8]) -> ParseResult<(Tlv<'_>, &[u8])>
     // The result is the one that the definitions allow.
@@ -514,7 +515,7 @@ pub fn strip_tlv(data: &[u8]) -> ParseResult<(Tlv<'_>, &[u8])>
     ensures full_data { IfOk result (λ x. full_octets x.0 ≡ element_text (element_of x.0)) }
     ensures no_place { IfErr result (λ e. e.places ≡ []) }
 
-    // On each longer input the result stays, unless it is that octets are missing.
+    // The result stays the same for every longer input, unless octets are missing.
     ensures stands { (more : List ℕ) → IsText more → ¬ IsShort (stripped result)
         → front («data».now ++ more) ≡ with_more (stripped result) more }
     ensures fewer { (more : List ℕ) (needed : ℕ) → IsText more
@@ -558,7 +559,7 @@ fn short_tlv_in(octets: &[u8]) -> Option<(Tlv<'_>, &[u8])>
     Some(cut(octets, tag, n, rest))
 }
 
-/// The element with this tag and as many contents octets, which are at the start of `rest`, and the octets after it.
+/// The element with this tag and `n` contents octets, those at the start of `rest`; and the octets after it.
 #[inline(always)]
 fn cut<'a>(octets: &'a [u8], tag: Tag, n: usize, rest: &'a [u8]) -> (Tlv<'a>, &'a [u8])
     requires header { front octets.now ≡ content_front tag n rest.now }
@@ -580,7 +581,7 @@ fn cut<'a>(octets: &'a [u8], tag: Tag, n: usize, rest: &'a [u8]) -> (Tlv<'a>, &'
 
 /// Reads `data` by `f`, which is given a parser over it, and returns what `f` returns.
 ///
-/// Errors: one of `f` is returned as it is; where `f` returns a value and octets remain, the error is `ExtraData`,
+/// Errors: an error of `f` is returned as it is; if `f` returns a value and octets remain, the error is `ExtraData`,
 /// converted by `E::from`. The caller has to prove that `f` may always be called (`requires`).
 #[inline]
 pub fn parse<'a, T: Drop, E: From<ParseError> + Drop, F: FnOnce(&mut Parser<'a>) -> Result<T, E>>(
@@ -601,9 +602,9 @@ pub fn parse<'a, T: Drop, E: From<ParseError> + Drop, F: FnOnce(&mut Parser<'a>)
 
 /// Reads one value of the type `T`, whose encoding has to be the whole of `data`.
 ///
-/// For a lawful type a value is returned exactly where `data` is its one encoding (`found`, `only`). All other input is
-/// rejected with the type's first error in the order of the input, or with `ExtraData` where octets remain after a
-/// value. Only a type that takes memory returns `AllocationError`.
+/// For a lawful type a value is returned exactly if `data` is its one encoding (`found`, `only`). All other input is
+/// rejected with the type's first error in the order of the input, or with `ExtraData` if octets remain after a
+/// value. Only a type that allocates returns `AllocationError`.
 #[inline(always)]
 pub fn parse_single<'a, T: Asn1Readable<'a>>(alloc: Global, data: &'a [u8]) -> ParseResult<T>
     ensures exact { ReadsWhole T.der «data».entry.now result }
@@ -616,14 +617,14 @@ pub fn parse_single<'a, T: Asn1Readable<'a>>(alloc: Global, data: &'a [u8]) -> P
         → Fits (T.der.text m) → «data».entry.now ≡ T.der.text m
         → Answers T.der.meaning (T.der.runs_out «data».entry.now) result (Ok m) }
 
-    // A type whose reading takes no memory is never out of it.
+    // A type that doesn't allocate is never out of memory.
     ensures no_want { ¬ T.der.takes_memory → IfErr result IsOfText }
 {
     read_single(alloc, data)
 }
 
-/// Reads one value and nothing after it. It stands apart from [`parse_single`], so that the clauses of that are proved
-/// at one return.
+/// Reads one value and nothing after it. It is a function of its own so that the clauses of [`parse_single`] are
+/// proved at one return.
 #[inline(always)]
 fn read_single<'a, T: Asn1Readable<'a>>(alloc: Global, data: &'a [u8]) -> ParseResult<T>
     ensures { ReadsWhole T.der «data».entry.now result }

@@ -32,8 +32,8 @@ impl TagClass {
     }
 }
 
-/// A tag: its class, whether the encoding is constructed, and its number, below 2^32 (X.690 8.1.2). Tags are equal
-/// where all three are.
+/// A tag: its class, whether the encoding is constructed, and its number, below 2^32 (X.690 8.1.2). Tags are equal if
+/// all three are.
 #[derive(Clone, Copy, Debug, PartialEq, Eq, Hash)]
 pub struct Tag {
     value: u32,
@@ -41,14 +41,14 @@ pub struct Tag {
     class: TagClass,
 }
 
-/// Bit 6 of the first identifier octet, which is set where the encoding is constructed (8.1.2.5).
+/// Bit 6 of the first identifier octet, which is set if the encoding is constructed (8.1.2.5).
 const CONSTRUCTED: u8 = 0x20;
 /// The five low bits of the first identifier octet that announce a number in base 128 after it.
 pub(crate) const LONG_FORM: u8 = 0x1f;
 /// How many identifier octets there are at most.
 const MAX_TAG_OCTETS: usize = 6;
 
-/// The class that the first identifier octet says.
+/// The class in the first identifier octet.
 fn class_in(first: u8) -> TagClass
     ensures { result ≡ class_of (first / 64) }
 {
@@ -69,7 +69,7 @@ impl Tag {
     }
 
     /// Whether this tag comes before the other: by class, from universal to private, and within a class by number
-    /// (X.680 8.6). Whether an encoding is constructed plays no part.
+    /// (X.680 8.6). Whether an encoding is constructed doesn't matter.
     #[inline]
     pub fn comes_before(self, other: Tag) -> bool
         ensures { result ≡ tag_before self other }
@@ -80,9 +80,9 @@ impl Tag {
 
     /// Reads the identifier octets at the start of `octets`: returns the tag and the remaining octets.
     ///
-    /// Errors, without a location: `InvalidTag` for a number in the long form (8.1.2.4) that begins with 0x80, is below
-    /// 31, is 2^32 or more, or doesn't end within 19 octets. `ShortData { needed: 1 }` where the octets end before the
-    /// tag does, also where there are none.
+    /// Errors, without a location: `InvalidTag` for a number in the long form (8.1.2.4) that begins with 0x80, is
+    /// below 31, is 2^32 or more, or doesn't end within 19 octets. `ShortData { needed: 1 }` if the octets end before
+    /// the tag does, also if there are none.
     pub fn from_bytes(octets: &[u8]) -> ParseResult<(Tag, &[u8])>
         ensures { AnswersError (λ x. (x.0, x.1.now)) result (tag_front octets.now) }
     {
@@ -116,7 +116,7 @@ impl Tag {
         Ok((Tag::from_first_octet(*first, number as u32), rest))
     }
 
-    /// The tag with this number, whose first identifier octet says the class and the form.
+    /// The tag with this number, and with the class and the form that the first identifier octet gives.
     pub(crate) fn from_first_octet(first: u8, value: u32) -> Tag
         ensures { result ≡ tag_of first value }
     {
@@ -152,7 +152,7 @@ impl Tag {
         Tag::new(value, TagClass::Universal, true)
     }
 
-    /// The identifier octet, where the tag has only one: where its number is at most 30. Else `None`.
+    /// The identifier octet, if the tag has only one: if its number is at most 30. Else `None`.
     pub fn as_u8(self) -> Option<u8>
         ensures { SomeIff result (tag_number self < 31) (first_octet self (tag_number self)) }
     {
@@ -171,7 +171,7 @@ impl Tag {
         (self.class.bits() << 6) | constructed | low
     }
 
-    /// Appends the identifier octets. `AllocationError` where out of memory, with nothing appended.
+    /// Appends the identifier octets. `AllocationError` if out of memory; then nothing was appended.
     pub(crate) fn write_to(self, dest: &mut WriteBuf) -> WriteResult<()>
         ensures ok { OnOk result (dest.new.bytes ≡ dest.old.bytes ++ tag_text self) }
         ensures err { OnErr result (dest.new ≡ dest.old) }
@@ -223,7 +223,7 @@ impl Tag {
 }
 
 /// The tag of an implicitly tagged type (X.680 31.2.7): context-specific, with the number `value`, and constructed
-/// exactly where `inner` is, the tag that it replaces.
+/// exactly if the replaced tag, `inner`, is.
 pub fn implicit_tag(value: u32, inner: Tag) -> Tag
     ensures { result ≡ implicit_tag_of value inner }
 {

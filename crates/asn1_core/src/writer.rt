@@ -126,8 +126,8 @@ fn length_octets(n: usize) -> usize
     LengthText::new(n).octets().len()
 }
 
-/// How many octets an element with this tag and so many contents octets has in all. `None` where that is 2^64 or more,
-/// which it isn't below 2^63 contents octets.
+/// How many octets an element with this tag and this many contents octets has in all. `None` if that is 2^64 or more,
+/// which never happens below 2^63 contents octets.
 #[inline]
 pub fn full_length(tag: Tag, content_length: usize) -> Option<usize>
     ensures value { SomeIff result (full_count tag content_length < 2 ^ 64)
@@ -157,7 +157,7 @@ impl Model for WriteBuf {
 }
 
 impl WriteBuf {
-    /// A buffer that goes on after these octets.
+    /// A buffer that holds these octets.
     pub(crate) fn new(octets: Vec<u8>) -> WriteBuf
         ensures { result.bytes ≡ octets.items }
     {
@@ -179,7 +179,7 @@ impl WriteBuf {
         self.octets.len()
     }
 
-    /// Makes room: after `Ok`, pushes totalling `additional` octets succeed. `AllocationError` where out of memory.
+    /// Makes room: after `Ok`, pushes totalling `additional` octets succeed. `AllocationError` if out of memory.
     #[inline]
     pub fn reserve_additional(&mut self, additional: usize) -> WriteResult<()>
         ensures bytes { self.new.bytes ≡ self.old.bytes }
@@ -193,7 +193,7 @@ impl WriteBuf {
         Ok(())
     }
 
-    /// Appends an octet. `AllocationError` where there is no room for it and no memory.
+    /// Appends an octet. `AllocationError` if there is no room for it and no more memory.
     #[inline]
     pub fn push_byte(&mut self, octet: u8) -> WriteResult<()>
         ensures ok { OnOk result (self.new.bytes ≡ self.old.bytes ++ octet ∷ []) }
@@ -208,7 +208,7 @@ impl WriteBuf {
         Ok(())
     }
 
-    /// Appends octets. `AllocationError` where there is no room for them and no memory, with nothing appended.
+    /// Appends octets. `AllocationError` if there is no room for them and no more memory; then nothing was appended.
     #[inline]
     pub fn push_slice(&mut self, octets: &[u8]) -> WriteResult<()>
         ensures ok { OnOk result (self.new.bytes ≡ self.old.bytes ++ octets.now) }
@@ -223,8 +223,8 @@ impl WriteBuf {
         Ok(())
     }
 
-    /// Appends octets one by one, which for a few takes less time than to copy them together. `AllocationError` where
-    /// there is no room and no memory.
+    /// Appends octets one by one, which for a few takes less time than to copy them together. `AllocationError` if
+    /// there is no room and no more memory.
     #[inline]
     pub(crate) fn push_each(&mut self, octets: &[u8]) -> WriteResult<()>
         ensures ok { OnOk result (self.new.bytes ≡ self.old.bytes ++ octets.now) }
@@ -239,7 +239,7 @@ impl WriteBuf {
         Ok(())
     }
 
-    /// Appends the length octets of `n`. A single one, as most are, takes no array.
+    /// Appends the length octets of `n`. A single one, the usual case, needs no array.
     #[inline(always)]
     fn push_length(&mut self, n: usize) -> WriteResult<()>
         ensures ok { OnOk result (self.new.bytes ≡ self.old.bytes ++ length_text n) }
@@ -252,8 +252,8 @@ impl WriteBuf {
         self.push_byte(n as u8)
     }
 
-    /// Replaces the octet before `start` by the length octets of everything from `start` on. A single one, as most are,
-    /// moves nothing.
+    /// Replaces the octet before `start` by the length octets of everything from `start` on. A single one, the usual
+    /// case, moves nothing.
     #[inline]
     pub(crate) fn patch_length(&mut self, start: usize) -> WriteResult<()>
         requires from { 0 < start }
@@ -271,7 +271,7 @@ impl WriteBuf {
         Ok(())
     }
 
-    /// The same for more length octets. The buffer grows once, and what follows is moved once.
+    /// The same for more length octets. The buffer grows once, and the octets that follow are moved once.
     fn patch_long_length(&mut self, start: usize) -> WriteResult<()>
         requires from { 0 < start }
         requires long { start + 0x7f < length self.old.bytes }
@@ -331,7 +331,7 @@ impl WriteBuf {
         Ok(())
     }
 
-    /// Moves what is from `from` on down to `to`, overwriting what is between.
+    /// Moves the octets from `from` on down to `to`, over the octets between.
     fn move_down(&mut self, to: usize, from: usize)
         requires ordered { to ≤ from }
         requires within { from ≤ length self.old.bytes }
@@ -353,7 +353,7 @@ impl WriteBuf {
 /// Writes elements into a buffer. A call that fails leaves the buffer's octets as they were.
 #[derive(Drop)]
 pub struct Writer<'a> {
-    // Calls say by `same_buffer` that a writer goes on in the buffer that it was made with.
+    // By `same_buffer`, calls state that a writer keeps the buffer that it was made with.
     pub(crate) buf: &'a mut WriteBuf,
 }
 
@@ -374,7 +374,7 @@ impl<'a> Writer<'a> {
     /// Writes an element with this tag, whose contents octets `body` appends.
     ///
     /// With `Some(n)` the length `n` is written first. With `None` an octet is kept for the length and replaced
-    /// afterwards; the encoding is the same. Errors: one of `body`, or `AllocationError` where out of memory.
+    /// afterwards; the encoding is the same. Errors: one of `body`, or `AllocationError` if out of memory.
     ///
     /// The caller has to prove (`requires`) that `body` may always be called, that it leaves the octets before its own
     /// as they were, at `Ok` and at `Err`, and that with `Some(n)` it appends exactly `n` octets at `Ok`.
@@ -404,10 +404,10 @@ impl<'a> Writer<'a> {
         }
     }
 
-    /// Writes a value: its one encoding, or where it holds closures, one that they may append. Errors:
-    /// `AllocationError` where out of memory, or one that the type names. The caller has to prove that the closures in
-    /// the value keep what is asked of them, or that the type has one encoding for each value (`requires`), as every
-    /// type that is read has.
+    /// Writes a value: its one encoding, or if it holds closures, one that they may append. Errors: `AllocationError`
+    /// if out of memory, or one that the type names. The caller has to prove (`requires`) that the closures in the
+    /// value keep what is asked of them, or that the type has one encoding for each value, as every type that is read
+    /// has.
     #[inline]
     pub fn write_element<T: Asn1Writable>(&mut self, val: &T) -> Result<(), T::Error>
         requires { IsWritable T.der (T.der.meaning val.now) }
@@ -520,8 +520,7 @@ impl<'a> Writer<'a> {
     }
 }
 
-/// Calls `f` with a writer into an empty buffer, and returns the octets that it wrote. An error of `f` is returned as
-/// it is.
+/// Calls `f` with a writer into an empty buffer, and returns the octets that `f` wrote, or the error of `f` as it is.
 ///
 /// The caller has to prove (`requires`) that `f` may always be called, and that it leaves the octets before its own as
 /// they were, at `Ok` and at `Err`, in the buffer that it was given.
@@ -540,8 +539,8 @@ pub fn write<E: From<WriteError>, F: Fn(&mut Writer<'_>) -> Result<(), E> + Drop
     Ok(buf.into_octets())
 }
 
-/// Writes one value, and returns its encoding: the one that it has in DER, or where it holds closures, one that they
-/// may append. Errors and what the caller has to prove are those of [`Writer::write_element`].
+/// Writes one value, and returns its encoding: the one of DER, or if the value holds closures, one that they may
+/// append. Errors and what the caller has to prove are those of [`Writer::write_element`].
 #[inline]
 pub fn write_single<T: Asn1Writable>(alloc: Global, value: &T) -> Result<Vec<u8>, T::Error>
     requires { IsWritable T.der (T.der.meaning value.now) }

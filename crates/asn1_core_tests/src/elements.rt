@@ -15,7 +15,7 @@ fn short(needed: usize) -> Option<ParseErrorKind> {
     Some(ParseErrorKind::ShortData { needed })
 }
 
-/// An octet string of three letters is in front, and this remains.
+/// The octets begin with an octet string of three letters, and `remaining` comes after it.
 fn compare_abc(octets: &[u8], remaining: &[u8]) -> Result<(), Fail> {
     let (tlv, rest) = strip_tlv(octets)?;
     same(tlv.tag(), Tag::primitive(4))?;
@@ -34,7 +34,7 @@ fn elements_in_front() -> Result<(), Fail> {
     compare_abc(&octets, &octets[5..])
 }
 
-/// The element in front.
+/// The element at the start of the octets.
 fn front(octets: &[u8]) -> ParseResult<Tlv<'_>> {
     let (tlv, _rest) = strip_tlv(octets)?;
     Ok(tlv)
@@ -93,7 +93,7 @@ fn other_forms_are_not_short_ones(rt: HostRuntime) -> Result<(), Fail> {
     )
 }
 
-/// Each prefix of the octets is too short, and by so much.
+/// Each prefix of the octets is too short: the one of n octets lacks `needed[n]` octets.
 fn compare_fronts(octets: &[u8], needed: &[usize]) -> Result<(), Fail> {
     for (end, needed) in needed.iter().enumerate() {
         let front = octets.get(..end).ok_or("too few octets")?;
@@ -112,7 +112,7 @@ fn what_fronts_need() -> Result<(), Fail> {
     compare_fronts(&[0x1f, 0x81, 0x80, 0x01, 0x00], &[1, 1, 1, 1, 1])
 }
 
-/// An octet string in front has these contents octets, and one more octet remains.
+/// The octets begin with an octet string with these contents octets, and one more octet remains.
 fn compare_front(octets: &[u8], content: &[u8]) -> Result<(), Fail> {
     let count = content.len();
     let (tlv, rest) = strip_tlv(octets)?;
@@ -126,7 +126,7 @@ fn compare_front(octets: &[u8], content: &[u8]) -> Result<(), Fail> {
     same_at(count, rest, &[0x61])
 }
 
-/// So many letters are the contents octets after the header, and one more octet remains.
+/// This many letters are the contents octets after the header, and one more octet remains.
 fn compare_long(alloc: Global, header: &[u8], count: usize) -> Result<(), Fail> {
     let content = vec![in alloc; b'a'; count]?;
     let mut octets = Vec::from_slice(alloc, header)?;
@@ -302,7 +302,7 @@ fn no_tag_is_seen(rt: HostRuntime) -> Result<(), Fail> {
     same(&Parser::new(rt.alloc(), &[]).peek_tag(), &None)
 }
 
-/// The error is displayed so.
+/// The error is displayed as this text.
 fn compare_displayed(alloc: Global, error: &ParseError, text: &str) -> Result<(), Fail> {
     let wanted = format!(in alloc; "ASN.1 parsing error: {text}")?;
     is_displayed(alloc, error, wanted.as_str())

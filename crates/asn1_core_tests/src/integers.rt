@@ -245,7 +245,7 @@ fn unsigned_numbers(rt: HostRuntime) -> Result<(), Fail> {
     compare_written(alloc, &of_u8)
 }
 
-/// A number beyond the width of its type is rejected as one that is too large.
+/// A number outside the range of its type is rejected with `IntegerOverflow`, and no octets with `InvalidValue`.
 #[test]
 fn signed_numbers_end_at_their_width(rt: HostRuntime) -> Result<(), Fail> {
     are_refused::<i16>(rt.alloc(), &[(&[0x02, 0x03, 0x80, 0x00, 0x00], OVERFLOW)])?;
@@ -285,7 +285,7 @@ fn unsigned_numbers_have_no_sign(rt: HostRuntime) -> Result<(), Fail> {
     )
 }
 
-/// Nor of a shorter one.
+/// A negative number is no value of a shorter unsigned type either.
 #[test]
 fn short_unsigned_numbers_have_no_sign(rt: HostRuntime) -> Result<(), Fail> {
     are_refused::<u32>(
@@ -303,7 +303,7 @@ fn short_unsigned_numbers_have_no_sign(rt: HostRuntime) -> Result<(), Fail> {
     )
 }
 
-/// Both values have one encoding.
+/// Both values have the same encoding.
 fn compare_texts<S: Asn1Writable<Error = WriteError>, T: Asn1Writable<Error = WriteError>>(
     alloc: Global,
     first: &S,
@@ -316,7 +316,7 @@ fn compare_texts<S: Asn1Writable<Error = WriteError>, T: Asn1Writable<Error = Wr
     is_written(alloc, second, octets.as_slice())
 }
 
-/// Both values of each row have one encoding, and the second one is there.
+/// Both values of each row have the same encoding, and the second one isn't `None`.
 fn compare_all<S: Asn1Writable<Error = WriteError>, T: Asn1Writable<Error = WriteError>>(
     alloc: Global,
     rows: &[(S, Option<T>)],
@@ -330,7 +330,7 @@ fn compare_all<S: Asn1Writable<Error = WriteError>, T: Asn1Writable<Error = Writ
     Ok(())
 }
 
-/// A number that isn't 0 is written as the number.
+/// A `NonZero` number is written as the plain number.
 #[test]
 fn signed_numbers_other_than_zero(rt: HostRuntime) -> Result<(), Fail> {
     let alloc = rt.alloc();

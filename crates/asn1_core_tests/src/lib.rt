@@ -1,4 +1,4 @@
-//! What no contract says of `asn1_core`: values from outside, and that calls succeed where there is memory.
+//! What no contract states of `asn1_core`: values from outside, and that calls succeed if there is memory.
 #![tactic(auto)]
 
 #[cfg(test)]

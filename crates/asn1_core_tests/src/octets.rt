@@ -137,7 +137,7 @@ fn octets_outlive_their_parser(rt: HostRuntime) -> Result<(), Fail> {
     same(octets, &[0x00])
 }
 
-/// It outlives the closure too. That has a clause, which says nothing, since what is said without one isn't proved.
+/// What is read outlives the closure, whose clause states nothing: what is stated without a clause isn't proved.
 #[test]
 fn octets_outlive_a_closure(rt: HostRuntime) -> Result<(), Fail> {
     let text: &'static [u8] = &[0x04, 0x01, 0x00];

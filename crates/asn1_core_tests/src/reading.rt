@@ -161,7 +161,7 @@ fn places_of_an_error(rt: HostRuntime) -> Result<(), Fail> {
     Ok(())
 }
 
-/// An error with the locations `Index(1)` to `Index(count)`, with another in place of one of these numbers.
+/// An error with the locations `Index(1)` to `Index(count)`, with 99 instead of the number `other`.
 fn deep(count: usize, other: usize) -> ParseError {
     let mut error = ParseError::new(ParseErrorKind::ExtraData);
     for i in 0..count {

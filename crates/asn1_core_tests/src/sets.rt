@@ -80,7 +80,7 @@ fn long_sets_of_a_closure(rt: HostRuntime) -> Result<(), Fail> {
     Ok(())
 }
 
-/// A set of true and then of the value is written as these octets.
+/// A set of `true` and then the value is written as these octets.
 fn compare_behind_true<T: Asn1Writable<Error = WriteError>>(
     alloc: Global,
     value: &T,
@@ -162,7 +162,7 @@ impl From<WriteError> for Custom {
     }
 }
 
-/// A number that is written where it is below ten.
+/// A number that is written if it is below ten.
 struct Digit(u8);
 
 impl Asn1Type for Digit {
@@ -214,7 +214,7 @@ fn items_refuse_by_errors_of_their_own(rt: HostRuntime) -> Result<(), Fail> {
 
 const VALUES: [u32; 7] = [0, 1, 127, 128, 255, 256, 65535];
 
-/// How many slices of so many of the values there are.
+/// How many slices of 0, 1, 2 and so on of the values there are.
 const COUNTS: [usize; 6] = [1, 7, 49, 343, 2401, 16807];
 
 /// A set of up to 127 contents octets, by a second buffer for each encoding.

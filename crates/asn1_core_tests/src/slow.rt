@@ -5,12 +5,12 @@ use asn1_core::tag::TagClass;
 use std::test::Fail;
 use testing::same_at;
 
-/// The class's two bits, whether it is constructed, the number, and how many octets the contents and the remainder have.
+/// The class's two bits, whether it is constructed, the number, and how many contents and remaining octets there are.
 type Seen = Result<(u8, bool, u128, usize, usize), ParseErrorKind>;
 
 const SHORT: ParseErrorKind = ParseErrorKind::ShortData { needed: 1 };
 
-/// A number in base 128, where each of its octets is a digit.
+/// A number in base 128: each of its octets is a digit.
 fn slow_number(text: &[u8]) -> Result<(u128, &[u8]), ParseErrorKind> {
     let open = text.iter().take_while(|octet| **octet >= 0x80).count();
     if text.first() == Some(&0x80) || open >= 19 {
@@ -126,7 +126,7 @@ fn all_texts_of_up_to_three_octets() -> Result<(), Fail> {
     Ok(())
 }
 
-/// Compares on the octets with each replaced by each other, and on each prefix of these.
+/// Compares on the octets with each octet replaced by each value, and on each prefix of these.
 fn compare_damaged<const N: usize>(text: [u8; N]) -> Result<(), Fail> {
     for place in 0..N {
         for octet in 0..=255 {

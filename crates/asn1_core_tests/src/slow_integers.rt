@@ -19,7 +19,7 @@ fn slow_number(content: &[u8]) -> i128 {
     number
 }
 
-/// What reading up to 15 contents octets returns: there are some, and without the first they mean another number.
+/// What reading up to 15 contents octets returns: there is one, or there are more and the first changes the number.
 fn slow_read(content: &[u8], min: i128, max: i128) -> Result<i128, ParseErrorKind> {
     let number = slow_number(content);
     match content {
@@ -40,7 +40,7 @@ fn slow_read(content: &[u8], min: i128, max: i128) -> Result<i128, ParseErrorKin
     Ok(number)
 }
 
-/// The contents octets of a number: the fewest of its last octets that mean it.
+/// The contents octets of a number: the fewest of its last octets that encode it.
 fn slow_content(octets: &[u8; 16], number: i128) -> &[u8] {
     for start in 0..16usize {
         let content = &octets[15 - start..];
@@ -51,7 +51,7 @@ fn slow_content(octets: &[u8; 16], number: i128) -> &[u8] {
     octets
 }
 
-/// Both ways on an encoding of up to 15 contents octets, where the numbers of the type go from `min` to `max`.
+/// Both ways on an encoding of up to 15 contents octets, if the numbers of the type go from `min` to `max`.
 fn compare<'a, T: Asn1Readable<'a> + Asn1Writable<Error = WriteError> + Copy + Into<i128>>(
     alloc: Global,
     text: &'a [u8],

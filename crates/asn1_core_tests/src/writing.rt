@@ -65,7 +65,7 @@ fn patched_element(alloc: Global, tag: Tag, octets: &[u8]) -> WriteResult<Vec<u8
     })
 }
 
-/// So many octets, of which each differs from those beside it.
+/// This many octets, each different from its neighbours.
 fn counted_octets(alloc: Global, count: usize) -> Result<Vec<u8>, AllocError> {
     let mut octets = Vec::new(alloc);
     for i in 0..count {
@@ -74,7 +74,7 @@ fn counted_octets(alloc: Global, count: usize) -> Result<Vec<u8>, AllocError> {
     Ok(octets)
 }
 
-/// The octets are the header's and then the contents octets.
+/// The octets are the header and then the contents octets.
 fn compare_parts(octets: &[u8], header: &[u8], content: &[u8]) -> Result<(), Fail> {
     let n = content.len();
     same_at(n, octets.len().checked_sub(n), Some(header.len()))?;
@@ -103,7 +103,7 @@ fn headers_announced_and_patched(rt: HostRuntime) -> Result<(), Fail> {
     Ok(())
 }
 
-/// A length replaces one octet, and what stands after it moves.
+/// The length octets replace one octet, and the octets after it move.
 #[test]
 fn a_length_is_put_between(rt: HostRuntime) -> Result<(), Fail> {
     let octets = patched_element(rt.alloc(), Tag::primitive(1), &[3, 4])?;

@@ -217,7 +217,7 @@ pub fn types_with_tags_are_lawful()
     ensures stamp { HasOneEncoding ⟦<Stamp as Asn1Type>⟧.der }
 {}
 
-/// "Jones" of the types `Type2` to `Type5`, as X.690 has it in 8.14.3.
+/// "Jones" in the types `Type2` to `Type5`, as X.690 has it in 8.14.3.
 #[test]
 fn texts_of_an_application(rt: HostRuntime) -> Result<(), Fail> {
     let alloc = rt.alloc();
@@ -239,7 +239,7 @@ fn texts_of_an_application(rt: HostRuntime) -> Result<(), Fail> {
     is_written(alloc, &text, octets)
 }
 
-/// The tag without its structure, or with another class, or with an octet more in it.
+/// The tag without the structure in it, or with another class, or with an octet more in it.
 #[test]
 fn stamps(rt: HostRuntime) -> Result<(), Fail> {
     let alloc = rt.alloc();

@@ -1,4 +1,4 @@
-//! Encodings of each type that are cut, and encodings in which one octet is another.
+//! Encodings of each type that are cut, and encodings in which one octet is changed.
 
 use crate::lists::List;
 use asn1::{
@@ -364,7 +364,7 @@ fn elements_with_long_tags(rt: HostRuntime) -> Result<(), Fail> {
     check::<Tlv<'_>>(alloc, &[1; 7], texts.as_slice())
 }
 
-/// A text of so many letters, which isn't changed.
+/// An element of this many letters, of which no octet is changed.
 fn long_text(alloc: Global, tag: u8, length: &[u8], count: usize) -> Result<Text, Fail> {
     let mut whole = Vec::from_slice(alloc, &[tag])?;
     whole.extend_from_slice(length)?;
@@ -373,7 +373,7 @@ fn long_text(alloc: Global, tag: u8, length: &[u8], count: usize) -> Result<Text
     Ok(Text { whole, changed })
 }
 
-/// The fronts alone of octet strings, and of sequences with these headers.
+/// Octet strings, and sequences with these headers, are cut only.
 #[test]
 fn long_texts(rt: HostRuntime) -> Result<(), Fail> {
     let alloc = rt.alloc();

@@ -110,7 +110,7 @@ impl DefaultValue<[u8; 2]> for Defaults {
     }
 }
 
-/// The value is written as these octets and read from them, the default as none, and it isn't read from its own.
+/// The value is written as these octets and read from them, the default as none. The default's encoding is rejected.
 fn has_a_default<
     'a,
     A: Abort,

@@ -46,7 +46,7 @@ fn a_sequence_is_written(rt: HostRuntime) -> Result<(), Fail> {
     is_written(rt.alloc(), &SequenceWriter::new(&fields), SMITH)
 }
 
-/// 8.14.3: a `VisibleString` and the same under tags, `Type1` to `Type5`.
+/// 8.14.3: a `VisibleString`, and the same value under tags, `Type1` to `Type5`.
 const JONES: [&[u8]; 5] = [
     b"\x1a\x05Jones",
     b"\x43\x05Jones",
@@ -69,7 +69,7 @@ fn texts_under_tags(rt: HostRuntime) -> Result<(), Fail> {
     is_written(alloc, &explicit, JONES[2])
 }
 
-/// Tags of the application class as those of any element; `application` has types with them.
+/// Any elements with tags of the application class. `application` has types with these tags.
 #[test]
 fn texts_under_tags_of_an_application(rt: HostRuntime) -> Result<(), Fail> {
     let alloc = rt.alloc();

@@ -10,7 +10,7 @@ use std::alloc::Global;
 use std::test::Fail;
 use testing::{all_same, same_at};
 
-/// What is read from each of the encodings knows how long it is.
+/// The length of each value is known, and is that of the encoding from which the value was read.
 fn lengths_are_known<'a, T: Asn1Readable<'a> + Asn1Writable>(
     alloc: Global,
     encodings: &[&'a [u8]],
@@ -22,7 +22,7 @@ fn lengths_are_known<'a, T: Asn1Readable<'a> + Asn1Writable>(
     Ok(())
 }
 
-/// The same, and how many contents octets there are.
+/// The same, and the number of contents octets is known.
 fn both_are_known<'a, T: Asn1Readable<'a> + SimpleAsn1Writable>(
     alloc: Global,
     encodings: &[&'a [u8]],
@@ -80,7 +80,7 @@ fn lengths_of_sets(rt: HostRuntime) -> Result<(), Fail> {
     both_are_known::<SetOf<'_, SetOf<'_, u8>>>(alloc, &[&[0x31, 5, 0x31, 3, 2, 1, 5]])
 }
 
-/// Of a list and a set that are walked over the length is that of what is left.
+/// The length of a list and of a set that are iterated over is that of the remaining items.
 #[test]
 fn lengths_of_items_left(rt: HostRuntime) -> Result<(), Fail> {
     let mut list = parse_single::<List<'_, u8>>(rt.alloc(), &[0x30, 7, 2, 1, 5, 2, 2, 0, 0x80])?;
@@ -121,7 +121,7 @@ fn lengths_of_alternatives(rt: HostRuntime) -> Result<(), Fail> {
     lengths_are_known::<Tlv<'_>>(alloc, &[&[0x1f, 0x81, 0x80, 0x01, 1, 7]])
 }
 
-/// So many contents octets, behind two others, or none that is known.
+/// The value has this many contents octets, after two octets, or no known length.
 fn length_is<T: SimpleAsn1Writable>(value: &T, count: Option<usize>) -> Result<(), Fail> {
     let whole = match count {
         Some(count) => count.checked_add(2),
@@ -133,7 +133,7 @@ fn length_is<T: SimpleAsn1Writable>(value: &T, count: Option<usize>) -> Result<(
     ])
 }
 
-/// So many contents octets of a list and of a set of these items.
+/// The same of a list and of a set of these items.
 fn lengths_are<T: Asn1Writable>(items: &[T], count: Option<usize>) -> Result<(), Fail> {
     length_is(&SequenceOfWriter::new(items), count)?;
     length_is(&SetOfWriter::new(items), count)
@@ -151,7 +151,7 @@ fn lengths_of_slices() -> Result<(), Fail> {
     Ok(())
 }
 
-/// Of what a closure writes no length is known, nor of a list of such.
+/// No length is known of what a closure writes, nor of a list of these.
 #[test]
 fn lengths_of_closures() -> Result<(), Fail> {
     let nothing = |_writer: &mut Writer<'_>| -> WriteResult<()> { Ok(()) };

@@ -1,4 +1,4 @@
-//! What no contract says of `asn1`: values from outside, and that calls succeed where there is memory.
+//! What no contract says of `asn1`: values from outside, and that calls succeed if there is memory.
 #![tactic(auto)]
 
 #[cfg(test)]

@@ -25,7 +25,7 @@ pub fn at(index: usize, kind: ParseErrorKind) -> ParseError {
     ParseError::new(kind).add_location(ParseLocation::Index(index))
 }
 
-/// A list of any count of items.
+/// A list of any number of items.
 pub type List<'a, T> = SequenceOf<'a, T, 0, { usize::MAX }>;
 
 const FIVE_AND_SEVEN: &[u8] = &[0x30, 0x06, 0x02, 0x01, 0x05, 0x02, 0x01, 0x07];
@@ -87,7 +87,7 @@ fn items_left_are_written(rt: HostRuntime) -> Result<(), Fail> {
     is_written(alloc, &whole, FIVE_AND_SEVEN)
 }
 
-/// The items that are left.
+/// The remaining items.
 fn items_left(list: &mut List<'_, u64>) -> [Option<ParseResult<u64>>; 3] {
     [list.next(), list.next(), list.next()]
 }
@@ -157,7 +157,7 @@ fn faults_of_lists(rt: HostRuntime) -> Result<(), Fail> {
         alloc,
         &[
             (FIVE_AND_SEVEN, ParseError::new(wrong_count(0, 1, 2))),
-            // A faulty item comes before a wrong count.
+            // The error of an item comes before that of a wrong count.
             (
                 &[0x30, 0x06, 0x02, 0x01, 0x05, 0x02, 0x01, 0xff],
                 at(1, ParseErrorKind::InvalidValue),
@@ -200,7 +200,7 @@ fn lists_of_choices(rt: HostRuntime) -> Result<(), Fail> {
     )
 }
 
-/// The next item, and how many then are left.
+/// The next item, and how many items then remain.
 fn next_boxed(list: &mut List<'_, Box<u8>>) -> Result<(Option<u8>, usize), ParseError> {
     match list.next() {
         Some(item) => Ok((Some(*item?), list.len())),
@@ -212,7 +212,6 @@ fn next_boxed(list: &mut List<'_, Box<u8>>) -> Result<(Option<u8>, usize), Parse
 fn lists_whose_items_take_memory(rt: HostRuntime) -> Result<(), Fail> {
     let mut list = parse_single::<List<'_, Box<u8>>>(rt.alloc(), ONE_TO_THREE)?;
     is_written(rt.alloc(), &list, ONE_TO_THREE)?;
-    // Without a length an item found no memory.
     let length = list.data_length().ok_or(WriteError::AllocationError)?;
     same(length, 9)?;
     for left in [(Some(1), 2), (Some(2), 1), (Some(3), 0), (None, 0usize)] {
@@ -267,7 +266,7 @@ fn sequence_around(alloc: Global, octets: &[u8]) -> WriteResult<Vec<u8>> {
     write_single(alloc, &SequenceWriter::new(&inner))
 }
 
-/// That sequence in another, by two closures.
+/// The sequence of `sequence_around` in another, by two closures.
 fn two_sequences_around(alloc: Global, octets: &[u8]) -> WriteResult<Vec<u8>> {
     let inner = |writer: &mut Writer<'_>| -> WriteResult<()> { writer.write_element(&octets) };
     let outer = |writer: &mut Writer<'_>| -> WriteResult<()> {
@@ -278,8 +277,8 @@ fn two_sequences_around(alloc: Global, octets: &[u8]) -> WriteResult<Vec<u8>> {
 
 const LETTERS: [u8; 65532] = [0x61; 65532];
 
-/// A sequence of one octet string, with these headers, three times: its length is patched for a closure and for a slice's
-/// writer, and announced for an element as it is encoded.
+/// A sequence of one octet string, with these headers, is written three times: its length is patched for a closure
+/// and for a slice's writer, and announced for an element as it is encoded.
 fn compare_patched(
     alloc: Global,
     octets: &[u8],
@@ -339,7 +338,7 @@ fn patched_lengths_in_one_another(rt: HostRuntime) -> Result<(), Fail> {
     Ok(())
 }
 
-/// Why an item was refused.
+/// Why an item was rejected.
 #[derive(Debug, PartialEq, Eq, Drop)]
 enum Custom {
     Memory,
@@ -354,7 +353,7 @@ impl From<WriteError> for Custom {
     }
 }
 
-/// An item of that length, as it says, that puts one octet and then refuses.
+/// An item that claims this length, appends one octet and then fails.
 #[derive(Drop)]
 struct Unwritable(Option<usize>);
 
@@ -401,7 +400,7 @@ fn refused_items(rt: HostRuntime) -> Result<(), Fail> {
         Err(Custom::Memory) => Err(WriteError::AllocationError)?,
         answer => assert!(rt; matches!(answer, Err(Custom::Refused))),
     }
-    // A closure that goes on after a refusal: what the item put is gone.
+    // A closure that goes on after an error: what the item appended is gone.
     let goes_on = |writer: &mut Writer<'_>| -> WriteResult<()>
         ensures same_buffer { buffer_name writer.new ≡ buffer_name writer.old }
         ensures front { KeepsFront (octets_of writer.old) (octets_of writer.new) }

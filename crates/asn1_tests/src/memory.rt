@@ -1,7 +1,7 @@
-//! Memory that runs out in the midst: at an item that is read or walked over, or at an element in a closure.
+//! Memory that runs out: at an item that is read or iterated over, or at an element in a closure.
 //!
-//! Run again with one request for memory refused, or with all from one on, these end with that want where the refusal
-//! was right.
+//! These tests are run again with one request for memory refused, or with all from one on. They then end as out of
+//! memory if each result was right; a wrong one fails an assertion.
 
 ghost use Rattle.std.specs.Prelude.{◌≡◌};
 ghost use Rattle.asn1.specs.Buffer.{KeepsFront};
@@ -17,10 +17,10 @@ use std::process::Abort;
 use std::test::Fail;
 use testing::{are_refused_with, error_of, same};
 
-/// Of these items only the integer takes memory.
+/// Of these items only reading the integer allocates.
 type Item = Choice3<bool, Box<u8>, ()>;
 
-/// Of these only the integer, and the bit string.
+/// Of these items only reading the integer and the bit string allocates.
 type OwnedItem = Choice3<bool, OwnedBigUint, OwnedBitString>;
 
 const LIST: &[u8] = &[0x30, 9, 2, 1, 1, 2, 1, 2, 2, 1, 3];
@@ -34,7 +34,7 @@ fn is_memory_there(alloc: Global) -> bool {
     Vec::<u8>::with_capacity(alloc, 64).is_ok()
 }
 
-/// The number that stands next in order, or want of memory without a place, and a second time only where there is none.
+/// The next number in order; or out of memory, without a location, and a second time only if there is no memory.
 fn is_next<A: Abort>(
     rt: &A,
     alloc: Global,
@@ -73,7 +73,7 @@ fn walks_go_on_behind_an_item_without_memory(rt: HostRuntime) -> Result<(), Fail
     Ok(())
 }
 
-/// Lists and sets of which one item takes memory, and its index.
+/// Lists and sets in which reading one item allocates, and its index.
 const ONE_BOX: [(usize, &[u8]); 6] = [
     (0, &[0x30, 7, 2, 1, 5, 5, 0, 5, 0]),
     (1, &[0x30, 8, 1, 1, 0xff, 2, 1, 5, 5, 0]),
@@ -95,7 +95,7 @@ const ONE_OWNED: [(usize, &[u8]); 8] = [
     (2, &[0x31, 10, 1, 1, 0, 1, 1, 0, 3, 2, 4, 0xf0]),
 ];
 
-/// All was read, or this item found no memory; then all ends for want of it.
+/// All was read, or this item was out of memory; then the test ends as out of memory.
 fn is_read_or_named(fault: Option<ParseError>, index: usize) -> Result<(), Fail> {
     if fault.is_none() {
         return Ok(());
@@ -164,7 +164,7 @@ fn lists_of_owned_bit_strings(rt: HostRuntime) -> Result<(), Fail> {
     Ok(())
 }
 
-/// What is refused for its contents is refused so whether or not there is memory: none is asked for.
+/// Malformed contents octets are rejected with the same error whether or not there is memory: none is requested.
 #[test]
 fn faulty_contents_ask_for_no_memory(rt: HostRuntime) -> Result<(), Fail> {
     let alloc = rt.alloc();
@@ -175,7 +175,7 @@ fn faulty_contents_ask_for_no_memory(rt: HostRuntime) -> Result<(), Fail> {
     are_refused_with::<Box<u8>>(alloc, &[(&[2, 1, 0x80], invalid())])
 }
 
-/// Where a first write found no memory, and there is some again, a second one succeeds.
+/// If a first write was out of memory, and there is memory again, a second write succeeds.
 fn second_succeeds<A: Abort>(
     rt: &A,
     first: &WriteResult<()>,
@@ -198,7 +198,7 @@ fn an_element_without_memory_is_left_out(rt: HostRuntime) -> Result<(), Fail> {
         second_succeeds(&rt, &first, &second, rt.alloc());
         second
     };
-    // With these six octets in front the buffer has to grow for the number.
+    // After these six octets the buffer has to grow for the number.
     let octets = write(rt.alloc(), |writer: &mut Writer<'_>| -> WriteResult<()> {
         writer.write_element(&[1u8, 2, 3, 4])?;
         writer.write_element(&SequenceWriter::new(&goes_on))

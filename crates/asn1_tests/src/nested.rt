@@ -48,7 +48,7 @@ impl<'a> SimpleAsn1Readable<'a> for Inner<'a> {
     }
 }
 
-/// An invalid value in so many first items of lists.
+/// `InvalidValue` with this many locations, each the first item of a list.
 fn in_first_items(count: usize) -> ParseError {
     let mut error = ParseError::new(ParseErrorKind::InvalidValue);
     for _ in 0..count {

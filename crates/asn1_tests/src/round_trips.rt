@@ -8,7 +8,7 @@ use std::alloc::Global;
 use std::test::Fail;
 use testing::{error_of, same};
 
-/// Demands that the octets are read as the type, and written back.
+/// Checks that the octets are read as the type, and written back.
 fn is_written_back<'a, T: Asn1Readable<'a> + Asn1Writable<Error = WriteError>>(
     alloc: Global,
     octets: &'a [u8],

@@ -119,9 +119,9 @@ fn sets_of_any_elements(rt: HostRuntime) -> Result<(), Fail> {
         rt.alloc(),
         &[
             &[0x31, 0x06, 0x01, 0x01, 0xff, 0x02, 0x01, 0x06],
-            // A constructed element in front of a primitive one: the bit plays no part.
+            // A constructed element before a primitive one: the bit plays no part.
             &[0x31, 0x04, 0xa0, 0x00, 0x81, 0x00],
-            // Equal tags, their contents in any order, constructed or not.
+            // Equal tags, their contents octets in any order, constructed or not.
             &[0x31, 0x06, 0x02, 0x01, 0x07, 0x02, 0x01, 0x05],
             &[0x31, 0x04, 0xa0, 0x00, 0x80, 0x00],
             // The numbers 16383 and 16384.
@@ -145,7 +145,7 @@ fn faults_of_sets_of_any_elements(rt: HostRuntime) -> Result<(), Fail> {
                 &[0x31, 0x06, 0x02, 0x01, 0x05, 0x01, 0x01, 0xff],
                 at(1, ParseErrorKind::InvalidSetOrdering),
             ),
-            // A private tag in front of one of the universal class.
+            // A private tag before one of the universal class.
             (
                 &[0x31, 0x05, 0xc0, 0x00, 0x01, 0x01, 0xff],
                 at(1, ParseErrorKind::InvalidSetOrdering),

@@ -9,7 +9,7 @@ use std::alloc::Global;
 use std::test::Fail;
 use testing::{are_refused_with, is_written_back};
 
-/// The class's place in the order of classes (X.680 8.6), and the number.
+/// The position of the class in the order of classes (X.680 8.6), and the number.
 fn rank(tag: Tag) -> (u8, u32) {
     let class = match tag.class() {
         TagClass::Universal => 0,
@@ -20,7 +20,7 @@ fn rank(tag: Tag) -> (u8, u32) {
     (class, tag.value())
 }
 
-/// Whether an element may stand behind another: in a `SET OF` by their octets, in a `SET` by their tags.
+/// Whether an element may come after another: in a `SET OF` by their octets, in a `SET` by their tags.
 fn may_follow(last: Tlv<'_>, next: Tlv<'_>, by_octets: bool) -> bool {
     if by_octets {
         last.full_data() <= next.full_data()
@@ -29,8 +29,8 @@ fn may_follow(last: Tlv<'_>, next: Tlv<'_>, by_octets: bool) -> bool {
     }
 }
 
-/// The first fault of a set's contents octets: at each element first its framing, then its place, and then in a `SET OF`
-/// of Booleans its value.
+/// The first error of a set's contents octets. At each element, framing is checked first, then the order, and then in
+/// a `SET OF` of Booleans the value.
 fn slow_fault(content: &[u8], by_octets: bool) -> Option<ParseError> {
     let mut rest = content;
     let mut last: Option<Tlv<'_>> = None;
@@ -63,14 +63,14 @@ fn slow_fault(content: &[u8], by_octets: bool) -> Option<ParseError> {
     None
 }
 
-/// Both kinds of sets of up to 127 contents octets: the same fault, or none and the text is written again.
+/// Both kinds of sets of up to 127 contents octets: the same error, or none and the octets are written back.
 fn compare(alloc: Global, text: &[u8]) -> Result<(), Fail> {
     let content = text.get(2..).unwrap_or(&[]);
     compare_as::<Set<'_>>(alloc, text, slow_fault(content, false))?;
     compare_as::<SetOf<'_, bool>>(alloc, text, slow_fault(content, true))
 }
 
-/// The octets are refused as the type by this error, or where there is none are written again.
+/// The type rejects the octets with this error. If there is none, the octets are read and written back.
 fn compare_as<'a, T: Asn1Readable<'a> + Asn1Writable<Error = WriteError>>(
     alloc: Global,
     text: &'a [u8],
@@ -96,7 +96,7 @@ fn all_sets_of_up_to_two_octets(rt: HostRuntime) -> Result<(), Fail> {
     Ok(())
 }
 
-/// Each octet of the set's content is replaced by each other.
+/// Each of the set's contents octets is replaced by each other octet.
 fn compare_damaged<const N: usize>(alloc: Global, text: [u8; N]) -> Result<(), Fail> {
     for place in 2..N {
         for octet in 0..=255 {

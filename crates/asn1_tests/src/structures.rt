@@ -115,7 +115,7 @@ fn fields_with_tags_that_are_missing(rt: HostRuntime) -> Result<(), Fail> {
     same(&flag, &at("Tagged::flag", kind))
 }
 
-/// What each field is where it is left out.
+/// What each field is if it is left out.
 #[derive(Drop)]
 pub struct Three;
 
@@ -238,7 +238,7 @@ fn defaults_under_tags(rt: HostRuntime) -> Result<(), Fail> {
     Ok(())
 }
 
-/// Eighteen numbers: more fields than have a row with a name.
+/// Eighteen numbers: more fields than any row that has a name.
 #[derive(Debug, Clone, PartialEq, Eq, Drop)]
 pub struct Eighteen {
     pub a: u8,

@@ -6,7 +6,7 @@ use asn1::{
 use std::test::Fail;
 use testing::{are_refused_with, error_of, is_written, same, same_at};
 
-/// The error without a place.
+/// The error without a location.
 fn invalid() -> ParseError {
     ParseError::new(ParseErrorKind::InvalidValue)
 }

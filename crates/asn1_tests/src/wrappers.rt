@@ -12,7 +12,7 @@ use testing::{
     all_same, are_both_ways, are_refused, are_shown, both_ways, is_shown, kind_of, same,
 };
 
-/// The refusal of an element with another tag.
+/// The error of an element with another tag.
 fn other_tag(actual: Tag) -> ParseErrorKind {
     ParseErrorKind::UnexpectedTag { actual }
 }
@@ -166,7 +166,7 @@ fn choices(rt: HostRuntime) -> Result<(), Fail> {
             (Three::ChoiceC(()), &[5, 0]),
         ],
     )?;
-    // The first alternative that accepts the tag is the one.
+    // The first alternative that accepts the tag is read.
     both_ways(alloc, Choice2::<u8, u64>::ChoiceA(5), &[2, 1, 5])
 }
 
@@ -180,7 +180,7 @@ fn faults_of_choices(rt: HostRuntime) -> Result<(), Fail> {
     are_refused::<Choice2<u8, u64>>(alloc, &[(&[2, 2, 1, 0], ParseErrorKind::IntegerOverflow)])
 }
 
-/// A truth value is false where it isn't there.
+/// A Boolean is false if it is left out.
 #[derive(Debug, PartialEq, Eq)]
 struct False;
 
@@ -192,7 +192,7 @@ impl DefaultValue<bool> for False {
     }
 }
 
-/// A number is 1 where it isn't there.
+/// A number is 1 if it is left out.
 #[derive(Debug, PartialEq, Eq)]
 struct One;
 

@@ -1,4 +1,4 @@
-//! Sets whose elements a closure writes: what is written is the contents octets of a `Set`, and read as one.
+//! Sets whose elements a closure writes: it writes the contents octets of a `Set`, which are read as one.
 
 ghost use Rattle.std.specs.Prelude.{◌≡◌, ◌<◌, ◌^◌, length, OnOk, IfOk};
 ghost use Rattle.asn1.specs.Items.{set_tag};
@@ -14,8 +14,8 @@ use std::alloc::Global;
 use std::test::Fail;
 use testing::same;
 
-/// A set of a Boolean and a number. The closure says that it keeps elements in the order of their
-/// tags, and so a `Set` reads what is written.
+/// A set of a Boolean and a number. The closure states that it keeps elements in the order of their tags, and so a
+/// `Set` reads what is written.
 fn written_set(alloc: Global, number: u64) -> WriteResult<Vec<u8>>
     ensures { IfOk result (λ v. IsElementOf set_tag (λ c. length c < 2 ^ 32
         → IsSetContent c) v.items) }
@@ -31,7 +31,7 @@ fn written_set(alloc: Global, number: u64) -> WriteResult<Vec<u8>>
     write_single(alloc, &SetWriter::new(&writes))
 }
 
-/// The Boolean and the number of such a set.
+/// The Boolean and the number of that set.
 fn read_set(alloc: Global, octets: &[u8]) -> ParseResult<(bool, u64)> {
     let set = parse_single::<Set<'_>>(alloc, octets)?;
     set.parse(

@@ -36,7 +36,7 @@ weight (suc k) =
     let more : 8 * suc k ≡ 8 * k + 8 = omega arith in
     ap (λ (n : ℕ). 2 ^ n) more ∙ pow-add 2 (8 * k) 8 ∙ ap (λ (n : ℕ). n * 256) (weight k) ∙ sym (pow-suc 256 k)
 
--- the first digits, and others below their weight
+-- the first digits, and the others, which are below their weight
 pub count_more : (h r k p : ℕ) (m : ℕ) → p ≡ 256 ^ k → m ≡ h * p + r → r < p → (j : ℕ) → 2 ^ j ≤ h → h < 2 ^ suc j → length (digits_of 2 m) ≡ suc (j + 8 * k)
 count_more h r k p m weights e below j low high =
     let same : p ≡ 2 ^ (8 * k) = weights ∙ sym (weight k) in
@@ -47,7 +47,7 @@ count_more h r k p m weights e below j low high =
     (omega (arith, least, e, mul-le-mul_right {m = 2 ^ j} {n = h} p low))
     (omega (arith, most, e, below, mul-le-mul_right {m = suc h} {n = 2 ^ suc j} p high))
 
--- ---- the first of them
+-- ---- the first octet
 
 sum_of : (a b p n : ℕ) → a + b ≡ n → a * p + b * p ≡ n * p
 sum_of a b p n e = sym (add-mul a b p) ∙ ap (λ (k : ℕ). k * p) e
@@ -86,7 +86,7 @@ zero_all (zero ∷ xs) e zero h = refl
 zero_all (suc x ∷ xs) e zero h = absurd (omega (arith, e, mul-le-mul_right {m = 1} {n = suc x} (256 ^ length xs) (omega arith), some_weight (length xs)))
 zero_all (x ∷ xs) e (suc k) h = zero_all xs (omega arith) k (omega arith)
 
--- where the octets behind the first are zero, or not, as a test tells
+-- whether the octets after the first are zero, by a test
 pub some_number : (b : Bool) (xs : List ℕ) → ((b ≡ true → (k : ℕ) → k < length xs → get_or xs k 0 ≡ 0) × (((k : ℕ) → k < length xs → get_or xs k 0 ≡ 0) → b ≡ true)) → b ≡ false → 0 < number xs
 some_number b xs h f = ⊎_elim (λ (n : number xs < 1). absurd (both_ways b f (h.1 (zero_all xs (omega arith))))) (λ (n : 1 ≤ number xs). n) (cases_lt (number xs) 1)
 
@@ -111,7 +111,7 @@ absolute_is c b is e =
           ap unsigned_abs (signed_high c is h) ∙ less (number (turned c)) (number c) (256 ^ length c) (turned_number c is) ∙ ap (λ (x : Bool). magnitude x c) test
     ]
 
--- an octet that shows the sign alone
+-- an octet that shows only the sign
 sign_apart : (b : Bool) (x : ℕ) (xs : List ℕ) → IsText (x ∷ xs) → b ≡ leb 128 x → (x ≡ 0) ⊎ (x ≡ 255) → magnitude b (x ∷ xs) ≡ magnitude b xs
 sign_apart true x xs is e (inl h) = absurd (omega (arith, leb-true 128 x (sym e)))
 sign_apart false x xs is e (inl h) = rw h (omega arith)
@@ -171,7 +171,7 @@ some_counted c rest b h y ys e high j is low above =
     let count : length (digits_of 2 m) ≡ suc (j + 8 * length ys) = count_more high (m % p) (length ys) p m refl split (mod_below m p (some_weight (length ys))) j low (omega (arith, above, more)) in
     omega (arith, count, ap (λ (n : ℕ). length (digits_of 2 n)) value)
 
--- a list with an element is that and the others, as a pattern names them
+-- a list that isn't empty is its first element and the others, as a pattern names them
 pub first_and_others : (rest : List ℕ) → 1 ≤ length rest → rest ≡ get_or rest 0 0 ∷ take (length rest - 1) (drop 1 rest)
 first_and_others [] l = absurd (omega arith)
 first_and_others (y ∷ ys) l = ap (λ (t : List ℕ). y ∷ t) (sym (take_all (length (y ∷ ys) - 1) ys (omega arith)))

@@ -1,4 +1,4 @@
--- The nine digits of a number of nanoseconds, without the zeros at their end, are those of its fraction.
+-- The nine digits of a number of nanoseconds, without the trailing zeros, are the digits of its fraction.
 use Rattle.std.proofs.Common.{rules, ◌≡◌, ℕ, zero, suc, ◌+◌, ◌-◌, ◌*◌, ◌^◌, ◌<◌, ◌≤◌, true, List, [], ◌∷◌, ◌++◌, length, take, drop, replicate, refl, sym, ap, subst, ◌∙◌, arith}
 use Rattle.std.specs.Prelude.{decimal, slice_index_or}
 use Rattle.std.specs.Str.{all_ascii_digits}
@@ -10,7 +10,7 @@ use Rattle.std.proofs.lemmas.List.{append-nil, length-append, length-replicate, 
 use Rattle.asn1_values.specs.Times.{fraction}
 use Rattle.asn1_values.specs.Lemmas.Fractions.{at, fraction_zero, fraction_step, parts_zero, power_some}
 
--- the number of digits, by their places
+-- the number that digits encode, by their positions
 abbrev weighed : List ℕ → ℕ
 weighed [] = 0
 weighed (c ∷ cs) = (c - 48) * 10 ^ length cs + weighed cs
@@ -71,7 +71,7 @@ zeros_and_digits (suc j) ds all = (omega arith, zeros_and_digits j ds all)
 size : (ds : List ℕ) (j : ℕ) → length (ds ++ replicate j 48) ≡ length ds + j
 size ds j = length-append ds (replicate j 48) ∙ ap (λ (k : ℕ). length ds + k) (length-replicate j 48)
 
--- a digit in front of digits that are those of their fraction
+-- a digit before the digits of a fraction
 one_more : (d j : ℕ) (ds : List ℕ) → AllDigits 10 (d ∷ ds) → ((d - 48) * 10 ^ (length ds + j) + weighed (ds ++ replicate j 48) ≡ 0 → ⊥)
     → fraction (length ds + j) (weighed (ds ++ replicate j 48)) [] ≡ ds → fraction (length (d ∷ ds) + j) (weighed (d ∷ ds ++ replicate j 48)) [] ≡ d ∷ ds
 one_more d j ds all some e =
@@ -146,6 +146,6 @@ digits_done octets n count few is some most last zeros =
     let long = nine_long octets n few is in
     front_is octets n count few is most (subst (λ (x : ℕ). IsEnded (take x octets)) next (ended_at k octets (omega (arith, some, most, long)) last)) zeros
 
--- or there is none
+-- or with no digit
 pub no_digits : (octets : List ℕ) (n count : ℕ) → n ≤ 999999999 → octets ≡ replicate (9 - length (decimal n)) 48 ++ decimal n → count ≡ 0 → drop count octets ≡ replicate (9 - count) 48 → take count octets ≡ fraction 9 n []
 no_digits octets n count few is none zeros = front_is octets n count few is (omega (arith, none)) (subst (λ (x : ℕ). IsEnded (take x octets)) (sym none) tt) zeros

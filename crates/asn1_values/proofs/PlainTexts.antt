@@ -1,4 +1,4 @@
--- A text that is read as an identifier is displayed again exactly where it is plain.
+-- A text that is read as an object identifier is displayed unchanged exactly if the text is plain.
 use Rattle.std.proofs.Common.{◌≡◌, ◌↔◌, ℕ, ◌+◌, ◌-◌, ◌*◌, ◌/◌, ◌%◌, ◌^◌, ◌<◌, ◌≤◌, List, [], ◌∷◌, ◌++◌, length, get_or, Some, refl, sym, ap, subst, ◌∙◌, ⊎_elim, arith}
 use Rattle.std.specs.Prelude.{decimal, codes}
 use Rattle.std.specs.List.{AllByRecursion, join_by}
@@ -84,7 +84,7 @@ part_shown t n is plain =
 part_plain : (t : List ℕ) (n : ℕ) → IsPart t n → decimal n ≡ t → IsPlainPart t
 part_plain t n is e = subst IsPlainPart e (decimal_is_plain n is.small)
 
--- ---- texts
+-- ---- dotted forms
 
 abbrev joined : List ℕ → List ℕ
 joined ns = join_by decimal (codes ".") ns

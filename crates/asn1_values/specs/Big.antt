@@ -7,15 +7,15 @@ use Rattle.asn1_core.specs.Element.{◌>>=◌}
 use Rattle.asn1_core.specs.Fault.{Fault, fault}
 use Rattle.asn1_core.specs.Integer.{IsIntegerContent, is_minimal, read_integer}
 
--- The octets are the content of a number.
+-- The octets are the contents octets of a number.
 abbrev pub IsSigned : List ℕ → Type 0
 IsSigned octets = IsIntegerContent octets (signed_number octets)
 
--- The octets are the content of a number that isn't negative.
+-- The octets are the contents octets of a number that isn't negative.
 abbrev pub IsUnsigned : List ℕ → Type 0
 IsUnsigned octets = IsSigned octets × (pos 0 ≤ℤ signed_number octets)
 
--- The same of octets in hand, by the test of the first nine bits.
+-- The same of the octets of a Rust value, by the test of the first nine bits.
 abbrev pub IsSignedForm : List ℕ → Type 0
 IsSignedForm octets = (is_minimal octets ≡ true) × ((k : ℕ) → slice_index octets k < 256)
 
@@ -26,20 +26,20 @@ IsUnsignedForm octets = IsSignedForm octets × (slice_index octets 0 < 0x80)
 abbrev pub bit_count : ℤ → ℕ
 bit_count z = length (digits_of 2 (unsigned_abs z))
 
--- A number, unless it is negative.
+-- The number, or `InvalidValue` if the number is negative.
 abbrev pub not_negative : ℤ → Result ℤ Fault
 not_negative z = if int_lt z (pos 0) then Err (fault InvalidValue) else Ok z
 
 unfoldable pub read_unsigned : List ℕ → Result ℤ Fault
 read_unsigned c = read_integer c >>= not_negative
 
--- The absolute value of the number that octets have in two's complement, or, without a sign, the number that they have.
+-- The absolute value of the number that octets encode: a negative one in two's complement, or an unsigned one.
 abbrev pub magnitude : Bool → List ℕ → ℕ
 magnitude true octets = 256 ^ length octets - number octets
 magnitude false octets = number octets
 
--- These octets have the absolute value of a content's number, and the first of them counts. Whether the number is
--- negative is given.
+-- These octets encode the absolute value of the number of contents octets, and the first of these octets adds to that
+-- value. Whether the number is negative is given.
 pub record IsMagnitude (content octets : List ℕ) (is_negative : Bool) : Type 0 where
   pub value : unsigned_abs (signed_number content) ≡ magnitude is_negative octets
   pub text : IsText octets

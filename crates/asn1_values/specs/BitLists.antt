@@ -3,7 +3,7 @@ use Rattle.std.specs.Prelude.{ℕ, ◌-◌, ◌/◌, ◌%◌, ◌^◌, ◌<◌, 
 use Rattle.asn1_core.specs.Text.{IsText}
 use Rattle.asn1_values.specs.Bits.{Bits, IsBits, has_bit}
 
--- A bit of an octet, the most significant at place 0.
+-- A bit of an octet, the most significant at position 0.
 abbrev pub bit_at : ℕ → ℕ → Bool
 bit_at octet place = nat_eq (octet / 2 ^ (7 - place) % 2) 1
 
@@ -14,7 +14,7 @@ abbrev pub all_bits : List ℕ → List Bool
 all_bits [] = []
 all_bits (octet ∷ octets) = octet_bits octet ++ all_bits octets
 
--- The octets are filled by the bits of the list and then the padding, fewer than 8 bits, which are zero.
+-- The bits of the list and then the padding fill the octets. The padding is fewer than 8 bits, which are zero.
 pub record IsBitsOf (list : List Bool) (b : Bits) : Type 0 where
   pub filled : all_bits b.octets ≡ list ++ replicate b.padding false
   pub few : b.padding < 8
@@ -23,15 +23,15 @@ pub record IsBitsOf (list : List Bool) (b : Bits) : Type 0 where
 abbrev pub BitsAreAList : Type 0
 BitsAreAList = (b : Bits) → IsBits b → (list : List Bool) × IsBitsOf list b
 
--- A list of bits has one bit string.
+-- A list of bits has only one bit string.
 abbrev pub OneBitString : Type 0
 OneBitString = (list : List Bool) (b other : Bits) → IsText b.octets → IsText other.octets → IsBitsOf list b → IsBitsOf list other → b ≡ other
 
--- A bit is set exactly where its place is in the list, and set there.
+-- A bit is set exactly if its index is within the list and the list's bit there is set.
 abbrev pub SetBits : Type 0
 SetBits = (list : List Bool) (b : Bits) → IsBitsOf list b → (n : ℕ) → has_bit b n ≡ slice_index_or list n false
 
--- Octets that are filled by a list of bits and the padding are a bit string.
+-- Octets that a list of bits and the padding fill are a bit string.
 abbrev pub FilledOctetsAreBits : Type 0
 FilledOctetsAreBits = (list : List Bool) (b : Bits) → IsBitsOf list b → IsBits b
 

@@ -1,4 +1,4 @@
--- Character strings in hand: their octets; and the contents of character strings.
+-- The octets of Rust's character strings, and the `Content` of each type.
 use Rattle.std.specs.Prelude.{ℕ, List, Bool}
 use Rattle.asn1_values.specs.declared.values.texts.PrintableString.{PrintableString}
 use Rattle.asn1_values.specs.declared.values.texts.IA5String.{IA5String}
@@ -29,7 +29,7 @@ bmp_octets s = s.octets.now
 abbrev pub universal_octets : UniversalString → List ℕ
 universal_octets s = s.octets.now
 
--- Of the type with a universal tag of this number.
+-- The `Content` of the type with a universal tag of this number.
 abbrev pub text_content : ℕ → (List ℕ → Bool) → Content (List ℕ)
 text_content number rule = basic (record {
   tag = universal number;

@@ -1,5 +1,5 @@
--- Texts of characters (X.690 8.23): a content is the octets of its characters, and a rule says which octets these are
--- (X.680 41).
+-- Character strings (X.690 8.23): the contents octets are the octets of the characters, and each type has a rule that
+-- says which octets these may be (X.680 41).
 use Rattle.std.specs.Prelude.{ℕ, ◌%◌, ◌≡◌, Bool, true, not, if◌then◌else◌, ◌&&◌, ◌||◌, nat_eq, List, [], ◌∷◌, length, codes, Result, Ok, Err}
 use Rattle.std.specs.Char.{is_ascii, is_ascii_alphanumeric}
 use Rattle.std.specs.Char.Utf16.{has_unpaired_surrogate}
@@ -30,12 +30,12 @@ is_visible_text octets = list_all (is_in_range 0x20 0x7e) octets
 abbrev pub is_utf8_text : List ℕ → Bool
 is_utf8_text octets = is_utf8 octets
 
--- The numbers of two octets each.
+-- The numbers that the octets encode in pairs.
 abbrev pub pairs : List ℕ → List ℕ
 pairs (a ∷ b ∷ octets) = number (a ∷ b ∷ []) ∷ pairs octets
 pairs octets = []
 
--- The surrogates among units of two octets stand in pairs, high before low.
+-- The surrogates among units of two octets come in pairs, high before low.
 abbrev pub is_paired : List ℕ → Bool
 is_paired octets = not (has_unpaired_surrogate (pairs octets))
 
@@ -43,7 +43,7 @@ is_paired octets = not (has_unpaired_surrogate (pairs octets))
 abbrev pub is_utf16_text : List ℕ → Bool
 is_utf16_text octets = nat_eq (length octets % 2) 0 && is_paired octets
 
--- The numbers of four octets each.
+-- The numbers that the octets encode in fours.
 abbrev pub fours : List ℕ → List ℕ
 fours (a ∷ b ∷ c ∷ d ∷ octets) = number (a ∷ b ∷ c ∷ d ∷ []) ∷ fours octets
 fours octets = []
@@ -56,6 +56,6 @@ is_utf32_text octets = nat_eq (length octets % 4) 0 && all_scalars (fours octets
 abbrev pub IsTextOf : (List ℕ → Bool) → List ℕ → Type 0
 IsTextOf rule octets = rule octets ≡ true
 
--- A content that follows the rule is read as it stands.
+-- Contents octets that follow the rule are read unchanged.
 abbrev pub read_text : (List ℕ → Bool) → List ℕ → Result (List ℕ) Fault
 read_text rule octets = if rule octets then Ok octets else Err (fault InvalidValue)

@@ -13,7 +13,7 @@ moment_numbers m = m.year ∷ m.month ∷ m.day ∷ m.hour ∷ m.minute ∷ m.se
 abbrev pub moment_order : Moment → Moment → Ordering
 moment_order a b = slice_cmp nat_cmp (moment_numbers a) (moment_numbers b)
 
--- No fraction comes before any.
+-- No fraction comes before any fraction.
 abbrev pub fraction_order : Option ℕ → Option ℕ → Ordering
 fraction_order None None = Equal
 fraction_order None (Some n) = Less

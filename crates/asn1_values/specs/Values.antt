@@ -1,4 +1,4 @@
--- Integers of any length and enumerated values in hand, and the contents of integers of any length.
+-- The octets and numbers of Rust's integers of any length and enumerated values, and the `Content` of these integers.
 use Rattle.std.specs.Prelude.{ℕ, ℤ, List, pos, ◌≤ℤ◌}
 use Rattle.asn1_core.specs.Text.{signed_number}
 use Rattle.asn1_values.specs.declared.values.big.BigUint.{BigUint}

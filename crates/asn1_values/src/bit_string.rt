@@ -15,7 +15,7 @@ use asn1_core::{
 use std::alloc::{AllocError, Global};
 use std::fmt;
 
-/// Whether the unused bits are right: at most 7, none where there is no octet, and those of the last octet are zero.
+/// Whether the unused bits are valid: at most 7, none if there is no octet, and those of the last octet are zero.
 const fn has_padding(octets: &[u8], padding: u8) -> bool
     ensures { result ≡ is_padded padding octets.now }
 {
@@ -28,11 +28,11 @@ const fn has_padding(octets: &[u8], padding: u8) -> bool
     }
 }
 
-/// BIT STRING (X.690 8.6, 11.2; universal 3), whose octets borrow from the input.
+/// BIT STRING (X.690 8.6, 11.2; universal 3), whose octets are borrowed from the input.
 ///
 /// The contents octets are the number of unused bits, 0 to 7, and the octets. DER demands that the unused bits, the low
 /// ones of the last octet, are zero (11.2.1), and that an empty string has none. Reading rejects other contents octets
-/// with `InvalidValue`. Bits of a named list aren't looked at: zero bits at the end (11.2.2) are kept.
+/// with `InvalidValue`. Named bits aren't treated differently: their trailing zero bits (11.2.2) are kept.
 #[derive(PartialEq, Eq, Hash, Drop)]
 pub struct BitString<'a> {
     octets: &'a [u8],
@@ -43,8 +43,8 @@ pub struct BitString<'a> {
 impl<'a> BitString<'a> {
     ghost use Rattle.asn1_values.specs.BitStrings.{bits_of};
 
-    /// The bits of `octets` but for the last `padding`, which are unused. `None` where `padding` is above 7, or isn't 0
-    /// for an empty string, or one of the unused bits is set.
+    /// The bits of `octets` except the last `padding` bits, which are unused. `None` if `padding` is above 7, or isn't
+    /// 0 for an empty string, or if one of the unused bits is set.
     pub const fn new(octets: &'a [u8], padding: u8) -> Option<BitString<'a>>
         ensures { MatchOption result (¬ IsBits (bits octets.entry.now padding))
             (λ b. bits_of b ≡ bits octets.entry.now padding) }
@@ -70,7 +70,7 @@ impl<'a> BitString<'a> {
     }
 
     /// Whether the bit with the index `n` is set. Bit 0 is the top bit of the first octet (8.6.2). False for unused
-    /// bits and from the end on.
+    /// bits and past the end.
     pub fn has_bit_set(&self, n: usize) -> bool
         ensures { result ≡ has_bit (bits_of self.now) n }
     {
@@ -82,7 +82,7 @@ impl<'a> BitString<'a> {
     }
 }
 
-/// Takes no memory, and never fails.
+/// Doesn't allocate, and never fails.
 impl<'a> Clone for BitString<'a> {
     ghost use Rattle.asn1_values.specs.BitStrings.{bits_of};
 
@@ -167,9 +167,8 @@ impl SimpleAsn1Writable for BitString<'_> {
     }
 }
 
-/// BIT STRING (X.690 8.6, 11.2; universal 3), which owns its octets. It is read and written as [`BitString`] is;
-/// reading allocates only after the contents octets were found right, and returns `AllocationError` where out of
-/// memory.
+/// BIT STRING (X.690 8.6, 11.2; universal 3), which owns its octets. This type is read and written as [`BitString`] is.
+/// Reading allocates only after the contents octets were found valid, and returns `AllocationError` if out of memory.
 #[derive(PartialEq, Eq, Hash, Drop)]
 pub struct OwnedBitString {
     octets: Vec<u8>,
@@ -180,8 +179,8 @@ pub struct OwnedBitString {
 impl OwnedBitString {
     ghost use Rattle.asn1_values.specs.BitStrings.{bits_of, owned_bits_of};
 
-    /// The bits of `octets` but for the last `padding`, which are unused. `None` where `padding` is above 7, or isn't 0
-    /// for an empty string, or one of the unused bits is set.
+    /// The bits of `octets` except the last `padding` bits, which are unused. `None` if `padding` is above 7, or isn't
+    /// 0 for an empty string, or if one of the unused bits is set.
     pub fn new(octets: Vec<u8>, padding: u8) -> Option<OwnedBitString>
         ensures { MatchOption result (¬ IsBits (bits octets.items padding))
             (λ b. owned_bits_of b ≡ bits octets.items padding) }
@@ -203,7 +202,7 @@ impl OwnedBitString {
     }
 }
 
-/// Allocates; returns `AllocError` where out of memory.
+/// Allocates; returns `AllocError` if out of memory.
 impl Clone for OwnedBitString {
     ghost use Rattle.asn1_values.specs.BitStrings.{owned_bits_of};
 

@@ -33,18 +33,18 @@ pub fn each_list_has_bits()
     ensures { EachListHasBits }
 {}
 
-/// A list of bits has one bit string.
+/// A list of bits has only one bit string.
 pub fn one_bit_string()
     ensures { OneBitString }
 {}
 
-/// A bit is set exactly where its index is in the list, and set there.
+/// A bit is set exactly if its index is within the list and the list's bit there is set.
 pub fn set_bits()
     ensures { SetBits }
 {}
 
-/// A `BitString` is equal to another exactly where both their octets and their numbers of unused bits are the same, and
-/// then both hash alike. A clone never fails, and equals its source.
+/// Two `BitString`s are equal exactly if both their octets and their numbers of unused bits are the same, and then
+/// their hashes are equal too. A clone never fails, and equals its source.
 pub fn bit_strings_compare()
     ensures equality { IsEqualityOf bits_of ⟦<BitString<'static> as PartialEq>⟧.eq }
     ensures hash { HashesAlike bits_of ⟦<BitString<'static> as Hash>⟧.hash_input }
@@ -53,8 +53,8 @@ pub fn bit_strings_compare()
     ensures infallible { NeverFails ⟦<BitString<'static> as Clone>⟧.is_infallible }
 {}
 
-/// An `OwnedBitString` is equal to another exactly where both their octets and their numbers of unused bits are the
-/// same, and then both hash alike. A clone equals its source.
+/// Two `OwnedBitString`s are equal exactly if both their octets and their numbers of unused bits are the same, and then
+/// their hashes are equal too. A clone equals its source.
 pub fn owned_bit_strings_compare()
     ensures equality { IsEqualityOf owned_bits_of ⟦<OwnedBitString as PartialEq>⟧.eq }
     ensures hash { HashesAlike owned_bits_of ⟦<OwnedBitString as Hash>⟧.hash_input }

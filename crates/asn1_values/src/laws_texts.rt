@@ -14,7 +14,7 @@ use crate::values::{
 };
 use std::hash::Hash;
 
-/// A `PrintableString` is equal to another exactly where their octets are the same, and then both hash alike. A clone
+/// Two `PrintableString`s are equal exactly if their octets are the same, and then their hashes are equal too. A clone
 /// never fails, and equals its source.
 pub fn printable_strings_compare()
     ensures equality { IsEqualityOf printable_octets ⟦<PrintableString<'static> as PartialEq>⟧.eq }
@@ -24,8 +24,7 @@ pub fn printable_strings_compare()
     ensures infallible { NeverFails ⟦<PrintableString<'static> as Clone>⟧.is_infallible }
 {}
 
-/// An `IA5String` is equal to another exactly where their octets are the same. A clone never fails, and equals its
-/// source.
+/// Two `IA5String`s are equal exactly if their octets are the same. A clone never fails, and equals its source.
 pub fn ia5_strings_compare()
     ensures equality { IsEqualityOf ia5_octets ⟦<IA5String<'static> as PartialEq>⟧.eq }
     ensures clone { ClonesAreEqual ⟦<IA5String<'static> as Clone>⟧.is_clone
@@ -33,8 +32,7 @@ pub fn ia5_strings_compare()
     ensures infallible { NeverFails ⟦<IA5String<'static> as Clone>⟧.is_infallible }
 {}
 
-/// A `VisibleString` is equal to another exactly where their octets are the same. A clone never fails, and equals its
-/// source.
+/// Two `VisibleString`s are equal exactly if their octets are the same. A clone never fails, and equals its source.
 pub fn visible_strings_compare()
     ensures equality { IsEqualityOf visible_octets ⟦<VisibleString<'static> as PartialEq>⟧.eq }
     ensures clone { ClonesAreEqual ⟦<VisibleString<'static> as Clone>⟧.is_clone
@@ -42,7 +40,7 @@ pub fn visible_strings_compare()
     ensures infallible { NeverFails ⟦<VisibleString<'static> as Clone>⟧.is_infallible }
 {}
 
-/// A `Utf8String` is equal to another exactly where their octets are the same, and then both hash alike. A clone never
+/// Two `Utf8String`s are equal exactly if their octets are the same, and then their hashes are equal too. A clone never
 /// fails, and equals its source.
 pub fn utf8_strings_compare()
     ensures equality { IsEqualityOf utf8_octets ⟦<Utf8String<'static> as PartialEq>⟧.eq }
@@ -52,7 +50,7 @@ pub fn utf8_strings_compare()
     ensures infallible { NeverFails ⟦<Utf8String<'static> as Clone>⟧.is_infallible }
 {}
 
-/// A `BMPString` is equal to another exactly where their octets are the same, and then both hash alike. A clone never
+/// Two `BMPString`s are equal exactly if their octets are the same, and then their hashes are equal too. A clone never
 /// fails, and equals its source.
 pub fn bmp_strings_compare()
     ensures equality { IsEqualityOf bmp_octets ⟦<BMPString<'static> as PartialEq>⟧.eq }
@@ -62,7 +60,7 @@ pub fn bmp_strings_compare()
     ensures infallible { NeverFails ⟦<BMPString<'static> as Clone>⟧.is_infallible }
 {}
 
-/// A `UniversalString` is equal to another exactly where their octets are the same, and then both hash alike. A clone
+/// Two `UniversalString`s are equal exactly if their octets are the same, and then their hashes are equal too. A clone
 /// never fails, and equals its source.
 pub fn universal_strings_compare()
     ensures equality { IsEqualityOf universal_octets ⟦<UniversalString<'static> as PartialEq>⟧.eq }

@@ -14,8 +14,8 @@ ghost use Rattle.asn1_values.specs.TimeOrders.{instant_order, moment_order};
 use crate::values::{DateTime, GeneralizedTime, UtcTime, X509GeneralizedTime};
 use std::hash::Hash;
 
-/// A `DateTime` is ordered by year, month, day, hour, minute and second, in turn. It is equal to another exactly where
-/// these are the same, and then both hash alike. A clone never fails, and equals its source.
+/// A `DateTime` is ordered by year, month, day, hour, minute and second, in turn. Two are equal exactly if these are
+/// the same, and then their hashes are equal too. A clone never fails, and equals its source.
 pub fn date_times_compare()
     ensures order { IsOrderOf moment moment_order ⟦<DateTime as PartialOrd>⟧.partial_cmp }
     ensures tie { IsTieOf moment moment_order }
@@ -25,9 +25,9 @@ pub fn date_times_compare()
     ensures infallible { NeverFails ⟦<DateTime as Clone>⟧.is_infallible }
 {}
 
-/// A `GeneralizedTime` is ordered by its date and time of day, then no fraction before any, then by nanoseconds. It is
-/// equal to another exactly where these are the same, and then both hash alike. A clone never fails, and equals its
-/// source.
+/// A `GeneralizedTime` is ordered by date and time of day, then no fraction before any fraction, then by nanoseconds.
+/// Two are equal exactly if these are the same, and then their hashes are equal too. A clone never fails, and equals
+/// its source.
 pub fn generalized_times_compare()
     ensures order { IsOrderOf instant_of instant_order
         ⟦<GeneralizedTime as PartialOrd>⟧.partial_cmp }
@@ -39,7 +39,7 @@ pub fn generalized_times_compare()
     ensures infallible { NeverFails ⟦<GeneralizedTime as Clone>⟧.is_infallible }
 {}
 
-/// A `UtcTime` is equal to another exactly where their dates and times of day are, and then both hash alike. A clone
+/// Two `UtcTime`s are equal exactly if their dates and times of day are, and then their hashes are equal too. A clone
 /// never fails, and equals its source.
 pub fn utc_times_compare()
     ensures equality { IsEqualityOf utc_moment ⟦<UtcTime as PartialEq>⟧.eq }
@@ -48,8 +48,8 @@ pub fn utc_times_compare()
     ensures infallible { NeverFails ⟦<UtcTime as Clone>⟧.is_infallible }
 {}
 
-/// An `X509GeneralizedTime` is equal to another exactly where their dates and times of day are, and then both hash
-/// alike. A clone never fails, and equals its source.
+/// Two `X509GeneralizedTime`s are equal exactly if their dates and times of day are, and then their hashes are equal
+/// too. A clone never fails, and equals its source.
 pub fn x509_generalized_times_compare()
     ensures equality { IsEqualityOf x509_moment ⟦<X509GeneralizedTime as PartialEq>⟧.eq }
     ensures hash { HashesAlike x509_moment ⟦<X509GeneralizedTime as Hash>⟧.hash_input }

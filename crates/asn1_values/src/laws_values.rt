@@ -12,8 +12,8 @@ ghost use Rattle.asn1_values.specs.Values.{enumerated_value, big_int_number, big
 use crate::values::{BigInt, BigUint, Enumerated, OwnedBigInt, OwnedBigUint};
 use std::hash::Hash;
 
-/// A `BigInt` is equal to another exactly where their numbers are the same, which is where their contents octets are,
-/// and then both hash alike. A clone never fails, and equals its source.
+/// Two `BigInt`s are equal exactly if their numbers are the same, which is exactly if their contents octets are. Then
+/// their hashes are equal too. A clone never fails, and equals its source.
 pub fn big_ints_compare()
     ensures octets { IsEqualityOf big_int_octets ⟦<BigInt<'static> as PartialEq>⟧.eq }
     ensures equality { IsEqualityOf big_int_number ⟦<BigInt<'static> as PartialEq>⟧.eq }
@@ -23,8 +23,8 @@ pub fn big_ints_compare()
     ensures infallible { NeverFails ⟦<BigInt<'static> as Clone>⟧.is_infallible }
 {}
 
-/// A `BigUint` is equal to another exactly where their numbers are the same, which is where their contents octets are,
-/// and then both hash alike. A clone never fails, and equals its source.
+/// Two `BigUint`s are equal exactly if their numbers are the same, which is exactly if their contents octets are. Then
+/// their hashes are equal too. A clone never fails, and equals its source.
 pub fn big_uints_compare()
     ensures octets { IsEqualityOf big_uint_octets ⟦<BigUint<'static> as PartialEq>⟧.eq }
     ensures equality { IsEqualityOf big_uint_number ⟦<BigUint<'static> as PartialEq>⟧.eq }
@@ -34,8 +34,8 @@ pub fn big_uints_compare()
     ensures infallible { NeverFails ⟦<BigUint<'static> as Clone>⟧.is_infallible }
 {}
 
-/// An `OwnedBigInt` is equal to another exactly where their numbers are the same, which is where their contents octets
-/// are, and then both hash alike. A clone equals its source.
+/// Two `OwnedBigInt`s are equal exactly if their numbers are the same, which is exactly if their contents octets are.
+/// Then their hashes are equal too. A clone equals its source.
 pub fn owned_big_ints_compare()
     ensures octets { IsEqualityOf owned_big_int_octets ⟦<OwnedBigInt as PartialEq>⟧.eq }
     ensures equality { IsEqualityOf owned_big_int_number ⟦<OwnedBigInt as PartialEq>⟧.eq }
@@ -44,8 +44,8 @@ pub fn owned_big_ints_compare()
         ⟦<OwnedBigInt as PartialEq>⟧.eq }
 {}
 
-/// An `OwnedBigUint` is equal to another exactly where their numbers are the same, which is where their contents octets
-/// are, and then both hash alike. A clone equals its source.
+/// Two `OwnedBigUint`s are equal exactly if their numbers are the same, which is exactly if their contents octets are.
+/// Then their hashes are equal too. A clone equals its source.
 pub fn owned_big_uints_compare()
     ensures octets { IsEqualityOf owned_big_uint_octets ⟦<OwnedBigUint as PartialEq>⟧.eq }
     ensures equality { IsEqualityOf owned_big_uint_number ⟦<OwnedBigUint as PartialEq>⟧.eq }
@@ -54,7 +54,7 @@ pub fn owned_big_uints_compare()
         ⟦<OwnedBigUint as PartialEq>⟧.eq }
 {}
 
-/// An `Enumerated` is equal to another exactly where their numbers are the same.
+/// Two `Enumerated`s are equal exactly if their numbers are the same.
 pub fn enumerated_values_compare()
     ensures equality { IsEqualityOf enumerated_value ⟦<Enumerated as PartialEq>⟧.eq }
 {}

@@ -20,7 +20,7 @@ use std::fmt;
 /// How many contents octets there are at most.
 const MAX_OCTETS: usize = 63;
 
-/// The number in base 128 at the start of the octets, and the remaining octets. `None` where there is none.
+/// The number in base 128 at the start of the octets, and the remaining octets. `None` if there is no number.
 fn number_before(octets: &[u8]) -> Option<(u128, &[u8])>
     ensures { MatchOption result ((kind : ParseErrorKind) × (number_front octets.now ≡ Err kind))
         (λ x. number_front octets.now ≡ Ok (x.0, x.1.now)) }
@@ -64,7 +64,7 @@ fn part_number(part: &str) -> Option<u128>
     }
 }
 
-/// The number at the start of a dotted form, and what follows its dot, where there is one.
+/// The number at the start of a dotted form, and what follows its dot if there is one.
 fn next_part(text: &str) -> Option<(u128, Option<&str>)>
     ensures value { MatchOption result (text_numbers text.now ≡ None)
         (λ x. text_numbers text.now ≡ option_map (λ numbers. x.0 ∷ numbers) (left_numbers x.1)) }
@@ -83,7 +83,7 @@ fn next_part(text: &str) -> Option<(u128, Option<&str>)>
     }
 }
 
-/// The first encoded number, by the first two of the dotted form (8.19.4).
+/// The first encoded number, for the first two numbers of the dotted form (8.19.4).
 fn first_of(first: u128, second: u128) -> Option<u128>
     ensures { result ≡ first_of first second }
 {
@@ -98,9 +98,9 @@ fn first_of(first: u128, second: u128) -> Option<u128>
 
 /// OBJECT IDENTIFIER (X.690 8.19; universal 6).
 ///
-/// Its contents octets are one or more numbers in base 128, each in the fewest octets. The first number stands for the
-/// first two of the identifier (8.19.4). Here a number is below 2^128, and there are 1 to 63 contents octets, which are
-/// copied and kept in place. Reading rejects more with `OidTooLong`, and other contents octets with `InvalidValue`.
+/// Its contents octets are one or more numbers in base 128, each in the fewest octets. The first number encodes the
+/// first two of the identifier (8.19.4). Here numbers are below 2^128, and there are 1 to 63 contents octets, copied
+/// and kept in place. Reading rejects more octets with `OidTooLong`, and other contents octets with `InvalidValue`.
 #[derive(PartialEq, Eq, Hash, Drop)]
 pub struct ObjectIdentifier {
     octets: [u8; 63],
@@ -108,8 +108,8 @@ pub struct ObjectIdentifier {
     pub ghost is_content: { IsIdentifierForm octets count },
 }
 
-/// Puts the encoding of a number after the first `count` octets, and returns how many octets there are then. `None`
-/// where there is no room for it.
+/// Writes a number in base 128 after the first `count` octets, and returns how many octets there are then. `None` if
+/// there is no room for the number.
 fn append_number(octets: &mut [u8; 63], count: usize, number: u128) -> Option<usize>
     requires { count ≤ 63 }
     ensures { MatchOption result (63 < count + length (number_text number))
@@ -142,12 +142,12 @@ impl ObjectIdentifier {
         })
     }
 
-    /// The identifier with this dotted form: two or more decimal numbers with dots between them, such as
-    /// `1.2.840.113549`. The first is 0, 1 or 2, and the second below 40 where the first is 0 or 1. As in Rust's
-    /// numbers, a plus sign or zeros may be in front of each.
+    /// The identifier with this dotted form: two or more decimal numbers with dots between them, for example
+    /// `1.2.840.113549`. The first is 0, 1 or 2, and the second is below 40 if the first is 0 or 1. As in Rust's
+    /// numbers, each may begin with a plus sign, with zeros, or with both.
     ///
-    /// `None` for any other string; where a number, or the second with 40 times the first, is 2^128 or more; and where
-    /// there would be more than 63 contents octets.
+    /// `None` for any other string; if a number, or the sum of the second and 40 times the first, is 2^128 or more; and
+    /// if there would be more than 63 contents octets.
     pub fn from_string(text: &str) -> Option<ObjectIdentifier>
         ensures { option_map identifier_of result ≡ read_dotted text.now }
     {
@@ -157,9 +157,8 @@ impl ObjectIdentifier {
         ObjectIdentifier::with_others(number, rest)
     }
 
-    /// The identifier with these contents octets. Errors: `OidTooLong` where there are more than 63; else
-    /// `InvalidValue` where there are none, or they aren't numbers in base 128, each below 2^128 and in the fewest
-    /// octets.
+    /// The identifier with these contents octets. Errors: `OidTooLong` if there are more than 63; else `InvalidValue`
+    /// if there are none, or if they aren't numbers in base 128, each below 2^128 and in the fewest octets.
     #[inline(always)]
     pub fn from_der(octets: &[u8]) -> ParseResult<ObjectIdentifier>
         ensures { Answers identifier_of (λ _. ⊥) result (read_identifier octets.now) }
@@ -198,7 +197,7 @@ impl ObjectIdentifier {
     }
 }
 
-/// Takes no memory, and never fails.
+/// Doesn't allocate, and never fails.
 impl Clone for ObjectIdentifier {
     ghost use Rattle.asn1_values.specs.IdentifierValues.{identifier_octets};
 
@@ -214,7 +213,7 @@ impl Clone for ObjectIdentifier {
     }
 }
 
-/// Shows the first encoded number of an identifier, which stands for two.
+/// Shows the two numbers that the first encoded number of an identifier encodes.
 fn show_first<W: fmt::Write>(first: u128, f: &mut fmt::Formatter<W>) -> fmt::Result
     ensures { DisplaysOnOk W.write_str_gives f.old result (Some (first_text first)) f.new }
 {
@@ -245,7 +244,7 @@ impl fmt::Display for ObjectIdentifier {
     }
 }
 
-/// The dotted form, as Debug has it.
+/// The dotted form, as `Debug` shows it.
 #[derive(Drop)]
 struct Numbers<'a>(&'a ObjectIdentifier);
 

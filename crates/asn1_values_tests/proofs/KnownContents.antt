@@ -1,4 +1,4 @@
--- Contents that stand in a test: they are numbers.
+-- Contents octets in a test: they are numbers.
 use Rattle.std.proofs.Common.{◌≡◌, true, [], ◌∷◌, replicate, refl, arith}
 use Rattle.std.specs.Prelude.{is_some}
 use Rattle.asn1_core.specs.Base128.{number_front}

@@ -1,4 +1,4 @@
-//! Identifiers: values from outside.
+//! Object identifiers: values from outside.
 
 use asn1_core::{ParseErrorKind, parse_single};
 use asn1_values::ObjectIdentifier;
@@ -8,7 +8,7 @@ use testing::{both_ways, different, hash_of, is_laid_out, is_shown, kind_of, sam
 
 const NONE: &str = "no identifier";
 
-/// The content of the greatest first number, 2^128 - 1.
+/// The contents octets of the greatest first number, 2^128 - 1.
 const GREATEST: [u8; 19] = [
     0x83, 0xff, 0xff, 0xff, 0xff, 0xff, 0xff, 0xff, 0xff, 0xff, 0xff, 0xff, 0xff, 0xff, 0xff, 0xff,
     0xff, 0xff, 0x7f,
@@ -20,7 +20,7 @@ const TOO_GREAT: [u8; 19] = [
     0x80, 0x80, 0x00,
 ];
 
-/// The identifier is displayed so.
+/// The identifier is displayed as this text.
 fn is_displayed(alloc: Global, identifier: &ObjectIdentifier, text: &str) -> Result<(), Fail> {
     same(format!(in alloc; "{identifier}")?.as_str(), text)
 }

@@ -14,7 +14,7 @@ const TWELVE: [u8; 12] = [
     0xff, 0x7f, 0xff, 0xff, 0xff, 0xff, 0xff, 0xff, 0xff, 0xff, 0xff, 0xff,
 ];
 
-/// A number of thirteen octets, of which the first is the sign.
+/// A number of thirteen octets, the first of which is the sign.
 const THIRTEEN: [u8; 13] = [
     0x00, 0xff, 0xff, 0xff, 0xff, 0xff, 0xff, 0xff, 0xff, 0xff, 0xff, 0xff, 0xff,
 ];
@@ -32,7 +32,7 @@ const SIGNED: [&[u8]; 8] = [
 
 const UNSIGNED: [&[u8]; 5] = [&[0x00], &[0x01], &[0x7f, 0xff], &[0x00, 0xff], &THIRTEEN];
 
-/// The text with the tag of an integer.
+/// The element with the tag of an integer and these contents octets.
 fn integer_text(alloc: Global, content: &[u8]) -> Result<Vec<u8>, Fail> {
     let mut text = Vec::new(alloc);
     text.push(0x02)?;
@@ -95,7 +95,7 @@ fn owned_unsigned_integers_of_any_length(rt: HostRuntime) -> Result<(), Fail> {
     Ok(())
 }
 
-/// The content is no integer's, read or made.
+/// The octets aren't contents octets of an integer: reading and `new` reject them.
 fn is_no_signed_integer(alloc: Global, content: &[u8]) -> Result<(), Fail> {
     let text = integer_text(alloc, content)?;
     same(&BigInt::new(content), &None)?;
@@ -108,7 +108,7 @@ fn is_no_signed_integer(alloc: Global, content: &[u8]) -> Result<(), Fail> {
     same_at(content, kinds, [Some(INVALID), Some(INVALID)])
 }
 
-/// The content is none of a number that isn't negative, read or made.
+/// The octets aren't contents octets of a number that isn't negative: reading and `new` reject them.
 fn is_no_unsigned_integer(alloc: Global, content: &[u8]) -> Result<(), Fail> {
     let text = integer_text(alloc, content)?;
     same(&BigUint::new(content), &None)?;
@@ -265,7 +265,7 @@ fn owned_integers_are_shown(rt: HostRuntime) -> Result<(), Fail> {
 
 const NONE: &str = "no content";
 
-/// Contents of unequal integers: they differ in sign, in one octet, in length.
+/// Contents octets of unequal integers: they differ in sign, in one octet, in length.
 const DIFFERENT: [(&[u8], &[u8]); 6] = [
     (&[0x01], &[0xff]),
     (&[0x00, 0x80], &[0x80]),

@@ -1,4 +1,4 @@
-//! What the laws say of Rust values: each function here is proved to return true.
+//! What the laws state about Rust values: each function here is proved to return true.
 
 ghost use Rattle.std.specs.Prelude.{◌≡◌, IsTrue};
 ghost use Rattle.asn1_values.specs.Values.{owned_big_int_number};

@@ -1,4 +1,4 @@
-//! Plain, slow readers of bits, identifiers, texts and times, written from the definitions alone, beside the real ones.
+//! Plain, slow readers of bits, identifiers, strings and times, by the definitions alone, compared with the real ones.
 
 ghost use Rattle.std.specs.Prelude.{◌<◌, IfSome};
 
@@ -31,7 +31,7 @@ fn slow_bits(alloc: Global, content: &[u8]) -> Result<Option<Vec<bool>>, Fail> {
     Ok(if *padding < 8 { Some(bits) } else { None })
 }
 
-/// A bit string both ways.
+/// Reads a bit string both ways, and compares the results.
 fn compare_bits(alloc: Global, text: &[u8]) -> Result<(), Fail> {
     let Some(bits) = slow_bits(alloc, text.get(2..).unwrap_or(&[]))? else {
         let invalid = Some(ParseErrorKind::InvalidValue);
@@ -63,7 +63,7 @@ fn all_bit_strings_of_up_to_two_octets(rt: HostRuntime) -> Result<(), Fail> {
     Ok(())
 }
 
-/// The numbers of an identifier's contents octets: each in base 128, in the fewest octets (X.690 8.19.2).
+/// The numbers of an object identifier's contents octets: each in base 128, in the fewest octets (X.690 8.19.2).
 fn slow_numbers(alloc: Global, content: &[u8]) -> Result<Option<Vec<u128>>, Fail> {
     let mut numbers = Vec::new(alloc);
     let mut number: Option<u128> = None;
@@ -85,7 +85,7 @@ fn slow_numbers(alloc: Global, content: &[u8]) -> Result<Option<Vec<u128>>, Fail
     Ok(if is_right { Some(numbers) } else { None })
 }
 
-/// The numbers as text: the first stands for two (X.690 8.19.4).
+/// The dotted form of the numbers: the first encodes two (X.690 8.19.4).
 fn slow_dotted(alloc: Global, numbers: &[u128]) -> Result<String, Fail> {
     let mut text = String::new(alloc);
     let mut is_first = true;
@@ -102,7 +102,7 @@ fn slow_dotted(alloc: Global, numbers: &[u128]) -> Result<String, Fail> {
     Ok(text)
 }
 
-/// Contents octets of an identifier: as the numbers that they mean.
+/// Reads contents octets of an object identifier both ways, and compares the results.
 fn compare_identifiers(alloc: Global, content: &[u8]) -> Result<(), Fail> {
     let Some(numbers) = slow_numbers(alloc, content)? else {
         let found = kind_of(ObjectIdentifier::from_der(content));
@@ -149,7 +149,7 @@ fn longer_identifiers(rt: HostRuntime) -> Result<(), Fail> {
     Ok(())
 }
 
-/// A text is read and written back where it is right, and else refused.
+/// A valid encoding is read and written back; any other is rejected.
 fn compare_text<'a, T: Asn1Readable<'a> + Asn1Writable<Error = WriteError>>(
     alloc: Global,
     text: &'a [u8],
@@ -170,7 +170,7 @@ fn is_printable(octet: u8) -> bool {
         || matches!(octet, b',' | b'-' | b'.' | b'/' | b':' | b'=' | b'?')
 }
 
-/// Two octets of each kind of text that has one octet a character, of UTF-8 and of a `BMPString`.
+/// Two octets as a character string of each type that has one octet a character, as UTF-8 and as a `BMPString`.
 fn compare_two(alloc: Global, a: u8, b: u8) -> Result<(), Fail> {
     let printable = is_printable(a) && is_printable(b);
     let ia5 = a < 0x80 && b < 0x80;
@@ -217,7 +217,7 @@ fn slow_days(year: u16, month: u16) -> u16 {
     }
 }
 
-/// Month, day, hour, minute and second of `MMDDHHMMSSZ`, where they are a date and a time of day (X.690 11.7, 11.8).
+/// Month, day, hour, minute and second of `MMDDHHMMSSZ`, if they are a date and a time of day (X.690 11.7, 11.8).
 fn slow_rest(year: u16, octets: &[u8]) -> Option<[u16; 5]> {
     if octets.len() != 11 || octets[10] != b'Z' {
         return None;
@@ -236,14 +236,14 @@ fn slow_rest(year: u16, octets: &[u8]) -> Option<[u16; 5]> {
     }
 }
 
-/// The year of a `UTCTime`, and what stands behind it.
+/// The year of a `UTCTime`, and the numbers after the year.
 fn slow_utc(content: &[u8]) -> Option<(u16, [u16; 5])> {
     let year = slow_two(content.get(..2)?)?;
     let year = if year < 50 { 2000 + year } else { 1900 + year };
     Some((year, slow_rest(year, &content[2..])?))
 }
 
-/// The year of a `GeneralizedTime` without a fraction, and what stands behind it.
+/// The year of a `GeneralizedTime` without a fraction, and the numbers after the year.
 fn slow_general(content: &[u8]) -> Option<(u16, [u16; 5])> {
     let year = slow_two(content.get(..2)?)? * 100 + slow_two(content.get(2..4)?)?;
     Some((year, slow_rest(year, &content[4..])?))
@@ -275,7 +275,7 @@ fn real_general(alloc: Global, text: &[u8]) -> Option<(u16, [u16; 5])> {
     }
 }
 
-/// A text of either type: its numbers, or a refusal.
+/// Reads an encoding of either type both ways: both return the same numbers, or both reject it.
 fn compare_times(alloc: Global, text: &[u8]) -> Result<(), Fail> {
     let content = text.get(2..).unwrap_or(&[]);
     match text {
@@ -284,7 +284,7 @@ fn compare_times(alloc: Global, text: &[u8]) -> Result<(), Fail> {
     }
 }
 
-/// Each octet of the contents is replaced by each other.
+/// Each contents octet is replaced by each other octet.
 fn compare_damaged<const N: usize>(alloc: Global, text: [u8; N]) -> Result<(), Fail> {
     for place in 2..N {
         for octet in 0..=255 {

@@ -1,4 +1,4 @@
-//! Texts: the original's cases, values from outside, and what is refused.
+//! Character strings: the original's cases, values from outside, and what is rejected.
 
 use asn1_core::parse_single;
 use asn1_values::values::{
@@ -15,7 +15,7 @@ const OTHER: &str = "characters of another type";
 const LONG: &str =
     "xxxxxxxxxxxxxxxxxxxxxxxxxxxxxxxxxxxxxxxxxxxxxxxxxxxxxxxxxxxxxxxxxxxxxxxxxxxxxxxxxxxxxxxxxxxxxxxxxxxxxxxxxxxxxxxxxxxxxxxxxxxxxxxx";
 
-/// The value is shown so, and equals its copy.
+/// The value is shown as this text, and equals its copy.
 fn is_shown_and_copied<T: Debug + Clone + PartialEq + Drop>(
     alloc: Global,
     value: &T,
@@ -277,7 +277,7 @@ fn equal_wide_texts_hash_alike(rt: HostRuntime) -> Result<(), Fail> {
     same(hash_of(&universal), hash_of(&other))
 }
 
-/// Texts that differ: in one character, in letters' case, in length, in the order of characters.
+/// Character strings that differ: in one character, in letters' case, in length, in the order of characters.
 const DIFFERENT: [(&str, &str); 5] = [
     ("abc", "abd"),
     ("abc", "aBc"),

@@ -1,4 +1,4 @@
-//! Times: elements from outside, and what is refused.
+//! Times: elements from outside, and what is rejected.
 
 use asn1_core::{
     Asn1Readable, Asn1Writable, ParseErrorKind, ParseResult, WriteError, parse_single,
@@ -19,7 +19,7 @@ fn date_of(numbers: Numbers) -> ParseResult<DateTime> {
     DateTime::new(year, month, day, hour, minute, second)
 }
 
-/// The time is written as the octets, and equals what they are read as, and a copy of that.
+/// The time is written as the octets, and equals the time that they are read as, and a copy of that time.
 fn is_read_and_copied<
     'a,
     T: Asn1Readable<'a> + Asn1Writable<Error = WriteError> + Clone + PartialEq + Debug,
@@ -59,7 +59,7 @@ const YEARS: [(u16, bool); 6] = [
     (2400, true),
 ];
 
-/// Each month of a common year, its last day, and the day behind that.
+/// Each month of a common year, its last day, and the day after that.
 const COMMON: [(u8, u8, u8); 12] = [
     (1, 31, 32),
     (2, 28, 29),

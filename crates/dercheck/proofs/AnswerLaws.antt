@@ -1,4 +1,4 @@
--- A line is answered by its form.
+-- The reply to a line depends on its form.
 use Rattle.std.proofs.Common.{◌≡◌, ℕ, List, [], ◌++◌, Option, Some, None, Result, Ok, Err, get_or, refl, sym, ap, ◌∙◌, lit<, arith}
 use Rattle.std.specs.Prelude.{codes, is_ok, true}
 use Rattle.std.proofs.lemmas.Bool.{false≢true}
@@ -18,7 +18,7 @@ use Rattle.dercheck.specs.Answers.{is_ok_line, is_ok_to, answer, answer_to, answ
 use Rattle.dercheck.specs.Laws.{IsOkLine, OkLinesAreOk, BadLinesAreBad, IsValueText, ValuesAreOk, FaultsAreErr}
 use Rattle.dercheck.proofs.RequestLaws.{request_of-is, requests_are_right}
 
--- the laws speak of each type
+-- each type is lawful
 lawful : (word : Word) → (type_of word).der.lawful
 lawful words.Tlv = tt
 lawful words.SeqOfInt = (((tt, lit< tt), tt), lit< tt)
@@ -62,7 +62,7 @@ value-reading word octets value text e =
       is = found.0.is ∙ append-nil (d.text value);
     }
 
--- the first letters of `err` and `ok` are apart
+-- the first letters of `err` and `ok` differ
 not_ok : (kind octets : List ℕ) → codes "err " ++ kind ≡ codes "ok " ++ octets → ⊥
 not_ok kind octets e = let letters : ◌≡◌ {A = ℕ} 101 111 = ap (λ (xs : List ℕ). get_or xs 0 0) e in omega arith
 
@@ -81,7 +81,7 @@ values_are_ok line word octets is = (
 pub faults_are_err : FaultsAreErr
 faults_are_err line word octets fault is e = answer-is line word octets is ∙ ap (answer_read octets) e
 
--- ---- lines whose answers are `ok`
+-- ---- lines whose replies are `ok`
 
 read-ok : (line : List ℕ) (word : Word) (octets : List ℕ) (read : Result (IsMeaning word) Fault) → IsRequest line word octets →
     reading word octets ≡ read → is_ok read ≡ true → IsOkLine line

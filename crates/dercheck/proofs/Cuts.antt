@@ -1,4 +1,4 @@
--- Texts cut at an octet, and texts cut into lines.
+-- Inputs cut at an octet, and inputs cut into lines.
 use Rattle.std.proofs.Common.{◌≡◌, ◌≢◌, ℕ, suc, ◌+◌, ◌<◌, ◌≤◌, eqb, List, [], ◌∷◌, ◌++◌, length, take, drop, Option, Some, None, refl, sym, ap, ◌∙◌, ⊎_elim, add-one, arith}
 use Rattle.std.specs.List.{position_or_len, position}
 use Rattle.std.proofs.lemmas.Bool.{cases_eq, eq-eqb, ne_eqb, lt-ltb, le-ltb, cases_lt}
@@ -8,7 +8,7 @@ use Rattle.dercheck.specs.Lines.{split_once, with_octet, lines_of, in_first_line
 abbrev Parts : Type 0
 Parts = Option (List ℕ × List ℕ)
 
--- ---- a text cut at an octet
+-- ---- an input cut at an octet
 
 pub split_once-here : (octet next : ℕ) (text : List ℕ) → next ≡ octet → split_once octet (next ∷ text) ≡ Some ([], text)
 unfolding split_once
@@ -22,7 +22,7 @@ pub split_once-none : (octet : ℕ) → split_once octet [] ≡ None
 unfolding split_once
 split_once-none octet = refl
 
--- the place of the octet, or the length
+-- the index of the octet, or the length
 abbrev place : ℕ → List ℕ → ℕ
 place octet text = position_or_len (λ next. eqb next octet) text
 
@@ -62,7 +62,7 @@ found_at octet text = position (λ next. eqb next octet) text
 pub some_is : {A : Type 0} (x y : A) → ◌≡◌ {A = Option A} (Some x) (Some y) → x ≡ y
 some_is x y e = cc
 
--- what `position` finds is where the text is cut
+-- the input is cut at the index that `position` finds
 pub split_once-found : (octet : ℕ) (text : List ℕ) (at : ℕ) → found_at octet text ≡ Some at → split_once octet text ≡ Some (take at text, drop (at + 1) text)
 split_once-found octet text at found = ⊎_elim
     (λ (less : place octet text < length text).
@@ -77,7 +77,7 @@ split_once-missing octet text missing = ⊎_elim
     (λ (most : length text ≤ place octet text). split_once-nowhere octet text most)
     (cases_lt (place octet text) (length text))
 
--- the text is its parts and the octet
+-- the input is its parts, with the octet between them
 abbrev IsJoined : ℕ → List ℕ → List ℕ × List ℕ → Type 0
 IsJoined octet text parts = text ≡ parts.0 ++ octet ∷ parts.1
 
@@ -99,13 +99,13 @@ split_once-is octet (next ∷ text) parts e = ⊎_elim
     joined_later octet next text parts (split_once octet text) (split_once-is octet text) (sym (split_once-later octet next text later) ∙ e))
     (cases_eq next octet)
 
--- a text that is cut behind a front without the octet
+-- an input that is cut after a prefix without the octet
 pub split_once-behind : (octet : ℕ) (front rest : List ℕ) → HasNone octet front → split_once octet (front ++ octet ∷ rest) ≡ Some (front, rest)
 split_once-behind octet [] rest none = split_once-here octet octet rest refl
 split_once-behind octet (next ∷ front) rest none =
     split_once-later octet next (front ++ octet ∷ rest) none.0 ∙ ap (with_octet next) (split_once-behind octet front rest none.1)
 
--- ---- a text cut into lines
+-- ---- an input cut into lines
 
 pub lines_of-feed : (text : List ℕ) → lines_of (10 ∷ text) ≡ [] ∷ lines_of text
 unfolding lines_of
@@ -142,7 +142,7 @@ first_later next text parts (Some inner) apart law e =
     let same : (next ∷ inner.0, inner.1) ≡ parts = some_is _ _ e in
     lines_of-more next text apart ∙ ap (in_first_line next) (law inner refl) ∙ rw (← same) refl
 
--- what stands before and behind the first line feed are the first line and what follows it
+-- the first line is what is before the first line feed, and the other lines are those of what is after it
 pub lines_of-cut : (text : List ℕ) (parts : List ℕ × List ℕ) → split_once 10 text ≡ Some parts → lines_of text ≡ parts.0 ∷ lines_of parts.1
 lines_of-cut [] parts e = let no : None ≡ Some parts = sym (split_once-none 10) ∙ e in absurd cc
 lines_of-cut (next ∷ text) parts e = ⊎_elim
@@ -157,7 +157,7 @@ missing_later : (next : ℕ) (rest : Parts) → with_octet next rest ≡ None �
 missing_later next None e = refl
 missing_later next (Some inner) e = absurd cc
 
--- a text with no line feed
+-- an input that isn't cut doesn't have the octet
 pub HasNone-missing : (octet : ℕ) (text : List ℕ) → split_once octet text ≡ None → HasNone octet text
 HasNone-missing octet [] e = tt
 HasNone-missing octet (next ∷ text) e = ⊎_elim
@@ -166,7 +166,7 @@ HasNone-missing octet (next ∷ text) e = ⊎_elim
     (later, HasNone-missing octet text (missing_later next (split_once octet text) (sym (split_once-later octet next text later) ∙ e))))
     (cases_eq next octet)
 
--- a text with no line feed is one line, if it isn't empty
+-- an input with no line feed is one line, if it isn't empty
 pub lines_of-uncut : (text : List ℕ) → 0 < length text → split_once 10 text ≡ None → lines_of text ≡ text ∷ []
 lines_of-uncut [] some e = absurd (omega arith)
 lines_of-uncut (octet ∷ line) some e = lines_of-last octet line (HasNone-missing 10 (octet ∷ line) e)

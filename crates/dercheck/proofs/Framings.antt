@@ -1,4 +1,4 @@
--- Framings: each text has one, and they join.
+-- Framings: any octets have one, and framings join.
 use Rattle.std.proofs.Common.{◌≡◌, ℕ, zero, suc, ◌<◌, ◌≤◌, List, [], ◌∷◌, ◌++◌, length, Ok, Err, refl, sym, ap, subst, ◌∙◌, append_assoc, arith}
 use Rattle.std.specs.Prelude.{IsErr}
 use Rattle.std.specs.List.{AllByRecursion, flat_map}
@@ -25,14 +25,14 @@ err_from_short (Err kind) short = refl
 pub err_at : (a : ElementFront) (kind : ParseErrorKind) → a ≡ Err kind → IsErr a
 err_at a kind e = rw e refl
 
--- no element and a rest
+-- no element, and remaining octets
 pub framing_none : (text : List ℕ) → IsErr (front text) → IsFraming text [] text
 framing_none text stops = record { readable = tt; whole = refl; stops = stops }
 
 pub framing_short : (text : List ℕ) → IsUnfinished text → IsFraming text [] text
 framing_short text short = framing_none text (err_from_short (front text) short)
 
--- one element and no rest
+-- one element, and no remaining octets
 pub framing_one : (text : List ℕ) (e : Element) → IsReadable e → text ≡ element_text e → IsFraming text (e ∷ []) []
 framing_one text e readable same = record {
   readable = (readable, tt);
@@ -44,7 +44,7 @@ all_append : (es fs : List Element) → AllByRecursion IsReadable es → AllByRe
 all_append [] fs a b = b
 all_append (e ∷ es) fs a b = (a.0, all_append es fs a.1 b)
 
--- the rest of one text, with more behind it, goes on with a framing of its own
+-- the framing of the remaining octets and of more after them continues the first framing
 pub framing_join : (a b : List ℕ) (es fs : List Element) (p r : List ℕ) → IsFraming a es p → IsFraming (p ++ b) fs r → IsFraming (a ++ b) (es ++ fs) r
 framing_join a b es fs p r first next = record {
   readable = all_append es fs first.readable next.readable;
@@ -60,7 +60,7 @@ framing_join a b es fs p r first next = record {
 pub lines_join : (es fs : List Element) (r : List ℕ) → lines (es ++ fs) r ≡ flat_map element_line es ++ lines fs r
 lines_join es fs r = ap (λ (l : List ℕ). l ++ end_line r) (flat_map-append element_line es fs) ∙ append_assoc (flat_map element_line es) (flat_map element_line fs) (end_line r)
 
--- ---- each text has a framing
+-- ---- any octets have a framing
 
 longer : (text : List ℕ) → (text ≡ [] → ⊥) → 0 < length text
 longer [] some = absurd (some refl)

@@ -1,4 +1,4 @@
--- Headers: whether they are whole, and how long they are while they are not.
+-- Headers: whether they are whole, and how long an unfinished header is.
 use Rattle.std.proofs.Common.{◌≡◌, ℕ, ◌+◌, ◌-◌, ◌^◌, ◌<◌, ◌≤◌, List, ◌++◌, length, take, Ok, Err, refl, sym, ap, subst, ◌∙◌, inl, inr, ⊎_elim, arith}
 use Rattle.std.proofs.lemmas.Bool.{cases_lt}
 use Rattle.std.proofs.lemmas.List.{length-append, take_at}
@@ -17,7 +17,7 @@ use Rattle.asn1.specs.Lemmas.Texts.{IsText-rest}
 use Rattle.asn1.specs.Lemmas.Elements.{front_tag, front_length, front_short, front_found}
 use Rattle.dercheck.specs.Pending.{further, HoldsLength, IsSplit, Needs, IsOpen, IsWhole}
 
--- the first of the length octets says how many they are
+-- the first length octet says how many there are
 pub further_of : (n : ℕ) (behind : List ℕ) → further (length_text n ++ behind) + 1 ≡ length (length_text n)
 further_of n behind = ⊎_elim
     (λ (l : n < 128). rw (length_text_low n l) (omega arith))
@@ -43,14 +43,14 @@ needs_none : (octets : List ℕ) (needed : ℕ) (found : Element × List ℕ) �
 needs_none octets needed found (inl e) f = absurd cc
 needs_none octets needed found (inr (x, e, zero)) f = zero
 
--- the tag of a text and the octets behind it
+-- the tag that octets begin with, and the octets after it
 pub tag_parts : (octets : List ℕ) (tag : Tag) (after : List ℕ) → IsText octets → tag_front octets ≡ Ok (tag, after) → (tag_number tag < 2 ^ 32) × (octets ≡ tag_text tag ++ after)
 tag_parts octets tag after is found = subst (λ (r : TagFront). IsTagFront octets r) found (tag_is octets is)
 
 text_after : (octets : List ℕ) (tag : Tag) (after : List ℕ) → IsText octets → octets ≡ tag_text tag ++ after → IsText after
 text_after octets tag after is e = IsText-rest (tag_text tag) after (subst IsText e is)
 
--- ---- a header that goes on
+-- ---- an unfinished header
 
 open_length : (octets : List ℕ) (needed : ℕ) (tag : Tag) (after : List ℕ) (r : LengthFront) → Needs octets needed
     → tag_front octets ≡ Ok (tag, after) → (tag_number tag < 2 ^ 32) × (octets ≡ tag_text tag ++ after) → ¬ HoldsLength after

@@ -1,4 +1,4 @@
--- Octets appended one after another, the last of them in part; and octets taken from the front.
+-- Octets appended one after another, the last of them in part; and octets taken from the start.
 use Rattle.std.proofs.Common.{◌≡◌, ℕ, ◌+◌, ◌-◌, ◌≤◌, min, Option, List, ◌++◌, length, take, drop, sym, ap, subst, ◌∙◌, append_assoc, take-append-drop, arith}
 use Rattle.std.proofs.Math.Seq.{take-append-add}
 use Rattle.std.proofs.lemmas.List.{take-append-le, take_min, take_rest}
@@ -6,7 +6,7 @@ use Rattle.std.specs.Io.KnownBytes.{Appends}
 use Rattle.std.proofs.KnownBytes.{Appends-trans}
 use Rattle.dercheck.specs.Streams.{AppendsInPart}
 
--- a beginning is one of more, too
+-- a prefix of octets is a prefix of more octets
 pub in_part_of_more : (a b : Option (List ℕ)) (xs ys : List ℕ) → AppendsInPart a b xs → AppendsInPart a b (xs ++ ys)
 in_part_of_more a b xs ys (n, is) =
     let few : min n (length xs) ≤ length xs = omega arith in
@@ -16,7 +16,7 @@ pub in_part_behind : (a b c : Option (List ℕ)) (xs ys : List ℕ) → Appends 
 in_part_behind a b c xs ys front (n, is) =
     (length xs + n, subst (Appends a c) (sym (take-append-add xs ys n)) (Appends-trans a b c xs (take n ys) front is))
 
--- a front moves from what is left to what is done
+-- a prefix moves from what is left to what is done
 pub moves_front : (all done rest : List ℕ) (n : ℕ) → done ++ rest ≡ all → (done ++ take n rest) ++ take (length rest - n) (drop n rest) ≡ all
 moves_front all done rest n e =
     ap (λ l. (done ++ take n rest) ++ l) (take_rest rest n) ∙ append_assoc done (take n rest) (drop n rest) ∙ ap (λ l. done ++ l) (take-append-drop n rest) ∙ e

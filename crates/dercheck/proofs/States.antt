@@ -1,4 +1,4 @@
--- What octets more make of the octets that were pending.
+-- What more octets make of the octets that were pending.
 use Rattle.std.proofs.Common.{◌≡◌, ℕ, ◌+◌, ◌-◌, ◌<◌, ◌≤◌, List, [], ◌∷◌, ◌++◌, length, take, drop, set, Ok, Err, refl, sym, ap, ◌∙◌, ⊎_elim, append_assoc, arith}
 use Rattle.std.proofs.lemmas.Bool.{cases_lt}
 use Rattle.std.proofs.lemmas.List.{append-nil, length-take-le, length-drop, take-append-drop, same_from_push, take_more_set}
@@ -19,7 +19,7 @@ last_of x (z ∷ zs) =
     let rest = last_of z zs in
     (x ∷ rest.0, rest.1, ap (λ (l : List ℕ). x ∷ l) rest.2)
 
--- where a text is too short, an octet more leaves nothing behind an element
+-- if octets are too short, one octet more leaves nothing after an element
 nothing_behind : (text : List ℕ) (octet needed : ℕ) (e : Element) (rest : List ℕ) → IsReadable e → front text ≡ Err (ShortData needed) → text ++ octet ∷ [] ≡ element_text e ++ rest → rest ≡ []
 nothing_behind text octet needed e [] readable short same = refl
 nothing_behind text octet needed e (x ∷ xs) readable short same =
@@ -32,7 +32,7 @@ nothing_behind text octet needed e (x ∷ xs) readable short same =
 abbrev pub element_with : Tag → List ℕ → Element
 element_with tag content = record { tag = tag; content = content }
 
--- a whole header and content, as an element and what stands behind it
+-- a whole header and contents octets, as an element and the octets after it
 begun_element : (text : List ℕ) (tag : Tag) (n : ℕ) (content : List ℕ) → IsBegun text tag n content → n ≤ length content
     → IsReadable (element_with tag (take n content)) × (text ≡ element_text (element_with tag (take n content)) ++ drop n content)
 begun_element text tag n content begun all =
@@ -45,7 +45,7 @@ begun_element text tag n content begun all =
           ∙ sym (regroup e (drop n content)),
     )
 
--- with no content missing, the text is an element
+-- if no contents octets are missing, the octets are an element
 pub begun_whole : (text : List ℕ) (tag : Tag) (n : ℕ) (content : List ℕ) → IsBegun text tag n content → n ≡ length content
     → IsReadable (element_with tag content) × (text ≡ element_text (element_with tag content))
 begun_whole text tag n content begun all =
@@ -58,7 +58,7 @@ begun_whole text tag n content begun all =
           ∙ append-nil (element_text e),
     )
 
--- with content missing, it is too short
+-- if contents octets are missing, the octets are too short
 pub begun_short : (text : List ℕ) (tag : Tag) (n : ℕ) (content : List ℕ) (needed : ℕ) → IsBegun text tag n content → length content + needed ≡ n → 0 < needed
     → front text ≡ Err (ShortData needed)
 begun_short text tag n content needed begun missing some =
@@ -68,7 +68,7 @@ begun_short text tag n content needed begun missing some =
     (tag_ok tag (length_text n ++ content) begun.tag_small) (length_ok n content begun.length_small) (omega arith)
     ∙ ap (λ (m : ℕ). Err (ShortData m)) k
 
--- octets more are more content
+-- more octets are more contents octets
 pub begun_more : (text : List ℕ) (tag : Tag) (n : ℕ) (content octets : List ℕ) → IsBegun text tag n content → IsBegun (text ++ octets) tag n (content ++ octets)
 begun_more text tag n content octets begun = record {
   tag_small = begun.tag_small;
@@ -79,7 +79,7 @@ begun_more text tag n content octets begun = record {
       ∙ ap (λ (l : List ℕ). tag_text tag ++ l) (append_assoc (length_text n) content octets);
 }
 
--- the octet that made the header whole left no more content than was announced
+-- as an octet makes the header whole, there are no more contents octets than were announced
 pub whole_within : (text : List ℕ) (octet short : ℕ) (tag : Tag) (n : ℕ) (content : List ℕ) → front text ≡ Err (ShortData short)
     → IsBegun (text ++ octet ∷ []) tag n content → length content ≤ n
 whole_within text octet short tag n content is_short begun = ⊎_elim
@@ -89,6 +89,6 @@ whole_within text octet short tag n content is_short begun = ⊎_elim
     omega (arith, ap length none, length-drop n content))
     (λ (l : length content ≤ n). l) (cases_lt n (length content))
 
--- an octet more of the header is kept
+-- one octet more of the header is kept
 pub kept_more : (text octets : List ℕ) (count octet : ℕ) → count < length octets → text ≡ take count octets → text ++ octet ∷ [] ≡ take (count + 1) (set octets count octet)
 kept_more text octets count octet room e = ap (λ (l : List ℕ). l ++ octet ∷ []) e ∙ sym (take_more_set octets count octet room)

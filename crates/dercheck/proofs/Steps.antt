@@ -28,7 +28,7 @@ use Rattle.dercheck.proofs.Parts.{in_part_of_more, in_part_behind}
 use Rattle.dercheck.proofs.Framings.{err_at, framing_short, framing_one, framing_join, lines_join, front_nothing}
 use Rattle.dercheck.proofs.States.{begun_short}
 
--- what is pending wants more octets, and how many
+-- what is pending is too short, by `needed`
 pub stands_short : (p : Pending) (text : List ℕ) → Stands p text → front text ≡ Err (ShortData p.needed)
 stands_short p text (inl h) = h.short
 stands_short p text (inr h) = begun_short text h.tag p.content_length h.content p.needed h.begun h.missing h.some
@@ -50,7 +50,7 @@ taken_none p text stands = record {
   made_lines = refl;
 }
 
--- a rest that goes on, and is no element yet
+-- remaining octets with more after them, which are no element yet
 framing_more : (a b : List ℕ) (es : List Element) (p : List ℕ) → IsFraming a es p → IsErr (front (p ++ b)) → IsFraming (a ++ b) es (p ++ b)
 framing_more a b es p framing stops = record {
   readable = framing.readable;
@@ -96,12 +96,12 @@ answer_fault : (kind : ParseErrorKind) → ¬ IsShort {A = Element × List ℕ} 
 answer_fault (ShortData needed) long = absurd (long tt)
 answer_fault _ long = refl
 
--- the line of a rest that holds a fault
+-- the line of remaining octets that hold an error
 fault_end : (text : List ℕ) (kind : ParseErrorKind) → front text ≡ Err kind → ¬ IsShort (front text) → end_line text ≡ fault_line kind
 fault_end [] kind e long = absurd (long (short_at (front []) 1 front_nothing))
 fault_end (x ∷ xs) kind e long = ap answer_line e ∙ answer_fault kind (subst (λ (a : ElementFront). ¬ IsShort a) e long)
 
--- a rest that holds a fault, however it goes on
+-- remaining octets that hold an error, whatever follows them
 fault_more : (text more : List ℕ) (kind : ParseErrorKind) → IsFault text kind → IsText more → ¬ IsUnfinished (text ++ more)
 fault_more text more kind fault is short = fault.long (subst (λ (a : ElementFront). IsShort a) (fault.stands more is ∙ sym fault.here) short)
 
@@ -122,7 +122,7 @@ fails p q a octets more made made' kind taken step is line =
           ∙ ap (λ (l : List ℕ). flat_map element_line taken.elements ++ l) (sym (fault_end (rest ++ more) kind (fault.stands more is) long));
     }
 
--- ---- where the octets stand
+-- ---- where the octets are
 
 pub around : (text all done rest : List ℕ) (n : ℕ) → done ++ rest ≡ all → ((text ++ done) ++ take n rest) ++ drop n rest ≡ text ++ all
 around text all done rest n e =
@@ -143,7 +143,7 @@ some_tag tag = ⊎_elim
     (λ (l : tag_number tag < 31). rw (short_text tag (omega arith)) (omega arith))
     (λ (l : 31 ≤ tag_number tag). rw (long_text tag l) (omega arith)) (cases_lt (tag_number tag) 31)
 
--- something is pending where an octet is kept, and else nothing
+-- something is pending if an octet is kept, and else nothing
 pub stands_some : (p : Pending) (text : List ℕ) → Stands p text → ¬ (p.count ≡ 0) → 0 < length text
 stands_some p text (inl h) some = omega (arith, ap length h.kept, length-take p.count p.octets, p.size, p.few)
 stands_some p text (inr h) some = omega (arith, ap length h.begun.text, length-append (tag_text h.tag) (length_text p.content_length ++ h.content), some_tag h.tag)
@@ -203,7 +203,7 @@ framed_fault p l0 l1 l2 h0 h1 h2 octets made framed read few takes put =
       answer = (λ (w : IsTrue false). absurd cc, λ (none : taken.rest ≡ []). absurd (taken.long (short_at (front taken.rest) 1 (ap front none ∙ front_nothing))));
     }
 
--- where the lines of a pull were cut
+-- the lines of a pull, which were written in part
 in_part : (l0 l1 l2 h0 h1 h2 : Option (List ℕ)) (p : Pending) (octets : List ℕ) (framed : FramedTo p l0 l1 h0 h1) → Consumes l1 l2 octets
     → (elements : List Element) (rest : List ℕ) → IsFraming (framed.rest ++ octets) elements rest → AppendsInPart h1 h2 (lines elements rest) → FramedInPart l0 l2 h0 h2
 in_part l0 l1 l2 h0 h1 h2 p octets framed read elements rest framing put = record {

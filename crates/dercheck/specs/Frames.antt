@@ -1,4 +1,4 @@
--- The framing of a whole text, and the lines that tell it.
+-- The framing of a whole input, and the lines that are written for it.
 use Rattle.std.specs.Prelude.{◌≡◌, ℕ, ◌≤◌, ◌⊎◌, ◌↔◌, IsTrue, Bool, List, [], ◌∷◌, ◌++◌, length, codes, decimal, Option, Result, Ok, Err, IsErr}
 use Rattle.std.specs.List.{AllByRecursion, flat_map}
 use Rattle.std.specs.Io.KnownBytes.{Appends, Consumes, IsAtEnd}
@@ -11,40 +11,40 @@ use Rattle.asn1.specs.Element.{Element, element_text, IsReadable, front}
 use Rattle.asn1.specs.Laws.{IsShort}
 use Rattle.dercheck.specs.Streams.{AppendsInPart}
 
--- These elements stand in front of the text, one after another, and in front of the rest none does.
+-- The octets are readable elements one after another, and then the remaining octets, which begin with none.
 pub record IsFraming (text : List ℕ) (elements : List Element) (rest : List ℕ) : Type 0 where
   pub readable : AllByRecursion IsReadable elements
   pub whole : text ≡ flat_map element_text elements ++ rest
   pub stops : IsErr (front rest)
 
--- The rest only wants more octets. So does an empty one.
+-- The remaining octets are only too short, or there are none.
 abbrev pub IsUnfinished : List ℕ → Type 0
 IsUnfinished rest = IsShort (front rest)
 
--- A text of which the framing meets no fault.
+-- Octets whose framing meets no error.
 abbrev pub HasNoFault : List ℕ → Type 0
 HasNoFault text = (elements : List Element) × (rest : List ℕ) × IsFraming text elements rest × IsUnfinished rest
 
--- The line of an element: the octets of its tag, and the length of its content.
+-- The line of an element: its identifier octets, and the number of its contents octets.
 abbrev pub line_of : List ℕ → ℕ → List ℕ
 line_of tag n = encode_lower tag ++ codes " " ++ decimal n ++ codes "\n"
 
 abbrev pub element_line : Element → List ℕ
 element_line e = line_of (tag_text e.tag) (length e.content)
 
--- The line of a fault. Framing answers no other kinds.
+-- The line of an error. Framing returns no other kinds, except `ShortData`.
 abbrev pub fault_line : ParseErrorKind → List ℕ
 fault_line InvalidTag = codes "err InvalidTag\n"
 fault_line InvalidLength = codes "err InvalidLength\n"
 fault_line _ = []
 
--- The line of what framing answers where no element stands.
+-- The line of what framing returns where no element begins.
 abbrev pub answer_line : Result (Element × List ℕ) ParseErrorKind → List ℕ
 answer_line (Ok found) = []
 answer_line (Err (ShortData needed)) = codes "short " ++ decimal needed ++ codes "\n"
 answer_line (Err kind) = fault_line kind
 
--- The line of the rest: none where nothing is left over.
+-- The line of the remaining octets. If none remain, there is no line.
 abbrev pub end_line : List ℕ → List ℕ
 end_line [] = []
 end_line (octet ∷ octets) = answer_line (front (octet ∷ octets))
@@ -53,22 +53,22 @@ end_line (octet ∷ octets) = answer_line (front (octet ∷ octets))
 abbrev pub lines : List Element → List ℕ → List ℕ
 lines elements rest = flat_map element_line elements ++ end_line rest
 
--- Each text has a framing.
+-- Any octets have a framing.
 abbrev pub EachTextHasAFraming : Type 0
 EachTextHasAFraming = (text : List ℕ) → IsText text → (elements : List Element) × (rest : List ℕ) × IsFraming text elements rest
 
--- No text has two.
+-- No octets have two framings.
 abbrev pub TextsHaveOneFraming : Type 0
 TextsHaveOneFraming = (text : List ℕ) (es fs : List Element) (rest other : List ℕ)
     → IsFraming text es rest → IsFraming text fs other → (es ≡ fs) × (rest ≡ other)
 
--- The text holds a fault, and all but at most its last 256 octets hold none.
+-- The octets hold an error, and all but at most the last 256 of them hold none.
 abbrev pub IsLateFault : List ℕ → List ℕ → Type 0
 IsLateFault text rest = ¬ IsUnfinished rest
     × ((before : List ℕ) × (last : List ℕ) × (text ≡ before ++ last) × (length last ≤ 256) × HasNoFault before)
 
--- Octets were read, to the end or up to a fault, and the lines of their framing were written. `whole` says that
--- nothing was left over.
+-- Octets were read, to the end or up to an error, and the lines of their framing were written. `whole` says that no
+-- octets remained.
 pub record Framed (left left' held held' : Option (List ℕ)) (whole : Bool) : Type 0 where
   pub text : List ℕ
   pub elements : List Element
@@ -79,7 +79,7 @@ pub record Framed (left left' held held' : Option (List ℕ)) (whole : Bool) : T
   pub written : Appends held held' (lines elements rest)
   pub answer : IsTrue whole ↔ (rest ≡ [])
 
--- Octets without a fault were read, and the lines of their elements were written, and no more.
+-- Octets without an error were read, and the lines of their elements were written, and no more.
 pub record FramedSoFar (left left' held held' : Option (List ℕ)) : Type 0 where
   pub text : List ℕ
   pub elements : List Element
@@ -89,7 +89,7 @@ pub record FramedSoFar (left left' held held' : Option (List ℕ)) : Type 0 wher
   pub unfinished : IsUnfinished rest
   pub written : Appends held held' (flat_map element_line elements)
 
--- Octets were read, and a beginning of the lines of their framing was written.
+-- Octets were read, and a prefix of the lines of their framing was written.
 pub record FramedInPart (left left' held held' : Option (List ℕ)) : Type 0 where
   pub text : List ℕ
   pub elements : List Element

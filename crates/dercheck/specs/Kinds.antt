@@ -1,4 +1,4 @@
--- The kinds of faults as text.
+-- The kinds of errors as text.
 use Rattle.std.specs.Prelude.{ℕ, Bool, true, false, List, [], ◌∷◌, ◌++◌, codes, decimal}
 use Rattle.asn1.specs.Tag.{tag_class, tag_constructed, tag_number}
 use Rattle.asn1.specs.declared.ParseErrorKind.{ParseErrorKind}
@@ -31,18 +31,18 @@ abbrev pub form_text : Bool → List ℕ
 form_text true = codes "constructed"
 form_text false = codes "primitive"
 
--- each word with a space in front
+-- each word with a space before it
 abbrev pub spaced : List (List ℕ) → List ℕ
 spaced [] = []
 spaced (word ∷ words) = (32 ∷ word) ++ spaced words
 
--- what a kind says behind its name
+-- the details of a kind, which follow its name
 abbrev pub kind_details : ParseErrorKind → List (List ℕ)
 kind_details (InvalidSize min max actual) = decimal min ∷ decimal max ∷ decimal actual ∷ []
 kind_details (UnexpectedTag actual) = class_text (tag_class actual) ∷ decimal (tag_number actual) ∷ form_text (tag_constructed actual) ∷ []
 kind_details (ShortData needed) = decimal needed ∷ []
 kind_details _ = []
 
--- the kind as text: its name, and each detail behind a space
+-- the kind as text: its name, and each detail after a space
 abbrev pub kind_text : ParseErrorKind → List ℕ
 kind_text kind = kind_name kind ++ spaced (kind_details kind)

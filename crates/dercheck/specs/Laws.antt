@@ -10,19 +10,19 @@ use Rattle.dercheck.specs.Words.{type_of}
 use Rattle.dercheck.specs.Requests.{IsRequest, request_of}
 use Rattle.dercheck.specs.Answers.{answer, is_ok_line, reading}
 
--- A text has its lines, and no others.
+-- An input has its lines, and no others.
 abbrev pub LinesAreRight : Type 0
 LinesAreRight = (text : List ℕ) (lines : List (List ℕ)) → AreLines text lines ↔ (lines_of text ≡ lines)
 
--- A line is one request at most, the function's.
+-- A line is at most one request, which the function returns.
 abbrev pub RequestsAreRight : Type 0
 RequestsAreRight = (line : List ℕ) (word : Word) (octets : List ℕ) → IsRequest line word octets ↔ (request_of line ≡ Some (word, octets))
 
--- A line that is no request is a bad line.
+-- The reply to a line that is no request is `bad line`.
 abbrev pub BadLinesAreBad : Type 0
 BadLinesAreBad = (line : List ℕ) → ((word : Word) (octets : List ℕ) → ¬ IsRequest line word octets) → answer line ≡ codes "bad line"
 
--- The octets are the text of a value of the word's type, with a content that can be read.
+-- The octets are the encoding of a valid, allowed value of the word's type, and are nothing or one readable element.
 pub record IsValueText (word : Word) (octets : List ℕ) : Type 0 where
   pub value : (type_of word).der.Meaning
   pub valid : (type_of word).der.valid value
@@ -30,23 +30,23 @@ pub record IsValueText (word : Word) (octets : List ℕ) : Type 0 where
   pub fits : Fits ((type_of word).der.text value)
   pub is : octets ≡ (type_of word).der.text value
 
--- A request is answered `ok` exactly where its octets are the text of a value, and then by these octets.
+-- The reply to a request is `ok` and its octets, exactly if these are the encoding of a value.
 abbrev pub ValuesAreOk : Type 0
 ValuesAreOk = (line : List ℕ) (word : Word) (octets : List ℕ) → IsRequest line word octets →
     IsValueText word octets ↔ (answer line ≡ codes "ok " ++ encode_lower octets)
 
--- The line is a request whose octets are the text of a value.
+-- The line is a request whose octets are the encoding of a value.
 pub record IsOkLine (line : List ℕ) : Type 0 where
   pub word : Word
   pub octets : List ℕ
   pub request : IsRequest line word octets
   pub value : IsValueText word octets
 
--- The lines whose answers are `ok` are these.
+-- The lines whose replies are `ok` are these.
 abbrev pub OkLinesAreOk : Type 0
 OkLinesAreOk = (line : List ℕ) → IsTrue (is_ok_line line) ↔ IsOkLine line
 
--- A request whose octets are refused is answered by the fault.
+-- The reply to a request whose octets are rejected is `err` and the error's kind.
 abbrev pub FaultsAreErr : Type 0
 FaultsAreErr = (line : List ℕ) (word : Word) (octets : List ℕ) (fault : Fault) → IsRequest line word octets →
     reading word octets ≡ Err fault → answer line ≡ codes "err " ++ kind_text fault.kind

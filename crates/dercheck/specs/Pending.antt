@@ -1,4 +1,4 @@
--- What the state between two octets stands for.
+-- What the code keeps between two octets, and what this says of the octets so far.
 use Rattle.std.specs.Prelude.{◌≡◌, ℕ, ◌+◌, ◌-◌, ◌^◌, ◌<◌, ◌≤◌, ◌⊎◌, true, false, List, ◌++◌, length, take, slice_index, Option, Err, Ok}
 use Rattle.std.specs.List.{flat_map}
 use Rattle.std.specs.Io.KnownBytes.{Appends, Consumes}
@@ -24,7 +24,7 @@ further octets = slice_index octets 0 - 128
 abbrev pub HoldsLength : List ℕ → Type 0
 HoldsLength octets = further octets < length octets
 
--- The octets of the tag, and of the content, behind a whole header.
+-- How many identifier octets there are, and how many octets follow a whole header.
 pub record IsSplit (octets : List ℕ) (tag_count content_count : ℕ) : Type 0 where
   pub tag : Tag
   pub after : List ℕ
@@ -33,19 +33,19 @@ pub record IsSplit (octets : List ℕ) (tag_count content_count : ℕ) : Type 0 
   pub tag_octets : tag_count + length after ≡ length octets
   pub content_octets : content_count + further after + 1 ≡ length after
 
--- Framing gives an element and needs no octet, or needs so many.
+-- Framing returns an element and needs no more octets, or it needs this many.
 abbrev pub Needs : List ℕ → ℕ → Type 0
 Needs octets needed = (front octets ≡ Err (ShortData needed))
     ⊎ ((found : Element × List ℕ) × (front octets ≡ Ok found) × (needed ≡ 0))
 
--- A fault, which stands however the text goes on.
+-- An error, which stays the same for every longer input.
 pub record IsFault (octets : List ℕ) (kind : ParseErrorKind) : Type 0 where
   pub text : IsText octets
   pub long : ¬ IsShort (front octets)
   pub here : front octets ≡ Err kind
   pub stands : (more : List ℕ) → IsText more → front (octets ++ more) ≡ Err kind
 
--- A tag, a length, and octets of content.
+-- Identifier octets, length octets, and contents octets.
 pub record IsBegun (octets : List ℕ) (tag : Tag) (n : ℕ) (content : List ℕ) : Type 0 where
   pub tag_small : tag_number tag < 2 ^ 32
   pub length_small : n < 2 ^ 32
@@ -73,7 +73,7 @@ Says (Open needed) octets = IsOpen octets needed
 Says (Whole tag_count count needed) octets = IsWhole octets tag_count count needed
 Says (Faulty kind) octets = IsFault octets kind
 
--- The octets that are pending, in the header and in the content.
+-- The octets that are pending, in the header and in the contents octets.
 pub record StandsInHeader (p : Pending) (text : List ℕ) : Type 0 where
   pub stage : p.in_content ≡ false
   pub kept : text ≡ take p.count p.octets
@@ -91,7 +91,7 @@ pub record StandsInContent (p : Pending) (text : List ℕ) : Type 0 where
 abbrev pub Stands : Pending → List ℕ → Type 0
 Stands p text = StandsInHeader p text ⊎ StandsInContent p text
 
--- The octets are an element, and its tag and length are at hand.
+-- The octets are the encoding of an element, whose identifier octets and length are kept.
 pub record IsComplete (p : Pending) (text : List ℕ) : Type 0 where
   pub element : Element
   pub readable : IsReadable element
@@ -99,7 +99,7 @@ pub record IsComplete (p : Pending) (text : List ℕ) : Type 0 where
   pub kept : take p.count p.octets ≡ tag_text element.tag
   pub count : p.content_length ≡ length element.content
 
--- What some octets more made of those that were pending.
+-- What more octets made of those that were pending.
 abbrev pub Reaches : Pending → Progress → List ℕ → Type 0
 Reaches p GoesOn text = Stands p text
 Reaches p Completes text = IsComplete p text
@@ -108,7 +108,7 @@ Reaches p (Fails kind) text = IsFault text kind
 abbrev pub Advances : Pending → Pending → Progress → List ℕ → Type 0
 Advances old new progress octets = (text : List ℕ) → Stands old text → Reaches new progress (text ++ octets)
 
--- Octets behind those that were pending were taken, and the lines of their elements made.
+-- Octets after those that were pending were taken, and the lines of their elements were made.
 pub record Taken (p : Pending) (text made : List ℕ) : Type 0 where
   pub elements : List Element
   pub rest : List ℕ
@@ -116,7 +116,7 @@ pub record Taken (p : Pending) (text made : List ℕ) : Type 0 where
   pub stands : Stands p rest
   pub made_lines : made ≡ flat_map element_line elements
 
--- They held a fault, and all the lines were made.
+-- The octets held an error, and all the lines were made.
 pub record TakenToFault (text made : List ℕ) : Type 0 where
   pub elements : List Element
   pub rest : List ℕ
@@ -124,7 +124,7 @@ pub record TakenToFault (text made : List ℕ) : Type 0 where
   pub long : ¬ IsUnfinished rest
   pub made_lines : made ≡ lines elements rest
 
--- Octets were read, and all but those that are pending were taken.
+-- Octets were read, and all except those that are pending were taken.
 pub record FramedTo (p : Pending) (left left' held held' : Option (List ℕ)) : Type 0 where
   pub text : List ℕ
   pub elements : List Element

@@ -11,7 +11,7 @@ mode_of [] = Some Check
 mode_of (word ∷ []) = if bytes_eq (string_bytes word) (codes "frames") then Some Frames else None
 mode_of (first ∷ second ∷ more) = None
 
--- 0 where each answer is `ok`, 1 where one isn't, 2 where the text was not answered
+-- 0 if each reply is `ok` or the stream consists of whole elements, 1 if not, 2 if there was no result
 abbrev pub status_of : Option (Result Bool Fault) → ℕ
 status_of (Some (Ok true)) = 0
 status_of (Some (Ok false)) = 1

@@ -15,13 +15,13 @@ abbrev pub reason_text : Reason → List ℕ
 reason_text Unspecified = 0 ∷ []
 reason_text Superseded = 4 ∷ []
 
--- What reading contents octets answers.
+-- What reading contents octets returns.
 abbrev pub read_reason : List ℕ → Result Reason Fault
 read_reason [] = Err (fault InvalidValue)
 read_reason (octet ∷ []) = if nat_eq octet 0 then Ok Unspecified else if nat_eq octet 4 then Ok Superseded else Err (fault InvalidValue)
 read_reason (octet ∷ next ∷ octets) = Err (fault InvalidValue)
 
--- What is read is the content of the value that is answered.
+-- What is read is the contents octets of the value that is returned.
 pub reason_takes : (c : List ℕ) (m : Reason) → read_reason c ≡ Ok m → c ≡ reason_text m
 reason_takes [] m e = absurd cc
 reason_takes (octet ∷ []) m e =
@@ -34,12 +34,12 @@ reason_takes (octet ∷ []) m e =
     ]
 reason_takes (octet ∷ next ∷ octets) m e = absurd cc
 
--- A value's content is read back.
+-- A value's contents octets are read back.
 pub reason_again : (m : Reason) → read_reason (reason_text m) ≡ Ok m
 reason_again Unspecified = refl
 reason_again Superseded = refl
 
--- A refusal is a fault of the text, never want of memory.
+-- An error is one of the input, and never out of memory.
 pub reason_faults : (c : List ℕ) → IfErr (read_reason c) IsOfText
 reason_faults [] = λ e. cc
 reason_faults (octet ∷ []) = if_faults (nat_eq octet 0) (Ok Unspecified) _ tt (passed_faults (nat_eq octet 4) (Ok Superseded) InvalidValue tt (λ e. cc))

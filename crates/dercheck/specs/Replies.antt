@@ -1,4 +1,4 @@
--- What the code answers a line with, as text.
+-- The replies of the code, as text.
 use Rattle.std.specs.Prelude.{ℕ, ◌≡◌, Bool, true, false, List, ◌++◌, codes, Result, Ok, Err}
 use Rattle.hex.specs.Hex.{encode_lower}
 use Rattle.asn1.specs.Fault.{Fault}
@@ -16,7 +16,7 @@ is_written BadLine = false
 is_written (Refused kind) = false
 is_written (Written octets) = true
 
--- the reply to octets, by what reading them answers
+-- the reply to octets, by the result of reading them
 abbrev pub IsReply : {M : Type 0} → List ℕ → Result M Fault → Reply → Type 0
 IsReply octets (Ok value) (Written written) = written.items ≡ octets
 IsReply octets (Err fault) (Refused kind) = kind ≡ fault.kind

@@ -13,7 +13,7 @@ pub record IsRequest (line : List ℕ) (word : Word) (octets : List ℕ) : Type 
   pub is : line ≡ word_text word ++ 32 ∷ hex
   pub decoded : decode_of hex ≡ Ok octets
 
--- the request of a word and a hex text
+-- the request of a word and its octets, if there are both
 abbrev pub asked : Option Word → Result (List ℕ) FromHexError → Option (Word × List ℕ)
 asked (Some word) (Ok octets) = Some (word, octets)
 asked (Some word) (Err error) = None
@@ -27,7 +27,7 @@ asked_by (Some parts) = asked (word_of parts.0) (decode_of parts.1)
 abbrev pub request_of : List ℕ → Option (Word × List ℕ)
 request_of line = asked_by (split_once 32 line)
 
--- a request in hand
+-- the request of a Rust value
 abbrev pub shown : Option (Word × Vec ℕ) → Option (Word × List ℕ)
 shown None = None
 shown (Some found) = Some (found.0, found.1.items)

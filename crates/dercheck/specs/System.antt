@@ -1,4 +1,4 @@
--- What the streams over a reader and a writer tell.
+-- What the streams over a reader and a writer state.
 use Rattle.std.specs.Prelude.{ℕ, Bool}
 use Rattle.dercheck.specs.declared.system.Input.{Input}
 use Rattle.dercheck.specs.declared.system.Output.{Output}

@@ -52,7 +52,7 @@ word_text words.Set = codes "set"
 word_text words.SeqOfInt = codes "seqof-int"
 word_text words.SetOfInt = codes "setof-int"
 
--- the word with that text
+-- the word with that spelling
 abbrev pub word_of : List ℕ → Option Word
 word_of text = find (λ word. bytes_eq (word_text word) text) ALL.now
 
@@ -61,7 +61,7 @@ pub record Asn1 : Type 1 where
   pub Value : Type 0
   pub der : Der Value
 
--- one that is an element with a tag of its own
+-- a type whose values are elements with one tag
 abbrev pub simple_type : {M : Type 0} → Content M → Asn1
 simple_type {M = M} content = record { Value = M; der = simple_der (λ value. value) content }
 

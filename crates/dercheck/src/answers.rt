@@ -1,4 +1,4 @@
-//! The answers to the lines of an input.
+//! The replies to the lines of an input.
 
 ghost use Rattle.std.specs.Prelude.{◌≡◌, ◌++◌, IfOk, OnOk, OnErr, IsOkUnless};
 ghost use Rattle.std.specs.List.{list_all};
@@ -10,7 +10,7 @@ use crate::lines::next_line;
 use crate::replies::{Reply, push_reply, reply_to_line};
 use std::alloc::{AllocError, Global};
 
-/// Why no answer could be given.
+/// Why there is no result.
 #[derive(Debug, Clone, Copy, PartialEq, Eq)]
 pub enum Fault {
     /// Out of memory.
@@ -29,7 +29,7 @@ impl From<AllocError> for Fault {
     }
 }
 
-/// The answers to the lines, each with a line feed, and whether each is `ok`.
+/// The replies to the lines, each with a line feed, and whether each is `ok`.
 fn answered(alloc: Global, input: &[u8]) -> Result<(Vec<u8>, bool), Fault>
     ensures ok { IfOk result (λ found. found.0.items ≡ answers input.now) }
     ensures all_ok { IfOk result (λ found. found.1 ≡ list_all is_ok_line (lines_of input.now)) }
@@ -47,9 +47,9 @@ fn answered(alloc: Global, input: &[u8]) -> Result<(Vec<u8>, bool), Fault>
     Ok((out, all_ok))
 }
 
-/// Appends one answer for each line of the input to `out`, each with a line feed, and returns whether each is `ok`.
+/// Appends one reply for each line of the input to `out`, each with a line feed, and returns whether each is `ok`.
 ///
-/// The error is `Memory`, where out of memory, and then nothing is appended.
+/// Returns `Memory` if out of memory; then nothing was appended.
 pub fn check(alloc: Global, input: &[u8], out: &mut Vec<u8>) -> Result<bool, Fault>
     ensures ok { OnOk result (out.new.items ≡ out.old.items ++ answers input.now) }
     ensures all_ok { IfOk result (λ all_ok. all_ok ≡ list_all is_ok_line (lines_of input.now)) }

@@ -86,8 +86,8 @@ impl Lines {
         self.push(digits.format(n).as_bytes());
     }
 
-    /// Appends the line of an element with these identifier octets and so many contents octets. The caller has to prove
-    /// that a longest line has room (`requires`).
+    /// Appends the line of an element with these identifier octets and this many contents octets. The caller has to
+    /// prove that a longest line has room (`requires`).
     pub fn push_element(&mut self, tag: &[u8], count: usize)
         requires tag { length tag.now ≤ MAX_HEADER }
         requires room { self.old.count + MAX_LINE ≤ MAX_LINES }
@@ -100,7 +100,7 @@ impl Lines {
         self.push(b"\n");
     }
 
-    /// Appends the line of remaining octets that need so many more.
+    /// Appends the line of remaining octets that need this many more.
     fn push_short(&mut self, needed: usize)
         requires { self.old.count + MAX_LINE ≤ MAX_LINES }
         ensures { line_octets self.new ≡ line_octets self.old
@@ -132,7 +132,7 @@ impl Lines {
     }
 }
 
-/// Puts all the octets. False where the sink failed, which then has a prefix of them.
+/// Puts all the octets. False if the sink failed, which then has a prefix of them.
 pub fn put_all<W: Sink>(sink: &mut W, octets: &[u8]) -> bool
     ensures { Puts result (W.held sink.old) (W.held sink.new) (W.has_failed sink.old)
         (W.has_failed sink.new) octets.now }
@@ -147,7 +147,7 @@ pub fn put_all<W: Sink>(sink: &mut W, octets: &[u8]) -> bool
     true
 }
 
-/// Puts the line of remaining octets that need so many more. False where the sink failed.
+/// Puts the line of remaining octets that need this many more. False if the sink failed.
 pub fn put_short<W: Sink>(sink: &mut W, needed: usize) -> bool
     ensures { Puts result (W.held sink.old) (W.held sink.new) (W.has_failed sink.old)
         (W.has_failed sink.new) (codes "short " ++ decimal needed ++ codes "\n") }

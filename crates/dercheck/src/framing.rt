@@ -12,13 +12,13 @@ use crate::stream::{MAX_PULL, Sink, Source};
 /// Writes a line for each element of the stream: its identifier octets in hex, and the number of its contents octets in
 /// decimal.
 ///
-/// The lines of what a pull gave are put together, before the next octets are asked for. At the end a last line says
-/// how many octets the remaining ones still need, where there are any; at an error of framing a last line names it, and
-/// no more is read. Of what was read then, all but the last 256 octets hold no error. The result is whether the stream
-/// is a concatenation of whole elements.
+/// The lines of what a pull gave are put together, before the next octets are asked for. If octets remain at the end, a
+/// last line says how many more they need. At an error of framing a last line names the error, and no more is read. Of
+/// what was read then, all but the last 256 octets hold no error. The result is whether the stream is a concatenation
+/// of whole elements.
 ///
-/// Errors: `Read` where the source fails: the lines of the elements that it gave are written, and nothing else. `Write`
-/// where the sink fails: it has a prefix of the lines. Never `Memory`: nothing is allocated.
+/// Errors: `Read` if the source fails: the lines of the elements that the source gave are written, and nothing else.
+/// `Write` if the sink fails: the sink has a prefix of the lines. Never `Memory`: nothing is allocated.
 pub fn frames<R: Source, W: Sink>(r: &mut R, w: &mut W) -> Result<bool, Fault>
     // The lines of the framing of what was read were written: of all, or of a prefix with an error near its end.
     ensures ok { IfOk result (λ whole. Framed (R.left r.old) (R.left r.new) (W.held w.old)

@@ -1,4 +1,4 @@
-//! What the octets of an unfinished header say: of identifier and length octets.
+//! What the identifier and length octets of an unfinished element say.
 
 ghost use Rattle.std.specs.Prelude.{◌≡◌, ◌≤◌, List, ℕ, length, MatchOption, MatchResult};
 ghost use Rattle.asn1.specs.declared.Tag.{Tag};
@@ -7,8 +7,8 @@ ghost use Rattle.dercheck.specs.Pending.{HoldsLength, IsSplit, Needs, IsFault, S
 
 use asn1::{ParseErrorKind, Tag, strip_tlv};
 
-/// How many octets of the longest header are looked at: one that begins a tag, eighteen that go on with its number, and
-/// the one that decides.
+/// How many octets of the longest header are looked at: the first of a tag, eighteen of its number, and one that
+/// decides.
 pub const MAX_HEADER: usize = 20;
 
 /// What the octets of a header say.
@@ -18,7 +18,7 @@ pub enum Header {
         /// How many octets framing needs at least.
         needed: usize,
     },
-    /// Both are there.
+    /// The identifier and length octets are all there.
     Whole {
         /// How many identifier octets there are.
         tag: usize,
@@ -27,11 +27,11 @@ pub enum Header {
         /// How many of these are missing.
         needed: usize,
     },
-    /// No element begins so.
+    /// No element begins with these octets.
     Faulty(ParseErrorKind),
 }
 
-/// How many identifier octets there are, and how many octets follow the length octets, where these are all there.
+/// How many identifier octets there are, and how many octets follow the length octets, if these are all there.
 fn header_parts(octets: &[u8]) -> Option<(usize, usize)>
     ensures { MatchOption result
         ((tag : Tag) → (after : List ℕ) → tag_front octets.now ≡ Ok (tag, after)
@@ -64,7 +64,7 @@ fn needed_behind(octets: &[u8]) -> Result<usize, ParseErrorKind>
     }
 }
 
-/// What the octets say, which are a header, or one that goes on. The caller has to prove that they are at most
+/// What the octets of a header say, which may be unfinished. The caller has to prove that there are at most
 /// [`MAX_HEADER`] (`requires`).
 pub fn read_header(octets: &[u8]) -> Header
     requires { length octets.now ≤ MAX_HEADER }

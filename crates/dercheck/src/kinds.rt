@@ -1,4 +1,4 @@
-//! The kinds of errors as lines have them.
+//! The kinds of errors, as words in a line.
 
 ghost use Rattle.std.specs.Prelude.{◌≡◌, ◌++◌, ◌∷◌, codes, decimal, OnOk};
 ghost use Rattle.dercheck.specs.Kinds.{kind_name, kind_text, class_text, form_text};
@@ -67,7 +67,7 @@ fn push_number(out: &mut Vec<u8>, number: usize) -> Result<(), AllocError>
     push_word(out, buffer.format(number).as_bytes())
 }
 
-/// Appends the kind's name and its details, with a space before each. `AllocError` where out of memory.
+/// Appends the kind's name and its details, with a space before each. `AllocError` if out of memory.
 pub fn push_kind(out: &mut Vec<u8>, kind: ParseErrorKind) -> Result<(), AllocError>
     ensures { OnOk result (out.new.items ≡ out.old.items ++ kind_text kind) }
 {

@@ -4,15 +4,15 @@ ghost use Rattle.dercheck.specs.Frames.{EachTextHasAFraming, TextsHaveOneFraming
 ghost use Rattle.dercheck.specs.Laws.{LinesAreRight, RequestsAreRight, BadLinesAreBad, ValuesAreOk, OkLinesAreOk, FaultsAreErr};
 
 /// The lines of an input hold no line feed, and the input is the lines, each with a line feed after it. Only the last
-/// line feed may be missing. No other lines are so.
+/// line feed may be missing. The input has no other lines.
 pub fn lines_are_right()
     ensures { LinesAreRight }
 {}
 
-/// A line is answered by its form.
+/// The reply to a line depends on its form.
 ///
-/// Where it is no request it is a bad line. A request is answered `ok` exactly where its octets are the encoding of a
-/// value of the type, and else by the error.
+/// If the line is no request, the reply is `bad line`. The reply to a request is `ok` exactly if its octets are the
+/// encoding of a value of the type, and else the error.
 pub fn answers_are_right()
     ensures requests { RequestsAreRight }
     ensures bad { BadLinesAreBad }

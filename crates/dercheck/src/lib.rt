@@ -1,5 +1,5 @@
-//! Reads DER encodings that are given in hex, one a line, and answers each by what it is written as or why it is
-//! rejected; and cuts a stream of octets into its elements, a line for each, without allocating.
+//! Reads DER encodings in hex, one a line, and replies to each with the octets that its value is written as, or the
+//! error. Cuts a stream of octets into its elements, a line for each, without allocating.
 #![tactic(auto)]
 
 mod answers;

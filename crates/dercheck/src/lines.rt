@@ -10,7 +10,7 @@ fn place_of(text: &[u8], octet: u8) -> Option<usize>
     text.iter().position(|next| *next == octet)
 }
 
-/// What is before and after the first octet of that value, where there is one.
+/// What is before and after the first octet of that value, if there is one.
 pub(crate) fn split_once(text: &[u8], octet: u8) -> Option<(&[u8], &[u8])>
     ensures { option_split result ≡ split_once octet text.now }
 {

@@ -19,8 +19,8 @@ pub struct Pieces<'a> {
 impl<'a> Pieces<'a> {
     ghost use Rattle.dercheck.specs.InMemory.{pieces_left, piece_of, fails_at_end, pieces_failed};
 
-    /// The octets of `first`, then of `second`, at most `piece` a call. At their end a call fails where `fails` is
-    /// true, and else gives none. The caller has to prove that `piece` isn't 0 (`requires`).
+    /// The octets of `first`, then of `second`, at most `piece` a call. At their end a call fails if `fails` is true,
+    /// and else gives none. The caller has to prove that `piece` isn't 0 (`requires`).
     pub fn new(first: &'a [u8], second: &'a [u8], piece: usize, fails: bool) -> Self
         requires { 0 < piece }
         ensures left { pieces_left result ≡ first.now ++ second.now }
@@ -87,7 +87,7 @@ impl Source for Pieces<'_> {
     }
 }
 
-/// A sink that keeps at most 256 octets, and fails where it is full.
+/// A sink that keeps at most 256 octets, and fails if it is full.
 #[derive(Drop)]
 pub struct Held {
     octets: [u8; 256],
@@ -101,7 +101,7 @@ pub struct Held {
 impl Held {
     ghost use Rattle.dercheck.specs.InMemory.{held_octets, room_left, held_failed};
 
-    /// An empty sink that keeps `room` octets. The caller has to prove that these are at most 256 (`requires`).
+    /// An empty sink that keeps at most `room` octets. The caller has to prove that `room` is at most 256 (`requires`).
     pub fn new(room: usize) -> Self
         requires { room ≤ 256 }
         ensures empty { held_octets result ≡ [] }

@@ -1,4 +1,4 @@
-//! Types by hand, above the public calls of `asn1` alone: the examples of docs/OWN_TYPES.md.
+//! Types that are written by hand, with the public calls of `asn1` alone: the examples of docs/OWN_TYPES.md.
 
 pub mod entry;
 pub mod my_sequence;

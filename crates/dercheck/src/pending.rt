@@ -9,20 +9,20 @@ use crate::header::{Header, MAX_HEADER, read_header};
 use crate::stream::{MAX_PULL, Sink};
 use asn1::ParseErrorKind;
 
-/// What more octets made of an unfinished element.
+/// What an unfinished element became with more octets.
 pub enum Progress {
-    /// It needs still more.
+    /// It needs more octets.
     GoesOn,
     /// It is complete.
     Completes,
-    /// No element begins so.
+    /// No element begins with these octets.
     Fails(ParseErrorKind),
 }
 
 /// An unfinished element. Its contents octets are counted and not kept.
 #[derive(Drop)]
 pub struct Pending {
-    // The header while it goes on, and then the identifier octets, which the element's line shows.
+    // The header until it is whole, and then the identifier octets, which the element's line shows.
     octets: [u8; MAX_HEADER],
     count: usize,
     in_content: bool,
@@ -40,7 +40,7 @@ impl Pending {
     ghost use Rattle.dercheck.specs.FrameLines.{line_octets};
     ghost use Rattle.dercheck.specs.Pending.{Stands, Advances, Taken, TakenToFault};
 
-    /// No octets of an element.
+    /// An element of which there are no octets yet.
     pub fn new() -> Self
         ensures { Stands result [] }
     {
@@ -84,7 +84,7 @@ impl Pending {
         }
     }
 
-    /// Takes so many of the contents octets.
+    /// Takes this many of the contents octets.
     fn take_content(&mut self, count: usize) -> Progress
         requires stage { self.old.in_content ≡ true }
         requires within { count ≤ self.old.needed }
@@ -113,9 +113,9 @@ impl Pending {
         }
     }
 
-    /// Takes the octets of a pull, and makes the lines of the elements that they complete. False where they hold an
-    /// error of framing, whose line is then made too. The caller has to prove that the octets are those of one pull at
-    /// most, and that there are no lines yet (`requires`).
+    /// Takes the octets of a pull, and makes the lines of the elements that they complete. False if they hold an error
+    /// of framing, whose line is then made too. The caller has to prove that the octets are at most those of one pull,
+    /// and that there are no lines yet (`requires`).
     pub fn take_octets(&mut self, octets: &[u8], lines: &mut Lines) -> bool
         requires few { length octets.now ≤ MAX_PULL }
         requires room { lines.old.count ≡ 0 }
@@ -143,7 +143,7 @@ impl Pending {
         true
     }
 
-    /// Writes what is missing at the end of the input. True where nothing is pending. The error is `Write`, where the
+    /// Writes the line of what is missing at the end of the input. True if nothing is pending. Returns `Write` if the
     /// sink fails.
     pub fn finish<W: Sink>(&self, sink: &mut W) -> Result<bool, Fault>
         ensures answer { IfOk result (λ whole. (text : List ℕ) → Stands self.now text

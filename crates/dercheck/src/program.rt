@@ -18,8 +18,8 @@ pub fn mode(args: &[String]) -> Option<Mode>
     }
 }
 
-/// The status that the program ends with: 0 where each answer is `ok`, 1 where one isn't, and 2 where there was no
-/// answer: the arguments were unknown (`None`), or it failed.
+/// The status that the program ends with: 0 if each reply is `ok` or the stream consists of whole elements, 1 if not,
+/// and 2 if there is no result: the arguments were unknown (`None`), or the program failed.
 pub fn status(answer: Option<Result<bool, Fault>>) -> u8
     ensures { result ≡ status_of answer }
 {

@@ -1,4 +1,4 @@
-//! What a line is answered with.
+//! The reply to a line.
 
 ghost use Rattle.std.specs.Prelude.{◌≡◌, ◌++◌, ◌∷◌, [], OnOk, IfOk, IsOkUnless};
 ghost use Rattle.asn1.specs.Reading.{whole};
@@ -16,10 +16,10 @@ use asn1::{
 };
 use std::alloc::{AllocError, Global};
 
-/// What a line is answered with.
+/// The reply to a line.
 #[derive(Drop)]
 pub(crate) enum Reply {
-    /// The line has not the form of a request.
+    /// The line doesn't have the form of a request.
     BadLine,
     /// The octets are not the encoding of a value of the type.
     Refused(ParseErrorKind),
@@ -27,7 +27,7 @@ pub(crate) enum Reply {
     Written(Vec<u8>),
 }
 
-/// Reads a value of the type, and writes it back. `Memory` where there is no room for what is written.
+/// Reads a value of the type, and writes it back. `Memory` if there is no room for what is written.
 fn reply_as<'a, T: Asn1Readable<'a> + Asn1Writable<Error = WriteError>>(
     alloc: Global,
     octets: &'a [u8],
@@ -46,7 +46,7 @@ fn reply_as<'a, T: Asn1Readable<'a> + Asn1Writable<Error = WriteError>>(
     }
 }
 
-/// The reply to octets that should be an encoding of the word's type. `Memory` where there is no room.
+/// The reply to octets that should be an encoding of the word's type. `Memory` if there is no room.
 fn reply_to_octets(alloc: Global, word: Word, octets: &[u8]) -> Result<Reply, Fault>
     ensures ok { IfOk result (IsReply octets.entry.now (reading word octets.entry.now)) }
     ensures error { IsOkUnless result Fault.Memory }
@@ -85,7 +85,7 @@ fn reply_to_octets(alloc: Global, word: Word, octets: &[u8]) -> Result<Reply, Fa
     }
 }
 
-/// The reply to a line. `Memory` where there is no room.
+/// The reply to a line. `Memory` if there is no room.
 pub(crate) fn reply_to_line(alloc: Global, line: &[u8]) -> Result<Reply, Fault>
     ensures text { IfOk result (λ reply. reply_text reply ≡ answer line.now) }
     ensures written { IfOk result (λ reply. is_written reply ≡ is_ok_line line.now) }

@@ -8,7 +8,7 @@ pub(crate) const MAX_PULL: usize = 256;
 
 /// A stream of octets to read.
 pub trait Source {
-    // The octets left, where the source says them.
+    // The octets left, if the source states them.
     ghost left: { Self → Option (List ℕ) };
 
     // Whether it has failed.
@@ -17,8 +17,8 @@ pub trait Source {
     // At least as many octets as it can still give.
     ghost bound: { Self → ℕ };
 
-    /// Puts the next octets at the start of `buf`, and returns how many. Where `buf` has room, 0 means the end. `None`
-    /// is a failure, and then no octet of the stream is taken.
+    /// Puts the next octets at the start of `buf`, and returns how many. If `buf` has room, 0 means the end. `None` is
+    /// a failure; then no octet of the stream was taken.
     fn pull(&mut self, buf: &mut [u8]) -> Option<usize>
         ensures within { IfSome result (λ n. n ≤ length buf.new) }
         ensures octets { PullTakes (left self.old) (left self.new) result buf.new }
@@ -33,14 +33,14 @@ pub trait Source {
 
 /// A stream of octets to write.
 pub trait Sink {
-    // The octets that it holds, where the sink says them.
+    // The octets that it holds, if the sink states them.
     ghost held: { Self → Option (List ℕ) };
 
     // Whether it has failed.
     ghost has_failed: { Self → Bool };
 
-    /// Appends the first of the octets, and returns how many: at least one, where there are any. `None` is a failure,
-    /// and then nothing is appended.
+    /// Appends the first of the octets, and returns how many: at least one, if there are any. `None` is a failure; then
+    /// nothing was appended.
     fn put(&mut self, octets: &[u8]) -> Option<usize>
         ensures within { IfSome result (λ n. n ≤ length octets.now) }
         ensures some { IfSome result (λ n. 0 < length octets.now → 0 < n) }

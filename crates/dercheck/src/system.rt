@@ -5,7 +5,7 @@ ghost use Rattle.std.specs.Prelude.{◌≡◌, ◌^◌, ◌-◌, false};
 use crate::stream::{Sink, Source};
 use std::io::{Read, Write};
 
-/// A source over a reader. It fails where the reader does, and after 2^64 - 1 octets.
+/// A source over a reader. It fails if the reader does, and after 2^64 - 1 octets.
 #[derive(Drop)]
 pub struct Input<R: Read> {
     reader: R,
@@ -63,7 +63,7 @@ impl<R: Read> Source for Input<R> {
     }
 }
 
-/// A sink over a writer. It fails where the writer does, or takes nothing of some octets.
+/// A sink over a writer. It fails if the writer does, or takes none of the octets that it is given.
 #[derive(Drop)]
 pub struct Output<W: Write> {
     writer: W,

@@ -109,7 +109,7 @@ impl Word {
         Word::SetOfInt,
     ];
 
-    /// The name as a line has it.
+    /// The name, as it is in a line.
     fn text(self) -> &'static [u8]
         ensures { result.now ≡ word_text self }
     {
@@ -155,7 +155,7 @@ impl Word {
     }
 }
 
-/// The type and the octets of a line, where it has both. `Memory` where there is no room for the octets.
+/// The type and the octets of a line, if it has both. `Memory` if there is no room for the octets.
 pub(crate) fn request(alloc: Global, line: &[u8]) -> Result<Option<(Word, Vec<u8>)>, Fault>
     ensures ok { IfOk result (λ found. shown found ≡ request_of line.now) }
     ensures error { IsOkUnless result Fault.Memory }

@@ -1,4 +1,4 @@
-//! Answers the lines of standard input, each a DER encoding in hex, on standard output; or, with the word `frames`,
+//! Replies on standard output to the lines of standard input, each a DER encoding in hex. With the word `frames` it
 //! writes a line for each element of standard input. All that it does with them is in the library `dercheck`.
 #![tactic(auto)]
 
@@ -7,12 +7,12 @@ use std::io::{Read, Write};
 use std::process::ExitCode;
 use std::{env, io};
 
-/// The words after the program's name, where all of them are UTF-8.
+/// The words after the program's name, if all of them are UTF-8.
 fn words(rt: &HostRuntime) -> Option<Vec<String>> {
     env::args(rt).ok()?.skip(1).collect(rt.alloc()).ok()
 }
 
-/// Answers standard input on standard output.
+/// Replies on standard output to the lines of standard input.
 fn answer(rt: &HostRuntime) -> Result<bool, Fault> {
     let mut input = Vec::new(rt.alloc());
     rt.reader()
@@ -26,7 +26,7 @@ fn answer(rt: &HostRuntime) -> Result<bool, Fault> {
     Ok(all_ok)
 }
 
-/// Does what the arguments ask for. `None` where they ask for nothing that is known.
+/// Does what the arguments ask for. `None` if they ask for nothing that is known.
 fn run(rt: &HostRuntime) -> Option<Result<bool, Fault>> {
     match mode(&words(rt)?)? {
         Mode::Check => Some(answer(rt)),

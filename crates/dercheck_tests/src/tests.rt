@@ -1,4 +1,4 @@
-//! The answers to lines from outside, and a type of one's own.
+//! The replies to lines from outside, and a user's own type.
 
 ghost use Rattle.std.specs.Prelude.{◌≡◌, ℕ, Some, OnOk};
 ghost use Rattle.asn1.specs.Der.{simple_der};
@@ -24,7 +24,7 @@ use std::alloc::Global;
 use std::test::Fail;
 use testing::{all_same, are_invalid, both_ways, same, same_at};
 
-/// Lines and the answers to them.
+/// Lines and the replies to them.
 const LINES: &[(&str, &str)] = &[
     ("bool 0101ff", "ok 0101ff"),
     ("bool 0101FF", "ok 0101ff"),
@@ -59,7 +59,7 @@ const LINES: &[(&str, &str)] = &[
     ("", "bad line"),
 ];
 
-/// Lines with integers, and the answers to them.
+/// Lines with integers, and the replies to them.
 const INTEGERS: &[(&str, &str)] = &[
     ("i8 020180", "ok 020180"),
     ("i8 0202ff7f", "err IntegerOverflow"),
@@ -92,7 +92,7 @@ const INTEGERS: &[(&str, &str)] = &[
     ("enum 02010c", "err UnexpectedTag universal 2 primitive"),
 ];
 
-/// Lines with octets, bits and identifiers.
+/// Lines with octet strings, bit strings and object identifiers.
 const STRINGS: &[(&str, &str)] = &[
     ("null 0500", "ok 0500"),
     ("null 0500ff", "err ExtraData"),
@@ -114,7 +114,7 @@ const STRINGS: &[(&str, &str)] = &[
     ),
 ];
 
-/// Lines with texts.
+/// Lines with character strings.
 const TEXTS: &[(&str, &str)] = &[
     ("utf8 0c02c328", "err InvalidValue"),
     ("utf8 0c05e282acc3a9", "ok 0c05e282acc3a9"),
@@ -242,7 +242,7 @@ const LISTS: &[(&str, &str)] = &[
     ),
 ];
 
-/// What stands in the output before, the input, the output after, and whether each answer is `ok`.
+/// The output before, the input, the output after, and whether each reply is `ok`.
 const INPUTS: [(&str, &str, &str, bool); 8] = [
     ("", "", "", true),
     ("before", "", "before", true),
@@ -274,7 +274,7 @@ const INPUTS: [(&str, &str, &str, bool); 8] = [
     ),
 ];
 
-/// The output behind what stood in it before, and whether each answer is `ok`. After a refusal it is as it was.
+/// The output, with what was in it before, and whether each reply is `ok`. After an error the output is unchanged.
 fn answered(alloc: Global, before: &str, input: &str) -> Result<(Vec<u8>, bool), Fail> {
     let mut out = Vec::from_slice(alloc, before.as_bytes())?;
     match check(alloc, input.as_bytes(), &mut out) {
@@ -286,7 +286,7 @@ fn answered(alloc: Global, before: &str, input: &str) -> Result<(Vec<u8>, bool),
     }
 }
 
-/// Each line alone is answered so.
+/// Each line alone has this reply.
 fn check_lines(alloc: Global, lines: &[(&str, &str)]) -> Result<(), Fail> {
     for (line, answer) in lines {
         let input = format!(in alloc; "{line}\n")?;
@@ -328,7 +328,7 @@ fn lists(rt: HostRuntime) -> Result<(), Fail> {
     check_lines(rt.alloc(), LISTS)
 }
 
-/// A line of the word and the first digits.
+/// A line of the word and this many of the digits.
 fn cut_line(alloc: Global, word: &str, digits: &str, count: usize) -> Result<String, Fail> {
     let mut line = format!(in alloc; "{word} ")?;
     for digit in digits.chars().take(count) {
@@ -338,7 +338,7 @@ fn cut_line(alloc: Global, word: &str, digits: &str, count: usize) -> Result<Str
     Ok(line)
 }
 
-/// Each proper front of an accepted element, whose tag and length have one octet each, is too short, and by so much.
+/// Each proper prefix of an accepted element is too short by what is missing. Tag and length have one octet each.
 fn check_fronts(alloc: Global, lines: &[(&str, &str)]) -> Result<(), Fail> {
     for (line, answer) in lines {
         let Some((word, digits)) = line.split_once(' ') else {

@@ -61,13 +61,12 @@ pub struct AnySequence<'a> {
     pub content: AnyContent<'a>,
 }
 
-/// An identifier, whether what it defines has to be known, and that, as in an extension of a
-/// certificate.
+/// An identifier, whether its content has to be known, and the content, as in an extension of a certificate.
 #[derive(asn1::Asn1Read, asn1::Asn1Write, Debug, Clone, PartialEq, Eq, Hash)]
 pub struct Notice {
     /// The identifier, which the content tells.
     pub kind: asn1::DefinedByMarker<asn1::ObjectIdentifier>,
-    /// Whether the content has to be known: it need not, unless said.
+    /// Whether the content has to be known, false by default.
     #[default(false)]
     pub critical: bool,
     /// The content.
@@ -75,14 +74,14 @@ pub struct Notice {
     pub content: Content,
 }
 
-/// Two fields between an identifier and what it defines, one before both, and one behind.
+/// Two fields between an identifier and what it defines, one before both, and one after.
 #[derive(asn1::Asn1Read, asn1::Asn1Write, Debug, Clone, PartialEq, Eq, Hash)]
 pub struct Letter {
     /// A number.
     pub number: u64,
     /// The identifier, which the content tells.
     pub kind: asn1::DefinedByMarker<asn1::ObjectIdentifier>,
-    /// Whether the content has to be known: it need not, unless said.
+    /// Whether the content has to be known, false by default.
     #[default(false)]
     pub critical: bool,
     /// How often it was sent.
@@ -98,7 +97,7 @@ pub struct Letter {
 /// Numbers, or any other content, before a note.
 #[derive(asn1::Asn1DefinedByRead, asn1::Asn1DefinedByWrite, Debug, Clone, PartialEq, Eq)]
 pub enum Listed<'a> {
-    /// Fields with tags, whose encoding stands in octets.
+    /// Fields with tags, whose encoding is in an octet string.
     #[defined_by(SOME_OID)]
     Tagged(asn1::OctetStringEncoded<Tagged<'a>>),
     /// Numbers.
@@ -118,6 +117,6 @@ pub struct Entry<'a> {
     #[explicit(3, required = true)]
     #[defined_by(kind)]
     pub listed: Listed<'a>,
-    /// A note, which may be unsaid.
+    /// A note, which may be missing.
     pub note: Option<bool>,
 }

@@ -24,10 +24,10 @@ pub struct Tagged<'a> {
     /// A number under a tag around its own.
     #[explicit(1)]
     pub number: Option<u64>,
-    /// Whether something is so: false, unless said.
+    /// A flag, false by default.
     #[default(false)]
     pub critical: bool,
-    /// The version: 1, unless said.
+    /// The version, 1 by default.
     #[explicit(2)]
     #[default(1u8)]
     pub version: u8,
@@ -37,7 +37,7 @@ pub struct Tagged<'a> {
     /// A signature under a tag around its own.
     #[explicit(4, required = true)]
     pub signature: Signature,
-    /// A number under a tag in place of its own: -1, unless said.
+    /// A number under a tag in place of its own, -1 by default.
     #[implicit(5)]
     #[default(-1)]
     pub level: i8,
@@ -57,14 +57,14 @@ pub enum ResponderId<'a> {
     ByKey(&'a [u8]),
 }
 
-/// A choice that stands in a structure, where it may be missing.
+/// A choice in a structure, which may be missing.
 #[derive(asn1::Asn1Read, asn1::Asn1Write, Debug, PartialEq, Eq)]
 pub struct Alternative<'a> {
     /// Who answers, if anyone does.
     pub responder: Option<ResponderId<'a>>,
 }
 
-/// Whether a bag is full, and the numbers in it: it is made in code, and only written.
+/// Whether a bag is full, and the numbers in the bag, which is made in code and only written.
 #[derive(asn1::Asn1Write, Debug, Clone, PartialEq, Eq, Hash)]
 pub struct Bag<'a> {
     /// Whether it is full.

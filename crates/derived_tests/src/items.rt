@@ -1,5 +1,5 @@
 //! Values that an item before them defines: each attribute of the original's derives for them, once.
-// Printed by scripts/derive from declarations/items.rs, with the sum 9f16380f.
+// Printed by scripts/derive from declarations/items.rs, with the sum c5c050f9.
 
 ghost use Rattle.std.specs.Prelude.{◌≡◌, ◌⊎◌, ◌∷◌, [], codes, true, false, ⊤, MatchOption, OnErr};
 ghost use Rattle.std.specs.Str.{bytes_eq};
@@ -27,7 +27,7 @@ use asn1::{
 };
 use std::alloc::{AllocError, Global};
 
-/// The numbers of [`some_oid`], as they are encoded: the first stands for two.
+/// The numbers of [`some_oid`], as they are encoded: the first means two.
 pub const SOME_OID_NUMBERS: [u64; 2] = [42, 3];
 
 /// The identifier 1.2.3.
@@ -37,7 +37,7 @@ pub fn some_oid() -> ObjectIdentifier
     known_identifier(b"\x2a\x03")
 }
 
-/// The numbers of [`sha256_with_rsa`], as they are encoded: the first stands for two.
+/// The numbers of [`sha256_with_rsa`], as they are encoded: the first means two.
 pub const SHA256_WITH_RSA_NUMBERS: [u64; 6] = [42, 840, 113549, 1, 1, 11];
 
 /// RSA with SHA-256 (RFC 8017).
@@ -47,7 +47,7 @@ pub fn sha256_with_rsa() -> ObjectIdentifier
     known_identifier(b"\x2a\x86\x48\x86\xf7\x0d\x01\x01\x0b")
 }
 
-/// The numbers of [`other_oid`], as they are encoded: the first stands for two.
+/// The numbers of [`other_oid`], as they are encoded: the first means two.
 pub const OTHER_OID_NUMBERS: [u64; 2] = [42, 4];
 
 /// The identifier 1.2.4.
@@ -205,7 +205,7 @@ pub struct AnyContentUnknown<'a> {
 }
 
 impl<'a> AnyContentUnknown<'a> {
-    /// Of this identifier and this value; `None` where another variant is for the identifier.
+    /// Of this identifier and this value; `None` if another variant is for the identifier.
     pub fn new(item: ObjectIdentifier, value: Tlv<'a>) -> Option<AnyContentUnknown<'a>>
         ensures { MatchOption result ((bytes_eq (identifier_of item) SOME_OID_NUMBERS ≡ true) ⊎
             ((bytes_eq (identifier_of item) OTHER_OID_NUMBERS ≡ true) ⊎ (bytes_eq (identifier_of
@@ -432,19 +432,18 @@ impl<'a> SimpleAsn1Writable for AnySequence<'a> {
     }
 }
 
-/// An identifier, whether what it defines has to be known, and that, as in an extension of a
-/// certificate.
+/// An identifier, whether its content has to be known, and the content, as in an extension of a certificate.
 #[derive(Debug, Clone, PartialEq, Eq, Hash, Drop)]
 pub struct Notice {
     /// The identifier, which the content tells.
     pub kind: DefinedByMarker<ObjectIdentifier>,
-    /// Whether the content has to be known: it need not, unless said.
+    /// Whether the content has to be known, false by default.
     pub critical: bool,
     /// The content.
     pub content: Content,
 }
 
-/// What `critical` is where it is left out.
+/// What `critical` is if it is left out.
 #[derive(Debug, PartialEq, Eq, Drop)]
 pub struct NoticeCritical;
 
@@ -511,14 +510,14 @@ impl SimpleAsn1Writable for Notice {
     }
 }
 
-/// Two fields between an identifier and what it defines, one before both, and one behind.
+/// Two fields between an identifier and what it defines, one before both, and one after.
 #[derive(Debug, Clone, PartialEq, Eq, Hash, Drop)]
 pub struct Letter {
     /// A number.
     pub number: u64,
     /// The identifier, which the content tells.
     pub kind: DefinedByMarker<ObjectIdentifier>,
-    /// Whether the content has to be known: it need not, unless said.
+    /// Whether the content has to be known, false by default.
     pub critical: bool,
     /// How often it was sent.
     pub sent: Option<u8>,
@@ -528,7 +527,7 @@ pub struct Letter {
     pub is_read: bool,
 }
 
-/// What `critical` is where it is left out.
+/// What `critical` is if it is left out.
 #[derive(Debug, PartialEq, Eq, Drop)]
 pub struct LetterCritical;
 
@@ -621,7 +620,7 @@ pub struct ListedUnknown<'a> {
 }
 
 impl<'a> ListedUnknown<'a> {
-    /// Of this identifier and this value; `None` where another variant is for the identifier.
+    /// Of this identifier and this value; `None` if another variant is for the identifier.
     pub fn new(item: ObjectIdentifier, value: Tlv<'a>) -> Option<ListedUnknown<'a>>
         ensures { MatchOption result ((bytes_eq (identifier_of item) SOME_OID_NUMBERS ≡ true) ⊎
             (bytes_eq (identifier_of item) OTHER_OID_NUMBERS ≡ true)) (λ v. (v.item ≡ item) ×
@@ -664,7 +663,7 @@ impl<'a> Clone for ListedUnknown<'a> {
 /// Numbers, or any other content, before a note.
 #[derive(Debug, Clone, PartialEq, Eq, Drop)]
 pub enum Listed<'a> {
-    /// Fields with tags, whose encoding stands in octets.
+    /// Fields with tags, whose encoding is in an octet string.
     Tagged(OctetStringEncoded<Tagged<'a>>),
     /// Numbers.
     Numbers(SequenceOf<'a, u64, 0, { usize::MAX }>),
@@ -782,7 +781,7 @@ pub struct Entry<'a> {
     pub kind: DefinedByMarker<ObjectIdentifier>,
     /// The list, or another content.
     pub listed: Explicit<Listed<'a>, 3>,
-    /// A note, which may be unsaid.
+    /// A note, which may be missing.
     pub note: Option<bool>,
 }
 

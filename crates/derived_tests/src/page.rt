@@ -1,5 +1,5 @@
 //! Structures and choices: each attribute of the original's derives for them, once.
-// Printed by scripts/derive from declarations/page.rs, with the sum b60e4c41.
+// Printed by scripts/derive from declarations/page.rs, with the sum c70580c6.
 
 ghost use Rattle.std.specs.Prelude.{◌≡◌, ◌∷◌, [], codes, negsuc, false, OnErr};
 ghost use Rattle.std.proofs.Common.{inl, inr};
@@ -111,19 +111,19 @@ pub struct Tagged<'a> {
     pub octets: Option<&'a [u8]>,
     /// A number under a tag around its own.
     pub number: Option<u64>,
-    /// Whether something is so: false, unless said.
+    /// A flag, false by default.
     pub critical: bool,
-    /// The version: 1, unless said.
+    /// The version, 1 by default.
     pub version: u8,
     /// Numbers under a tag in place of the list's own.
     pub numbers: SequenceOf<'a, i32, 1, 4>,
     /// A signature under a tag around its own.
     pub signature: Signature,
-    /// A number under a tag in place of its own: -1, unless said.
+    /// A number under a tag in place of its own, -1 by default.
     pub level: i8,
 }
 
-/// What `critical` is where it is left out.
+/// What `critical` is if it is left out.
 #[derive(Debug, PartialEq, Eq, Drop)]
 pub struct TaggedCritical;
 
@@ -135,7 +135,7 @@ impl DefaultValue<bool> for TaggedCritical {
     }
 }
 
-/// What `version` is where it is left out.
+/// What `version` is if it is left out.
 #[derive(Debug, PartialEq, Eq, Drop)]
 pub struct TaggedVersion;
 
@@ -147,7 +147,7 @@ impl DefaultValue<Explicit<u8, 2>> for TaggedVersion {
     }
 }
 
-/// What `level` is where it is left out.
+/// What `level` is if it is left out.
 #[derive(Debug, PartialEq, Eq, Drop)]
 pub struct TaggedLevel;
 
@@ -316,7 +316,7 @@ impl<'a> Asn1Writable for ResponderId<'a> {
     }
 }
 
-/// A choice that stands in a structure, where it may be missing.
+/// A choice in a structure, which may be missing.
 #[derive(Debug, PartialEq, Eq, Drop)]
 pub struct Alternative<'a> {
     /// Who answers, if anyone does.
@@ -369,7 +369,7 @@ impl<'a> SimpleAsn1Writable for Alternative<'a> {
     }
 }
 
-/// Whether a bag is full, and the numbers in it: it is made in code, and only written.
+/// Whether a bag is full, and the numbers in the bag, which is made in code and only written.
 #[derive(Debug, Clone, PartialEq, Eq, Hash, Drop)]
 pub struct Bag<'a> {
     /// Whether it is full.

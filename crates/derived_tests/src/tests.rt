@@ -16,7 +16,7 @@ use std::alloc::Global;
 use std::test::Fail;
 use testing::{are_both_ways, are_refused_with, both_ways, refused};
 
-/// Whether the octets are read as the type and written as the same octets, of which the type says how many they are.
+/// Whether the octets are read as the type and written as the same octets, whose length the type returns.
 fn is_written_back<'a, T: Asn1Readable<'a> + Asn1Writable<Error = WriteError>>(
     alloc: Global,
     octets: &'a [u8],
@@ -52,7 +52,7 @@ fn no_fields(rt: HostRuntime) -> Result<(), Fail> {
     )
 }
 
-/// Fields with tags: each in its place, and with all that may be left out missing.
+/// Fields with tags: all of them, and only those that may not be missing.
 const TAGGED: [&[u8]; 2] = [
     &[
         0x30, 37, 0x80, 1, 0xab, 0xa1, 3, 2, 1, 5, 1, 1, 0xff, 0xa2, 3, 2, 1, 3, 0xa3, 6, 2, 1, 1,

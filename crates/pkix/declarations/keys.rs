@@ -4,7 +4,7 @@ use crate::common::{
     AlgorithmIdentifier, Attributes, algorithm_identifier_is_lawful, attributes_is_lawful,
 };
 
-/// OneAsymmetricKey (RFC 5958, 2), a SEQUENCE: a private key, and the public key where it is told. Fields behind these,
+/// OneAsymmetricKey (RFC 5958, 2), a SEQUENCE: a private key, and the public key if it is there. Fields after these,
 /// which later versions may have, are rejected.
 #[derive(asn1::Asn1Read, asn1::Asn1Write, Debug, Clone, PartialEq, Eq)]
 pub struct OneAsymmetricKey<'a> {
@@ -15,7 +15,7 @@ pub struct OneAsymmetricKey<'a> {
     pub private_key_algorithm: AlgorithmIdentifier<'a>,
     /// The private key, whose octets the algorithm defines.
     pub private_key: &'a [u8],
-    /// What else is told of it.
+    /// The attributes of the key.
     #[implicit(0)]
     pub attributes: Option<Attributes<'a>>,
     /// The public key, whose bits the algorithm defines.

@@ -14,7 +14,7 @@ pub struct CertificationRequestInfo<'a> {
     pub subject: Name<'a>,
     /// The key.
     pub subject_pk_info: SubjectPublicKeyInfo<'a>,
-    /// What else is told of the subject.
+    /// The attributes of the subject.
     #[implicit(0, required = true)]
     pub attributes: Attributes<'a>,
 }

@@ -101,12 +101,12 @@ ReadsForm dss pss form.NullOrAbsent octets result = ReadsTyped (typed (option_de
 ReadsForm dss pss form.DssOrAbsent octets result = ReadsTyped (typed (option_der dss) (or_absent parameters.Dss)) octets result
 ReadsForm dss pss form.RsassaPssOrAbsent octets result = ReadsTyped (typed (option_der pss) (or_absent parameters.RsassaPss)) octets result
 
--- The encoding of the element, or no octets where there is none.
+-- The encoding of the element, or no octets if there is none.
 abbrev pub parameter_octets : Option Tlv → List ℕ
 parameter_octets (Some element) = full_octets element
 parameter_octets None = []
 
--- What reading the parameters of a known algorithm returns; those of every other stay as they are.
+-- What reading the parameters of a known algorithm returns. The parameters of every other algorithm stay as they are.
 abbrev pub ReadsParameters : Der DssParms → Der RsassaPssParams → Option KnownAlgorithm → Option Tlv → Result AlgorithmParameters Fault → Type 0
 ReadsParameters dss pss (Some algorithm) element result = ReadsForm dss pss (form_of algorithm) (parameter_octets element) result
 ReadsParameters dss pss None element result = result ≡ Ok (parameters.Other element)

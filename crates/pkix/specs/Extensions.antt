@@ -39,7 +39,7 @@ extension_numbers known.SubjectKeyIdentifier = of_arcs (2 ∷ 5 ∷ 29 ∷ 14 �
 abbrev pub extension_with : List ℕ → Option KnownExtension
 extension_with numbers = find (λ extension. bytes_eq numbers (extension_numbers extension)) ALL.now
 
--- What reading the octets as a value of the type of a known extension returns; every other is held by its octets.
+-- What reading the octets as a value of the type of a known extension returns; for every other extension, the octets.
 abbrev pub ReadsExtension : {E : Type 0} → (KnownExtension → ValueType E) → (Bor (List ℕ) → E) → Option KnownExtension → Bor (List ℕ) → Result E Fault → Type 0
 ReadsExtension types other (Some extension) octets result = ReadsTyped (types extension) octets.now result
 ReadsExtension types other None octets result = result ≡ Ok (other octets)

@@ -4,7 +4,7 @@ use Rattle.asn1.specs.Der.{Der}
 use Rattle.asn1.specs.Fault.{Fault}
 use Rattle.asn1.specs.Reads.{ReadsWhole}
 
--- The type of a value, and the variant of E that holds one of them.
+-- The type of a value, and the variant of E that holds values of this type.
 pub record ValueType (E : Type 0) : Type 1 where
   pub Value : Type 0
   pub der : Der Value

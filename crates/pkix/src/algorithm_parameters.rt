@@ -258,15 +258,15 @@ impl ParametersForm {
     }
 }
 
-/// The parameters of an algorithm, read as what its identifier says that they are.
+/// The parameters of an algorithm, read as the type that its identifier defines.
 #[derive(Debug, Clone, PartialEq, Eq, Drop)]
 pub enum AlgorithmParameters<'a> {
-    /// NULL: of RSA, which has to have it except in signatures with SHA-2, and of digests, which may have it.
+    /// NULL. RSA has to have it, except in signatures with SHA-2. Digests may have it.
     Null,
-    /// None: of signatures by DSA and ECDSA and the algorithms of RFC 8410, which may have none, of digests, and of
-    /// signatures by RSA with SHA-2, which are written with NULL and have to be read without it too (RFC 4055, 5). Of
-    /// id-dsa, if they are inherited (RFC 3279, 2.3.2), and of id-RSASSA-PSS, which has to have them in a signature but
-    /// not with a key (RFC 4055, 3.1): where they stand isn't looked at.
+    /// No parameters. Signatures by DSA and ECDSA and the algorithms of RFC 8410 may not have any. Digests may have
+    /// none. Signatures by RSA with SHA-2 are written with NULL and have to be read without it too (RFC 4055, 5).
+    /// id-dsa has none if they are inherited (RFC 3279, 2.3.2). id-RSASSA-PSS has to have parameters in a signature but
+    /// not with a key (RFC 4055, 3.1): where they are isn't checked.
     Absent,
     /// Those of DSA, with a key.
     Dss(DssParms<'a>),
@@ -279,7 +279,7 @@ pub enum AlgorithmParameters<'a> {
 }
 
 impl<'a> AlgorithmIdentifier<'a> {
-    /// The octets of the parameters: none where there is no element.
+    /// The octets of the parameters: none if there is no element.
     fn parameter_octets(&self) -> &'a [u8]
         ensures { result.now ≡ parameter_octets self.now.parameters }
     {
@@ -289,12 +289,12 @@ impl<'a> AlgorithmIdentifier<'a> {
         }
     }
 
-    /// The parameters, read as [`asn1::parse_single`] reads the type that `algorithm` defines; those of an algorithm
-    /// that isn't a [`KnownAlgorithm`] stay as they are.
+    /// The parameters, read as [`asn1::parse_single`] reads the type that `algorithm` defines. The parameters of an
+    /// algorithm that isn't a [`KnownAlgorithm`] stay as they are.
     ///
-    /// Returns the first error of the element's octets, or of no octets where there is no element: `ShortData` where
-    /// there have to be parameters and are none, `UnexpectedTag` or `InvalidValue` where they aren't of that type, and
-    /// `ExtraData` where there may be none, and they are there, or have another tag than that which may be there. Of a
+    /// Returns the first error of the element's octets, or of no octets if there is no element: `ShortData` if there
+    /// have to be parameters and there are none, and `UnexpectedTag` or `InvalidValue` if they aren't of that type.
+    /// `ExtraData` if there are parameters and none are allowed, or if optional parameters have another tag. Of a
     /// structure it returns the first error of a field too.
     pub fn read_parameters(&self, alloc: Global) -> ParseResult<AlgorithmParameters<'a>>
         ensures { ReadsParameters ⟦<DssParms<'a> as Asn1Type>⟧.der

@@ -48,7 +48,7 @@ pub enum KnownExtension {
     ExtendedKeyUsage,
     /// Where the lists are that complete revocation lists.
     FreshestCrl,
-    /// After how many certificates anyPolicy stands for no others.
+    /// After how many certificates anyPolicy matches no other policy.
     InhibitAnyPolicy,
     /// Since when a key may be known to others.
     InvalidityDate,
@@ -149,7 +149,7 @@ impl KnownExtension {
     }
 }
 
-/// The value of an extension, read as what its identifier says that it is.
+/// The value of an extension, read as the type that its identifier names.
 #[derive(Debug, PartialEq, Eq, Drop)]
 pub enum ExtensionValue<'a> {
     /// Of authorityInfoAccess (RFC 5280, 4.2.2.1).
@@ -201,9 +201,9 @@ pub enum ExtensionValue<'a> {
 }
 
 impl<'a> Extension<'a> {
-    /// The value, read as [`parse_single`] reads the type that `extn_id` names: of an extension that isn't a
-    /// [`KnownExtension`] the octets. Returns the first error of the octets where they aren't the encoding of a value
-    /// of that type.
+    /// The value, read as [`parse_single`] reads the type that `extn_id` names. For an extension that isn't a
+    /// [`KnownExtension`] the value is the octets. Returns the first error of the octets if they aren't the encoding of
+    /// a value of that type.
     pub fn value(&self, alloc: Global) -> ParseResult<ExtensionValue<'a>>
         ensures { ReadsExtension (elim [
           | known.AuthorityInfoAccess ↦ typed ⟦<AuthorityInfoAccess<'a> as Asn1Type>⟧.der

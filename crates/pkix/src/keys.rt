@@ -1,5 +1,5 @@
 //! Keys, and the parameters of their algorithms (RFC 5958, 8017, 5915, 5480, 3279 and 4055).
-// Printed by scripts/derive from declarations/keys.rs, with the sum eb694217.
+// Printed by scripts/derive from declarations/keys.rs, with the sum b40245bc.
 
 ghost use Rattle.std.specs.Prelude.{◌≡◌, ◌∷◌, [], codes};
 ghost use Rattle.asn1.specs.Options.{option_meaning};
@@ -17,7 +17,7 @@ use asn1::{
 };
 use std::alloc::Global;
 
-/// OneAsymmetricKey (RFC 5958, 2), a SEQUENCE: a private key, and the public key where it is told. Fields behind these,
+/// OneAsymmetricKey (RFC 5958, 2), a SEQUENCE: a private key, and the public key if it is there. Fields after these,
 /// which later versions may have, are rejected.
 #[derive(Debug, Clone, PartialEq, Eq, Drop)]
 pub struct OneAsymmetricKey<'a> {
@@ -28,7 +28,7 @@ pub struct OneAsymmetricKey<'a> {
     pub private_key_algorithm: AlgorithmIdentifier<'a>,
     /// The private key, whose octets the algorithm defines.
     pub private_key: &'a [u8],
-    /// What else is told of it.
+    /// The attributes of the key.
     pub attributes: Option<Attributes<'a>>,
     /// The public key, whose bits the algorithm defines.
     pub public_key: Option<BitString<'a>>,
@@ -468,7 +468,7 @@ pub struct RsassaPssParams<'a> {
     pub trailer_field: u32,
 }
 
-/// What `salt_length` is where it is left out.
+/// What `salt_length` is if it is left out.
 #[derive(Debug, PartialEq, Eq, Drop)]
 pub struct RsassaPssParamsSaltLength;
 
@@ -480,7 +480,7 @@ impl DefaultValue<Explicit<u32, 2>> for RsassaPssParamsSaltLength {
     }
 }
 
-/// What `trailer_field` is where it is left out.
+/// What `trailer_field` is if it is left out.
 #[derive(Debug, PartialEq, Eq, Drop)]
 pub struct RsassaPssParamsTrailerField;
 

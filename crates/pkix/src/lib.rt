@@ -1,10 +1,9 @@
 //! Readers and writers of certificates, revocation lists, requests, keys, signatures and time stamps, in DER (X.690).
 //!
-//! Each type is that of its document: a value is read by [`asn1::parse_single`] and written by
-//! [`asn1::write_readable`], as the same octets; what isn't DER is rejected. Parameters of algorithms and values of
-//! attributes stay elements of any type, and values of extensions octets;
-//! [`common::AlgorithmIdentifier::read_parameters`] and [`common::Extension::value`] read those of algorithms and
-//! extensions that are known.
+//! Each type is that of its document. [`asn1::parse_single`] reads a value, and [`asn1::write_readable`] writes it as
+//! the same octets. What isn't DER is rejected. Parameters of algorithms and values of attributes are elements of any
+//! type, and values of extensions are octets. [`common::AlgorithmIdentifier::read_parameters`] reads the parameters of
+//! known algorithms, and [`common::Extension::value`] the values of known extensions.
 #![tactic(auto)]
 
 pub mod algorithm_parameters;

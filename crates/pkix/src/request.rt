@@ -1,5 +1,5 @@
 //! Requests for certificates (RFC 2986).
-// Printed by scripts/derive from declarations/request.rs, with the sum a9b6a9d6.
+// Printed by scripts/derive from declarations/request.rs, with the sum 5f52b24e.
 
 ghost use Rattle.std.specs.Prelude.{◌≡◌, ◌∷◌, [], codes};
 ghost use Rattle.asn1.specs.Reads.{HasOneEncoding, ReadsContents};
@@ -25,7 +25,7 @@ pub struct CertificationRequestInfo<'a> {
     pub subject: Name<'a>,
     /// The key.
     pub subject_pk_info: SubjectPublicKeyInfo<'a>,
-    /// What else is told of the subject.
+    /// The attributes of the subject.
     pub attributes: Attributes<'a>,
 }
 

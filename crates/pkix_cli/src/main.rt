@@ -1,5 +1,5 @@
 //! Shows the DER or PEM on standard input, whose kind the argument names, as lines on standard output. All that it does
-//! with it is in the library `pkix_text`.
+//! with the input is in the library `pkix_text`.
 #![tactic(auto)]
 
 use pkix_text::{Asked, Fault, HELP, Kind, Report, ask, report_on, status};
@@ -7,12 +7,12 @@ use std::env;
 use std::io::Read;
 use std::process::ExitCode;
 
-/// The words after the program's name, where all of them are UTF-8.
+/// The words after the program's name, if all of them are UTF-8.
 fn words(rt: &HostRuntime) -> Option<Vec<String>> {
     env::args(rt).ok()?.skip(1).collect(rt.alloc()).ok()
 }
 
-/// What standard input is answered with, whose objects are of this kind.
+/// Writes the lines of standard input, whose objects are of this kind, and returns the report.
 fn answer(rt: &HostRuntime, kind: Option<Kind>) -> Result<Report, Fault> {
     let mut input = Vec::new(rt.alloc());
     if rt.reader().read_to_end(&mut input).is_err() {

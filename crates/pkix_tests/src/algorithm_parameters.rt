@@ -126,7 +126,7 @@ fn parameters_in_keys(rt: HostRuntime) -> Result<(), Fail> {
     Ok(())
 }
 
-/// With NULL, as OpenSSL writes it.
+/// With NULL, as OpenSSL writes digests.
 #[test]
 fn parameters_of_digests(rt: HostRuntime) -> Result<(), Fail> {
     let alloc = rt.alloc();
@@ -136,7 +136,7 @@ fn parameters_of_digests(rt: HostRuntime) -> Result<(), Fail> {
     all_same(&[(found, AlgorithmParameters::Null)])
 }
 
-/// What reading these parameters of an algorithm returns, or none where there are no octets.
+/// What reading these parameters of an algorithm returns. If there are no octets, there are no parameters.
 fn read<'a>(
     alloc: Global,
     algorithm: ObjectIdentifier,
@@ -150,7 +150,7 @@ fn read<'a>(
     algorithm.read_parameters(alloc)
 }
 
-/// For each of these algorithms the parameters of each row are rejected by its kind, or aren't.
+/// For each of these algorithms the parameters of each row are rejected with its kind, or read if it has none.
 fn are_answered(
     alloc: Global,
     algorithms: &[KnownAlgorithm],
@@ -284,7 +284,7 @@ fn other_parameters(rt: HostRuntime) -> Result<(), Fail> {
     ])
 }
 
-/// Of a key, as OpenSSL lists them; inherited ones, which are none; and others.
+/// Parameters of a key, as OpenSSL lists them; inherited ones, which are none; and others.
 #[test]
 fn parameters_of_dsa(rt: HostRuntime) -> Result<(), Fail> {
     let alloc = rt.alloc();
@@ -317,12 +317,12 @@ fn parameters_of_dsa(rt: HostRuntime) -> Result<(), Fail> {
     )
 }
 
-/// The parameters of RSASSA-PSS in the certificate: SHA-256, MGF1 with it, and 32 octets of salt.
+/// The parameters of RSASSA-PSS in the certificate: SHA-256, MGF1 with SHA-256, and 32 octets of salt.
 const PSS: &str = "\
 3034a00f300d06096086480165030402010500a11c301a06092a864886f70d010108300d\
 06096086480165030402010500a203020120";
 
-/// Each of the defaults, as none; those that are structures also encoded, which isn't rejected; and other numbers.
+/// Each default left out; the defaults that are structures also encoded, which isn't rejected; and other numbers.
 #[test]
 fn parameters_of_pss(rt: HostRuntime) -> Result<(), Fail> {
     let alloc = rt.alloc();

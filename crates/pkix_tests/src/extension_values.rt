@@ -50,7 +50,7 @@ fn identifiers_of_extensions(rt: HostRuntime) -> Result<(), Fail> {
     Ok(())
 }
 
-/// The extension whose value it is.
+/// The extension that this is a value of.
 fn extension_of(value: &ExtensionValue<'_>) -> Option<KnownExtension> {
     match value {
         ExtensionValue::AuthorityInfoAccess(_) => Some(KnownExtension::AuthorityInfoAccess),

@@ -1,4 +1,4 @@
-//! Values of extensions (RFC 5280, 4.2 and 5.2), as they stand in objects made by OpenSSL 3.0.
+//! Values of extensions (RFC 5280, 4.2 and 5.2), as they are in objects made by OpenSSL 3.0.
 
 use crate::walks::{changed, walk};
 use pkix::certificate::access::AuthorityInfoAccess;
@@ -36,7 +36,7 @@ const POINTS: &str = "\
 3040303ea01ca01a8618687474703a2f2f63726c2e6578616d706c652f612e63726c81020560a21a\
 a41830163114301206035504030c0b63726c2e6578616d706c65";
 
-/// Two places of other data of the authority.
+/// Two locations of other data of the authority.
 const ACCESSES: &str = "\
 3047302006082b060105050730018614687474703a2f2f6f6373702e6578616d706c652f30230608\
 2b060105050730028617687474703a2f2f63612e6578616d706c652f632e646572";
@@ -103,7 +103,7 @@ const ISSUING_POINT: &str = "\
 302ba01fa01d861b687474703a2f2f63726c2e6578616d706c652f736f6d652e63726c81\
 01ff830205608401ff";
 
-/// Another one, by a relative name, of attributes.
+/// Where another revocation list is, by a relative name: a list of attribute certificates.
 const RELATIVE_POINT: &[u8] =
     b"\x30\x11\xa0\x0c\xa1\x0a\x30\x08\x06\x03\x55\x04\x03\x0c\x01a\x85\x01\xff";
 

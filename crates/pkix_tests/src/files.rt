@@ -42,7 +42,7 @@ fn pem(alloc: Global, object: &str, label: &str) -> Result<String, Fail> {
     pem_to(alloc, object, label, end.as_str())
 }
 
-/// The object's lines, in DER.
+/// The lines of the object in DER.
 fn listing(alloc: Global, kind: Kind, object: &str) -> Result<String, Fail> {
     lines(alloc, kind, hex::decode(alloc, object)?.as_slice())
 }

@@ -72,7 +72,7 @@ fn objects_are_shown(rt: HostRuntime) -> Result<(), Fail> {
     Ok(())
 }
 
-/// The object with these octets in place of as many of its own, from this place on.
+/// The object with these octets instead of that number of its own, from this index on.
 pub(crate) fn with_octets(
     alloc: Global,
     object: &str,
@@ -92,12 +92,12 @@ pub(crate) fn with_octets(
     Ok(changed)
 }
 
-/// The line that begins so, where there is one.
+/// The line that begins like this, if there is one.
 pub(crate) fn line<'a>(text: &'a str, start: &str) -> Option<&'a str> {
     text.lines().find(|line| line.starts_with(start))
 }
 
-/// The common name of twelve characters, of which some can't be printed.
+/// A common name of twelve characters, of which some can't be printed.
 #[test]
 fn characters_are_escaped(rt: HostRuntime) -> Result<(), Fail> {
     let alloc = rt.alloc();
@@ -159,7 +159,7 @@ fn values_of_extensions_that_are_not_der(rt: HostRuntime) -> Result<(), Fail> {
     )
 }
 
-/// Other values inside, which have the tag of a BOOLEAN in place of an INTEGER or an identifier: they are shown as octets,
+/// Other values inside, with the tag of a BOOLEAN instead of an INTEGER or an identifier: they are shown as octets,
 /// with the reason.
 #[test]
 fn values_inside_that_are_not_der(rt: HostRuntime) -> Result<(), Fail> {

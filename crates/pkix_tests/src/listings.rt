@@ -1,5 +1,5 @@
-//! The lines of each object: its values, in order, as a reader written apart finds them in its encoding, under the names
-//! of its document.
+//! The lines of each object: its values, in order, as a separate reader finds them in its encoding, under the names of
+//! its document.
 
 /// The lines of the certificate with a key of RSA.
 pub const RSA: &str = "\

@@ -50,15 +50,15 @@ fn request(alloc: Global, name: &[u8], attributes: &[u8]) -> Result<Vec<u8>, Fai
     element(alloc, 0x30, signed.as_slice(), signature)
 }
 
-/// Demands the request's line with this place.
+/// Demands the request's line with this location.
 fn has_line(alloc: Global, octets: &[u8], place: &str, wanted: &str) -> Result<(), Fail> {
     let text = lines(alloc, Kind::Request, octets)?;
     let whole = format!(in alloc; "{place}: {wanted}")?;
     same(line(text.as_str(), place), Some(whole.as_str()))
 }
 
-/// The type of a string is told where it is neither PrintableString nor UTF8String, and no string is shown as octets or
-/// as another type.
+/// The type of a character string is shown if it is neither PrintableString nor UTF8String. The characters aren't taken
+/// for octets or for a type.
 #[test]
 fn character_strings(rt: HostRuntime) -> Result<(), Fail> {
     let alloc = rt.alloc();

@@ -1,4 +1,4 @@
--- What an input is answered with, by what reads it.
+-- The result for an object, by the type that reads it.
 use Rattle.std.specs.Prelude.{◌≡◌, ℕ, List, ◌++◌, codes, string_bytes, IsOk, ⊤}
 use Rattle.asn1.specs.Der.{Der}
 use Rattle.asn1.specs.Reading.{whole}
@@ -14,7 +14,7 @@ abbrev pub EndsInSame : List ℕ → Type 0
 EndsInSame text = (front : List ℕ) × (text ≡ front ++ codes "same\n")
 
 -- What is shown has the form, and its last line is `same`. What has the form may be rejected: an encrypted key may have
--- that of another object.
+-- the form of another object.
 abbrev pub IsShownOnlyIf : Type 0 → Answer → Type 0
 IsShownOnlyIf Form (Shown text) = Form × EndsInSame (string_bytes text)
 IsShownOnlyIf Form (Rejected refusal) = ⊤

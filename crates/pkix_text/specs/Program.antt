@@ -26,19 +26,19 @@ every_kind = kinds.Certificate ∷ kinds.Crl ∷ kinds.Request ∷ kinds.Key ∷
 abbrev pub kind_named : List ℕ → Option Kind
 kind_named name = find (λ kind. bytes_eq (kind_name kind) name) every_kind
 
--- the objects of one kind, where a name names one
+-- the objects of one kind, if a name names one
 abbrev pub objects_of : Option Kind → Option Asked
 objects_of (Some kind) = Some (Objects (Some kind))
 objects_of None = None
 
--- what arguments ask for: none for the objects of any kind, one for help or for those of the kind that it names
+-- what arguments ask for: none for the objects of any kind, one for help or for the objects of the kind that it names
 abbrev pub ask_of : {A : Type 0} → List (String A) → Option Asked
 ask_of [] = Some (Objects None)
 ask_of (word ∷ []) = if bytes_eq (string_bytes word) (codes "--help") then Some Help else
     objects_of (kind_named (string_bytes word))
 ask_of (first ∷ second ∷ more) = None
 
--- 0 where each object was shown, 1 where there is a reason why one was rejected, 2 where there was no answer
+-- 0 if each object was shown, 1 if there is a reason why one was rejected, 2 if there was no result
 abbrev pub status_by : List ℕ → ℕ
 status_by [] = 0
 status_by (code ∷ reasons) = 1

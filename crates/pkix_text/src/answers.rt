@@ -1,4 +1,4 @@
-//! What an input is answered with.
+//! The result for an input.
 
 ghost use Rattle.std.specs.Prelude.{◌⊎◌, IfOk};
 ghost use Rattle.pkix_text.specs.Answers.{IsRead, IsShownOnlyIf};
@@ -23,7 +23,7 @@ use sha2::{Digest, Sha256};
 use std::alloc::{AllocError, Global};
 use std::fmt;
 
-/// Why no lines could be given.
+/// Why there is no result.
 #[derive(Debug, Drop)]
 pub enum Fault {
     /// Out of memory.
@@ -53,9 +53,9 @@ impl From<AllocError> for Fault {
 /// Why an object is rejected.
 #[derive(Debug, Drop)]
 pub enum Refusal {
-    /// No kind was named, and it is of none.
+    /// No kind was named, and the object is of none.
     NoKind,
-    /// No kind was named, and it has the form of several.
+    /// No kind was named, and the object has the form of several.
     SeveralKinds,
     /// Its label is of another kind, or of none that is known.
     Label(String),
@@ -67,7 +67,7 @@ pub enum Refusal {
     Empty,
     /// It isn't the encoding of what it should be.
     Der(ParseError),
-    /// The same in words: where, and why.
+    /// The same error in words: its location, and why.
     Told(String),
 }
 
@@ -86,16 +86,16 @@ impl fmt::Display for Refusal {
     }
 }
 
-/// What an object is answered with.
+/// The result for an object.
 #[derive(Debug, Drop)]
 pub enum Answer {
-    /// The lines of its fields, the SHA-256 of what it is written back as, and `same`: these are its octets.
+    /// The lines of its fields, the SHA-256 of what it is written back as, and `same`: these octets are its own.
     Shown(String),
     /// Why it is rejected.
     Rejected(Refusal),
 }
 
-/// The lines of the value whose encoding the octets are. It has one encoding, so it is written back as these octets.
+/// The lines of the value whose encoding the octets are. The value has one encoding, so these octets are written back.
 fn shown<'a, T: Asn1Readable<'a> + Asn1Writable<Error = WriteError> + Show>(
     alloc: Global,
     octets: &'a [u8],
@@ -120,7 +120,7 @@ fn shown<'a, T: Asn1Readable<'a> + Asn1Writable<Error = WriteError> + Show>(
 /// What tells one form from another.
 #[derive(Clone, Copy)]
 struct Start {
-    /// The tag of the first element within an element, where it has one.
+    /// The tag of the first element within an element, if there is one.
     first: Option<Tag>,
     /// The tag of the second.
     second: Option<Tag>,
@@ -203,8 +203,8 @@ fn signature<'a>(alloc: Global, start: Start, octets: &'a [u8]) -> Result<Answer
     shown::<ContentInfo<'_>>(alloc, octets)
 }
 
-/// The lines of the value of this kind whose encoding the octets are. An encrypted key is rejected as that for each
-/// kind, and other octets with the first error of the kind's type. `Memory` where out of memory.
+/// The lines of the value of this kind whose encoding the octets are. An encrypted key is rejected as an encrypted key
+/// for each kind, and other octets with the first error of the kind's type. `Memory` if out of memory.
 pub fn answer_to<'a>(alloc: Global, kind: Kind, octets: &'a [u8]) -> Result<Answer, Fault>
     ensures { IfOk result (IsShownOnlyIf (elim kind as (λ _. Type 0) [
       | kinds.Certificate ↦ IsRead ⟦<Certificate<'a> as Asn1Type>⟧.der octets.entry.now
@@ -245,7 +245,7 @@ fn is_rejected_with(answer: &Answer, error: &ParseError) -> bool {
     }
 }
 
-/// How many octets at the front decide this error: any others behind them, here 0xff, are rejected with it too.
+/// How many octets at the start decide this error: with any others after them, here 0xff, the error is the same.
 fn octets_of(alloc: Global, kind: Kind, octets: &[u8], error: &ParseError) -> Result<usize, Fault> {
     let (mut low, mut high) = (0usize, octets.len());
     // Each turn halves what is between.
@@ -267,8 +267,8 @@ fn octets_of(alloc: Global, kind: Kind, octets: &[u8], error: &ParseError) -> Re
     Ok(high)
 }
 
-/// The octet of an error, counted from 0: where the contents octets begin that are no value, or are under another tag;
-/// or the first octet after the whole value. `None` if octets are missing, or follow a value within.
+/// The octet of an error, counted from 0: where the contents octets begin that encode no value or are under another
+/// tag; or the first octet after the whole value. `None` if octets are missing, or follow a value within.
 fn octet_of(
     alloc: Global,
     kind: Kind,
@@ -296,7 +296,7 @@ fn words_of(alloc: Global, kind: Kind, octets: &[u8], error: &ParseError) -> Res
     Ok(words)
 }
 
-/// What an object in DER is answered with if this kind is asked for, an error in words.
+/// The result for an object in DER if this kind is asked for, with an error in words.
 fn told(alloc: Global, kind: Kind, octets: &[u8]) -> Result<Answer, Fault> {
     match answer_to(alloc, kind, octets)? {
         Answer::Shown(lines) => Ok(Answer::Shown(lines)),
@@ -310,7 +310,7 @@ fn told(alloc: Global, kind: Kind, octets: &[u8]) -> Result<Answer, Fault> {
     }
 }
 
-/// What an object in DER is answered with if no kind is named: the lines of the only kind that reads it.
+/// The result for an object in DER if no kind is named: the lines of the only kind that reads it.
 fn answer_to_any(alloc: Global, octets: &[u8]) -> Result<Answer, Fault> {
     let mut found = None;
     for kind in Kind::ALL.iter().copied() {
@@ -331,7 +331,7 @@ fn answer_to_any(alloc: Global, octets: &[u8]) -> Result<Answer, Fault> {
     Ok(found.map_or(Answer::Rejected(Refusal::NoKind), Answer::Shown))
 }
 
-/// Whether objects with this label are of no kind, though they may have the form of one: parameters that of a key.
+/// Whether objects with this label are of no kind, though they may have the form of one: parameters may look like keys.
 fn is_of_no_kind(label: &[u8]) -> bool {
     label.ends_with(b"PARAMETERS") || label.starts_with(b"DSA")
 }
@@ -371,17 +371,17 @@ fn answer_to_object(
     }
 }
 
-/// What an input is answered with.
+/// The result for an input.
 #[derive(Debug, Drop)]
 pub struct Report {
-    /// The lines of its objects. Where it has several, a line with the number and the label comes before each.
+    /// The lines of its objects. If there are several, a line with the number and the label comes before each.
     pub lines: String,
     /// A line for each object that is rejected: why.
     pub reasons: String,
 }
 
 impl Report {
-    /// Adds what an object is answered with, which has this name where it isn't the only one.
+    /// Adds the result for an object, which has this name if it isn't the only one.
     fn add(&mut self, name: &str, answer: Answer) -> Result<(), AllocError> {
         let dots = if name.is_empty() { "" } else { ": " };
         match answer {
@@ -393,7 +393,7 @@ impl Report {
 }
 
 /// The lines of the objects of an input, and why others are rejected. The input is in PEM if it has a line that begins
-/// with `-----BEGIN ` and only text before that, and else one object in DER. `Memory` where out of memory.
+/// with `-----BEGIN ` and only text before that, and else one object in DER. `Memory` if out of memory.
 pub fn report_on(alloc: Global, kind: Option<Kind>, input: &[u8]) -> Result<Report, Fault> {
     let mut report = Report {
         lines: String::new(alloc),

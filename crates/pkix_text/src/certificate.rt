@@ -45,7 +45,7 @@ impl Show for TbsCertificate<'_> {
     }
 }
 
-/// The fields of its `tbsCertificate` stand in the certificate's own place.
+/// The fields of its `tbsCertificate` are at the certificate's own location.
 impl Show for Certificate<'_> {
     fn show(&self, alloc: Global, place: &str, out: &mut String) -> Result<(), Fault> {
         self.tbs_certificate.show(alloc, place, out)?;

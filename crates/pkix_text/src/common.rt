@@ -13,7 +13,7 @@ use pkix::common::{
 use pkix::keys::{DssParms, RsaPublicKey, RsassaPssParams};
 use std::alloc::{AllocError, Global};
 
-/// The identifier's name where it is a known one, else its dotted form.
+/// The identifier's name if it is a known one, else its dotted form.
 pub(crate) fn short_name(
     alloc: Global,
     identifier: &ObjectIdentifier,
@@ -25,7 +25,7 @@ pub(crate) fn short_name(
     }
 }
 
-/// Appends the line of the parameters as an element, if there is one: an identifier, as that of a curve, or the octets.
+/// Appends the line of the parameters as an element, if there is one: an identifier, as of a curve, or the octets.
 fn element(
     alloc: Global,
     place: &str,
@@ -41,8 +41,8 @@ fn element(
     }
 }
 
-/// Appends the lines of an algorithm within the parameters of another, if there is one: with its own as an element, as
-/// they could have algorithms again.
+/// Appends the lines of an algorithm within the parameters of another, if there is one. Its own parameters are shown as
+/// an element, since they could have algorithms again.
 fn inner_algorithm(
     alloc: Global,
     place: &str,
@@ -113,7 +113,7 @@ impl Show for AlgorithmIdentifier<'_> {
 fn modulus_bits(alloc: Global, octets: &[u8]) -> Option<usize> {
     let key = parse_single::<RsaPublicKey<'_>>(alloc, octets).ok()?;
     let modulus = key.modulus.as_bytes();
-    // Contents octets that are read are never more, which their types don't say.
+    // Contents octets that were read are never longer, which their types don't say.
     u32::try_from(modulus.len()).ok()?;
     Some(BigInt::new(modulus)?.bit_length())
 }
@@ -135,7 +135,7 @@ impl Show for SubjectPublicKeyInfo<'_> {
     }
 }
 
-/// The value, with the attribute's type as its place.
+/// The value, with the attribute's type as its location.
 impl Show for AttributeTypeAndValue<'_> {
     fn show(&self, alloc: Global, place: &str, out: &mut String) -> Result<(), Fault> {
         let name = short_name(alloc, &self.type_id)?;
@@ -143,7 +143,7 @@ impl Show for AttributeTypeAndValue<'_> {
     }
 }
 
-/// The attributes of a set, which is a part of a name: each in the set's own place.
+/// The attributes of a set, which is a part of a name: each at the set's own location.
 impl<'a> Show for SetOf<'a, AttributeTypeAndValue<'a>> {
     fn show(&self, alloc: Global, place: &str, out: &mut String) -> Result<(), Fault> {
         let mut count = 0usize;
@@ -155,8 +155,8 @@ impl<'a> Show for SetOf<'a, AttributeTypeAndValue<'a>> {
     }
 }
 
-/// Appends the lines of a value of an attribute of this name: of extensions, where they are asked for, and else of an
-/// element of any type.
+/// Appends the lines of a value of an attribute with this name: of extensions if the attribute asks for them, and else
+/// of an element of any type.
 fn value(
     alloc: Global,
     place: &str,
@@ -170,7 +170,7 @@ fn value(
     inner::<Extensions<'_>>(alloc, place, name, value.full_data(), out)
 }
 
-/// Each value, with the attribute's type as its place.
+/// Each value, with the attribute's type as its location.
 impl Show for Attribute<'_> {
     fn show(&self, alloc: Global, place: &str, out: &mut String) -> Result<(), Fault> {
         let name = short_name(alloc, &self.type_id)?;

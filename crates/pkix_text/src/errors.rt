@@ -62,7 +62,7 @@ fn push_tag(out: &mut String, tag: Tag) -> Result<(), AllocError> {
     }
 }
 
-/// Appends the name of a field as the lines have it.
+/// Appends the name of a field, as it is in the lines.
 fn push_field(out: &mut String, field: &str) -> Result<(), AllocError> {
     if let Some((_, name)) = NAMES.iter().find(|row| row.0 == field) {
         return out.push_str(name);
@@ -83,9 +83,9 @@ fn push_field(out: &mut String, field: &str) -> Result<(), AllocError> {
     Ok(())
 }
 
-/// Appends the locations of the error, the outermost first, with a colon behind them; nothing if there are none.
+/// Appends the locations of the error, the outermost first, with a colon after them; nothing if there are none.
 fn push_location(alloc: Global, out: &mut String, error: &ParseError) -> Result<(), AllocError> {
-    // An error tells its locations in its `Debug` alone: names in quotes, and numbers of items.
+    // An error shows its locations in its `Debug` alone: names in quotes, and numbers of items.
     let shown = format!(in alloc; "{error:?}")?;
     let Some((_, locations)) = shown.as_str().split_once(", location: [") else {
         return Ok(());
@@ -101,7 +101,7 @@ fn push_location(alloc: Global, out: &mut String, error: &ParseError) -> Result<
     out.push_str(": ")
 }
 
-/// Why octets aren't the encoding of a value, in words, behind the location in the value.
+/// Why octets aren't the encoding of a value, in words, after the location in the value.
 pub(crate) fn in_words(alloc: Global, error: &ParseError) -> Result<String, AllocError> {
     let mut out = String::new(alloc);
     push_location(alloc, &mut out, error)?;

@@ -193,7 +193,7 @@ impl Show for IssuingDistributionPoint<'_> {
     }
 }
 
-/// The lines of the value, whichever type it has: of key usage the bits, and the name of each that is set.
+/// The lines of the value, of any type: of key usage the bits, and the name of each that is set.
 impl Show for ExtensionValue<'_> {
     fn show(&self, alloc: Global, place: &str, out: &mut String) -> Result<(), Fault> {
         match self {
@@ -224,8 +224,8 @@ impl Show for ExtensionValue<'_> {
     }
 }
 
-/// The value is shown as what the identifier says that it is, under the extension's name, where that is known; and else
-/// as octets, with the reason where they aren't the encoding of such a value.
+/// The value of a known extension is shown under the extension's name. Other values are shown as octets, with the
+/// reason if they aren't the encoding of a value that the identifier names.
 impl Show for Extension<'_> {
     fn show(&self, alloc: Global, place: &str, out: &mut String) -> Result<(), Fault> {
         part(alloc, place, "extnID", &self.extn_id, out)?;

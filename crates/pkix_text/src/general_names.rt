@@ -6,7 +6,7 @@ use asn1::{Sequence, write_readable};
 use pkix::common::{EdiPartyName, GeneralName, OtherName};
 use std::alloc::{AllocError, Global};
 
-/// Appends the line of a character string at this part of the place.
+/// Appends the line of a character string at this part of the location.
 fn string(
     alloc: Global,
     place: &str,
@@ -19,7 +19,7 @@ fn string(
 }
 
 /// An address of IPv4, or two that are a range (RFC 5280, 4.2.1.10), in decimal; one of IPv6 in hex with colons; other
-/// octets in hex behind `#`.
+/// octets in hex after `#`.
 fn address(alloc: Global, octets: &[u8]) -> Result<String, AllocError> {
     match octets {
         [a, b, c, d] => return format!(in alloc; "{a}.{b}.{c}.{d}"),
@@ -42,7 +42,7 @@ fn address(alloc: Global, octets: &[u8]) -> Result<String, AllocError> {
     Ok(groups)
 }
 
-/// The octets of a sequence whose elements aren't looked at, in hex behind `#`.
+/// The octets of a sequence whose elements aren't read, in hex after `#`.
 impl Show for Sequence<'_> {
     fn show(&self, alloc: Global, place: &str, out: &mut String) -> Result<(), Fault> {
         let Ok(octets) = write_readable(alloc, self) else {
@@ -74,7 +74,7 @@ impl Show for EdiPartyName<'_> {
     }
 }
 
-/// The name, with its alternative as its place.
+/// The name, with its alternative as its location.
 impl Show for GeneralName<'_> {
     fn show(&self, alloc: Global, place: &str, out: &mut String) -> Result<(), Fault> {
         match self {

@@ -97,7 +97,7 @@ const NAMES: [(&str, &str); 93] = [
     ("2.5.4.9", "streetAddress"),
 ];
 
-/// The name of a dotted identifier, where it is a known one.
+/// The name of a dotted identifier, if it is a known one.
 pub(crate) fn name_of(dotted: &str) -> Option<&'static str> {
     let found = NAMES.iter().find(|known| known.0 == dotted)?;
     Some(found.1)

@@ -28,9 +28,10 @@ pub enum Kind {
     Crl,
     /// `request`: a CertificationRequest (RFC 2986, 4.2).
     Request,
-    /// `key`: a OneAsymmetricKey (RFC 5958, 2).
+    /// `key`: a OneAsymmetricKey (RFC 5958, 2), ECPrivateKey (RFC 5915, 3), RSAPrivateKey or RSAPublicKey (RFC 8017,
+    /// A.1), or SubjectPublicKeyInfo (RFC 5280, 4.1).
     Key,
-    /// `signature`: a ContentInfo with SignedData (RFC 5652, 3 and 5.1).
+    /// `signature`: an ECDSA-Sig-Value (RFC 3279, 2.2.3), a DigestInfo (RFC 8017, 9.2) or a ContentInfo (RFC 5652, 3).
     Signature,
     /// `timestamp-request`: a TimeStampReq (RFC 3161, 2.4.1).
     TimestampRequest,
@@ -50,11 +51,11 @@ impl Kind {
         Kind::TimestampResponse,
     ];
 
-    /// The names, for who gave none of them.
+    /// The names, for a user who gave none of them.
     pub const NAMES: &'static str =
         "certificate, crl, request, key, signature, timestamp-request, timestamp-response";
 
-    /// The name as an argument has it.
+    /// The name, as it is in an argument.
     fn name(self) -> &'static [u8]
         ensures { result.now ≡ kind_name self }
     {

@@ -1,4 +1,4 @@
-//! Shows the objects of `pkix` as text: a line for each field, with its place and its value.
+//! Shows the objects of `pkix` as text: a line for each field, with its location and its value.
 #![tactic(auto)]
 
 mod answers;

@@ -40,11 +40,11 @@ impl fmt::Display for PemError {
 /// An object of a text.
 #[derive(Drop)]
 pub(crate) struct Object<'a> {
-    /// What its lines call it.
+    /// The label in its lines.
     pub(crate) label: &'a [u8],
     /// Whether a header says that it is encrypted, as in OpenSSL's older form of private keys.
     pub(crate) is_encrypted: bool,
-    /// What should be its encoding.
+    /// The octets that should be its encoding.
     pub(crate) octets: Result<Vec<u8>, PemError>,
 }
 
@@ -57,7 +57,7 @@ struct Open<'a> {
 }
 
 impl<'a> Open<'a> {
-    /// The object, where no line ends it.
+    /// The object, if no line ends it.
     fn not_ended(self) -> Object<'a> {
         Object {
             label: self.label,
@@ -84,7 +84,7 @@ impl<'a> Open<'a> {
         })
     }
 
-    /// Takes a line between the first and the last one. A header has a colon, which base64 has not.
+    /// Takes a line between the first and the last one. A header has a colon, which base64 doesn't have.
     fn take(&mut self, line: &[u8]) -> Result<(), AllocError> {
         if !line.contains(&b':') {
             return self.symbols.extend_from_slice(line);

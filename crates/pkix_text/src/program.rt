@@ -21,7 +21,7 @@ example: pkix certificate server.der
 pub enum Asked {
     /// `--help`: how the program is used.
     Help,
-    /// The name of a kind, or nothing: the lines of the objects of this kind, or of that which labels or forms tell.
+    /// The name of a kind, or nothing: the lines of the objects of this kind, or of kinds that labels or forms tell.
     Objects(Option<Kind>),
 }
 
@@ -37,8 +37,8 @@ pub fn ask(args: &[String]) -> Option<Asked>
     }
 }
 
-/// The status that the program ends with: 0 where each object was shown, 1 where one was rejected, and 2 where there
-/// was no answer: the arguments were unknown (`None`), or the program failed.
+/// The status that the program ends with: 0 if each object was shown, 1 if one was rejected, and 2 if there is no
+/// result: the arguments were unknown (`None`), or the program failed.
 pub fn status(answer: &Option<Result<Report, Fault>>) -> u8
     ensures { result ≡ status_of answer.now }
 {

@@ -14,7 +14,7 @@ impl Show for CertificationRequestInfo<'_> {
     }
 }
 
-/// The fields of its `certificationRequestInfo` stand in the request's own place.
+/// The fields of its `certificationRequestInfo` are at the request's own location.
 impl Show for CertificationRequest<'_> {
     fn show(&self, alloc: Global, place: &str, out: &mut String) -> Result<(), Fault> {
         self.certification_request_info.show(alloc, place, out)?;

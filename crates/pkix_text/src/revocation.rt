@@ -43,7 +43,7 @@ impl Show for TbsCertList<'_> {
     }
 }
 
-/// The fields of its `tbsCertList` stand in the list's own place.
+/// The fields of its `tbsCertList` are at the list's own location.
 impl Show for CertificateList<'_> {
     fn show(&self, alloc: Global, place: &str, out: &mut String) -> Result<(), Fault> {
         self.tbs_cert_list.show(alloc, place, out)?;

@@ -14,11 +14,11 @@ use std::char::decode_utf16;
 
 /// What is shown as lines of text.
 pub(crate) trait Show {
-    /// Appends the lines of the value, whose place is this one. `Memory` where out of memory.
+    /// Appends the lines of the value, whose location is `place`. `Memory` if out of memory.
     fn show(&self, alloc: Global, place: &str, out: &mut String) -> Result<(), Fault>;
 }
 
-/// The place of a part within a place, where the empty place is the whole.
+/// The location of a part within a location. The empty location is the whole.
 pub(crate) fn within(alloc: Global, place: &str, part: &str) -> Result<String, AllocError> {
     if place.is_empty() {
         return format!(in alloc; "{part}");
@@ -26,12 +26,12 @@ pub(crate) fn within(alloc: Global, place: &str, part: &str) -> Result<String, A
     format!(in alloc; "{place}.{part}")
 }
 
-/// The place of the item of this number within a place.
+/// The location of the item with this number within a location.
 pub(crate) fn item(alloc: Global, place: &str, number: usize) -> Result<String, AllocError> {
     format!(in alloc; "{place}.{number}")
 }
 
-/// Appends the line of a value that is text already, at this part of the place.
+/// Appends the line of a value that is text already, at this part of the location.
 pub(crate) fn line(
     alloc: Global,
     place: &str,
@@ -44,7 +44,7 @@ pub(crate) fn line(
     Ok(())
 }
 
-/// Appends the lines of the value at this part of the place.
+/// Appends the lines of the value at this part of the location.
 pub(crate) fn part<T: Show>(
     alloc: Global,
     place: &str,
@@ -56,7 +56,7 @@ pub(crate) fn part<T: Show>(
     value.show(alloc, place.as_str(), out)
 }
 
-/// Appends the lines of the value at this part of the place, where there is one.
+/// Appends the lines of the value at this part of the location, if there is one.
 pub(crate) fn optional<T: Show>(
     alloc: Global,
     place: &str,
@@ -70,8 +70,8 @@ pub(crate) fn optional<T: Show>(
     }
 }
 
-/// Appends the line of octets that should be the encoding of a value at this part of the place, and the reason why they
-/// aren't.
+/// Appends the line of octets that should be the encoding of a value at this part of the location, and the reason why
+/// they aren't.
 pub(crate) fn rejected(
     alloc: Global,
     place: &str,
@@ -91,8 +91,8 @@ pub(crate) fn rejected(
     )
 }
 
-/// Appends the lines of the value whose encoding the octets are, at this part of the place; or if they aren't, the
-/// octets, and why.
+/// Appends the lines of the value whose encoding the octets are, at this part of the location. If the octets aren't an
+/// encoding, appends them, and why.
 pub(crate) fn inner<'a, T: Asn1Readable<'a> + Show>(
     alloc: Global,
     place: &str,
@@ -106,7 +106,7 @@ pub(crate) fn inner<'a, T: Asn1Readable<'a> + Show>(
     }
 }
 
-/// An item of a list, all of whose items were read when the list was: so an error means out of memory.
+/// An item of a list. All items were read when the list was, so an error means out of memory.
 pub(crate) fn read_again<T>(item: ParseResult<T>) -> Result<T, Fault> {
     match item {
         Ok(item) => Ok(item),
@@ -122,7 +122,7 @@ pub(crate) fn empty(place: &str, count: usize, out: &mut String) -> Result<(), F
     Ok(())
 }
 
-/// Each item, with its number in its place.
+/// Each item, with its number in its location.
 impl<'a, T: Asn1Readable<'a> + Show, const MINIMUM_LEN: usize, const MAXIMUM_LEN: usize> Show
     for SequenceOf<'a, T, MINIMUM_LEN, MAXIMUM_LEN> {
     fn show(&self, alloc: Global, place: &str, out: &mut String) -> Result<(), Fault> {
@@ -219,7 +219,7 @@ impl Show for NamedBits<'_> {
     }
 }
 
-/// Dotted, and with its name where it is a known one.
+/// Dotted, and with its name if it is a known one.
 impl Show for ObjectIdentifier {
     fn show(&self, alloc: Global, place: &str, out: &mut String) -> Result<(), Fault> {
         let dotted = format!(in alloc; "{self}")?;
@@ -231,7 +231,7 @@ impl Show for ObjectIdentifier {
     }
 }
 
-/// A date and time, without its end.
+/// A date and time, without a fraction and without `Z`.
 fn date(alloc: Global, time: &DateTime) -> Result<String, AllocError> {
     let (year, month, day) = (time.year(), time.month(), time.day());
     let (hour, minute, second) = (time.hour(), time.minute(), time.second());
@@ -282,8 +282,8 @@ pub(crate) fn push_escaped(out: &mut String, text: &str) -> Result<(), AllocErro
     Ok(())
 }
 
-/// Appends the line of a character string of this type, which is told where it isn't empty. A `#` or `(` that begins it
-/// is escaped, as these begin octets in hex and a type.
+/// Appends the line of a character string, with its type if that isn't empty. A `#` or `(` at the start of the
+/// characters is escaped, since these begin octets in hex and a type.
 pub(crate) fn string_line(
     place: &str,
     string_type: &str,
@@ -308,7 +308,7 @@ impl Show for Utf8String<'_> {
     }
 }
 
-/// The characters of an element that is a character string of ASCII or in UTF-8, and its type where that is neither
+/// The characters of an element that is a character string of ASCII or in UTF-8, and its type if that is neither
 /// PrintableString nor UTF8String.
 fn characters<'a>(alloc: Global, element: &Tlv<'a>) -> Option<(&'static str, &'a str)> {
     let octets = element.full_data();
@@ -342,7 +342,7 @@ fn bmp_characters(alloc: Global, text: &BMPString<'_>) -> Result<String, AllocEr
     Ok(characters)
 }
 
-/// A character string as its characters, another element as its octets in hex behind `#`.
+/// A character string as its characters, another element as its octets in hex after `#`.
 impl Show for Tlv<'_> {
     fn show(&self, alloc: Global, place: &str, out: &mut String) -> Result<(), Fault> {
         if let Some((string_type, text)) = characters(alloc, self) {

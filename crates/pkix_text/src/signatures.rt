@@ -32,7 +32,7 @@ impl Show for IssuerAndSerialNumber<'_> {
     }
 }
 
-/// The identifier, with its alternative as its place.
+/// The identifier, with its alternative as its location.
 impl Show for SignerIdentifier<'_> {
     fn show(&self, alloc: Global, place: &str, out: &mut String) -> Result<(), Fault> {
         match self {

@@ -1,4 +1,4 @@
-//! Encodings that are cut, and encodings in which one octet is another.
+//! Encodings that are cut, and encodings in which one octet is changed.
 
 use crate::{error_of, is_written_back};
 use asn1_core::parser::{ParseError, ParseErrorKind, parse_single};
@@ -7,12 +7,12 @@ use asn1_core::writer::WriteError;
 use std::alloc::Global;
 use std::test::Fail;
 
-/// An encoding, and it again and again with each of its octets replaced by each of the 256 values.
+/// An encoding, and its copies in which one octet is replaced: each octet by each of the 256 values.
 #[derive(Drop)]
 pub struct Text {
     /// The encoding.
     pub whole: Vec<u8>,
-    /// The changed ones, one behind another.
+    /// The changed copies, one after another.
     pub changed: Vec<u8>,
 }
 
@@ -28,7 +28,7 @@ fn changes_of(alloc: Global, text: &[u8]) -> Result<Vec<u8>, Fail> {
     Ok(changed)
 }
 
-/// These encodings and their changes. They stand in a list of their own, since what is read borrows from them.
+/// These encodings and their changed copies. They are in a list of their own, since what is read borrows from them.
 pub fn texts_of(alloc: Global, wholes: &[&[u8]]) -> Result<Vec<Text>, Fail> {
     let mut texts = Vec::new(alloc);
     for text in wholes {
@@ -39,7 +39,7 @@ pub fn texts_of(alloc: Global, wholes: &[&[u8]]) -> Result<Vec<Text>, Fail> {
     Ok(texts)
 }
 
-/// The prefix of that many octets is too short, and by so much.
+/// The prefix of `end` octets is too short, and lacks `needed` octets.
 fn is_short<'a, T: Asn1Readable<'a>>(
     alloc: Global,
     text: &'a [u8],
@@ -54,8 +54,8 @@ fn is_short<'a, T: Asn1Readable<'a>>(
     Err(Fail::new(format_args!("{end} of {text:?}: {found:?}")))
 }
 
-/// Each proper prefix from this length on is too short: one that ends in the header lacks so many octets, and any other
-/// the remaining ones.
+/// Each proper prefix of at least `first` octets is too short. One that ends in the header lacks as many octets as
+/// `header` gives, and any other the remaining ones.
 fn are_prefixes_short<'a, T: Asn1Readable<'a>>(
     alloc: Global,
     header: &[usize],
@@ -84,11 +84,12 @@ fn are_refused_or_written<'a, T: Asn1Readable<'a> + Asn1Writable<Error = WriteEr
     Ok(())
 }
 
-/// How many octets an encoding with a header of two lacks, where it is cut before the first and before the second.
+/// How many octets an encoding with a header of two lacks, if it is cut before the first and before the second.
 pub const TWO_OCTETS: &[usize] = &[1, 1];
 
 /// Each encoding is written again as it is, each of its proper prefixes is too short, and each of the changed ones is
-/// rejected or written again. A prefix that ends in the header lacks so many octets, and any other the remaining ones.
+/// rejected or written again. A prefix that ends in the header lacks as many octets as `header` gives, and any other
+/// the remaining ones.
 pub fn check<'a, T: Asn1Readable<'a> + Asn1Writable<Error = WriteError>>(
     alloc: Global,
     header: &[usize],
@@ -105,7 +106,7 @@ pub fn check<'a, T: Asn1Readable<'a> + Asn1Writable<Error = WriteError>>(
     Ok(())
 }
 
-/// The same of a type that has an empty encoding, which is then no prefix that is too short.
+/// The same for a type that has an empty encoding, so that the empty prefix isn't too short.
 pub fn check_optional<'a, T: Asn1Readable<'a> + Asn1Writable<Error = WriteError>>(
     alloc: Global,
     header: &[usize],

@@ -1,6 +1,7 @@
 //! What the crates of tests share: comparisons, and walks over tables of values and their encodings.
 //!
-//! A library ends no process, so each answers a result: a failure that shows what is wrong. A test hands it on by `?`.
+//! A library ends no process: each function returns a result, whose failure shows what is wrong. Tests pass that on
+//! by `?`.
 #![tactic(auto)]
 
 ghost use Rattle.asn1_core.specs.Closures.{IsWriter};
@@ -26,7 +27,7 @@ pub fn same<T: PartialEq + Debug + Copy>(left: T, right: T) -> Result<(), Fail> 
     Err(Fail::new(format_args!("{left:?} isn't {right:?}")))
 }
 
-/// The same of values that own something, as answers that may hold an error do.
+/// The same for values that own something, such as results that may hold an error.
 pub fn same_owned<T: PartialEq + Debug + Drop>(left: T, right: T) -> Result<(), Fail> {
     if left == right {
         return Ok(());
@@ -72,7 +73,7 @@ pub fn all_different<T: PartialEq + Debug>(rows: &[(T, T)]) -> Result<(), Fail> 
     Ok(())
 }
 
-/// The answer is the error of this kind, with no place.
+/// The result is the error of this kind, without a location.
 pub fn is_refusal<T: PartialEq + Debug + Drop>(
     answer: ParseResult<T>,
     kind: ParseErrorKind,
@@ -80,7 +81,7 @@ pub fn is_refusal<T: PartialEq + Debug + Drop>(
     same_owned(answer, Err(ParseError::new(kind)))
 }
 
-/// The error of a refusal.
+/// The error of a result, if there is one.
 pub fn error_of<T: Drop>(answer: ParseResult<T>) -> Option<ParseError> {
     match answer {
         Ok(_value) => None,
@@ -88,7 +89,7 @@ pub fn error_of<T: Drop>(answer: ParseResult<T>) -> Option<ParseError> {
     }
 }
 
-/// The kind of a refusal.
+/// The kind of the error of a result, if there is one.
 pub fn kind_of<T: Drop>(answer: ParseResult<T>) -> Option<ParseErrorKind> {
     match answer {
         Ok(_value) => None,
@@ -96,12 +97,12 @@ pub fn kind_of<T: Drop>(answer: ParseResult<T>) -> Option<ParseErrorKind> {
     }
 }
 
-/// The kind of the refusal, where the octets are no one value of the type.
+/// The kind of the error, if the octets aren't one value of the type.
 pub fn refused<'a, T: Asn1Readable<'a>>(alloc: Global, octets: &'a [u8]) -> Option<ParseErrorKind> {
     kind_of(parse_single::<T>(alloc, octets))
 }
 
-/// The octets of each row are refused as the type, by the row's kind.
+/// The octets of each row are rejected as the type, with the row's kind.
 pub fn are_refused<'a, T: Asn1Readable<'a>>(
     alloc: Global,
     rows: &[(&'a [u8], ParseErrorKind)],
@@ -115,7 +116,7 @@ pub fn are_refused<'a, T: Asn1Readable<'a>>(
     Ok(())
 }
 
-/// The octets of each row are refused as the type, by the row's error, with its places.
+/// The octets of each row are rejected as the type, with the row's error and its locations.
 pub fn are_refused_with<'a, T: Asn1Readable<'a>>(
     alloc: Global,
     rows: &[(&'a [u8], ParseError)],
@@ -129,7 +130,7 @@ pub fn are_refused_with<'a, T: Asn1Readable<'a>>(
     Ok(())
 }
 
-/// The octets of each row are refused as the type, since their contents are none of a value.
+/// The octets of each row are rejected as the type, since their contents octets encode no value.
 pub fn are_invalid<'a, T: Asn1Readable<'a>>(alloc: Global, rows: &[&'a [u8]]) -> Result<(), Fail> {
     for octets in rows {
         let found = refused::<T>(alloc, octets);
@@ -183,7 +184,7 @@ pub fn closure_writes_set<F: Fn(&mut SetElementWriter<'_>) -> WriteResult<()>>(
     same(written_set(alloc, closure)?.as_slice(), octets)
 }
 
-/// The failure of a read: the error itself where memory ran out, and else the error with the octets.
+/// The failure of a read: the error itself if out of memory, and else the error with the octets.
 fn unread(octets: &[u8], error: ParseError) -> Fail {
     if error.kind() == ParseErrorKind::AllocationError {
         return error.into();
@@ -204,7 +205,7 @@ pub fn is_written_back<'a, T: Asn1Readable<'a> + Asn1Writable<Error = WriteError
     }
 }
 
-/// The same of each row.
+/// The same for each row.
 pub fn are_written_back<'a, T: Asn1Readable<'a> + Asn1Writable<Error = WriteError>>(
     alloc: Global,
     rows: &[&'a [u8]],
@@ -243,7 +244,7 @@ pub fn both_ways<'a, T: Asn1Readable<'a> + Asn1Writable<Error = WriteError> + Pa
     is_read(alloc, octets, &value)
 }
 
-/// The same of each row.
+/// The same for each row.
 pub fn are_both_ways<'a, T: Asn1Readable<'a> + Asn1Writable<Error = WriteError> + PartialEq>(
     alloc: Global,
     rows: &[(T, &'a [u8])],
@@ -258,7 +259,7 @@ pub fn are_both_ways<'a, T: Asn1Readable<'a> + Asn1Writable<Error = WriteError> 
     Ok(())
 }
 
-/// The octets of each row are read as two values, which are equal and hashed alike where the row says so, and else
+/// The octets of each row are read as two values. These are equal and have equal hashes if the row says so, and else
 /// neither.
 pub fn are_equal_or_not<'a, T: Asn1Readable<'a> + PartialEq + Hash>(
     alloc: Global,
@@ -277,12 +278,12 @@ pub fn are_equal_or_not<'a, T: Asn1Readable<'a> + PartialEq + Hash>(
     Ok(())
 }
 
-/// `Debug` shows the value so, in one line.
+/// `Debug` shows the value as this text, in one line.
 pub fn is_shown<T: Debug>(alloc: Global, value: &T, text: &str) -> Result<(), Fail> {
     same(format!(in alloc; "{value:?}")?.as_str(), text)
 }
 
-/// `Debug` shows the value of each row so, in one line.
+/// `Debug` shows the value of each row as its text, in one line.
 pub fn are_shown<T: Debug>(alloc: Global, rows: &[(T, &str)]) -> Result<(), Fail> {
     for (value, text) in rows {
         is_shown(alloc, value, text)?;
@@ -290,17 +291,17 @@ pub fn are_shown<T: Debug>(alloc: Global, rows: &[(T, &str)]) -> Result<(), Fail
     Ok(())
 }
 
-/// `Debug` shows the value so, laid out in lines.
+/// `Debug` shows the value as this text, laid out in lines.
 pub fn is_laid_out<T: Debug>(alloc: Global, value: &T, text: &str) -> Result<(), Fail> {
     same(format!(in alloc; "{value:#?}")?.as_str(), text)
 }
 
-/// `Display` shows the value so.
+/// `Display` shows the value as this text.
 pub fn is_displayed<T: Display>(alloc: Global, value: &T, text: &str) -> Result<(), Fail> {
     same(format!(in alloc; "{value}")?.as_str(), text)
 }
 
-/// What a hasher answers for a value.
+/// What a hasher returns for a value.
 pub fn hash_of<T: Hash>(value: &T) -> u64 {
     let mut hasher = DefaultHasher::new();
     value.hash(&mut hasher);

@@ -1,4 +1,4 @@
--- What the code of a field with a default answers at each step: for the answers of proofs.
+-- What the code of a field with a default returns at each step, for the files `Answers.antt` of proofs.
 use Rattle.std.proofs.Common.{◌≡◌, ℕ, ◌⊎◌, Bool, true, false, if◌then◌else◌, List, Option, Some, None, Result, Ok, Err, OnErr, refl, sym, ap, subst, ◌∙◌, inl, inr}
 use Rattle.std.proofs.lemmas.Bool.Decides.{same_from_decides}
 use Rattle.std.proofs.lemmas.Slice.Eq.{bytes_eq-Decides}
@@ -46,12 +46,12 @@ no_value : {M : Type 0} (m : M) (t rest : List ℕ) → ◌≡◌ {A = Option M 
 no_value {M} m t rest e = nothing_apart m (ap (λ (p : Option M × List ℕ). p.0) e)
 
 module _ {V M : Type 0} (meaning : V → M) (text : M → List ℕ) (same : V → V → Bool) where
-  -- equality is that of texts
+  -- equality is the equality of encodings
   pub same_is : (a b : V) → EqualityTells meaning text same a b → same a b ≡ same_text text (meaning a) (meaning b)
   same_is a b tells =
       same_from_decides {P = text (meaning a) ≡ text (meaning b)} (same a b) (same_text text (meaning a) (meaning b)) (λ e. ap text (tells.means e), tells.equal) (bytes_eq-Decides (text (meaning a)) (text (meaning b)))
 
-  -- a value in hand is the default, or another
+  -- a valid value means the default, or has another encoding
   pub known_is : (valid : M → Type 0) (a b : V) → EqualityTells meaning text same a b → valid (meaning a) → (meaning a ≡ meaning b) ⊎ (valid (meaning a) × (same_text text (meaning a) (meaning b) ≡ false))
   known_is valid a b tells v =
       elim (either_answer (same a b)) [
@@ -60,7 +60,7 @@ module _ {V M : Type 0} (meaning : V → M) (text : M → List ℕ) (same : V �
       ]
 
   module _ (b : V) (default : M) (default_is : meaning b ≡ default) (tells : (a : V) → EqualityTells meaning text same a b) where
-    -- equality with the default, as texts tell it
+    -- equality with the default is the equality of encodings
     pub same_default : (a : V) → same a b ≡ same_text text (meaning a) default
     same_default a = same_is a b (tells a) ∙ ap (λ (m : M). same_text text (meaning a) m) default_is
 
@@ -89,7 +89,7 @@ module _ {V M : Type 0} (meaning : V → M) (text : M → List ℕ) (same : V �
             | inr r ↦ inr r
           ])
 
-  -- what a value that is the default leaves
+  -- the octets that remain after a value that is the default
   left_behind : (b : V) (accepts : Tag → Bool) (read : List ℕ → Result (M × List ℕ) Fault) (t rest : List ℕ) (o : Option V) (e : Fault) →
       option_read accepts read t ≡ Ok (option_meaning meaning o, rest) → read_default same o b ≡ Err e → (m : M) × (read t ≡ Ok (m, rest))
   left_behind b accepts read t rest None e found refused = absurd cc
@@ -101,7 +101,7 @@ module _ {V M : Type 0} (meaning : V → M) (text : M → List ℕ) (same : V �
         | inr p ↦ absurd (no_value (meaning a) t rest (ok_is _ _ p.1))
       ]
 
-  -- what a refusal leaves
+  -- what a read leaves at an error
   pub stops_default : {W : Type 0} (view : W → V) (b : V) (accepts : Tag → Bool) (read : List ℕ → Result (M × List ℕ) Fault) (out : List Place → Type 0) (stops : Type 0) (t rest : List ℕ) (found : Result (Option V) Fault) (result : Result W Fault) →
       Answers (with_rest (option_meaning meaning) rest) out found (option_read accepts read t) → OnErr found stops → seen_ok view result ≡ or_read_default same found b → OnErr result (stops ⊎ ((m : M) × (read t ≡ Ok (m, rest))))
   stops_default view b accepts read out stops t rest found (Ok w) h s e = tt

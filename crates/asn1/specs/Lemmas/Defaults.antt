@@ -1,4 +1,4 @@
--- The laws of values that are left out where they equal a default, from those of the type.
+-- The laws of values that are left out if they equal a default, from the laws of the type.
 use Rattle.std.proofs.Common.{◌≡◌, ℕ, Bool, true, false, if◌then◌else◌, List, [], ◌++◌, Option, Some, None, Result, Ok, Err, IfErr, refl, sym, ap, subst, ◌∙◌, ◌⊎◌, inl, inr}
 use Rattle.std.proofs.lemmas.Slice.Eq.{bytes_eq-Decides}
 use Rattle.asn1_core.specs.declared.tag.Tag.{Tag}
@@ -15,11 +15,11 @@ use Rattle.asn1_core.specs.Lemmas.Wholes.{stands_tag}
 use Rattle.asn1_core.specs.Lemmas.Faults.{bind_faults, missed_faults}
 use Rattle.asn1.specs.Defaults.{same_text, unless, unless_text, read_default, default_text, default_read}
 
--- a text is its own
+-- a value has the same encoding as itself
 pub same_itself : {M : Type 0} (text : M → List ℕ) (m : M) → same_text text m m ≡ true
 same_itself text m = (bytes_eq-Decides (text m) (text m)).1 refl
 
--- a value of which a test is false isn't one of which it is true
+-- a test isn't both true and false
 apart_is : {P : Type 0} (b : Bool) → b ≡ true → b ≡ false → P
 apart_is b holds fails = absurd cc
 
@@ -31,7 +31,7 @@ some_is true v m rest1 rest e = absurd cc
 some_is false v m rest1 rest e = (refl, ok_is _ _ e)
 
 module _ {M : Type 0} (text : M → List ℕ) (default : M) where
-  -- the default has no text, and another value its own
+  -- the default is encoded as nothing, and another value as in its type
   pub none_of : (m : M) → m ≡ default → default_text text default m ≡ []
   none_of m e = rw (ap (λ (x : M). same_text text x default) e, same_itself text default) refl
 

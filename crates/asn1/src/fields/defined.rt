@@ -27,29 +27,29 @@ use asn1_core::{
 use asn1_values::ObjectIdentifier;
 use std::marker::PhantomData;
 
-/// A value that an item of the type `T` defines, where both are fields: what each means, for contracts alone.
+/// A value that an item of the type `T` defines, if both are fields: what each means, for contracts alone.
 pub trait DefinedField<T: Asn1Type>: Asn1DefinedBy<T> + Sized {
     ghost both: { ItemAndValue T Self };
 
-    /// States that the item of the value is valid. It does nothing at run time.
+    /// States that the item of the value is valid. The call does nothing at run time.
     fn known_item(&self)
         ensures { both.item.valid (both.value.item (both.value.meaning self.now)) };
 
-    // Each of the two says the same by itself.
+    // `T.der` and `Self.by` state the same as `both`.
     ghost agrees: { Agrees T.der Self.by both };
 }
 
-/// The fields behind an item of the type `T`, one of which it defines: what they mean, for contracts alone.
+/// The fields after an item of the type `T`, one of which the item defines: what they mean, for contracts alone.
 pub trait RowBehind<T: Asn1Type>: Sized {
     ghost behind: { BehindItem T Self };
 
-    // The item's type says the same of the item.
+    // `T.der` states the same as `behind.item`.
     ghost item_agrees: { ItemAgrees T.der behind.item };
 }
 
-/// Such fields that are read.
+/// Fields after an item, which are read.
 pub trait RowBehindReadable<'a, T: Asn1Readable<'a>>: RowBehind<T> + Sized + Drop {
-    /// Reads the fields where this item stands before them. Errors are those of [`RowReadable::read`].
+    /// Reads the fields after this item. Errors are those of [`RowReadable::read`].
     fn read<S: NameSource>(item: T, parser: Parser<'a>, names: S) -> ParseResult<Self>
         ensures { Answers Self.behind.meaning (Self.behind.fields.runs_out (S.texts names)
             (Self.behind.item.meaning item) parser.entry) result
@@ -57,10 +57,10 @@ pub trait RowBehindReadable<'a, T: Asn1Readable<'a>>: RowBehind<T> + Sized + Dro
             parser.entry) };
 }
 
-/// An item, and the fields behind it. The item isn't kept: the value that it defines tells it.
+/// An item, and the fields after it. The item isn't kept, since the value that it defines determines it.
 #[derive(Drop)]
 pub struct Item<T, B> {
-    /// The place of the item.
+    /// A marker at the position of the item.
     pub value: DefinedByMarker<T>,
     /// The fields after it.
     pub rest: B,
@@ -91,7 +91,7 @@ pub struct LastValue<C> {
     pub value: C,
 }
 
-/// Reads the item, as it is said together with the fields behind it.
+/// Reads the item, whose meaning is as `B.behind` states it.
 fn read_item<'a, T: Asn1Readable<'a>, B: RowBehind<T>>(parser: &mut Parser<'a>) -> ParseResult<T>
     ensures { Answers (λ v. (B.behind.item.meaning v, parser.new))
         (B.behind.item.runs_out parser.old) result (B.behind.item.read parser.old) }
@@ -99,7 +99,7 @@ fn read_item<'a, T: Asn1Readable<'a>, B: RowBehind<T>>(parser: &mut Parser<'a>) 
     parser.read_element::<T>()
 }
 
-/// Reads the value that the item defines, as both are said together.
+/// Reads the value that the item defines. The meanings of both are as `C.both` states them.
 fn read_value<'a, T: Asn1Readable<'a>, C: DefinedField<T> + Asn1DefinedByReadable<'a, T>>(
     item: T,
     parser: &mut Parser<'a>,
@@ -183,7 +183,7 @@ impl<'a, T: Asn1Readable<'a>, C: DefinedField<T> + Asn1DefinedByReadable<'a, T>>
     }
 }
 
-/// The OBJECT IDENTIFIER with these contents octets, which the caller has to prove to be those of one.
+/// The OBJECT IDENTIFIER with these contents octets. The caller has to prove that they are those of one (`requires`).
 pub fn known_identifier(contents: &[u8]) -> ObjectIdentifier
     requires { IsOk (read_identifier contents.now) }
     ensures { read_identifier contents.now ≡ Ok (identifier_of result) }
@@ -194,30 +194,30 @@ pub fn known_identifier(contents: &[u8]) -> ObjectIdentifier
     }
 }
 
-/// Whether the two are one OBJECT IDENTIFIER.
+/// Whether the two are the same OBJECT IDENTIFIER.
 pub fn is_identifier(item: &ObjectIdentifier, known: ObjectIdentifier) -> bool
     ensures { result ≡ bytes_eq (identifier_of item.now) (identifier_of known) }
 {
-    // Says that identifiers are equal exactly where their numbers are.
+    // By this call's contract identifiers are equal exactly if their numbers are.
     identifiers_compare();
     *item == known
 }
 
-/// States that the item of a value is valid. It does nothing at run time.
+/// States that the item of a value is valid. The call does nothing at run time.
 pub fn known_item<T: Asn1Type, C: DefinedField<T>>(value: &C)
     ensures { C.both.item.valid (C.both.value.item (C.both.value.meaning value.now)) }
 {
     value.known_item()
 }
 
-/// States that a value that an item defines is valid. It does nothing at run time.
+/// States that a value that an item defines is valid. The call does nothing at run time.
 pub fn known_value<T: Asn1Type, C: DefinedField<T>>(value: &C)
     ensures { C.both.value.valid (C.both.value.meaning value.now) }
 {
     value.known_by()
 }
 
-/// The item of a value that it defines, written where the value stands.
+/// The item that defines a value. The item is written from the value, which determines it.
 #[derive(Drop)]
 pub struct ItemOf<'r, T, C> {
     /// The value.

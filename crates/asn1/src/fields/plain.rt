@@ -1,4 +1,4 @@
-//! Fields under a tag or with a default, whose values stand in a struct without it.
+//! Fields under a tag or with a default, whose values a struct has without these.
 
 ghost use Rattle.std.specs.Prelude.{◌≡◌, OnOk, OnErr, IfErr};
 ghost use Rattle.asn1_core.specs.Buffer.{Appends, KeepsFront};
@@ -13,21 +13,21 @@ use std::marker::PhantomData;
 mod explicit;
 mod implicit;
 
-/// A field's type in the encoding, whose values stand in a struct as a `P`: without the tag, or with no word of the
+/// A field's type in the encoding. A struct has its values as a `P`: without the tag, or with no mention of the
 /// default.
 pub trait Wraps<P>: Asn1Type {
     ghost wrap: { P → Self };
 
-    /// The value as it stands in a struct.
+    /// The value as a struct has it.
     fn into_plain(self) -> P
         ensures { wrap result ≡ self };
 
-    /// States that the value is valid. It does nothing at run time.
+    /// States that the value is valid. The call does nothing at run time.
     fn known_plain(value: &P)
         ensures { Self.der.valid (Self.der.meaning (wrap value.now)) };
 }
 
-/// Such a type that is written.
+/// A field's type in the encoding, which is written.
 pub trait WrapsWritable<P>: Wraps<P> + Asn1Writable {
     /// Appends the encoding of the value. Errors and what the caller has to prove are those of
     /// [`Asn1Writable::write`].
@@ -40,18 +40,18 @@ pub trait WrapsWritable<P>: Wraps<P> + Asn1Writable {
         ensures error { IfErr result (Refuses Self.Error.from_gives
             (Self.write_errors (Self.wrap value.now))) };
 
-    /// How many octets the encoding has, where that is known without writing it.
+    /// How many octets the encoding of the value has, if that is known without writing the value.
     fn plain_length(value: &P) -> Option<usize>
         ensures { GivesLength (Self.length_known (Self.wrap value.now))
             (Self.der.texts (Self.der.meaning (Self.wrap value.now))) result };
 }
 
-/// A field's value where it stands in a struct, written as a `W`.
+/// A reference to a field's value in a struct, which is written as a `W`.
 #[derive(Drop)]
 pub struct Wrapped<'r, W, P> {
     /// The value.
     pub value: &'r P,
-    /// The type that it is written as.
+    /// The type as which the value is written.
     pub of: PhantomData<W>,
 }
 
@@ -79,14 +79,14 @@ impl<W: WrapsWritable<P>, P> Asn1Writable for Wrapped<'_, W, P> {
     }
 }
 
-/// The value of a field as it stands in a struct.
+/// The value of a field as a struct has it.
 pub fn into_plain<W: Wraps<P>, P>(value: W) -> P
     ensures { W.wrap result ≡ value }
 {
     value.into_plain()
 }
 
-/// States that a field's value, as it stands in a struct, is valid. It does nothing at run time.
+/// States that a field's value, as a struct has it, is valid. The call does nothing at run time.
 pub fn known_plain<W: Wraps<P>, P>(value: &P)
     ensures { W.der.valid (W.der.meaning (W.wrap value.now)) }
 {
@@ -107,7 +107,7 @@ pub fn write_plain<W: WrapsWritable<P>, P>(value: &P, dest: &mut Writer<'_>) -> 
     W::write_plain(value, dest)
 }
 
-/// How many octets the encoding of a field's value has, where that is known.
+/// How many octets the encoding of a field's value has, if that is known.
 pub fn plain_length<W: WrapsWritable<P>, P>(value: &P) -> Option<usize>
     ensures { GivesLength (W.length_known (W.wrap value.now))
         (W.der.texts (W.der.meaning (W.wrap value.now))) result }

@@ -9,7 +9,7 @@ ghost use Rattle.asn1.specs.Structures.{encoded, owed};
 use super::{Field, Last, sum};
 use asn1_core::{Asn1Writable, WriteBuf, WriteError, Writer};
 
-// Four fields as a row of one field behind another.
+// Four fields as a row of one field after another.
 macro_rules! one_by_one {
     ($row:ident) => {
         Field {
@@ -28,7 +28,7 @@ macro_rules! one_by_one {
     };
 }
 
-/// Four fields, and those behind them.
+/// Four fields, and those after them.
 #[derive(Drop)]
 pub struct Four<A, B, C, D, R> {
     /// The first field's value.
@@ -48,8 +48,8 @@ pub trait RowWritable: Sized {
     /// The error of a write that fails.
     type Error: From<WriteError>;
 
-    // What a write may append, what the closures in the fields owe, the errors that a write may return, beside being
-    // out of memory, and the rows whose length is known without writing them.
+    // What a write may append; what the caller has to prove of the closures in the fields; the errors that a write
+    // may return, other than out of memory; and the rows whose length is known without writing them.
     ghost encodings: { Self → List ℕ → Type 0 };
 
     ghost owes: { Self → Type 0 };
@@ -66,8 +66,8 @@ pub trait RowWritable: Sized {
         ensures err { OnErr result (KeepsFront dest.old.bytes dest.new.bytes) }
         ensures error { IfErr result (Refuses Self.Error.from_gives (write_errors self.now)) };
 
-    /// How many octets the fields have together, where that is known without writing them. `None` also where that is
-    /// 2^64 or more.
+    /// How many octets the encodings of the fields have together, if that is known without writing them. `None` also
+    /// if that number is 2^64 or more.
     fn length(&self) -> Option<usize>
         ensures { GivesLength (length_known self.now) (encodings self.now) result };
 }

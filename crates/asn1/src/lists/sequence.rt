@@ -17,7 +17,7 @@ use std::alloc::Global;
 /// SEQUENCE (X.690 8.9; universal 16, constructed) as it is encoded: its contents octets, whatever they are, borrowed
 /// from the input. They are read by [`Sequence::parse`], and written as they were read.
 ///
-/// Reading one rejects no contents octets and takes no memory. Two are equal where their contents octets are.
+/// Reading one rejects no contents octets and doesn't allocate. Two are equal if their contents octets are.
 #[derive(Clone, Copy, Debug, PartialEq, Eq, Hash)]
 pub struct Sequence<'a> {
     data: &'a [u8],
@@ -26,8 +26,8 @@ pub struct Sequence<'a> {
 impl<'a> Sequence<'a> {
     /// Reads the contents octets by `f`, as [`asn1_core::parse`] does.
     ///
-    /// Errors: one of `f` is returned as it is; where `f` returns a value and octets remain, the error is `ExtraData`,
-    /// without a location. The caller has to prove that `f` may always be called (`requires`).
+    /// Errors: an error of `f` is returned as it is. If `f` returns a value and octets remain, the error is
+    /// `ExtraData`, without a location. The caller has to prove that `f` may always be called (`requires`).
     pub fn parse<T: Drop, E: From<ParseError> + Drop, F: Fn(&mut Parser<'a>) -> Result<T, E>>(
         self,
         alloc: Global,

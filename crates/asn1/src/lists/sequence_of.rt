@@ -29,20 +29,20 @@ use std::marker::PhantomData;
 /// SEQUENCE OF (X.690 8.10; universal 16, constructed), of `MINIMUM_LEN` to `MAXIMUM_LEN` items (both included), as an
 /// iterator over the items that remain.
 ///
-/// Its value is the list of these items: what is written are their encodings, and a list from which items were taken
-/// may have fewer than its bounds allow, so that its encoding is rejected. Two lists are equal, and hash alike, where
-/// the remaining octets are the same, which they are exactly where the items are ([`crate::laws::equal_items`]). A
-/// clone takes no memory.
+/// Its value is the list of these items, and their encodings are written. A list from which items were taken may have
+/// fewer than its bounds allow, so that its encoding is rejected. Two lists are equal, and have the same hash, if the
+/// remaining octets are the same. These are the same exactly if the items are ([`crate::laws::equal_items`]). A clone
+/// doesn't allocate.
 ///
-/// Reading a list looks at every item, and borrows the contents octets. The first item that is rejected decides: its
-/// first error, or `ExtraData` where it has no octets, with the location `Index(i)`, i being counted from 0. After all
-/// items comes `InvalidSize` where they are too few or too many, without a location of this list. Memory is taken only
-/// by the items.
+/// Reading a list reads every item, and borrows the contents octets. The first item that is rejected decides: the
+/// error is the item's first error, or `ExtraData` if the item has no octets, with the location `Index(i)`, i being
+/// counted from 0. If all items are read and they are too few or too many, the error is `InvalidSize`, without a
+/// location of this list. Only reading the items allocates.
 ///
-/// The iterator reads each item again, and ends after the last: `None` comes exactly where no item remains.
-/// `Some(Err(..))` comes only where an item is out of memory (`AllocationError`, without a location of this list). That
-/// item counts as taken. Writing a list whose item is out of memory returns `AllocationError` too. Its length is known
-/// without reading an item: the items' encodings are the octets that remain.
+/// The iterator reads each item again, and ends after the last: it returns `None` exactly if no item remains. It
+/// returns `Some(Err(..))` only if reading an item runs out of memory (`AllocationError`, without a location of this
+/// list). That item counts as taken. Writing a list whose item runs out of memory returns `AllocationError` too. The
+/// length of a list is known without reading an item: the items' encodings are the octets that remain.
 #[derive(Drop)]
 pub struct SequenceOf<'a, T: Asn1Type, const MINIMUM_LEN: usize, const MAXIMUM_LEN: usize> {
     content: &'a [u8],
@@ -160,7 +160,7 @@ impl<
         ensures plain { T.der.plain }
     {
         let tag = Tag::constructed(0x10);
-        // The items' type says by this call that each value has one encoding.
+        // By this call's contract each value of the items' type has one encoding.
         let _accepted = T::can_parse(tag);
         tag
     }
@@ -188,7 +188,7 @@ impl<
     }
 }
 
-/// Reads the item at an index. One without octets is rejected.
+/// Reads the item at an index. An item without octets is rejected.
 #[inline]
 fn read_item<'a, T: Asn1Readable<'a>>(parser: &mut Parser<'a>, index: usize) -> ParseResult<T>
     ensures answers { Answers (λ v. (T.der.meaning v, parser.new))
@@ -207,7 +207,7 @@ fn read_item<'a, T: Asn1Readable<'a>>(parser: &mut Parser<'a>, index: usize) -> 
     }
 }
 
-/// Counts the items of contents octets, each of which it reads.
+/// Counts the items of contents octets. It reads each item.
 fn count_items<'a, T: Asn1Readable<'a>>(alloc: Global, content: &'a [u8]) -> ParseResult<usize>
     ensures { Answers (λ n. n) (items_out T.der.read T.der.runs_out (length content.entry.now) 0
         content.entry.now) result (counted T.der.read 0 content.entry.now) }
@@ -221,7 +221,7 @@ fn count_items<'a, T: Asn1Readable<'a>>(alloc: Global, content: &'a [u8]) -> Par
     Ok(count)
 }
 
-/// What follows the element at the start, where there is one.
+/// The octets after the element at the start, if there is one.
 #[cold]
 fn behind_element<'a>(alloc: Global, content: &'a [u8]) -> &'a [u8]
     ensures { (f : Element × List ℕ) → front content.entry.now ≡ Ok f → result.now ≡ f.1 }
@@ -231,7 +231,7 @@ fn behind_element<'a>(alloc: Global, content: &'a [u8]) -> &'a [u8]
     parser.rest()
 }
 
-/// Reads the first of the items. The parser is then after it, also where it is out of memory.
+/// Reads the first of the items. The parser is then after this item, also if out of memory.
 #[inline(always)]
 fn read_first<'a, T: Asn1Readable<'a>>(parser: &mut Parser<'a>, count: usize) -> ParseResult<T>
     requires some { 0 < length parser.now }
@@ -271,7 +271,7 @@ impl<'a, T: Asn1Readable<'a>, const MINIMUM_LEN: usize, const MAXIMUM_LEN: usize
         let answer = read_first::<T>(&mut parser, self.count);
         self.content = parser.rest();
         self.count -= 1;
-        // An error is large. Where an item was read, the item alone is moved.
+        // An error is large. If an item was read, only the item is moved.
         match answer {
             Ok(value) => Some(Ok(value)),
             Err(error) => Some(Err(error)),
@@ -336,7 +336,7 @@ impl<
         ensures known { IsSome result }
     {
         self.content.known();
-        // Says that each item has one encoding, and so the octets that it was read from.
+        // By this call's contract each item has one encoding, which is the octets that it was read from.
         let _accepted = T::can_parse(Tag::constructed(0x10));
         Some(self.content.len())
     }

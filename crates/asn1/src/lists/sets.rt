@@ -32,8 +32,8 @@ use std::fmt;
 use std::hash::{Hash, Hasher};
 use std::marker::PhantomData;
 
-/// Reads the element at an index, after one with the encoding `before`: framing, then its place in the order, then the
-/// item, which must span the whole element. Returns the item and the element's encoding.
+/// Reads the element at an index, after one with the encoding `before`: frames the element, checks the order, and
+/// reads the item, which must span the whole element. Returns the item and the element's encoding.
 #[inline(always)]
 fn read_in_order<'a, T: Asn1Readable<'a>>(
     parser: &mut Parser<'a>,
@@ -59,7 +59,7 @@ fn read_in_order<'a, T: Asn1Readable<'a>>(
     }
 }
 
-/// Reads the items of contents octets, and rejects them where they aren't in order.
+/// Reads the items of contents octets, and rejects them if they aren't in order.
 fn check_items<'a, T: Asn1Readable<'a>>(alloc: Global, content: &'a [u8]) -> ParseResult<()>
     ensures { Answers (λ x. x) (set_out text_less T.der.read T.der.runs_out []
         (length content.entry.now) 0 content.entry.now) result
@@ -76,7 +76,7 @@ fn check_items<'a, T: Asn1Readable<'a>>(alloc: Global, content: &'a [u8]) -> Par
     Ok(())
 }
 
-/// Reads the element at an index, after one with the tag `last`: framing, then its place in the order of tags.
+/// Reads the element at an index, after one with the tag `last`: frames the element, and checks the order of tags.
 fn read_behind<'a>(parser: &mut Parser<'a>, last: Option<Tag>, index: usize) -> ParseResult<Tlv<'a>>
     ensures answers { Answers (λ t. (element_of t, parser.new)) (λ places. ⊥) result
         (element_behind last index parser.old) }
@@ -95,7 +95,7 @@ fn read_behind<'a>(parser: &mut Parser<'a>, last: Option<Tag>, index: usize) -> 
     }
 }
 
-/// Reads the elements of contents octets, and rejects them where their tags aren't in order.
+/// Reads the elements of contents octets, and rejects them if their tags aren't in order.
 fn check_elements(alloc: Global, content: &[u8]) -> ParseResult<()>
     ensures { Answers (λ x. x) (λ places. ⊥) result
         (checked tag_less element_front [] 0 content.entry.now) }
@@ -115,10 +115,10 @@ fn check_elements(alloc: Global, content: &[u8]) -> ParseResult<()>
 /// order of their tags, borrowed from the input. They are read by [`Set::parse`], and written as they were read.
 ///
 /// Tags are compared by class, from universal to private, and within a class by number (X.680 8.6); equal neighbours
-/// are allowed. Whether an element is constructed plays no part, nor do its contents octets. Reading a set looks at
-/// each element in turn: the first error of framing decides, or `InvalidSetOrdering` where an element's tag comes
-/// before that of the one before it. Each has the location `Index(i)`, i being counted from 0. It takes no memory. Two
-/// sets are equal where their contents octets are.
+/// are allowed. Whether an element is constructed plays no part, nor do its contents octets. Reading a set checks
+/// each element in turn. The first error decides: that of framing, or `InvalidSetOrdering` if an element's tag comes
+/// before the tag of the element before it. Each has the location `Index(i)`, i being counted from 0. Reading doesn't
+/// allocate. Two sets are equal if their contents octets are.
 #[derive(Debug, PartialEq, Eq, Hash, Drop)]
 pub struct Set<'a> {
     data: &'a [u8],
@@ -130,8 +130,8 @@ impl<'a> Set<'a> {
 
     /// Reads the contents octets by `f`, as [`asn1_core::parse`] does.
     ///
-    /// Errors: one of `f` is returned as it is; where `f` returns a value and octets remain, the error is `ExtraData`,
-    /// without a location. The caller has to prove that `f` may always be called (`requires`).
+    /// Errors: an error of `f` is returned as it is. If `f` returns a value and octets remain, the error is
+    /// `ExtraData`, without a location. The caller has to prove that `f` may always be called (`requires`).
     pub fn parse<T: Drop, E: From<ParseError> + Drop, F: Fn(&mut Parser<'a>) -> Result<T, E>>(
         self,
         alloc: Global,
@@ -216,16 +216,16 @@ impl SimpleAsn1Writable for Set<'_> {
 /// SET OF (X.690 8.12, 11.6; universal 17, constructed), as an iterator over the items that remain: items of one type
 /// in ascending order of their encodings, equal neighbours allowed.
 ///
-/// Its value is the list of these items: what is written are their encodings. Two sets are equal, and hash alike, where
-/// the remaining octets are the same, which they are exactly where the items are ([`crate::laws::equal_items`]). A
-/// clone takes no memory.
+/// Its value is the list of these items, and their encodings are written. Two sets are equal, and have the same hash,
+/// if the remaining octets are the same. These are the same exactly if the items are ([`crate::laws::equal_items`]).
+/// A clone doesn't allocate.
 ///
-/// Reading a set looks at each element in turn: the first error of framing decides, then `InvalidSetOrdering` where the
-/// element's encoding is less than that of the one before it, then the item's first error on that encoding, `ExtraData`
-/// where octets of it remain. Each has the location `Index(i)`, i being counted from 0. Memory is taken only by the
-/// items.
+/// Reading a set checks each element in turn. The first error decides: that of framing; then `InvalidSetOrdering` if
+/// the element's encoding is less than that of the element before it; then the item's first error on that encoding;
+/// then `ExtraData` if octets of the encoding remain. Each has the location `Index(i)`, i being counted from 0. Only
+/// reading the items allocates.
 ///
-/// The iterator returns what that of [`crate::SequenceOf`] does, and so do writing and the length.
+/// The iterator returns what the iterator of [`crate::SequenceOf`] does, and so do writing and the length.
 #[derive(Drop)]
 pub struct SetOf<'a, T: Asn1Type> {
     content: &'a [u8],
@@ -302,7 +302,7 @@ impl<'a, T: Asn1Readable<'a>> SimpleAsn1Readable<'a> for SetOf<'a, T> {
         ensures plain { T.der.plain }
     {
         let tag = Tag::constructed(0x11);
-        // The items' type says by this call that each value has one encoding.
+        // By this call's contract each value of the items' type has one encoding.
         let _accepted = T::can_parse(tag);
         tag
     }
@@ -321,7 +321,7 @@ impl<'a, T: Asn1Readable<'a>> SimpleAsn1Readable<'a> for SetOf<'a, T> {
     }
 }
 
-/// Reads the first of the items. The parser is then after it, also where it is out of memory.
+/// Reads the first of the items. The parser is then after this item, also if out of memory.
 #[inline(always)]
 fn read_first<'a, T: Asn1Readable<'a>>(parser: &mut Parser<'a>) -> ParseResult<T>
     requires some { 0 < length parser.now }
@@ -356,7 +356,7 @@ impl<'a, T: Asn1Readable<'a>> Iterator for SetOf<'a, T> {
         let mut parser = Parser::new(self.alloc, self.content);
         let answer = read_first::<T>(&mut parser);
         self.content = parser.rest();
-        // An error is large. Where an item was read, the item alone is moved.
+        // An error is large. If an item was read, only the item is moved.
         match answer {
             Ok(value) => Some(Ok(value)),
             Err(error) => Some(Err(error)),
@@ -413,7 +413,7 @@ impl<'a, T: Asn1Readable<'a> + Asn1Writable> SimpleAsn1Writable for SetOf<'a, T>
         ensures known { IsSome result }
     {
         self.content.known();
-        // Says that each item has one encoding, and so the octets that it was read from.
+        // By this call's contract each item has one encoding, which is the octets that it was read from.
         let _accepted = T::can_parse(Tag::constructed(0x11));
         Some(self.content.len())
     }

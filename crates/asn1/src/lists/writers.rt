@@ -11,11 +11,11 @@ ghost use Rattle.asn1.specs.InHand.{sequence_closure, sequence_items};
 use asn1_core::{Asn1Type, Asn1Writable, SimpleAsn1Writable, Tag, WriteBuf, WriteError, Writer};
 use std::marker::PhantomData;
 
-/// SEQUENCE (X.690 8.9; universal 16, constructed), whose contents octets a closure writes. (`Sequence`, or a type of
-/// one's own, reads it.)
+/// SEQUENCE (X.690 8.9; universal 16, constructed), whose contents octets a closure writes. (`Sequence`, or a user's
+/// own type, reads it.)
 ///
-/// The length isn't known before the contents octets are written. Writing returns `AllocationError` where out of
-/// memory, or an error that the closure may return.
+/// The length isn't known before the contents octets are written. Writing returns `AllocationError` if out of memory,
+/// or an error that the closure may return.
 #[derive(Drop)]
 pub struct SequenceWriter<'a, F: Fn(&mut Writer<'_>) -> Result<(), E>, E> {
     f: &'a F,
@@ -23,8 +23,8 @@ pub struct SequenceWriter<'a, F: Fn(&mut Writer<'_>) -> Result<(), E>, E> {
 }
 
 impl<'a, F: Fn(&mut Writer<'_>) -> Result<(), E>, E> SequenceWriter<'a, F, E> {
-    /// A sequence of what the closure will write. It isn't called yet. To write the sequence, the caller has to prove
-    /// of the closure what [`asn1_core::write`] asks.
+    /// A sequence of what the closure will write. The closure isn't called yet. To write the sequence, the caller has
+    /// to prove of the closure what [`asn1_core::write`] requires.
     pub fn new(f: &'a F) -> SequenceWriter<'a, F, E>
         ensures { sequence_closure result ≡ f.now }
     {
@@ -66,8 +66,8 @@ impl<F: Fn(&mut Writer<'_>) -> Result<(), E>, E: From<WriteError>> SimpleAsn1Wri
 /// SEQUENCE OF (X.690 8.10; universal 16, constructed), written from the items of a slice, in their order.
 /// (`SequenceOf` reads it.)
 ///
-/// The length is known where each item's is and their sum fits a `usize`. Writing returns `AllocationError` where out
-/// of memory, or an error of one of the items.
+/// The length is known if each item's is and their sum fits in a `usize`. Writing returns `AllocationError` if out of
+/// memory, or an error of one of the items.
 #[derive(Debug, Clone, PartialEq, Eq, Hash, Drop)]
 pub struct SequenceOfWriter<'a, T> {
     items: &'a [T],

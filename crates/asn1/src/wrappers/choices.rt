@@ -8,10 +8,10 @@ use asn1_core::{
     Tlv, WriteError, WriteResult, Writer,
 };
 
-/// CHOICE (X.690 8.13) of one alternative, told by the tag. Its encoding is that of the alternative.
+/// CHOICE (X.690 8.13) of one alternative, selected by the tag. Its encoding is that of the alternative.
 ///
-/// Reading frames the element first. `UnexpectedTag` where the alternative doesn't accept its tag; else the error is
-/// the alternative's. Writing returns `AllocationError`, or an error that the alternative names.
+/// Reading frames the element first. The error is `UnexpectedTag` if the alternative doesn't accept the element's
+/// tag, and else the alternative's. Writing returns `AllocationError`, or an error that the alternative names.
 #[derive(Debug, Clone, Copy, PartialEq, Eq, Hash)]
 pub enum Choice1<T1> {
     /// A value of the first type.
@@ -62,11 +62,11 @@ impl<T1: Asn1Writable<Error = WriteError>> Asn1Writable for Choice1<T1> {
     }
 }
 
-/// CHOICE (X.690 8.13) of two alternatives, told by the tag. Its encoding is that of the alternative.
+/// CHOICE (X.690 8.13) of two alternatives, selected by the tag. Its encoding is that of the alternative.
 ///
-/// Reading frames the element first. The first alternative that accepts its tag reads it, and where that rejects it,
-/// the second isn't tried. `UnexpectedTag` where none accepts the tag. What is written is read back where no tag is
-/// accepted by both ([`crate::laws_wrappers::choices_are_lawful`]).
+/// Reading frames the element first. The first alternative that accepts the element's tag reads the element. If this
+/// alternative rejects the element, the second isn't tried. The error is `UnexpectedTag` if none accepts the tag.
+/// What is written is read back if no tag is accepted by both ([`crate::laws_wrappers::choices_are_lawful`]).
 #[derive(Debug, Clone, Copy, PartialEq, Eq, Hash)]
 pub enum Choice2<T1, T2> {
     /// A value of the first type.
@@ -100,7 +100,7 @@ impl<'a, T1: Asn1Readable<'a>, T2: Asn1Readable<'a>> Asn1Readable<'a> for Choice
     }
 
     fn can_parse(tag: Tag) -> bool {
-        // Each alternative is asked, since each tells that its values have one encoding.
+        // Each alternative is called, since by each contract the values of that alternative have one encoding.
         let first = T1::can_parse(tag);
         let second = T2::can_parse(tag);
         first || second
@@ -131,11 +131,11 @@ impl<T1: Asn1Writable<Error = WriteError>, T2: Asn1Writable<Error = WriteError>>
     }
 }
 
-/// CHOICE (X.690 8.13) of three alternatives, told by the tag. Its encoding is that of the alternative.
+/// CHOICE (X.690 8.13) of three alternatives, selected by the tag. Its encoding is that of the alternative.
 ///
-/// Reading frames the element first. The first alternative that accepts its tag reads it, and where that rejects it, no
-/// further one is tried. `UnexpectedTag` where none accepts the tag. What is written is read back where no tag is
-/// accepted by two ([`crate::laws_wrappers::choices_are_lawful`]).
+/// Reading frames the element first. The first alternative that accepts the element's tag reads the element. If this
+/// alternative rejects the element, no further one is tried. The error is `UnexpectedTag` if none accepts the tag.
+/// What is written is read back if no tag is accepted by two ([`crate::laws_wrappers::choices_are_lawful`]).
 #[derive(Debug, Clone, Copy, PartialEq, Eq, Hash)]
 pub enum Choice3<T1, T2, T3> {
     /// A value of the first type.
@@ -176,7 +176,7 @@ impl<'a, T1: Asn1Readable<'a>, T2: Asn1Readable<'a>, T3: Asn1Readable<'a>> Asn1R
     }
 
     fn can_parse(tag: Tag) -> bool {
-        // Each alternative is asked, since each tells that its values have one encoding.
+        // Each alternative is called, since by each contract the values of that alternative have one encoding.
         let first = T1::can_parse(tag);
         let second = T2::can_parse(tag);
         let third = T3::can_parse(tag);

@@ -1,4 +1,4 @@
-//! DEFAULT (X.690 11.5): fields that are left out where they equal their default.
+//! DEFAULT (X.690 11.5): fields that are left out if they equal their default.
 
 ghost use Rattle.std.specs.Prelude.{◌≡◌};
 ghost use Rattle.asn1.specs.InHand.{defaulted_inner};
@@ -11,21 +11,21 @@ use asn1_core::{
 };
 use std::marker::PhantomData;
 
-/// A type whose `==` tells values by what they mean and by their encodings, so that it may have a DEFAULT
+/// A type whose `==` compares values by what they mean and by their encodings, so that the type may have a DEFAULT
 /// ([`Defaulted`]).
 pub trait MeaningEq: Asn1Type + PartialEq {
     // Values that are equal mean the same, and values with the same encoding are equal.
     ghost tells: { (a b : Self) → EqualityTells Self.der.meaning Self.der.text Self.eq a b };
 }
 
-/// The same of a type with a tag of its own, by its contents octets: so it may have another tag ([`crate::Implicit`]).
+/// The same of a type with a tag of its own, by contents octets. The type may have another tag ([`crate::Implicit`]).
 pub trait SimpleMeaningEq: MeaningEq + Asn1Type + PartialEq {
     // Values with the same contents octets are equal.
     ghost content_tells: { (a b : Self) → ContentTells Self.der.meaning Self.der.content.text
         Self.eq a b };
 }
 
-/// A default of the type `T`, said once.
+/// A default of the type `T`, stated once.
 pub trait DefaultValue<T: Asn1Type> {
     ghost default: { T };
 
@@ -34,9 +34,9 @@ pub trait DefaultValue<T: Asn1Type> {
         ensures { T.der.meaning result ≡ T.der.meaning default };
 }
 
-/// A field with a DEFAULT (X.690 11.5): its value, which isn't encoded where it equals the default, as DER demands.
+/// A field with a DEFAULT (X.690 11.5): its value. A value that equals the default isn't encoded, as DER demands.
 ///
-/// Reading returns the default where no tag that the type accepts is next. A default that is encoded nevertheless is
+/// Reading returns the default if no tag that the type accepts is next. A default that is encoded nevertheless is
 /// rejected with `EncodedDefault`; other errors are the type's.
 #[derive_where(Debug, Clone, Copy, PartialEq, Eq, Hash; T)]
 pub struct Defaulted<T, D> {
@@ -86,7 +86,7 @@ impl<T: MeaningEq, D: DefaultValue<T>> Asn1Type for Defaulted<T, D> {
     }
 }
 
-/// What was read, or the default; a value that equals the default is `EncodedDefault`.
+/// The value that was read, or the default. The error is `EncodedDefault` if a value equals the default.
 fn or_default<T: MeaningEq + Drop, D>(
     read: ParseResult<Option<T>>,
     default: T,

@@ -22,8 +22,8 @@ impl<T: Asn1Type, U: Asn1DefinedBy<T>, const TAG: u32> Asn1DefinedBy<T> for Expl
     }
 }
 
-/// Reads the element under the tag as it is encoded, and then its encoding as the item defines it. `ExtraData` where
-/// octets remain.
+/// Reads the element under the tag as it is encoded, and then its encoding as the item defines it. The error is
+/// `ExtraData` if octets remain.
 impl<
     'a,
     T: Asn1Readable<'a>,

@@ -1,4 +1,4 @@
-//! Types whose equality tells their values, so that they may have a DEFAULT.
+//! Types whose equality compares what values mean and their encodings, so that the types may have a DEFAULT.
 
 ghost use Rattle.std.specs.Prelude.{refl, pos};
 ghost use Rattle.std.proofs.lemmas.Slice.Eq.{bytes_eq-Decides};

@@ -1,4 +1,4 @@
-//! Values whose writes fail with another error, so that fields of several errors stand in one row.
+//! Values whose writes fail with another error, so that one row may have fields of several errors.
 
 ghost use Rattle.std.specs.Prelude.{◌≡◌};
 ghost use Rattle.asn1_core.specs.Der.{seen};
@@ -10,10 +10,10 @@ use asn1_core::{
 };
 use std::marker::PhantomData;
 
-/// A value of `A` whose write fails with an `E`, made from the error of `A`: the form of a field in a row where another
-/// field fails with an `E`. It means what the value means, and is encoded as it.
+/// A value of `A` whose write fails with an `E`, made from the error of `A`: the form of a field in a row in which
+/// another field fails with an `E`. It means what the value means, and has the value's encoding.
 ///
-/// Errors of reading are those of `A`. Writing returns the `E` that `From` makes from the error of `A`, also where out
+/// Errors of reading are those of `A`. Writing returns the `E` that `From` makes from the error of `A`, also if out
 /// of memory.
 #[derive_where(Debug, Clone, Copy, PartialEq, Eq, Hash; A)]
 pub struct ErrorInto<A, E> {
@@ -22,7 +22,7 @@ pub struct ErrorInto<A, E> {
 }
 
 impl<A, E> ErrorInto<A, E> {
-    /// This value.
+    /// Wraps this value.
     pub fn new(inner: A) -> Self
         ensures { error_into_inner result ≡ inner }
     {

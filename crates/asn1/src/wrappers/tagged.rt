@@ -16,8 +16,8 @@ use std::fmt;
 /// An explicitly tagged type (X.690 8.14, X.680 31.2): an element with the context-specific, constructed tag `TAG`,
 /// whose contents octets are the encoding of a value of `T` and nothing else.
 ///
-/// Errors of reading, after framing's: `UnexpectedTag`, the first error of `T` in the contents octets, `ExtraData`
-/// where octets remain there. Writing returns what writing `T` does.
+/// Errors of reading, after those of framing: `UnexpectedTag`, the first error of `T` in the contents octets,
+/// `ExtraData` if octets remain there. Writing returns what writing `T` does.
 #[derive(Debug, Clone, Copy, PartialEq, Eq, Hash)]
 pub struct Explicit<T, const TAG: u32> {
     pub(crate) inner: T,
@@ -66,7 +66,7 @@ impl<T: Asn1Type, const TAG: u32> Asn1Type for Explicit<T, TAG> {
 impl<'a, T: Asn1Readable<'a>, const TAG: u32> SimpleAsn1Readable<'a> for Explicit<T, TAG> {
     fn tag() -> Tag {
         let tag = explicit_tag(TAG);
-        // The call tells that each value of the type has one encoding.
+        // By this call's contract each value of the type has one encoding.
         let _is_accepted = T::can_parse(tag);
         tag
     }
@@ -97,10 +97,10 @@ impl<T: Asn1Writable, const TAG: u32> SimpleAsn1Writable for Explicit<T, TAG> {
 }
 
 /// An implicitly tagged type (X.690 8.14, X.680 31.2): a value of `T`, a type with a tag of its own, with the
-/// context-specific tag `TAG` in place of that. The contents octets are the same, and it is constructed where `T` is.
+/// context-specific tag `TAG` in place of that. The contents octets and the constructed bit are the same.
 ///
-/// Errors of reading, after framing's: `UnexpectedTag`, then the first error of `T` in the contents octets. Writing
-/// returns what writing `T` does.
+/// Errors of reading, after those of framing: `UnexpectedTag`, then the first error of `T` in the contents octets.
+/// Writing returns what writing `T` does.
 #[derive(Debug, Clone, Copy, PartialEq, Eq, Hash)]
 pub struct Implicit<T, const TAG: u32> {
     pub(crate) inner: T,
@@ -178,8 +178,8 @@ impl<T: SimpleAsn1Writable, const TAG: u32> SimpleAsn1Writable for Implicit<T, T
 
 /// OCTET STRING (X.690 8.7; universal 4), whose octets are the encoding of a value of `T` and nothing else.
 ///
-/// Errors of reading, after framing's: `UnexpectedTag`, the first error of `T` in the contents octets, `ExtraData`
-/// where octets remain there. Writing returns what writing `T` does.
+/// Errors of reading, after those of framing: `UnexpectedTag`, the first error of `T` in the contents octets,
+/// `ExtraData` if octets remain there. Writing returns what writing `T` does.
 #[derive(Clone, Copy, PartialEq, Eq, Hash)]
 pub struct OctetStringEncoded<T> {
     inner: T,
@@ -228,7 +228,7 @@ impl<T: Asn1Type> Asn1Type for OctetStringEncoded<T> {
 impl<'a, T: Asn1Readable<'a>> SimpleAsn1Readable<'a> for OctetStringEncoded<T> {
     fn tag() -> Tag {
         let tag = Tag::primitive(0x04);
-        // The call tells that each value of the type has one encoding.
+        // By this call's contract each value of the type has one encoding.
         let _is_accepted = T::can_parse(tag);
         tag
     }

@@ -1,4 +1,4 @@
--- What follows from what is said of a body.
+-- What follows from what is stated of a body.
 use Rattle.std.proofs.Common.{◌≡◌, ◌+◌, ◌-◌, ◌++◌, [], ◌∷◌, length, take, drop, ℕ, ◌<◌, ◌^◌, List, refl, sym, ◌∙◌, ap, append_assoc, arith, length-append, Result, Ok, Err, OnOk, OnErr, IfErr, IsErrAnd, inr, subst, Option, Some, None}
 use Rattle.std.specs.Prelude.{SomeIff}
 use Rattle.std.proofs.lemmas.Result.{on_ok_weaker}
@@ -17,7 +17,7 @@ use Rattle.asn1_core.specs.declared.writer.WriteError.{WriteError}
 pub keeps_front_by : {a b : List ℕ} (t : List ℕ) → b ≡ a ++ t → KeepsFront a b
 keeps_front_by {a} {b} t e = let d : drop (length a) b ≡ t = grind (arith, common_steps) in record { joined = e ∙ ap (λ xs. a ++ xs) (sym d) }
 
--- more behind a front that was kept
+-- two steps that each keep the prefix keep it together
 pub keeps_front_on : {a b c : List ℕ} → KeepsFront a b → KeepsFront b c → KeepsFront a c
 keeps_front_on {a} {b} {c} h k = keeps_front_by (drop (length a) b ++ drop (length b) c) (k.joined ∙ ap (λ xs. xs ++ drop (length b) c) h.joined ∙ append_assoc a (drop (length a) b) (drop (length b) c))
 
@@ -27,7 +27,7 @@ take_front n xs ys e = grind (arith, common_steps)
 drop_front : (n : ℕ) (xs ys : List ℕ) → n ≡ length xs → drop n (xs ++ ys) ≡ ys
 drop_front n xs ys e = grind (arith, common_steps)
 
--- the length was put in place of the octet that was kept for it
+-- the length octets replaced the octet that was kept for them
 pub patched_is : (old b1 b2 b3 b4 t : List ℕ) (tag : Tag) (start : ℕ) → b1 ≡ old ++ tag_text tag → b2 ≡ b1 ++ 0 ∷ [] → start ≡ length b2 → b3 ≡ b2 ++ t → b4 ≡ take (start - 1) b3 ++ length_text (length b3 - start) ++ drop start b3 → b4 ≡ old ++ element_text (element tag t)
 unfolding element_text
 patched_is old b1 b2 b3 b4 t tag start e1 e2 s e3 e4 =
@@ -39,7 +39,7 @@ patched_is old b1 b2 b3 b4 t tag start e1 e2 s e3 e4 =
     let l : length b3 - start ≡ length t = omega arith in
     grind (arith, common_steps)
 
--- the length stands in front already
+-- the length octets are already before the contents octets
 pub announced_is : (old b1 b2 b3 t : List ℕ) (tag : Tag) (n : ℕ) → b1 ≡ old ++ tag_text tag → b2 ≡ b1 ++ length_text n → b3 ≡ b2 ++ t → length t ≡ n → b3 ≡ old ++ element_text (element tag t)
 unfolding element_text
 announced_is old b1 b2 b3 t tag n e1 e2 e3 l = grind (arith, common_steps)
@@ -49,11 +49,11 @@ on_err_any (Ok x) p = tt
 on_err_any (Err e) p = p
 
 module _ {F E : Type 0} (calls : Once F (MutBor Buffer × Unit {0}) (Result (Unit {0}) E × (MutBor Buffer × Unit {0}))) (body : F) where
-  -- a call, by what stood in the buffer before and after it
+  -- a call, by the buffer before and after it
   pub call_at : (p q : MutBor Buffer) (r : Result (Unit {0}) E) → calls.post body (p, tt) (r, (q, tt)) → FnOnceReturnsAtMut calls body p.now r q.now
   call_at p q r h = record { shown = p; shows = refl; left = q; met = h; leaves = refl }
 
-  -- at an announced length
+  -- with an announced length
   module _ (old b1 : List ℕ) (before after : Buffer) (tag : Tag) (n : ℕ) (front : LeavesFront calls body) (announced : (t : List ℕ) → MayAppend calls body t → length t ≡ n) (e1 : b1 ≡ old ++ tag_text tag) (e2 : before.bytes ≡ b1 ++ length_text n) where
     pub announced_ok : (r : Result (Unit {0}) E) → FnOnceReturnsAtMut calls body before r after → OnOk r (Appended calls body tag old after.bytes)
     announced_ok (Err e) h = tt
@@ -70,12 +70,12 @@ module _ {F E : Type 0} (calls : Once F (MutBor Buffer × Unit {0}) (Result (Uni
   refused gives before after (Ok u) h = tt
   refused gives before after (Err e) h = inr (record { old = before; new = after; called = h })
 
-  -- the exit of a `?` on the body's answer
+  -- the exit of a `?` on the body's result
   pub refused_by : (gives : WriteError → E → Type 0) (before after : Buffer) (r s : Result (Unit {0}) E) (e : E) → s ≡ Err e → FnOnceReturnsAtMut calls body before s after → IsErrAnd r (λ x. x ≡ e) → IfErr r (Refused calls body gives)
   refused_by gives before after (Ok u) s e i h a = tt
   refused_by gives before after (Err x) s e i h a = inr (record { old = before; new = after; called = rw (i, ← a) at h })
 
-  -- where the length is patched
+  -- if the length is patched
   pub patched_ok : (old b1 : List ℕ) (before after : Buffer) (b4 : List ℕ) (tag : Tag) (start : ℕ) (r : Result (Unit {0}) E) → LeavesFront calls body → b1 ≡ old ++ tag_text tag → before.bytes ≡ b1 ++ 0 ∷ [] → start ≡ length before.bytes → r ≡ Ok tt → FnOnceReturnsAtMut calls body before r after → b4 ≡ take (start - 1) after.bytes ++ length_text (length after.bytes - start) ++ drop start after.bytes → Appended calls body tag old b4
   patched_ok old b1 before after b4 tag start r front e1 e2 s i h e4 =
       let k = front _ _ _ h in
@@ -87,7 +87,7 @@ cancel_front [] ys zs e = e
 cancel_front (x ∷ xs) ys zs e = cancel_front xs ys zs (cc)
 
 module _ {F E : Type 0} (calls : Once F (MutBor Buffer × Unit {0}) (Result (Unit {0}) E × (MutBor Buffer × Unit {0}))) (body : F) (texts : List ℕ → Type 0) (appends : (old new : Buffer) → FnOnceReturnsAtMut calls body old (Ok tt) new → Appends texts old.bytes new.bytes) where
-  -- what the body may append is one of its texts
+  -- what the body may append is one of `texts`
   pub may_append_is : (t : List ℕ) → MayAppend calls body t → texts t
   may_append_is t m =
       let a = appends m.old m.new m.called in
@@ -101,15 +101,15 @@ module _ {F E : Type 0} (calls : Once F (MutBor Buffer × Unit {0}) (Result (Uni
   appended_by r {tag} {tag'} old new e h = on_ok_weaker r (λ a. record { text = element_text (element tag a.content); is_one = record { content = a.content; is_content = may_append_is a.content a.allowed; is = ap (λ (x : Tag). element_text (element x a.content)) e }; joined = a.joined }) h
 
 module _ {F E : Type 0} (calls : Once F (MutBor Buffer × Unit {0}) (Result (Unit {0}) E × (MutBor Buffer × Unit {0}))) (body : F) (content : List ℕ) (appends : (old new : Buffer) → FnOnceReturnsAtMut calls body old (Ok tt) new → Appends (λ t. t ≡ content) old.bytes new.bytes) where
-  -- a body with one text
+  -- a body that may append only these contents octets
   pub appended_one : (r : Result (Unit {0}) E) (tag : Tag) (old new : List ℕ) → OnOk r (Appended calls body tag old new) → OnOk r (Appends (λ t. t ≡ element_text (element tag content)) old new)
   appended_one r tag old new h = on_ok_weaker r (λ a. record { text = element_text (element tag content); is_one = refl; joined = a.joined ∙ ap (λ t. old ++ element_text (element tag t)) (may_append_is calls body (λ t. t ≡ content) appends a.content a.allowed) }) h
 
--- what was appended to nothing
+-- what was appended to an empty buffer
 pub appended_to_nothing : (texts : List ℕ → Type 0) (old new all : List ℕ) → old ≡ [] → new ≡ all → Appends texts old new → texts all
 appended_to_nothing texts old new all e f a = subst texts (sym (subst (λ xs. new ≡ xs ++ a.text) e a.joined) ∙ f) a.is_one
 
--- the length of an element, by that of its content
+-- the length of an element, by the number of its contents octets
 pub length-element : (tag : Tag) (content : List ℕ) → length (element_text (element tag content)) ≡ full_count tag (length content)
 unfolding element_text full_count
 length-element tag content = omega (arith, length-append (tag_text tag) (length_text (length content) ++ content), length-append (length_text (length content)) content)
@@ -118,12 +118,12 @@ pub element_length : (texts : List ℕ → Type 0) {tag tag' : Tag} (n : ℕ) �
 element_length texts n same known P None h = tt
 element_length texts {tag} {tag'} n same known P (Some m) h = λ t e. ap length e.is ∙ (length-element tag' e.content ∙ (ap (full_count tag') (known e.content e.is_content) ∙ (ap (λ (x : Tag). full_count x n) (sym same) ∙ sym h.1)))
 
--- the same, where the length of the contents octets isn't known, and where it is
+-- the same, if the number of contents octets isn't known, and if it is
 shorter : (texts : List ℕ → Type 0) (tag : Tag) (t : List ℕ) (e : IsElementOf tag texts t) → length t < 2 ^ 64 → length e.content < 2 ^ 64
 unfolding full_count
 shorter texts tag t e small = omega (arith, ap length e.is ∙ length-element tag e.content)
 
-unknown : {n : ℕ} → None ≡ Some n → ⊥
+pub unknown : {n : ℕ} → None ≡ Some n → ⊥
 unknown e = cc
 
 pub element_unknown : (has : Type 0) (texts : List ℕ → Type 0) (tag : Tag) → GivesLength has texts None → GivesLength has (IsElementOf tag texts) None
@@ -136,16 +136,16 @@ element_gives has texts {tag} {tag'} n same g (Some m) h =
     let right = element_length texts n same g.right (full_count tag n < 2 ^ 64) (Some m) h in
     record { right = right; told = λ k t e small. ap Some (sym (right t e)) }
 
--- the same, of one content, where the count fits
+-- the same for given contents octets, if the count fits
 pub one_length : (P : Type 0) (tag : Tag) (content : List ℕ) (r : Option ℕ) → SomeIff r P (full_count tag (length content)) → P → r ≡ Some (length (element_text (element tag content)))
 one_length P tag content None h p = absurd (h p)
 one_length P tag content (Some m) h p = let e : m ≡ length (element_text (element tag content)) = h.1 ∙ sym (length-element tag content) in rw e refl
 
--- the length of the only text
+-- the length of the only encoding
 pub gives_one : (has : Type 0) (text : List ℕ) (r : Option ℕ) → r ≡ Some (length text) → GivesLength has (λ t. t ≡ text) r
 gives_one has text r e = record { right = rw e (λ t same. ap length same); told = λ k t same small. e ∙ ap (λ u. Some (length u)) (sym same) }
 
--- from what a body says of Ok and of Err
+-- from what a body states at Ok and at Err
 pub front_of : {E : Type 0} (r : Result (Unit {0}) E) (t old new : List ℕ) → OnOk r (new ≡ old ++ t) → OnErr r (KeepsFront old new) → KeepsFront old new
 front_of (Ok u) t old new h k = keeps_front_by t h
 front_of (Err e) t old new h k = k

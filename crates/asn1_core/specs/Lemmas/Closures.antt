@@ -1,4 +1,4 @@
--- What a closure that writes through a writer leaves.
+-- What a closure that writes through a writer leaves in the buffer.
 use Rattle.std.specs.Prelude.{Result, Ok, Err, OnOk, IfErr, refl, drop, length}
 use Rattle.std.proofs.Common.{inr}
 use Rattle.std.specs.Fn.{Once}

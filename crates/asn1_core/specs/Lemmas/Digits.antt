@@ -9,7 +9,7 @@ use Rattle.std.proofs.Math.Nat.{pow-succ'}
 use Rattle.asn1_core.specs.Text.{number}
 use Rattle.asn1_core.specs.Base128.{digits_number}
 
--- the last of a list
+-- the last item of a list
 pub last_of : (x : ℕ) (xs : List ℕ) → (front : List ℕ) × (y : ℕ) × (x ∷ xs ≡ front ++ y ∷ [])
 last_of x [] = ([], x, refl)
 last_of x (z ∷ zs) =
@@ -51,7 +51,7 @@ digits_back_of b two (suc k) (x ∷ xs) e below leads =
 pub digits_back : (b : ℕ) (ds : List ℕ) → 2 ≤ b → AllBelowBase b ds → Leads ds → digits_of b (number_from_digits b ds) ≡ ds
 digits_back b ds two below leads = digits_back_of b two (length ds) ds refl below leads
 
--- the sum of weights is what the digits after one another give
+-- the weighted sum of the digits is the number that they give one after another
 after256 : (n : ℕ) (t : List ℕ) → number_from_digits_after 256 n t ≡ n * 256 ^ length t + number t
 after256 n [] = omega arith
 after256 n (x ∷ xs) = rw (after256 (n * 256 + x) xs, pow-succ' 256 (length xs)) (omega arith)

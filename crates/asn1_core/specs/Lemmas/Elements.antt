@@ -1,4 +1,4 @@
--- Elements: what stands in front of a text.
+-- Elements: what is at the start of the octets.
 use Rattle.std.proofs.Common.{◌≡◌, ℕ, ◌-◌, ◌^◌, ◌<◌, ◌≤◌, List, [], ◌++◌, length, take, drop, Result, Ok, Err, refl, sym, ap, subst, ◌∙◌, inl, inr, ⊎_elim, append_assoc, arith}
 use Rattle.std.proofs.lemmas.Bool.{le-ltb, lt-ltb, cases_lt}
 use Rattle.std.proofs.lemmas.List.{length-append, length-take-le, take-append-drop, take_at, drop_at}
@@ -16,7 +16,7 @@ use Rattle.asn1_core.specs.Lemmas.Texts.{IsText-rest}
 abbrev pub ElementFront : Type 0
 ElementFront = Result (Element × List ℕ) ParseErrorKind
 
--- the four ways
+-- the four cases: an error of the tag or of the length, too few contents octets, an element
 pub front_tag : (text : List ℕ) (kind : ParseErrorKind) → tag_front text ≡ Err kind → front text ≡ Err kind
 unfolding front
 front_tag text kind e = rw e refl
@@ -53,7 +53,7 @@ element_ok e rest is =
     (omega (arith, length-append e.content rest))
     ∙ rw (same, left) refl
 
--- no text has two answers
+-- octets have only one result
 pub front_only : (text : List ℕ) (answer : ElementFront) → IsText text → IsFront text answer → front text ≡ answer
 front_only text (Ok found) is a = rw a.1 (element_ok found.0 found.1 a.0)
 front_only text (Err kind) is (inl a) = front_tag text kind (tag_only text (Err kind) a)
@@ -62,7 +62,7 @@ front_only text (Err kind) is (inr (inl (tag, after, t, l))) =
 front_only text (Err kind) is (inr (inr (tag, after, n, content, t, l, fewer, e))) =
     rw e (front_short text tag after n content (tag_only text (Ok (tag, after)) t) (length_only after (Ok (n, content)) (IsText-rest (tag_text tag) after (subst IsText t.1 is)) l) fewer)
 
--- each text has an answer
+-- all octets have a result
 whole : (text : List ℕ) (tag : Tag) (after : List ℕ) (n : ℕ) (rest : List ℕ) → text ≡ tag_text tag ++ after → after ≡ length_text n ++ rest → length (take n rest) ≡ n → text ≡ element_text (record { tag = tag; content = take n rest }) ++ drop n rest
 whole text tag after n rest t l size =
     t ∙ ap (λ (s : List ℕ). tag_text tag ++ s) (l ∙ ap (λ (s : List ℕ). length_text n ++ s) (sym (take-append-drop n rest)) ∙ ap (λ (k : ℕ). length_text k ++ (take n rest ++ drop n rest)) (sym size))
@@ -100,12 +100,12 @@ cut_whole text whole rest e =
     let size : length text - length rest ≡ length whole = omega (arith, ap length e, length-append whole rest) in
     rw (size, e) (take_at whole rest (length whole) refl)
 
--- ---- what follows from the text of an element
+-- ---- what follows from the encoding of an element
 
 no_fault : (f : Element) (rest : List ℕ) → ◌≡◌ {A = ElementFront} (Ok (f, rest)) (Err InvalidLength) → ⊥
 no_fault f rest same = cc
 
--- a content that is too long is refused
+-- too many contents octets are rejected
 pub front_long : (e : Element) (rest : List ℕ) → e.tag.value < 2 ^ 32 → 2 ^ 32 ≤ length e.content → front (element_text e ++ rest) ≡ Err InvalidLength
 front_long e rest tag long =
     ap front (regroup e rest)
@@ -113,7 +113,7 @@ front_long e rest tag long =
     (tag_ok e.tag (length_text (length e.content) ++ (e.content ++ rest)) tag)
     (length_big (length e.content) (e.content ++ rest) long)
 
--- an element with a readable tag and the text of a readable element is readable
+-- an element with a readable tag and the encoding of a readable element is readable
 pub readable_as : (e f : Element) → e.tag.value < 2 ^ 32 → IsReadable f → element_text e ≡ element_text f → IsReadable e
 readable_as e f tag is same = ⊎_elim
     (λ (l : length e.content < 2 ^ 32). record { tag = tag; content = l })
@@ -123,12 +123,12 @@ readable_as e f tag is same = ⊎_elim
     absurd (no_fault f [] (sym b ∙ ap (λ (t : List ℕ). front (t ++ [])) (sym same) ∙ a)))
     (cases_lt (length e.content) (2 ^ 32))
 
--- an element has some octets
+-- the encoding of an element isn't empty
 pub element_some : (e : Element) → element_text e ≡ [] → ⊥
 unfolding element_text
 element_some e none = tag_some e.tag (length_text (length e.content) ++ e.content) none
 
--- a content is shorter than its element
+-- the contents octets are shorter than the encoding of their element
 pub content_less : (e : Element) → length e.content < length (element_text e)
 unfolding element_text
 content_less e =

@@ -1,4 +1,4 @@
--- Each number has one content, and the first nine bits tell whether a text is one.
+-- Each number has one encoding in contents octets. The first nine bits tell whether octets are contents octets.
 use Rattle.std.proofs.Common.{◌≡◌, ℕ, zero, suc, ◌+◌, ◌-◌, ◌*◌, ◌^◌, ◌<◌, ◌≤◌, ◌⊎◌, ◌↔◌, Bool, true, false, if◌then◌else◌, eqb, ◌||◌, List, [], ◌∷◌, length, get_or, Result, Ok, Err, IfErr, refl, sym, ap, subst, ◌∙◌, inl, inr, arith, lit<, lit≤}
 use Rattle.std.specs.Prelude.{ℤ, pos, negsuc, ◌-ℤ◌, ◌≤ℤ◌, ◌<ℤ◌, int_lt}
 use Rattle.std.specs.Int.Digits.{digits_of}
@@ -15,7 +15,7 @@ use Rattle.asn1_core.specs.Lemmas.Results.{ok_is, passed, bind_ok}
 use Rattle.asn1_core.specs.Lemmas.Faults.{bind_faults, passed_faults, missed_faults}
 use Rattle.asn1_core.specs.declared.parser.ParseErrorKind.TheVariants.{AllocationError, InvalidValue, IntegerOverflow}
 
--- ---- each bit turned
+-- ---- each bit inverted
 
 pub turned_length : (c : List ℕ) → length (turned c) ≡ length c
 turned_length c = length-map c (λ x. 255 - x)
@@ -44,7 +44,7 @@ pub turned_low : (c : List ℕ) → IsText c → 128 ≤ get_or c 0 0 → get_or
 turned_low [] is h = absurd (omega arith)
 turned_low (x ∷ xs) is h = omega arith
 
--- a zero octet in front is worth nothing
+-- a leading zero octet adds nothing
 pub zero_front : (c : List ℕ) → number (0 ∷ c) ≡ number c
 zero_front c = omega arith
 
@@ -85,7 +85,7 @@ turned_shortest (x ∷ y ∷ ys) is e =
     let high : nine_bits x y < 511 = omega (arith, h.1, is.0, is.1.0) in
     nine_shortest (255 - x) (255 - y) (turned ys) (omega (arith, low, high, is.0, is.1.0)) (omega (arith, low, high, is.0, is.1.0))
 
--- an octet that the nine bits show superfluous can go
+-- an octet that the nine bits show superfluous can be dropped
 same_low : (x y : ℕ) (ys : List ℕ) → x ≡ 0 → y < 128 → signed_number (x ∷ y ∷ ys) ≡ signed_number (y ∷ ys)
 same_low x y ys e h =
     let first : x < 128 = omega arith in
@@ -122,7 +122,7 @@ sign_only (zero ∷ y ∷ ys) is e h =
 sign_only (suc x ∷ xs) is e h =
     rw (digits_same (suc x ∷ xs) is (λ l. omega arith)) (sym (with_sign_low (suc x) xs h))
 
--- digits behind a sign
+-- digits after a sign
 record IsSigned (s : List ℕ) (n : ℕ) : Type 0 where
   octets : IsText s
   value : number s ≡ n
@@ -152,7 +152,7 @@ signed_digits n = signed_is (digits_of 256 n) n (all_below_base_digits_of 256 n 
 
 -- ---- every number
 
--- a text of which no octet is superfluous is the content of its number
+-- octets of which none is superfluous are the contents octets of their number
 pub content_only : (c : List ℕ) → IsText c → is_minimal c ≡ true → c ≡ integer_content (signed_number c)
 unfolding integer_content
 content_only c is e =
@@ -188,9 +188,9 @@ content_value (negsuc n) =
     let ds = with_sign (digits_of 256 n) in
     signed_high (turned ds) (turned_text ds) (turned_high ds (shortest_some ds s.shortest) s.low) ∙ ap (λ (t : List ℕ). negsuc (number t)) (turned_twice ds s.octets) ∙ ap negsuc s.value
 
--- ---- contents, and no shorter text
+-- ---- contents octets, and no fewer octets
 
--- what is left of a text without superfluous octets
+-- octets without the superfluous ones
 record Shortened (t : List ℕ) : Type 0 where
   text : List ℕ
   octets : IsText text
@@ -264,7 +264,7 @@ reads_contents_alone c z is = (
 
 -- ---- numbers of a range
 
--- a test with a fault in its first place
+-- a test with an error in its first branch
 refused : {A : Type 0} (b : Bool) (d : Fault) (x : Result A Fault) (y : A) → (if b then Err d else x) ≡ Ok y → (b ≡ false) × (x ≡ Ok y)
 refused true d x y e = absurd cc
 refused false d x y e = (refl, e)
@@ -314,7 +314,7 @@ sized_takes low high c m is e =
 pub sized_again : (low high : ℤ) (m : ℤ) → (low ≤ℤ m) × (m ≤ℤ high) → read_sized low high (integer_content m) ≡ Ok m
 sized_again low high m range = sized_ok low high (integer_content m) (Ok m) (content_shortest m) (ap (within_range low high) (content_value m) ∙ range_ok low high m range.0 range.1)
 
--- ---- no fault is want of memory
+-- ---- no error is `AllocationError`
 
 pub integer_faults : (c : List ℕ) → IfErr (read_integer c) IsOfText
 unfolding read_integer

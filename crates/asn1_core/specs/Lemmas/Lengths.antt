@@ -1,4 +1,4 @@
--- Lengths: what stands in front of a text.
+-- Lengths: what is at the start of the octets.
 use Rattle.std.proofs.Common.{◌≡◌, ℕ, zero, suc, ◌+◌, ◌-◌, ◌*◌, ◌/◌, ◌%◌, ◌^◌, ◌<◌, ◌≤◌, ◌⊎◌, true, if◌then◌else◌, eqb, List, [], ◌∷◌, ◌++◌, length, get_or, take, drop, set, bit_and, bit_or, Result, Ok, Err, refl, sym, ap, subst, ◌∙◌, inl, inr, ⊎_elim, append_assoc, arith, lit<, lit≤}
 use Rattle.std.specs.Prelude.{OnOk, is_ok}
 use Rattle.std.proofs.lemmas.Bool.{le-leb, lt-leb, le-ltb, lt-ltb, eq-eqb, ne_eqb, cases_lt, cases_eq, or_right}
@@ -26,7 +26,7 @@ number_push (y ∷ ys) x = rw (length_push ys x, pow_more 256 (length ys), numbe
 pub number_more : (t : List ℕ) (i : ℕ) → i < length t → number (take (i + 1) t) ≡ number (take i t) * 256 + get_or t i 0
 number_more t i l = rw (take_more t i 0 l) (number_push (take i t) (get_or t i 0))
 
--- a shift by eight and an octet, where there is room
+-- a shift by eight and an octet, if there is room
 pub next_number : (n x i : ℕ) → n < 256 ^ i → i < 8 → x < 256 → bit_or (n * 256 % 2 ^ 64) x ≡ n * 256 + x
 next_number n x i below few octet =
     let most : 256 ^ i ≤ 256 ^ 7 = pow-le-pow_right {n = 256} (lit< tt) {i = i} {j = 7} (omega arith) in
@@ -48,7 +48,7 @@ octet_of a bit low k (inr e) small =
     let half : a * 64 + 0 ≡ (a * 2) * 32 = omega arith in
     rw (e, whole, first, half) (or_shifted (a * 2) 5 low small)
 
--- ---- what stands in front
+-- ---- what is at the start
 pub length_none : (text : List ℕ) → length text ≡ 0 → length_front text ≡ Err (ShortData 1)
 unfolding length_front
 length_none [] e = refl
@@ -80,7 +80,7 @@ length_waste k rest l (inr h) = rw (le-ltb (length rest) k l, lt-ltb (number (ta
 pub length_found : (k : ℕ) (rest : List ℕ) → k ≤ length rest → (get_or rest 0 0 ≡ 0 → ⊥) → 128 ≤ number (take k rest) → long_length k rest ≡ Ok (number (take k rest), drop k rest)
 length_found k rest l first h = rw (le-ltb (length rest) k l, ne_eqb (get_or rest 0 0) 0 first, le-ltb (number (take k rest)) 128 h) refl
 
--- ---- the length's text
+-- ---- the length octets
 
 leads_digits : (n : ℕ) → Leads (digits_of 256 n)
 leads_digits zero l = absurd (omega arith)
@@ -99,7 +99,7 @@ digits_shortest n = record {
 zero_first : (x : ℕ) (xs : List ℕ) → x ≡ 0 → number (x ∷ xs) ≡ number xs
 zero_first x xs e = rw e (omega arith)
 
--- a shortest text doesn't begin with 0
+-- the fewest octets of a number don't begin with 0
 shortest_leads : (octets : List ℕ) (n : ℕ) → IsShortest octets n → Leads octets
 shortest_leads [] n is l = absurd (omega arith)
 shortest_leads (x ∷ xs) n is l = ⊎_elim
@@ -137,7 +137,7 @@ some_digits n l = ⊎_elim
 pub few_octets : (n : ℕ) → n < 2 ^ 32 → length (digits_of 256 n) ≤ 4
 few_octets n small = length-digits_of-le 256 4 n (lit≤ tt) small
 
--- a count of octets and the octets, where all are there
+-- a count of octets and the octets, if all are there
 whole_form : (t rest : List ℕ) → 1 ≤ length t → length t ≤ 4 → length_front ((128 + length t) ∷ (t ++ rest)) ≡ long_length (length t) (t ++ rest)
 whole_form t rest some few =
     let count : 128 + length t - 128 ≡ length t = omega arith in
@@ -160,7 +160,7 @@ length_ok n rest small = ⊎_elim
     (λ (l : n < 128). rw (length_text_low n l) (length_low (n ∷ rest) (omega arith) l))
     (λ (l : 128 ≤ n). length_ok_high n rest l small) (cases_lt n 128)
 
--- octets that are no shortest text of 128 or more
+-- octets that aren't the fewest of a number of 128 or more
 waste : (t : List ℕ) → IsText t → 0 < length t → ((n : ℕ) → (128 + length t) ∷ t ≡ length_text n → ⊥) → (get_or t 0 0 ≡ 0) ⊎ (number t < 128)
 waste t is some apart = ⊎_elim
     (λ (e : get_or t 0 0 ≡ 0). inl e)
@@ -186,7 +186,7 @@ open_form t needed some few =
 abbrev pub LengthFront : Type 0
 LengthFront = Result (ℕ × List ℕ) ParseErrorKind
 
--- no text has two answers
+-- octets have only one result
 pub length_only : (text : List ℕ) (answer : LengthFront) → IsText text → IsLengthFront text answer → length_front text ≡ answer
 length_only text (Ok found) is a = rw a.1 (length_ok found.0 found.1 a.0)
 length_only text (Err InvalidLength) is (inl (first, rest, bad, e)) = rw e (length_first (first ∷ rest) (omega arith) bad)
@@ -209,7 +209,7 @@ pub length_big : (n : ℕ) (rest : List ℕ) → 2 ^ 32 ≤ n → length_front (
 length_big n rest big =
     rw (length_text_high n (omega arith)) (length_first ((128 + length (digits_of 256 n)) ∷ (digits_of 256 n ++ rest)) (omega arith) (inr (omega (arith, many_digits n big))))
 
--- ---- each text has an answer
+-- ---- all octets have a result
 tail_same : {a b : ℕ} {s t : List ℕ} → a ∷ s ≡ b ∷ t → s ≡ t
 tail_same e = cc
 

@@ -1,4 +1,4 @@
--- Numbers in base 128: what stands in front of a text.
+-- Numbers in base 128: what is at the start of the octets.
 use Rattle.std.proofs.Common.{◌≡◌, ℕ, zero, suc, ◌+◌, ◌-◌, ◌*◌, ◌/◌, ◌%◌, ◌^◌, ◌<◌, ◌≤◌, ◌⊎◌, Bool, true, false, if◌then◌else◌, eqb, leb, ◌||◌, List, [], ◌∷◌, ◌++◌, length, get_or, take, drop, set, map, bit_or, bit_and, Result, Ok, Err, refl, sym, ap, subst, ◌∙◌, inl, inr, ⊎_elim, append_assoc, arith, lit<, lit≤}
 use Rattle.std.specs.List.{prefix_len}
 use Rattle.std.specs.Int.Digits.{digits_of}
@@ -16,7 +16,7 @@ use Rattle.asn1_core.specs.Base128.{digits_number, IsOpen, IsFinished, BeginsWit
 abbrev passes : ℕ → Bool
 passes octet = leb 128 octet
 
--- open octets all pass, and what follows them is counted on
+-- open octets all pass, and the count goes on with the octets after them
 open_run : (t rest : List ℕ) → IsOpen t → prefix_len passes (t ++ rest) ≡ length t + prefix_len passes rest
 open_run [] rest o = omega arith
 open_run (x ∷ xs) rest o = rw (le-leb 128 x o.0.0) (omega (arith, open_run xs rest o.1))
@@ -51,7 +51,7 @@ finished_push (y ∷ z ∷ zs) x o a = (o.0.0, o.0.1, finished_push (z ∷ zs) x
 ne_above : (x : ℕ) → ¬ (x ≡ 128) → 128 ≤ x → 129 ≤ x
 ne_above x z a = omega arith
 
--- a number's text that doesn't begin with 0x80 has its first digit above 0
+-- two or more octets of a number in base 128 that don't begin with 0x80 have a first digit above 0
 digits_ge : (t : List ℕ) → IsFinished t → ¬ BeginsWithZero t → (k : ℕ) → length t ≡ suc (suc k) → 128 ^ suc k ≤ digits_number t
 digits_ge [] f z k e = absurd f
 digits_ge (x ∷ []) f z k e = absurd (omega arith)
@@ -67,7 +67,7 @@ too_long t f z small h =
     let more : 128 ^ 19 ≤ 128 ^ suc k = pow-le-pow_right {n = 128} (lit< tt) {i = 19} {j = suc k} (omega arith) in
     omega arith
 
--- a text that isn't faulty has at most 19 octets
+-- finished octets that aren't malformed are at most 19
 finished_short : (t : List ℕ) → IsFinished t → ¬ BeginsWithZero t → digits_number t < 2 ^ 128 → length t ≤ 19
 finished_short t f z small = ⊎_elim (λ (h : length t < 20). omega arith) (λ (h : 20 ≤ length t). absurd (too_long t f z small h)) (cases_lt (length t) 20)
 
@@ -79,7 +79,7 @@ get_front_not : (t rest : List ℕ) → 0 < length t → ¬ BeginsWithZero t →
 get_front_not [] rest l z = absurd (omega arith)
 get_front_not (x ∷ xs) rest l z = z
 
--- ---- what stands in front of a text
+-- ---- what is at the start of the octets
 
 abbrev pub Front : Type 0
 Front = Result (ℕ × List ℕ) ParseErrorKind
@@ -144,14 +144,14 @@ pub number_short : (t : List ℕ) → IsOpen t → ¬ IsFaulty t → number_fron
 number_short t o ok =
     front_open t (λ z. ok (inl (o, inl z))) (open_all t o) (⊎_elim (λ (h : length t < 19). h) (λ (h : 19 ≤ length t). absurd (ok (inl (o, inr h)))) (cases_lt (length t) 19))
 
--- no text has two answers
+-- octets have only one result
 pub number_only : (text : List ℕ) (answer : Front) → IsNumberFront text answer → number_front text ≡ answer
 number_only text (Ok found) is = rw is.2 (number_ok is.0 found.1 found.0 is.1)
 number_only text (Err InvalidValue) is = rw is.3 (number_bad is.0 is.1 is.2)
 number_only text (Err (ShortData needed)) is = rw is.2 (number_short text is.0 is.1)
 number_only text (Err _) is = absurd is
 
--- a text is open as a whole, or begins with finished octets
+-- octets are open as a whole, or begin with finished octets
 abbrev pub Split : List ℕ → Type 0
 Split text = IsOpen text ⊎ ((t rest : List ℕ) × IsFinished t × (text ≡ t ++ rest))
 
@@ -170,7 +170,7 @@ open_fine t o z h (inl (p, inl q)) = z q
 open_fine t o z h (inl (p, inr q)) = omega arith
 open_fine t o z h (inr (f, q)) = open_not_finished t o f
 
--- octets are faulty or not
+-- octets are malformed or not
 fault_of_open : (t : List ℕ) → IsOpen t → IsFaulty t ⊎ ¬ IsFaulty t
 fault_of_open t o =
     ⊎_elim (λ (z : BeginsWithZero t). inl (inl (o, inl z)))
@@ -199,11 +199,11 @@ number_some_of : (text : List ℕ) → Split text → (answer : Front) × IsNumb
 number_some_of text (inl o) = at_open text o (fault_of_open text o)
 number_some_of text (inr (t, rest, f, e)) = at_finished text t rest e (fault_of_finished t f)
 
--- each text has an answer
+-- all octets have a result
 pub number_some : (text : List ℕ) → IsText text → (answer : Front) × IsNumberFront text answer
 number_some text is = number_some_of text (split_text text is)
 
--- and it is the function's
+-- and the function returns it
 pub number_is : (text : List ℕ) → IsText text → IsNumberFront text (number_front text)
 number_is text is =
     let found = number_some text is in
@@ -253,7 +253,7 @@ exit_full t rest o l = number_bad t rest (inl (o, inr l))
 pub exit_short : (t : List ℕ) → IsOpen t → ¬ BeginsWithZero t → length t < 19 → number_front t ≡ Err (ShortData 1)
 exit_short t o z l = number_short t o (open_fine t o z l)
 
--- ---- the text of a number
+-- ---- the encoding of a number
 
 pub length-number_text : (n : ℕ) → length (number_text n) ≡ length (digits_of 128 (n / 128)) + 1
 unfolding number_text
@@ -262,7 +262,7 @@ length-number_text n = rw (length_push, length-map) refl
 pub few_digits : (n : ℕ) → n < 2 ^ 128 → length (digits_of 128 (n / 128)) ≤ 18
 few_digits n small = length-digits_of-le 128 18 (n / 128) (omega arith) (omega arith)
 
--- ---- the same exits, at the place i of the text
+-- ---- the same exits, at the index i of the octets
 at_place : (text : List ℕ) (i : ℕ) → i < length text → text ≡ take i text ++ get_or text i 0 ∷ drop (i + 1) text
 at_place text i l = sym (take-append-drop i text) ∙ ap (λ (s : List ℕ). take i text ++ s) (drop_more text i 0 l)
 

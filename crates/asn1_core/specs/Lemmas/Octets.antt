@@ -1,4 +1,4 @@
--- Octet strings and null: what is read is the content, and the content is read.
+-- Octet strings and null: what is read is the contents octets, and these are read back.
 use Rattle.std.proofs.Common.{◌≡◌, ℕ, eqb, List, [], ◌∷◌, length, Ok, IfErr, refl, sym, ap, subst, ◌∙◌}
 use Rattle.std.proofs.lemmas.Bool.{eqb-true, eq-eqb}
 use Rattle.asn1_core.specs.declared.parser.ParseErrorKind.TheVariants.{InvalidValue}

@@ -1,4 +1,4 @@
--- Results of readings, taken apart.
+-- Results of reading, by their cases.
 use Rattle.std.proofs.Common.{◌≡◌, ℕ, List, [], Bool, true, false, if◌then◌else◌, Result, Ok, Err, refl, sym, ap, ◌⊎◌, inl, inr}
 use Rattle.asn1_core.specs.declared.parser.ParseErrorKind.{ParseErrorKind}
 use Rattle.asn1_core.specs.declared.parser.ParseErrorKind.TheVariants.{UnexpectedTag}
@@ -24,12 +24,12 @@ pub framed_ok : {A : Type 0} (r : Result A ParseErrorKind) (x : A) → framed r 
 framed_ok (Ok y) x e = cc
 framed_ok (Err kind) x e = absurd cc
 
--- a test with one answer
+-- a test with one result
 pub chosen : {A : Type 0} (b : Bool) (x y z : A) → (if b then x else y) ≡ z → ((b ≡ true) × (x ≡ z)) ⊎ ((b ≡ false) × (y ≡ z))
 chosen true x y z e = inl (refl, e)
 chosen false x y z e = inr (refl, e)
 
--- a test with a fault in its second place
+-- a test with an error in its second branch
 pub passed : {A : Type 0} (b : Bool) (x : Result A Fault) (d : Fault) (y : A) → (if b then x else Err d) ≡ Ok y → (b ≡ true) × (x ≡ Ok y)
 passed true x d y e = (refl, e)
 passed false x d y e = absurd cc
@@ -37,12 +37,12 @@ passed false x d y e = absurd cc
 no_place : (e : Fault) → e.places ≡ [] → fault e.kind ≡ e
 no_place e none = ap (λ (places : List Place). record { kind = e.kind; places = places }) (sym none)
 
--- what framing gave is what a reading answers
+-- what framing returned is what a read returns
 pub given : {V A : Type 0} (view : V → A) (r : Result V Fault) (answer : Result A ParseErrorKind) → AnswersError view r answer → Answers view (λ places. ⊥) r (framed answer)
 given view (Ok v) answer e = rw e refl
 given view (Err f) answer e = inl (rw (e.0, no_place f e.1) refl)
 
--- a refusal of the element with an expected tag is that of the simple type
+-- if reading the element with an expected tag gives an error, the simple type gives the same
 other_tag : {M : Type 0} (b : Bool) (tag : Tag) (found : List ℕ × List ℕ) (read : Result (M × List ℕ) Fault) (kind : ParseErrorKind) →
     (if b then Ok found else Err (UnexpectedTag tag)) ≡ Err kind → (if b then read else Err (fault (UnexpectedTag tag))) ≡ Err (fault kind)
 other_tag true tag found read kind e = absurd cc

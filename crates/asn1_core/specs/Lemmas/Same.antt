@@ -1,4 +1,4 @@
--- Tests of equal kinds, places and errors decide that they are equal.
+-- The tests of kinds, locations and errors decide whether these are equal.
 use Rattle.std.proofs.Common.{◌≡◌, ℕ, Bool, true, ◌&&◌, eqb, List, refl, sym, ap, ◌∙◌}
 use Rattle.std.specs.Bool.{Decides}
 use Rattle.std.specs.Cmp.Lexicographic.{pointwise}

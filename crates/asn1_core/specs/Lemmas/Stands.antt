@@ -1,4 +1,4 @@
--- Answers that stand on longer texts, and what follows.
+-- Results that stay the same for longer inputs, and what follows.
 use Rattle.std.proofs.Common.{◌≡◌, ℕ, ◌+◌, ◌-◌, ◌^◌, ◌<◌, ◌≤◌, ◌⊎◌, List, [], ◌∷◌, ◌++◌, length, Ok, Err, refl, sym, ap, subst, ◌∙◌, inl, inr, ⊎_elim, append_assoc, arith}
 use Rattle.std.specs.List.{flat_map}
 use Rattle.std.proofs.lemmas.List.{append-nil, length-append, nil_from_length}
@@ -17,7 +17,7 @@ use Rattle.asn1_core.specs.Lemmas.Tags.{tag_none, class_below, bit_le, short_tex
 use Rattle.asn1_core.specs.Lemmas.NumberTexts.{text_is}
 use Rattle.asn1_core.specs.Lemmas.Elements.{ElementFront, element_ok, front_only, front_is, front_tag}
 
--- a text in two parts, with more behind it
+-- octets in two parts, with more octets after them
 behind : (text t rest more : List ℕ) → text ≡ t ++ rest → text ++ more ≡ t ++ (rest ++ more)
 behind text t rest more e = ap (λ (s : List ℕ). s ++ more) e ∙ append_assoc t rest more
 
@@ -93,7 +93,7 @@ fewer_are_short text more needed is short fewer =
     let m = fewer_of text more needed fewer (subst (λ (a : ElementFront). IsFront text a) short (front_is text (IsText-front text more is))) in
     rw (front_only (text ++ more) (Err (ShortData m.0)) is m.1) tt
 
--- ---- elements are apart
+-- ---- no element is a proper prefix of another
 
 ok_parts : {e f : Element} {r s : List ℕ} → ◌≡◌ {A = ElementFront} (Ok (e, r)) (Ok (f, s)) → (e ≡ f) × (r ≡ s)
 ok_parts {e} {f} {r} {s} same =
@@ -146,7 +146,7 @@ proper_fronts_are_short e text more readable content same some = ⊎_elim
     absurd (not_whole (front text) more e some (sym (answers_stand text more is long) ∙ whole)))
     (short_or_not (front text))
 
--- ---- a join of elements has one cutting
+-- ---- a concatenation of elements is cut in one way
 
 nothing_found : (e : Element) (rest : List ℕ) → ◌≡◌ {A = ElementFront} (Ok (e, rest)) (Err (ShortData 1)) → ⊥
 nothing_found e rest same = cc

@@ -35,11 +35,11 @@ is_before k m x y (inr p) = second_holds (ltb k m) _ (both_hold (eqb k m) (ltb x
 pub tag_order_is_answered : TagOrderIsAnswered
 tag_order_is_answered a b = (before_is (class_number (tag_class a)) (class_number (tag_class b)) (tag_number a) (tag_number b), is_before (class_number (tag_class a)) (class_number (tag_class b)) (tag_number a) (tag_number b))
 
--- the tag in front of an element
+-- the tag at the start of an element
 pub element_tag_in_front : (e : Element) → e.tag.value < 2 ^ 32 → tag_in_front (element_text e) ≡ Some e.tag
 unfolding element_text
 element_tag_in_front e small = rw (tag_ok e.tag (length_text (length e.content) ++ e.content) small) refl
 
--- the texts of elements stand as their tags do
+-- the encodings of elements have the order of their tags
 pub element_tag_less : (e f : Element) → e.tag.value < 2 ^ 32 → f.tag.value < 2 ^ 32 → tag_less (element_text e) (element_text f) ≡ tag_before e.tag f.tag
 element_tag_less e f small little = rw (element_tag_in_front e small, element_tag_in_front f little) refl

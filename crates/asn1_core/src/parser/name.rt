@@ -1,8 +1,8 @@
 //! Names that last as long as the program, kept without a lifetime.
 //!
-//! A generic reader may not return a type that names `'static`, so that an error can't keep a `&'static str`. It keeps
-//! where the name is and how many octets it has, and beside them, for contracts alone, the right to read them for good.
-//! The two functions of this right are the only ones of the crate with a raw pointer.
+//! A generic reader may not return a type that names `'static`, so that an error can't keep a `&'static str`. The
+//! error keeps where the name is and how many octets the name has. For contracts alone, the error also keeps the right
+//! to read these octets for good. The two functions of this right are the only ones of the crate with a raw pointer.
 
 ghost use Rattle.std.specs.Prelude.{◌≡◌, ℕ, ◌^◌, ◌<◌, List, length};
 ghost use denote.RawPtr.{Ptr};
@@ -67,7 +67,7 @@ unsafe impl Send for Name {}
 unsafe impl Sync for Name {}
 
 impl Name {
-    /// Keeps the name. No memory is taken.
+    /// Keeps the name. Allocates nothing.
     pub fn new(text: &'static str) -> Name
         ensures { result ≡ text.now }
     {

@@ -11,38 +11,38 @@ use crate::parser::{ParseResult, Parser};
 use crate::types::{Asn1Readable, Asn1Type, Asn1Writable};
 use crate::writer::{WriteError, Writer};
 
-/// What a type means that is defined by an item of the type `T`, for contracts alone.
+/// The meaning, for contracts alone, of a type that an item of the type `T` defines.
 pub trait Asn1DefinedBy<T: Asn1Type>: Sized {
     ghost by: { ByItem T Self };
 
-    /// States that every value of the type is valid, as [`Asn1Type::known`] does of other types, and that items that
-    /// are seen as the same mean the same. It does nothing at run time.
+    /// States that every value of the type is valid, as [`Asn1Type::known`] does for other types, and that items with
+    /// the same view (`seen`) have the same abstract value. The call does nothing at run time.
     fn known_by(&self)
         ensures valid { by.means.valid (by.means.meaning self.now) }
         ensures items { (a b : T) → by.seen a ≡ by.seen b → T.der.meaning a ≡ T.der.meaning b };
 }
 
-/// A type that is read where its item is known.
+/// A type that is read once its item is known.
 pub trait Asn1DefinedByReadable<'a, T: Asn1Readable<'a>>: Asn1DefinedBy<T> + Sized + Drop {
     /// Reads a value that `item` defines. Returns the value, or the first error for that item, as `UnknownDefinedBy`,
-    /// or `AllocationError` where the type takes memory; the parser is then before a suffix of what remained.
+    /// or `AllocationError` if the type allocates. The parser is then before a suffix of the octets that remained.
     fn parse(item: T, parser: &mut Parser<'a>) -> ParseResult<Self>
         ensures answers { ReadsDefined Self.by item parser.old parser.new result }
         ensures rest { EndsWith parser.old parser.new }
         ensures stops { OnErr result
             (Self.by.means.stops (Self.by.seen item) parser.old parser.new) };
 
-    /// States that each value has one encoding. It does nothing at run time, or calls that of the parts.
+    /// States that each value has one encoding. The call does nothing at run time, or calls `one_text` of the parts.
     fn one_text()
         ensures { Self.by.means.plain };
 }
 
 /// A type that is written after the item that defines it.
 pub trait Asn1DefinedByWritable<T: Asn1Writable>: Asn1DefinedBy<T> + Sized {
-    /// The error of a write that fails. It is made from a [`WriteError`], such as `AllocationError`.
+    /// The error of a failed write, made from a [`WriteError`] such as `AllocationError`.
     type Error: From<WriteError>;
 
-    // The errors that a write may return, beside being out of memory.
+    // The errors that a write may return, except out of memory.
     ghost write_errors_by: { Self → Self.Error → Type 0 } = { λ _ _. ⊥ };
 
     // The values whose length is known without writing them.
@@ -62,8 +62,8 @@ pub trait Asn1DefinedByWritable<T: Asn1Writable>: Asn1DefinedBy<T> + Sized {
         ensures err { OnErr result (KeepsFront (octets_of dest.old) (octets_of dest.new)) }
         ensures error { IfErr result (Refuses Self.Error.from_gives (write_errors_by self.now)) };
 
-    /// How many octets the value's encoding has, without its item, where that is known without writing it. `None` also
-    /// where that is 2^64 or more.
+    /// How many octets the value's encoding has, without its item, if that is known without writing it. `None` also
+    /// if that is 2^64 or more.
     fn encoded_length(&self) -> Option<usize>
         ensures { GivesLength (length_known_by self.now)
             (Self.by.means.texts (Self.by.means.meaning self.now)) result };

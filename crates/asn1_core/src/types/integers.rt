@@ -16,7 +16,7 @@ use crate::parser::ParseErrorKind;
 use crate::writer::{WriteBuf, WriteError, WriteResult};
 use std::marker::Model;
 
-/// Longer contents octets are outside every type of fixed width.
+/// Longer contents octets are outside the range of every type of fixed width.
 const MAX_CONTENT_OCTETS: usize = 9;
 
 /// How many octets an `i128` has.
@@ -80,9 +80,9 @@ fn beyond(is_below: bool, low: i128) -> ParseErrorKind
     }
 }
 
-/// The number of contents octets, for a type that has those from `low` to `high`; on an error, the kind alone.
+/// The number that contents octets encode, for a type with the range `low` to `high`; on an error, the kind alone.
 ///
-/// `InvalidValue` where the octets aren't contents octets of an INTEGER, and for a negative number where the type is
+/// `InvalidValue` if the octets aren't contents octets of an INTEGER, and for a negative number if the type is
 /// unsigned; `IntegerOverflow` for another number outside the range.
 pub(crate) fn read(octets: &[u8], low: i128, high: i128) -> Result<i128, ParseErrorKind>
     requires least { neg_ℤ (pos (2 ^ 71)) ≤ℤ low }
@@ -143,7 +143,7 @@ impl IntegerText {
     }
 }
 
-/// Appends the contents octets of the number. `AllocationError` where out of memory, with nothing appended.
+/// Appends the contents octets of the number. `AllocationError` if out of memory; then nothing was appended.
 #[inline]
 pub(crate) fn write(number: i128, dest: &mut WriteBuf) -> WriteResult<()>
     ensures ok { OnOk result (dest.new.bytes ≡ dest.old.bytes ++ integer_content number) }
@@ -164,7 +164,7 @@ pub(crate) fn length(number: i128) -> usize
     (bits / 8) as usize + 1
 }
 
-/// The number, or of a negative one -n - 1, which has as many contents octets.
+/// The number n itself, or -n - 1 if n is negative; both have the same number of contents octets.
 #[inline]
 fn without_sign(number: i128) -> u128
     ensures { length (integer_content (pos result)) ≡ length (integer_content number) }

@@ -8,7 +8,7 @@ use crate::tag::Tag;
 use crate::types::{Asn1Readable, Asn1Type, Asn1Writable};
 use crate::writer::Writer;
 
-/// An option means the value that is there, or nothing, whose encoding has no octets.
+/// An option means its value, or nothing. The encoding of nothing has no octets.
 impl<T: Asn1Type> Asn1Type for Option<T> {
     ghost der = { option_der T.der };
 
@@ -19,8 +19,8 @@ impl<T: Asn1Type> Asn1Type for Option<T> {
     }
 }
 
-/// Reads a value where a tag that `T` accepts is next. Elsewhere, also at the end of the input and where the next tag
-/// is rejected, it reads nothing and returns `None`. Errors are those of `T`.
+/// Reads a value if a tag that `T` accepts is next. Else, also at the end of the input or if the next tag is
+/// rejected, nothing is read, and `None` is returned. Errors are those of `T`.
 impl<'a, T: Asn1Readable<'a>> Asn1Readable<'a> for Option<T> {
     fn parse(parser: &mut Parser<'a>) -> ParseResult<Option<T>> {
         match parser.peek_tag() {

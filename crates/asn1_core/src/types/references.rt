@@ -1,4 +1,4 @@
-//! Values in a box or behind a reference, which mean what they hold and have its encoding.
+//! Values in a box or behind a reference. They have the meaning and the encoding of the value that they hold.
 
 ghost use Rattle.std.specs.Prelude.{◌≡◌, length, Some};
 ghost use Rattle.asn1_core.specs.Boxed.{boxed_der};
@@ -12,7 +12,7 @@ use crate::types::{Asn1Type, Asn1Writable, SimpleAsn1Readable, SimpleAsn1Writabl
 use crate::writer::{WriteBuf, WriteError, WriteResult, Writer};
 use std::alloc::Global;
 
-/// A value on the heap. Reading allocates only after the contents octets were found right; `AllocationError` where out
+/// A value on the heap. Reading allocates only after the contents octets were found valid; `AllocationError` if out
 /// of memory.
 impl<T: Asn1Type> Asn1Type for Box<T> {
     ghost der = { boxed_der (λ b. b.value) T.der };

@@ -1,4 +1,4 @@
-//! Sets that are written in order: those of a slice by their elements' encodings, those of a closure by their tags.
+//! Sets that are written in order: the items of a slice by their encodings, the elements of a closure by their tags.
 
 ghost use Rattle.std.specs.Prelude.{◌≡◌, ◌++◌, [], length, map, All, IsPermutation, None, true, IfSome, OnOk, OnErr, IfErr, IsOkUnless, ◌⊎◌};
 ghost use Rattle.std.specs.List.Sorted.{IsSortedBy};
@@ -45,7 +45,7 @@ fn first_number(text: &[u8]) -> usize
     number_in(&octets)
 }
 
-/// The octets of a span, or none where it passes the end.
+/// The octets of a span, or none if it passes the end.
 fn part<'a>(octets: &'a [u8], span: &Span) -> &'a [u8]
     ensures { result.now ≡ part_of octets.now span.now }
 {
@@ -56,7 +56,7 @@ fn part<'a>(octets: &'a [u8], span: &Span) -> &'a [u8]
     }
 }
 
-/// Compares spans by their first octets, and only where these are the same by all of them.
+/// Compares spans by their first octets, and only if these are equal by all their octets.
 #[inline]
 fn compare(octets: &[u8], a: &Span, b: &Span) -> Ordering
     ensures { result ≡ span_cmp octets.now a.now b.now }
@@ -117,8 +117,8 @@ fn push_spans(dest: &mut WriteBuf, spans: &[Span]) -> WriteResult<()>
     Ok(())
 }
 
-/// Appends the items' encodings in ascending order. They are appended as they come, then once more in order, and these
-/// are moved down over the first.
+/// Appends the items' encodings in ascending order. The encodings are appended as they come, then once more in order.
+/// Those in order are then moved down over the first ones.
 fn write_listing<T: Asn1Writable>(items: &[T], dest: &mut WriteBuf) -> Result<(), T::Error>
     requires { Each T.der.closures (map T.der.meaning items.now) }
     ensures ok { OnOk result (Appends (ListingOf T.der.texts (map T.der.meaning items.now))
@@ -139,9 +139,9 @@ fn write_listing<T: Asn1Writable>(items: &[T], dest: &mut WriteBuf) -> Result<()
 /// SET OF (X.690 8.12, 11.6; universal 17), written from the items of a slice: their encodings in ascending order,
 /// equal ones as often as the slice has them. (`SetOf` reads it.)
 ///
-/// Two sets of items, each of which is written as one element, have the same encoding exactly where the items have the
-/// same encodings, each as often. Writing returns `AllocationError` where out of memory, or an error of an item. The
-/// length is known where each item's is and their sum fits a `usize`.
+/// Two sets of items, each of which is written as one element, have the same encoding exactly if the items have the
+/// same encodings, each the same number of times. Writing returns `AllocationError` if out of memory, or an error of
+/// an item. The length is known if each item's is and their sum fits a `usize`.
 #[derive(Debug, Clone, PartialEq, Eq, Hash, Drop)]
 pub struct SetOfWriter<'a, T> {
     items: &'a [T],
@@ -223,7 +223,7 @@ impl<'a> Model for SetElementWriter<'a> {
 }
 
 impl<'a> SetElementWriter<'a> {
-    /// A writer of a set after what is in the buffer.
+    /// A writer of a set after the octets in the buffer.
     pub(crate) fn new(buf: WriteBuf) -> SetElementWriter<'a>
         ensures front { result.front ≡ buf.bytes }
         ensures done { result.done ≡ [] }
@@ -252,19 +252,19 @@ impl<'a> SetElementWriter<'a> {
         buf
     }
 
-    /// Writes an element whose tag doesn't come before that of the element before it: by class, from universal to
-    /// private, and within a class by number (X.680 8.6). A value without octets, such as an option that isn't there,
+    /// Writes an element whose tag doesn't come before the tag of the previous element: by class, from universal to
+    /// private, and within a class by number (X.680 8.6). A value without octets, such as an option that is `None`,
     /// isn't compared.
     ///
-    /// Errors: `AllocationError` where out of memory; one that the type names; `InvalidSetOrdering` where the tag comes
-    /// before, or the octets don't begin with a whole tag. The set is then as it was. What the caller has to prove is
-    /// that of [`Writer::write_element`].
+    /// Errors: `AllocationError` if out of memory; one that the type names; `InvalidSetOrdering` if the tag comes
+    /// before the previous one, or the octets don't begin with a whole tag. On an error the set is as it was. The
+    /// caller has to prove the same as for [`Writer::write_element`].
     pub fn write_element<T: Asn1Writable>(&mut self, val: &T) -> Result<(), T::Error>
         requires { IsWritable T.der (T.der.meaning val.now) }
         ensures front { self.new.front ≡ self.old.front }
         ensures ok { OnOk result (AddsTo (T.der.texts (T.der.meaning val.now)) self.old self.new) }
 
-        // Elements in the order of their tags stay such.
+        // Elements in the order of their tags stay in that order.
         ensures elements { IsElementWritten T.der (T.der.meaning val.now)
             → OnOk result (KeepsElements self.old self.new) }
         ensures err { OnErr result (self.new ≡ self.old) }
@@ -287,7 +287,7 @@ impl<'a> SetElementWriter<'a> {
     }
 }
 
-/// The tag at the start of the octets, where it doesn't come before the last one.
+/// The tag at the start of the octets, if it doesn't come before the last one.
 fn tag_behind(last: Option<Tag>, octets: &[u8]) -> Option<Tag>
     ensures some { IfSome result (StandsBehind last octets.now) }
     ensures none { result ≡ None → (tag_in_front octets.now ≡ None)
@@ -305,8 +305,8 @@ fn tag_behind(last: Option<Tag>, octets: &[u8]) -> Option<Tag>
 /// SET (X.690 8.11, 10.3; universal 17), whose elements a closure writes by the [`SetElementWriter`] that it is given,
 /// in the order of their tags. (`Set` reads it.)
 ///
-/// The length isn't known before it is written. Writing returns `AllocationError` where out of memory, or an error that
-/// the closure returns, `InvalidSetOrdering` among them where it hands that on.
+/// The length isn't known before the set is written. Writing returns `AllocationError` if out of memory, or an error
+/// that the closure returns. `InvalidSetOrdering` is among these if the closure passes it on.
 #[derive(Drop)]
 pub struct SetWriter<'a, F: Fn(&mut SetElementWriter<'_>) -> Result<(), E>, E> {
     f: &'a F,
@@ -314,8 +314,8 @@ pub struct SetWriter<'a, F: Fn(&mut SetElementWriter<'_>) -> Result<(), E>, E> {
 }
 
 impl<'a, F: Fn(&mut SetElementWriter<'_>) -> Result<(), E>, E> SetWriter<'a, F, E> {
-    /// A set of what the closure will write. It isn't called yet. To write the set, the caller has to prove that the
-    /// closure may always be called, and leaves what is before the set as it was.
+    /// A set of the elements that the closure will write. The closure isn't called yet. To write the set, the caller
+    /// has to prove that the closure may always be called, and leaves the octets before the set as they were.
     pub fn new(f: &'a F) -> SetWriter<'a, F, E>
         ensures { set_closure result ≡ f.now }
     {

@@ -1,4 +1,4 @@
--- Integers of any length: what is read is a content, and a content is read.
+-- Integers of any length: only contents octets are read, and all of them are.
 use Rattle.std.proofs.Common.{◌≡◌, ℕ, zero, suc, ◌<◌, ◌≤◌, Bool, true, false, if◌then◌else◌, leb, ltb, List, [], ◌∷◌, ◌++◌, length, get_or, Result, Ok, Err, IfErr, refl, sym, ap, subst, ◌∙◌, inl, inr, ⊎_elim, ◌↔◌, arith, lit<}
 use Rattle.std.specs.Prelude.{ℤ, pos, ◌≤ℤ◌, ◌<ℤ◌, int_lt, OnOk}
 use Rattle.std.proofs.lemmas.Int.{ints, by_lt_z}
@@ -56,7 +56,7 @@ pub unsigned_faults : (c : List ℕ) → IfErr (read_unsigned c) IsOfText
 unfolding read_unsigned
 unsigned_faults c = bind_faults (read_integer c) not_negative (integer_faults c) (λ z. missed_faults (int_lt z (pos 0)) InvalidValue (Ok z) (λ e. cc) tt)
 
--- ---- octets in hand
+-- ---- octets of Rust values
 
 pub signed_by_test : (c : List ℕ) → IsText c → is_minimal c ≡ true → IsSigned c
 signed_by_test c is e = is_content c is e
@@ -97,11 +97,11 @@ top_bit_low c h = rw (signed_low c h) (omega (arith, ints))
 pub top_bit_high : (c : List ℕ) → IsText c → 128 ≤ get_or c 0 0 → signed_number c <ℤ pos 0
 top_bit_high c is h = rw (signed_high c is h) (omega (arith, ints))
 
--- the content of a number is the octets in hand
+-- the contents octets of the number are these octets
 pub content_of_signed : (c : List ℕ) → IsSigned c → c ≡ integer_content (signed_number c)
 content_of_signed c h = content_only c h.octets (test_by_signed c h)
 
--- ---- the form of octets in hand
+-- ---- the form of a Rust value's octets
 
 pub signed_form : (c : List ℕ) → IsSignedForm c → IsSigned c
 signed_form c h = signed_by_test c (IsText-from_reads c h.1) h.0
@@ -121,7 +121,7 @@ pub form_of_unsigned : (c : List ℕ) → IsUnsigned c → IsUnsignedForm c
 form_of_unsigned c h =
     (form_of_signed c h.0, ⊎_elim (λ (low : get_or c 0 0 < 128). low) (λ (high : 128 ≤ get_or c 0 0). let z = top_bit_high c h.0.octets high in let p = h.1 in absurd (omega (arith, ints))) (cases_lt (get_or c 0 0) 128))
 
--- ---- what the code answers
+-- ---- what the code returns
 
 pub signed_test : (b : Bool) (c : List ℕ) → ((k : ℕ) → get_or c k 0 < 256) → b ≡ is_minimal c → (b ≡ true) ↔ IsSigned c
 signed_test b c each e = ((λ t. signed_by_test c (IsText-from_reads c each) (sym e ∙ t)), λ h. e ∙ test_by_signed c h)
@@ -148,7 +148,7 @@ unsigned_test c each e = (
 pub none_unsigned : (b : Bool) (c : List ℕ) → b ≡ is_minimal c → b ≡ false → (b ≡ true) ↔ IsUnsigned c
 none_unsigned b c e f = ((λ t. absurd (both_ways b f t)), λ h. absurd (both_ways (is_minimal c) (sym e ∙ f) (test_by_signed c h.0)))
 
--- ---- what reading answers
+-- ---- what reading returns
 
 pub signed_in_hand : (c d : List ℕ) → IsSignedForm d → d ≡ c → read_integer c ≡ Ok (signed_number d)
 signed_in_hand c d h e = ap read_integer (sym e) ∙ read_signed_ok d (signed_form d h)
@@ -162,7 +162,7 @@ signed_refused c f each none e = read_signed_err c (IsText-from_reads c each) no
 pub unsigned_refused : (c : List ℕ) (f : Fault) → ((k : ℕ) → get_or c k 0 < 256) → (IsUnsigned c → ⊥) → f ≡ fault InvalidValue → read_unsigned c ≡ Err f
 unsigned_refused c f each none e = read_unsigned_err c (IsText-from_reads c each) none ∙ ap Err (sym e)
 
--- memory ran out once the content was found right
+-- memory ran out after the contents octets were found valid
 pub wants_memory : {M : Type 0} (read : List ℕ → Result M Fault) (out : List ℕ → List Place → Type 0) (c : List ℕ) (m : M) (f : Fault) → read c ≡ Ok m → f ≡ fault AllocationError → IsRefusal (owned_out read out c) (read c) f
 wants_memory read out c m f e same = inr (ap (λ (x : Fault). x.kind) same, inr (m, e, ap (λ (x : Fault). x.places) same))
 

@@ -8,7 +8,7 @@ use Rattle.std.proofs.Common.{◌≡◌, ◌∙◌, ℕ, zero, suc, ◌+◌, ◌
 
 -- ---- which bit is set
 
--- as `has_bit`, of octets alone
+-- the same as `has_bit`, for octets
 abbrev is_set : List ℕ → ℕ → Bool
 is_set octets n = nat_lt (n / 8) (length octets) && nat_eq (slice_index octets (n / 8) / 2 ^ (7 - n % 8) % 2) 1
 
@@ -154,7 +154,7 @@ weight b n = if b then n else 0
 abbrev octet_of : Bool → Bool → Bool → Bool → Bool → Bool → Bool → Bool → ℕ
 octet_of a b c d e f g h = weight a 128 + weight b 64 + weight c 32 + weight d 16 + weight e 8 + weight f 4 + weight g 2 + weight h 1
 
--- the octets of as many bits as fill them
+-- the octets that the bits fill entirely
 octets_from : List Bool → List ℕ
 octets_from (a ∷ b ∷ c ∷ d ∷ e ∷ f ∷ g ∷ h ∷ list) = octet_of a b c d e f g h ∷ octets_from list
 octets_from list = []
@@ -205,7 +205,7 @@ one_bit_string list b other is are h g =
 
 -- ---- octets that a list fills are padded
 
--- a bit of the padding, the least significant at place 0
+-- a bit of the padding, the least significant at position 0
 padding_bit : (list : List Bool) (b : Bits) → IsBitsOf list b → (k : ℕ) → k < b.padding → slice_index b.octets (length b.octets - 1) / 2 ^ k % 2 ≡ 0
 padding_bit list b h k inside =
     let count : 8 * length b.octets ≡ length list + b.padding = sym (bits_count b.octets) ∙ ap length h.filled ∙ joined_count list b.padding in

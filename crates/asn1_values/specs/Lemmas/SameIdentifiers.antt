@@ -1,4 +1,4 @@
--- Identifiers with the same numbers are the same octets, since zeros stand behind the content.
+-- Object identifiers with the same numbers have the same octets in memory, since zeros follow the contents octets.
 use Rattle.std.proofs.Common.{◌≡◌, ◌↔◌, IsTrue, ℕ, ◌-◌, List, ◌++◌, length, take, drop, replicate, nat_eq, sym, ap, ◌∙◌}
 use Rattle.std.specs.Prelude.{◌&&◌}
 use Rattle.std.specs.Cmp.Lexicographic.{pointwise}

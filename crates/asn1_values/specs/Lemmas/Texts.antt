@@ -1,4 +1,4 @@
--- Texts: what is read is a content, and a content is read.
+-- Character strings: only contents octets are read, and all of them are.
 use Rattle.std.specs.Char.{is_ascii, is_ascii_alphanumeric}
 use Rattle.std.specs.Int.{is_in_range}
 use Rattle.std.specs.List.{list_any, list_all}
@@ -24,7 +24,7 @@ text_again rule t h = rw h refl
 pub text_faults : (rule : List ℕ → Bool) (c : List ℕ) → IfErr (read_text rule c) IsOfText
 text_faults rule c = passed_faults (rule c) (Ok c) InvalidValue tt (λ e. cc)
 
--- ---- what reading answers
+-- ---- what reading returns
 
 pub text_ok : (rule : List ℕ → Bool) (c t : List ℕ) → IsTextOf rule c → t ≡ c → read_text rule c ≡ Ok t
 text_ok rule c t h e = rw h (ap Ok (sym e))
@@ -34,7 +34,7 @@ text_err rule c f h e = rw h (ap Err (sym e))
 
 -- ---- ASCII
 
--- octets of which each passes a test that ASCII passes alone
+-- octets that each pass a test that only ASCII passes
 pub all_are_ascii : (p : ℕ → Bool) → ((x : ℕ) → p x ≡ true → x < 128) → (c : List ℕ) → list_all p c ≡ true → IsAscii c
 all_are_ascii p law [] h i = omega arith
 all_are_ascii p law (x ∷ c) h zero = law x (and_parts _ _ h).0
@@ -109,7 +109,7 @@ same_answer false false e = refl
 same_answer true false e = absurd (true≢false (sym e))
 same_answer false true e = absurd (true≢false (sym e))
 
--- the bit of a mask at a place
+-- the bit of a mask at a position
 abbrev bit_of : ℕ → ℕ → Bool
 bit_of mask k = eqb (mask / 2 ^ (k % 64) % 2) 1
 
@@ -124,7 +124,7 @@ high_agree : below (is_right_bit 0x07fffffe07fffffe 64) 64 ≡ true
 unfolding below
 high_agree = refl
 
--- below 64 and from there on the bits are those of printable characters
+-- the bits of the masks, below 64 and from 64 on, are those of printable characters
 pub low_printable : (k : ℕ) → k < 64 → bit_of 0xa7fffb8100000000 k ≡ is_printable k
 low_printable k h =
     let at : 0 + k ≡ k = omega arith in

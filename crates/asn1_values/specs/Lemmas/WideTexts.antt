@@ -1,4 +1,4 @@
--- Units of two octets, seen from a place in a text.
+-- Units of two octets, from a position in the octets on.
 use Rattle.std.specs.Char.Utf16.{has_unpaired_surrogate, utf16_chars, lone_unit_char}
 use Rattle.std.specs.List.{list_any}
 use Rattle.std.proofs.lemmas.Bool.{and_left, and_right, and_from, lt-ltb, le-ltb, le-leb, lt-leb, eq-eqb}
@@ -22,7 +22,7 @@ lone_is_char u (inr high) = ap (λ (b : Bool). if b then None else Some u) (and_
 lone_is_none : (u : ℕ) → 0xD800 ≤ u → u < 0xE000 → lone_unit_char u ≡ None
 lone_is_none u low high = ap (λ (b : Bool). if b then None else Some u) (and_from (nat_le 0xD800 u) (nat_lt u 0xE000) (le-leb 0xD800 u low) (lt-ltb u 0xE000 high))
 
--- no surrogate has no partner among these characters
+-- each surrogate has its partner among these characters
 abbrev all_chars : List (Option ℕ) → Bool
 all_chars chars = not (list_any (λ o. not (is_some o)) chars)
 
@@ -36,7 +36,7 @@ pair u v us p = ap all_chars (utf16_chars_pair u v us p)
 lone : (u : ℕ) (us : List ℕ) → 0xD800 ≤ u → u < 0xE000 → (IsPair u (get_or us 0 0) → ⊥) → not (has_unpaired_surrogate (u ∷ us)) ≡ false
 lone u us low high none = ap all_chars (utf16_chars_lone u us none ∙ ap (λ (o : Option ℕ). o ∷ utf16_chars us) (lone_is_none u low high))
 
--- ---- units at a place
+-- ---- units at a position
 
 abbrev unit : List ℕ → ℕ → ℕ
 unit c i = number (get_or c i 0 ∷ get_or c (i + 1) 0 ∷ [])
@@ -78,7 +78,7 @@ lone_unit c i h b from to none =
     let u-is = unit_is (get_or c i 0) (get_or c (i + 1) 0) in
     ap whole (pairs_at c i h) ∙ lone (unit c i) _ (omega (arith, u-is, from)) (omega (arith, u-is, b, to)) none
 
--- the reasons for which a unit is no first of a pair
+-- the reasons why a unit isn't the first of a pair
 pub no_high : (c : List ℕ) (i v : ℕ) → 0xdb < get_or c i 0 → IsPair (unit c i) v → ⊥
 no_high c i v h p = omega (arith, unit_is (get_or c i 0) (get_or c (i + 1) 0), h, p.1)
 
@@ -94,7 +94,7 @@ no_low c i u h d out p =
     let v-is = unit_is (get_or c (i + 2) 0) (get_or c (i + 2 + 1) 0) in
     elim out [ inl below ↦ omega (arith, is, v-is, d, below, p.2) | inr above ↦ omega (arith, is, v-is, above, p.3) ]
 
--- ---- the end of a text
+-- ---- the end of the octets
 
 at_end : (c : List ℕ) (i : ℕ) → i ≤ length c → length c ≤ i → drop i c ≡ []
 at_end c i h end =

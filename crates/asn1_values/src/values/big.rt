@@ -1,4 +1,4 @@
-//! INTEGER of any length (X.690 8.3), whose contents octets are borrowed; and what is said of contents octets.
+//! INTEGER of any length (X.690 8.3), whose contents octets are borrowed; and properties of contents octets.
 
 ghost use Rattle.std.specs.Prelude.{◌≡◌, ℕ, ◌+◌, ◌*◌, ◌-◌, ◌/◌, ◌^◌, ◌∷◌, ◌<◌, ◌≤◌, ◌↔◌, length, pos, int_lt, IsTrue, Some, MatchOption, EachIndex, slice_index};
 ghost use Rattle.asn1_core.specs.Text.{number, signed_number};
@@ -19,7 +19,7 @@ use std::fmt;
 
 /// INTEGER (X.690 8.3; universal 2) that isn't negative, of any length: its contents octets, borrowed from the input.
 ///
-/// DER demands the fewest octets (8.3.2). Reading rejects contents octets that aren't, no octets, and a negative number
+/// DER demands the fewest octets (8.3.2). Reading rejects more than the fewest octets, no octets, and a negative number
 /// with `InvalidValue`.
 #[derive(Clone, Copy, PartialEq, Eq, Hash)]
 pub struct BigUint<'a> {
@@ -30,9 +30,9 @@ pub struct BigUint<'a> {
 impl<'a> BigUint<'a> {
     ghost use Rattle.asn1_values.specs.Values.{big_uint_octets};
 
-    /// The integer with these contents octets, the most significant first. `None` where there is no octet; where there
-    /// are more than one and the first nine bits are all zero or all one; and where the number is negative, since the
-    /// top bit is set.
+    /// The integer with these contents octets, the most significant first. `None` if there is no octet; if there are
+    /// more than one and the first nine bits are all zero or all one; and if the number is negative, since the top bit
+    /// is set.
     pub fn new(octets: &'a [u8]) -> Option<BigUint<'a>>
         ensures { MatchOption result (¬ IsUnsigned octets.entry.now)
             (λ n. big_uint_octets n ≡ octets.entry.now) }
@@ -43,7 +43,7 @@ impl<'a> BigUint<'a> {
         Some(BigUint { octets })
     }
 
-    /// The contents octets, a leading 0x00 included where the number's top bit needs it.
+    /// The contents octets, with a leading 0x00 if the number's top bit needs one.
     pub fn as_bytes(&self) -> &'a [u8]
         ensures value { result.now ≡ big_uint_octets self.now }
         ensures content { IsUnsigned result.now }
@@ -119,7 +119,7 @@ impl SimpleAsn1Writable for BigUint<'_> {
 
 /// INTEGER (X.690 8.3; universal 2) of any length: its contents octets, borrowed from the input.
 ///
-/// DER demands the fewest octets (8.3.2). Reading rejects contents octets that aren't, and no octets, with
+/// DER demands the fewest octets (8.3.2). Reading rejects more than the fewest octets, and no octets, with
 /// `InvalidValue`.
 #[derive(Clone, Copy, PartialEq, Eq, Hash)]
 pub struct BigInt<'a> {
@@ -130,8 +130,8 @@ pub struct BigInt<'a> {
 impl<'a> BigInt<'a> {
     ghost use Rattle.asn1_values.specs.Values.{big_int_octets, big_int_number};
 
-    /// The integer with these contents octets in two's complement, the most significant first. `None` where there is no
-    /// octet, and where there are more than one and the first nine bits are all zero or all one.
+    /// The integer with these contents octets in two's complement, the most significant first. `None` if there is no
+    /// octet, and if there are more than one and the first nine bits are all zero or all one.
     pub fn new(octets: &'a [u8]) -> Option<BigInt<'a>>
         ensures { MatchOption result (¬ IsSigned octets.entry.now)
             (λ n. big_int_octets n ≡ octets.entry.now) }
@@ -246,7 +246,7 @@ pub(super) fn is_unsigned_content(octets: &[u8]) -> bool
     is_integer_content(octets) && octets[0] < 0x80
 }
 
-/// Whether the number of contents octets is negative.
+/// Whether the number that contents octets encode is negative.
 pub(super) fn is_negative(octets: &[u8]) -> bool
     requires { IsSigned octets.now }
     ensures { result ≡ int_lt (signed_number octets.now) (pos 0) }
@@ -261,7 +261,7 @@ fn is_zero(octets: &[u8]) -> bool
     octets.iter().all(|octet| *octet == 0)
 }
 
-/// The absolute value of the number of octets, in units of the weight of the first. The number is signed or not.
+/// The absolute value of a signed or unsigned number, divided by the weight of its first octet and rounded down.
 fn leading(is_negative: bool, first: u8, others: &[u8]) -> u16
     ensures value { result ≡ magnitude is_negative (first ∷ others.now) / 256 ^ length others.now }
     ensures small { result < 2 ^ 9 }
@@ -276,7 +276,7 @@ fn leading(is_negative: bool, first: u8, others: &[u8]) -> u16
     }
 }
 
-/// The contents octets without a first one that shows the sign and no more: its bits are all zero or all one.
+/// The contents octets without the first one if its bits are all zero or all one, so that it shows only the sign.
 fn without_sign(octets: &[u8]) -> &[u8]
     requires { IsSigned octets.now }
     ensures magnitude { IsMagnitude octets.now result.now
@@ -290,7 +290,7 @@ fn without_sign(octets: &[u8]) -> &[u8]
     }
 }
 
-/// How many binary digits the absolute value of the number of contents octets has.
+/// How many binary digits the absolute value of the number that contents octets encode has.
 pub(super) fn bit_length(octets: &[u8]) -> usize
     requires content { IsSigned octets.now }
     requires few { length octets.now < 2 ^ 61 }

@@ -12,9 +12,9 @@ use asn1_core::{
 };
 use std::alloc::Global;
 
-/// ENUMERATED (X.690 8.4; universal 10): the number of one of a list of values, from 0 to 2^32 - 1. It is encoded as an
-/// INTEGER is. Reading rejects contents octets that aren't the fewest, or none, and negative numbers with
-/// `InvalidValue`, and greater numbers with `IntegerOverflow`. Which numbers the list has is the caller's to test.
+/// ENUMERATED (X.690 8.4; universal 10): the number of one of a list of values, from 0 to 2^32 - 1. The number is
+/// encoded as an INTEGER is. Reading rejects more than the fewest contents octets, no octets, and negative numbers with
+/// `InvalidValue`, and greater numbers with `IntegerOverflow`. The caller has to test whether the list has the number.
 #[derive(Debug, PartialEq, Eq, Drop)]
 pub struct Enumerated(u32);
 
@@ -43,7 +43,7 @@ impl Asn1Type for Enumerated {
         (sized_content (universal 10) (pos 0) (pos (2 ^ 32) -ℤ pos 1)) };
 
     fn known(&self) {
-        // Reading the number tells that it is in its type's range.
+        // Reading the number tells the prover that the number is in the range of its type.
         let _value = self.0;
     }
 }

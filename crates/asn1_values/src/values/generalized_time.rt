@@ -17,13 +17,13 @@ use asn1_core::{
 use std::alloc::{AllocError, Global};
 
 /// GeneralizedTime (X.690 11.7; universal 24): a date and a time of day in UTC, of a year from 0 to 9999, with a
-/// fraction of a second in nanoseconds or without. It is ordered by date and time of day, then no fraction before any,
-/// then by nanoseconds.
+/// fraction of a second in nanoseconds or without. Values are ordered by date and time of day, then no fraction before
+/// any fraction, then by nanoseconds.
 ///
 /// The contents octets are `YYYYMMDDHHMMSSZ`, or `YYYYMMDDHHMMSS.fZ` with a fraction. DER demands the seconds, the `Z`,
-/// a point and no comma, and a last digit of the fraction that isn't 0. Reading rejects other contents octets, those of
-/// no date or no time of day, and those with more than nine digits of a fraction, which aren't read here, with
-/// `InvalidValue`.
+/// a point and no comma, and a last digit of the fraction that isn't 0. Reading rejects other contents octets with
+/// `InvalidValue`, also those that are no date or no time of day. More than nine digits of a fraction are rejected too:
+/// this bound is the library's.
 #[derive(Debug, PartialEq, Eq, PartialOrd, Hash, Drop)]
 pub struct GeneralizedTime {
     datetime: DateTime,
@@ -35,7 +35,7 @@ pub struct GeneralizedTime {
 impl GeneralizedTime {
     ghost use Rattle.asn1_values.specs.TimeValues.{instant_of, moment};
 
-    /// The time. The error is `InvalidValue`, without a location, where the year is after 9999, or there are
+    /// The time. The error is `InvalidValue`, without a location, if the year is after 9999, or if there are
     /// nanoseconds and they are 0 or above 999999999.
     pub fn new(datetime: DateTime, nanoseconds: Option<u32>) -> ParseResult<GeneralizedTime>
         ensures { MatchResult result (λ t. instant_of t ≡ instant (moment datetime) nanoseconds)
@@ -58,7 +58,7 @@ impl GeneralizedTime {
         &self.datetime
     }
 
-    /// The fraction of a second in nanoseconds, from 1 to 999999999. `None` where there is none.
+    /// The fraction of a second in nanoseconds, from 1 to 999999999. `None` if there is no fraction.
     pub fn nanoseconds(&self) -> Option<u32>
         ensures { result ≡ (instant_of self.now).nanoseconds }
     {
@@ -66,7 +66,7 @@ impl GeneralizedTime {
     }
 }
 
-/// Takes no memory, and never fails.
+/// Doesn't allocate, and never fails.
 impl Clone for GeneralizedTime {
     ghost use Rattle.asn1_values.specs.TimeValues.{instant_of};
 

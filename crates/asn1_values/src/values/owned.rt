@@ -14,9 +14,9 @@ use asn1_core::{
 use std::alloc::{AllocError, Global};
 use std::fmt;
 
-/// INTEGER (X.690 8.3; universal 2) that isn't negative, of any length, which owns its contents octets. It is read and
-/// written as [`crate::BigUint`] is; reading allocates only after the contents octets were found right, and returns
-/// `AllocationError` where out of memory.
+/// INTEGER (X.690 8.3; universal 2) that isn't negative, of any length, which owns its contents octets. This type is
+/// read and written as [`crate::BigUint`] is. Reading allocates only after the contents octets were found valid, and
+/// returns `AllocationError` if out of memory.
 #[derive(PartialEq, Eq, Hash, Drop)]
 pub struct OwnedBigUint {
     octets: Vec<u8>,
@@ -26,9 +26,9 @@ pub struct OwnedBigUint {
 impl OwnedBigUint {
     ghost use Rattle.asn1_values.specs.Values.{owned_big_uint_octets};
 
-    /// The integer with these contents octets, the most significant first. `None` where there is no octet; where there
-    /// are more than one and the first nine bits are all zero or all one; and where the number is negative, since the
-    /// top bit is set.
+    /// The integer with these contents octets, the most significant first. `None` if there is no octet; if there are
+    /// more than one and the first nine bits are all zero or all one; and if the number is negative, since the top bit
+    /// is set.
     pub fn new(octets: Vec<u8>) -> Option<OwnedBigUint>
         ensures { MatchOption result (¬ IsUnsigned octets.items)
             (λ n. owned_big_uint_octets n ≡ octets.items) }
@@ -39,7 +39,7 @@ impl OwnedBigUint {
         Some(OwnedBigUint { octets })
     }
 
-    /// The contents octets, a leading 0x00 included where the number's top bit needs it.
+    /// The contents octets, with a leading 0x00 if the number's top bit needs one.
     pub fn as_bytes(&self) -> &[u8]
         ensures value { result.now ≡ owned_big_uint_octets self.now }
         ensures content { IsUnsigned result.now }
@@ -48,7 +48,7 @@ impl OwnedBigUint {
     }
 }
 
-/// Allocates; returns `AllocError` where out of memory.
+/// Allocates; returns `AllocError` if out of memory.
 impl Clone for OwnedBigUint {
     ghost use Rattle.asn1_values.specs.Values.{owned_big_uint_octets};
 
@@ -115,9 +115,9 @@ impl SimpleAsn1Writable for OwnedBigUint {
     }
 }
 
-/// INTEGER (X.690 8.3; universal 2) of any length, which owns its contents octets. It is read and written as
-/// [`crate::BigInt`] is; reading allocates only after the contents octets were found right, and returns
-/// `AllocationError` where out of memory.
+/// INTEGER (X.690 8.3; universal 2) of any length, which owns its contents octets. This type is read and written as
+/// [`crate::BigInt`] is. Reading allocates only after the contents octets were found valid, and returns
+/// `AllocationError` if out of memory.
 #[derive(PartialEq, Eq, Hash, Drop)]
 pub struct OwnedBigInt {
     octets: Vec<u8>,
@@ -127,8 +127,8 @@ pub struct OwnedBigInt {
 impl OwnedBigInt {
     ghost use Rattle.asn1_values.specs.Values.{owned_big_int_octets, owned_big_int_number};
 
-    /// The integer with these contents octets in two's complement, the most significant first. `None` where there is no
-    /// octet, and where there are more than one and the first nine bits are all zero or all one.
+    /// The integer with these contents octets in two's complement, the most significant first. `None` if there is no
+    /// octet, and if there are more than one and the first nine bits are all zero or all one.
     pub fn new(octets: Vec<u8>) -> Option<OwnedBigInt>
         ensures { MatchOption result (¬ IsSigned octets.items)
             (λ n. owned_big_int_octets n ≡ octets.items) }
@@ -164,7 +164,7 @@ impl OwnedBigInt {
     }
 }
 
-/// Allocates; returns `AllocError` where out of memory.
+/// Allocates; returns `AllocError` if out of memory.
 impl Clone for OwnedBigInt {
     ghost use Rattle.asn1_values.specs.Values.{owned_big_int_octets};
 

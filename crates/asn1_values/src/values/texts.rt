@@ -32,28 +32,28 @@ fn is_printable(octet: u8) -> bool
     octet < 128 && (characters >> (octet % 64)) % 2 == 1
 }
 
-/// Whether each is a character of a `PrintableString`.
+/// Whether each octet is a character of a `PrintableString`.
 fn is_printable_text(octets: &[u8]) -> bool
     ensures { result ≡ is_printable_text octets.now }
 {
     octets.iter().all(|octet| is_printable(*octet))
 }
 
-/// Whether each is ASCII.
+/// Whether each octet is ASCII.
 fn is_ia5_text(octets: &[u8]) -> bool
     ensures { result ≡ is_ia5_text octets.now }
 {
     octets.is_ascii()
 }
 
-/// Whether each is ASCII and no control character.
+/// Whether each octet is ASCII and no control character.
 fn is_visible_text(octets: &[u8]) -> bool
     ensures { result ≡ is_visible_text octets.now }
 {
     octets.iter().all(|octet| 0x20 <= *octet && *octet <= 0x7e)
 }
 
-/// The octets as `str`, where they follow their rule. Those that do are UTF-8.
+/// The octets as `str` if they follow their rule, as `is_text` says. Octets that follow their rule are UTF-8.
 fn text_in(octets: &[u8], is_text: bool) -> Option<&str>
     requires { is_text ≡ true → IsUtf8 octets.now }
     ensures { MatchOption result (is_text ≡ false)
@@ -76,7 +76,7 @@ pub struct PrintableString<'a> {
 impl<'a> PrintableString<'a> {
     ghost use Rattle.asn1_values.specs.TextValues.{printable_octets};
 
-    /// The string with these characters. `None` where one isn't a letter, a digit, a space or one of `'()+,-./:=?`.
+    /// The string with these characters. `None` if one isn't a letter, a digit, a space or one of `'()+,-./:=?`.
     pub fn new(text: &'a str) -> Option<PrintableString<'a>>
         ensures { MatchOption result (¬ IsTextOf is_printable_text text.entry.now)
             (λ s. printable_octets s ≡ text.entry.now) }
@@ -95,7 +95,7 @@ impl<'a> PrintableString<'a> {
     }
 }
 
-/// Takes no memory, and never fails.
+/// Doesn't allocate, and never fails.
 impl<'a> Clone for PrintableString<'a> {
     ghost use Rattle.asn1_values.specs.TextValues.{printable_octets};
 
@@ -172,7 +172,7 @@ impl SimpleAsn1Writable for PrintableString<'_> {
     }
 }
 
-/// IA5String (X.690 8.23, X.680 41; universal 22): ASCII characters, control characters among them, an octet each,
+/// IA5String (X.690 8.23, X.680 41; universal 22): ASCII characters, control characters included, an octet each,
 /// borrowed from the input. The encoding is primitive (10.2). Reading rejects octets from 0x80 on with `InvalidValue`.
 #[derive(PartialEq, Eq, Drop)]
 pub struct IA5String<'a> {
@@ -183,7 +183,7 @@ pub struct IA5String<'a> {
 impl<'a> IA5String<'a> {
     ghost use Rattle.asn1_values.specs.TextValues.{ia5_octets};
 
-    /// The string with these characters. `None` where one isn't ASCII.
+    /// The string with these characters. `None` if one isn't ASCII.
     pub fn new(text: &'a str) -> Option<IA5String<'a>>
         ensures { MatchOption result (¬ IsTextOf is_ia5_text text.entry.now)
             (λ s. ia5_octets s ≡ text.entry.now) }
@@ -202,7 +202,7 @@ impl<'a> IA5String<'a> {
     }
 }
 
-/// Takes no memory, and never fails.
+/// Doesn't allocate, and never fails.
 impl<'a> Clone for IA5String<'a> {
     ghost use Rattle.asn1_values.specs.TextValues.{ia5_octets};
 
@@ -288,7 +288,7 @@ pub struct VisibleString<'a> {
 impl<'a> VisibleString<'a> {
     ghost use Rattle.asn1_values.specs.TextValues.{visible_octets};
 
-    /// The string with these characters. `None` where one isn't ASCII, or is a control character.
+    /// The string with these characters. `None` if one isn't ASCII, or is a control character.
     pub fn new(text: &'a str) -> Option<VisibleString<'a>>
         ensures { MatchOption result (¬ IsTextOf is_visible_text text.entry.now)
             (λ s. visible_octets s ≡ text.entry.now) }
@@ -307,7 +307,7 @@ impl<'a> VisibleString<'a> {
     }
 }
 
-/// Takes no memory, and never fails.
+/// Doesn't allocate, and never fails.
 impl<'a> Clone for VisibleString<'a> {
     ghost use Rattle.asn1_values.specs.TextValues.{visible_octets};
 
@@ -410,7 +410,7 @@ impl<'a> Utf8String<'a> {
     }
 }
 
-/// Takes no memory, and never fails.
+/// Doesn't allocate, and never fails.
 impl<'a> Clone for Utf8String<'a> {
     ghost use Rattle.asn1_values.specs.TextValues.{utf8_octets};
 

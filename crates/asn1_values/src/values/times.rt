@@ -1,5 +1,5 @@
-//! Times without a fraction of a second: UTCTime, and GeneralizedTime as certificates have it (X.690 11.7, 11.8; RFC
-//! 5280 4.1.2.5).
+//! Times without a fraction of a second: UTCTime, and GeneralizedTime as in certificates (X.690 11.7, 11.8; RFC 5280
+//! 4.1.2.5).
 
 ghost use Rattle.std.specs.Prelude.{◌≡◌, ◌≤◌, ⊤, Some, MatchResult};
 ghost use Rattle.asn1_core.specs.declared.parser.ParseErrorKind.TheVariants.{InvalidValue};
@@ -17,9 +17,9 @@ use std::fmt;
 
 /// UTCTime (X.690 11.8; universal 23): a date and a time of day to the second, in UTC, of a year from 1950 to 2049.
 ///
-/// The contents octets are `YYMMDDHHMMSSZ`, where `YY` below 50 is of the years from 2000 on, and else of those from
-/// 1900 on (RFC 5280 4.1.2.5.1). DER demands the seconds and the `Z`. Reading rejects other contents octets, and those
-/// of no date or no time of day, with `InvalidValue`.
+/// The contents octets are `YYMMDDHHMMSSZ`. A `YY` below 50 counts the years from 2000 on, any other those from 1900 on
+/// (RFC 5280 4.1.2.5.1). DER demands the seconds and the `Z`. Reading rejects other contents octets, and those that are
+/// no date or no time of day, with `InvalidValue`.
 #[derive(PartialEq, Eq, Hash, Drop)]
 pub struct UtcTime {
     datetime: DateTime,
@@ -29,7 +29,7 @@ pub struct UtcTime {
 impl UtcTime {
     ghost use Rattle.asn1_values.specs.TimeValues.{utc_moment, moment};
 
-    /// The time. The error is `InvalidValue`, without a location, where the year is before 1950 or after 2049.
+    /// The time. The error is `InvalidValue`, without a location, if the year is before 1950 or after 2049.
     pub fn new(datetime: DateTime) -> ParseResult<UtcTime>
         ensures { MatchResult result (λ t. utc_moment t ≡ moment datetime)
             (λ e. (e ≡ fault InvalidValue) × ¬ ((1950 ≤ (moment datetime).year)
@@ -49,7 +49,7 @@ impl UtcTime {
     }
 }
 
-/// Takes no memory, and never fails.
+/// Doesn't allocate, and never fails.
 impl Clone for UtcTime {
     ghost use Rattle.asn1_values.specs.TimeValues.{utc_moment};
 
@@ -111,11 +111,11 @@ impl SimpleAsn1Writable for UtcTime {
     }
 }
 
-/// GeneralizedTime (X.690 11.7; universal 24) as certificates have it (RFC 5280 4.1.2.5.2): a date and a time of day to
-/// the second, in UTC, of a year from 0 to 9999.
+/// GeneralizedTime (X.690 11.7; universal 24) as in certificates (RFC 5280 4.1.2.5.2): a date and a time of day to the
+/// second, in UTC, of a year from 0 to 9999.
 ///
 /// The contents octets are `YYYYMMDDHHMMSSZ`. Reading rejects others, also those with a fraction of a second, and those
-/// of no date or no time of day, with `InvalidValue`.
+/// that are no date or no time of day, with `InvalidValue`.
 #[derive(PartialEq, Eq, Hash, Drop)]
 pub struct X509GeneralizedTime {
     datetime: DateTime,
@@ -125,7 +125,7 @@ pub struct X509GeneralizedTime {
 impl X509GeneralizedTime {
     ghost use Rattle.asn1_values.specs.TimeValues.{x509_moment, moment};
 
-    /// The time. The error is `InvalidValue`, without a location, where the year is after 9999.
+    /// The time. The error is `InvalidValue`, without a location, if the year is after 9999.
     pub fn new(datetime: DateTime) -> ParseResult<X509GeneralizedTime>
         ensures { MatchResult result (λ t. x509_moment t ≡ moment datetime)
             (λ e. (e ≡ fault InvalidValue) × ¬ ((moment datetime).year ≤ 9999)) }
@@ -144,7 +144,7 @@ impl X509GeneralizedTime {
     }
 }
 
-/// Takes no memory, and never fails.
+/// Doesn't allocate, and never fails.
 impl Clone for X509GeneralizedTime {
     ghost use Rattle.asn1_values.specs.TimeValues.{x509_moment};
 

@@ -16,8 +16,8 @@ use asn1_core::{
 use std::alloc::{AllocError, Global};
 use std::fmt;
 
-/// How many octets of UTF-16 the character at an index has: 2, or 4 where it is a pair of surrogates. 0 where a
-/// surrogate has no partner.
+/// How many octets of UTF-16 the character at an index has: 2, or 4 for a pair of surrogates. 0 if a surrogate has no
+/// partner.
 fn utf16_length(octets: &[u8], at: usize) -> usize
     requires { at + 2 ≤ length octets.now }
     ensures unpaired { result ≡ 0 → is_paired (drop at octets.now) ≡ false }
@@ -85,7 +85,7 @@ fn is_utf32_text(octets: &[u8]) -> bool
 }
 
 /// BMPString (X.690 8.23, X.680 41; universal 30): UTF-16, the most significant octet of each unit first, borrowed from
-/// the input. The type has the characters of two octets alone; pairs of surrogates are read too, as the original does.
+/// the input. The type has only the characters of two octets; pairs of surrogates are read too, as in the original.
 ///
 /// The encoding is primitive (10.2). Reading rejects an odd number of octets, and a surrogate without its partner, with
 /// `InvalidValue`.
@@ -98,7 +98,7 @@ pub struct BMPString<'a> {
 impl<'a> BMPString<'a> {
     ghost use Rattle.asn1_values.specs.TextValues.{bmp_octets};
 
-    /// The string with these octets. `None` where their number is odd, or a surrogate has no partner.
+    /// The string with these octets. `None` if their number is odd, or if a surrogate has no partner.
     pub fn new(octets: &'a [u8]) -> Option<BMPString<'a>>
         ensures { MatchOption result (¬ IsTextOf is_utf16_text octets.entry.now)
             (λ s. bmp_octets s ≡ octets.entry.now) }
@@ -117,7 +117,7 @@ impl<'a> BMPString<'a> {
     }
 }
 
-/// Takes no memory, and never fails.
+/// Doesn't allocate, and never fails.
 impl<'a> Clone for BMPString<'a> {
     ghost use Rattle.asn1_values.specs.TextValues.{bmp_octets};
 
@@ -195,8 +195,8 @@ impl SimpleAsn1Writable for BMPString<'_> {
 }
 
 /// UniversalString (X.690 8.23, X.680 41; universal 28): UTF-32, the most significant octet of each character first,
-/// borrowed from the input. The encoding is primitive (10.2). Reading rejects with `InvalidValue` what
-/// [`UniversalString::new`] does.
+/// borrowed from the input. The encoding is primitive (10.2). Reading rejects the octets that [`UniversalString::new`]
+/// rejects, with `InvalidValue`.
 #[derive(PartialEq, Eq, Hash, Drop)]
 pub struct UniversalString<'a> {
     octets: &'a [u8],
@@ -206,7 +206,7 @@ pub struct UniversalString<'a> {
 impl<'a> UniversalString<'a> {
     ghost use Rattle.asn1_values.specs.TextValues.{universal_octets};
 
-    /// The string with these octets. `None` where their number isn't a multiple of four, or four of them are above
+    /// The string with these octets. `None` if their number isn't a multiple of four, or if four of them are above
     /// 0x10ffff or a surrogate (0xd800 to 0xdfff).
     pub fn new(octets: &'a [u8]) -> Option<UniversalString<'a>>
         ensures { MatchOption result (¬ IsTextOf is_utf32_text octets.entry.now)
@@ -226,7 +226,7 @@ impl<'a> UniversalString<'a> {
     }
 }
 
-/// Takes no memory, and never fails.
+/// Doesn't allocate, and never fails.
 impl<'a> Clone for UniversalString<'a> {
     ghost use Rattle.asn1_values.specs.TextValues.{universal_octets};
 

@@ -12,7 +12,7 @@ use asn1::{
 };
 use std::alloc::Global;
 
-/// The version that an entry has where it says none.
+/// The version that an entry has if it states none.
 #[derive(Debug, PartialEq, Eq, Drop)]
 pub struct One;
 

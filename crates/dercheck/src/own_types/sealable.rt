@@ -1,4 +1,4 @@
-//! A type with an error of its own, whose content is that of another type.
+//! A type with an error of its own, whose contents octets are those of another type.
 
 ghost use Rattle.std.specs.Prelude.{◌≡◌, true};
 ghost use Rattle.asn1.specs.Der.{seen};
@@ -9,7 +9,7 @@ use asn1::{
 };
 use std::alloc::Global;
 
-/// A number that is written only while it isn't sealed. One that was read isn't.
+/// A number that is written only if it isn't sealed. A number that was read isn't sealed.
 #[derive(Debug, PartialEq, Eq, Drop)]
 pub struct Sealable {
     /// The number.

@@ -8,7 +8,7 @@ use asn1::{
     WriteResult, Writer, X509GeneralizedTime,
 };
 
-/// A time of either form, which the tag says.
+/// A time of either form, as its tag says.
 #[derive(Debug, PartialEq, Eq, Drop)]
 pub enum Time {
     /// A time from 1950 to 2049.

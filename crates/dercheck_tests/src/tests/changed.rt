@@ -1,4 +1,4 @@
-//! Texts that are cut, and texts in which one octet is another.
+//! Encodings that are cut, and encodings in which one octet is changed.
 
 use dercheck::own_types::entry::Entry;
 use dercheck::own_types::my_sequence::MySequence;

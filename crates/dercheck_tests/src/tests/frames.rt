@@ -8,7 +8,7 @@ use std::io::{Error, ErrorKind, Read, Write};
 use std::test::Fail;
 use testing::{same, same_at};
 
-/// A reader that is interrupted at first, and at its end then.
+/// A reader that is interrupted at first, and then at its end.
 #[derive(Drop)]
 struct Interrupted {
     was_read: bool,
@@ -65,7 +65,7 @@ fn check(source: &mut Pieces<'_>, lines: &[u8], answer: Result<bool, Fault>) -> 
     same(source.failed(), answer == Err(Fault::Read))
 }
 
-/// In one piece, in pieces of one octet, and cut at each place.
+/// The octets cut at each index, and given in pieces of at most 1, 2 and 256 octets.
 fn check_each(
     text: &[u8],
     fails: bool,
@@ -125,7 +125,7 @@ fn stops_at_a_fault() -> Result<(), Fail> {
     let mut octets = [0xffu8; 20];
     octets[0] = 0x1f;
     check_each(&octets, false, b"err InvalidTag\n", Ok(false))?;
-    // The source would fail, if it were read on.
+    // The source would fail if it were read further.
     let mut source = Pieces::new(&[0x05, 0x00, 0x05, 0x80], &[], 1, true);
     check(&mut source, b"05 0\nerr InvalidLength\n", Ok(false))
 }

@@ -1,4 +1,4 @@
-//! Lists in one another around a structure: the locations of an error in a field.
+//! Nested lists around a structure: the locations of an error in a field.
 
 ghost use Rattle.std.specs.Prelude.{◌≡◌};
 ghost use Rattle.asn1.specs.Der.{seen};
@@ -19,7 +19,7 @@ type List<'a, T> = SequenceOf<'a, T, 0, { usize::MAX }>;
 
 type Three<'a> = List<'a, List<'a, List<'a, Signature>>>;
 
-/// Three lists in one another, under a name of their own: a check of five at once takes too many steps.
+/// Three nested lists as a type of their own: a check of five at once takes too many steps.
 #[derive(Drop)]
 struct Inner<'a>(Three<'a>);
 

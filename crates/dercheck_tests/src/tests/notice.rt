@@ -85,7 +85,7 @@ impl SimpleAsn1Writable for Notice {
     }
 }
 
-/// The same before a number.
+/// The same fields before a number.
 #[derive(Debug, Clone, PartialEq, Eq, Hash, Drop)]
 pub struct Letter {
     pub kind: DefinedByMarker<ObjectIdentifier>,

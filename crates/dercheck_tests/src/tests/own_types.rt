@@ -1,4 +1,4 @@
-//! Types by hand, written and read.
+//! Types that are written by hand: their values are written and read.
 
 use asn1::{
     Asn1DefinedByReadable, Asn1DefinedByWritable, Asn1Readable, Asn1Writable, DefinedByMarker,
@@ -18,22 +18,22 @@ use testing::{
     are_both_ways, are_refused_with, both_ways, error_of, is_shown, is_written, same, same_at,
 };
 
-/// Why the octets are no value of the type.
+/// Why the octets aren't the encoding of a value of the type.
 pub fn refused<'a, T: Asn1Readable<'a>>(alloc: Global, octets: &'a [u8]) -> Option<ParseError> {
     error_of(parse_single::<T>(alloc, octets))
 }
 
-/// A refusal without a place.
+/// An error without a location.
 pub fn of(kind: ParseErrorKind) -> ParseError {
     ParseError::new(kind)
 }
 
-/// A refusal in the field with this name.
+/// An error in the field with this name.
 pub fn at(name: &'static str, kind: ParseErrorKind) -> ParseError {
     ParseError::new(kind).add_location(ParseLocation::Field(name))
 }
 
-/// The refusal of an element with this primitive universal tag.
+/// The error for an element with this primitive universal tag.
 pub fn other_tag(number: u32) -> ParseErrorKind {
     ParseErrorKind::UnexpectedTag {
         actual: Tag::primitive(number),
@@ -271,7 +271,7 @@ fn known_lengths(rt: HostRuntime) -> Result<(), Fail> {
     same(none.encoded_length(), Some(2))
 }
 
-/// Writes it; want of memory is handed on, and any other error is in the value.
+/// Writes the value. Out of memory is passed on, and any other error is in the result.
 fn sealed(alloc: Global, value: &Sealable) -> Result<Result<Vec<u8>, SealError>, Fail> {
     match write_single(alloc, value) {
         Ok(octets) => Ok(Ok(octets)),

@@ -67,7 +67,7 @@ pub fn parcels_are_lawful()
     ensures { HasOneEncoding ⟦<Parcel as Asn1Type>⟧.der }
 {}
 
-/// Writes it: nothing where it is sealed. Want of memory is handed on.
+/// Writes the parcel: `None` if its number is sealed. Out of memory is passed on.
 fn written(alloc: Global, parcel: &Parcel) -> Result<Option<Vec<u8>>, Fail> {
     match write_single(alloc, parcel) {
         Ok(octets) => Ok(Some(octets)),

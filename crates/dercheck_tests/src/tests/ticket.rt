@@ -1,4 +1,4 @@
-//! A structure of a user's own, and its test: the file that the guide begins with.
+//! A structure of a user's own, and its test, in one file.
 
 ghost use Rattle.std.specs.Prelude.{◌≡◌, ◌∷◌, [], codes};
 ghost use Rattle.asn1.specs.Reads.{HasOneEncoding, ReadsContents};
@@ -13,7 +13,7 @@ use asn1::{
 use std::alloc::Global;
 use std::test::Fail;
 
-/// A number, whether it is paid, which may be unsaid, and whose it is.
+/// A number, whether it is paid, which may be missing, and whose it is.
 #[derive(Debug, Clone, PartialEq, Eq, Hash, Drop)]
 pub struct Ticket<'a> {
     pub number: u64,

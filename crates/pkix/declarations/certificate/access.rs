@@ -5,9 +5,9 @@ use crate::common::{GeneralName, general_name_is_lawful};
 /// AccessDescription (RFC 5280, 4.2.2.1), a SEQUENCE.
 #[derive(asn1::Asn1Read, asn1::Asn1Write, Debug, Clone, PartialEq, Eq)]
 pub struct AccessDescription<'a> {
-    /// What is to be had.
+    /// What the data is.
     pub access_method: asn1::ObjectIdentifier,
-    /// Where.
+    /// Where the data is.
     pub access_location: GeneralName<'a>,
 }
 

@@ -12,22 +12,22 @@ pub enum DistributionPointName<'a> {
     #[implicit(0)]
     FullName(GeneralNames<'a>),
     /// The attributes that follow the name of the list's issuer. Of this set the RFC says `SIZE (1..MAX)`, which isn't
-    /// looked at.
+    /// checked.
     #[implicit(1)]
     NameRelativeToCrlIssuer(asn1::SetOf<'a, AttributeTypeAndValue<'a>>),
 }
 
 /// DistributionPoint (RFC 5280, 4.2.1.13), a SEQUENCE: where a revocation list is, and what it is for. That it has a
-/// place or an issuer isn't looked at.
+/// distribution point or an issuer isn't checked.
 #[derive(asn1::Asn1Read, asn1::Asn1Write, Debug, Clone, PartialEq, Eq)]
 pub struct DistributionPoint<'a> {
     /// Where the list is.
     #[explicit(0)]
     pub distribution_point: Option<DistributionPointName<'a>>,
-    /// The reasons that the list has; all of them where there are none here.
+    /// The reasons that the list has; all of them if there are none here.
     #[implicit(1)]
     pub reasons: Option<NamedBits<'a>>,
-    /// Who issues the list, where that isn't the certificate's issuer.
+    /// Who issues the list, if that isn't the certificate's issuer.
     #[implicit(2)]
     pub crl_issuer: Option<GeneralNames<'a>>,
 }
@@ -37,7 +37,7 @@ pub struct DistributionPoint<'a> {
 pub type CrlDistributionPoints<'a> = asn1::SequenceOf<'a, DistributionPoint<'a>, 1>;
 
 /// IssuingDistributionPoint (RFC 5280, 5.2.5), a SEQUENCE: where this revocation list is, and what it has; identifier
-/// 2.5.29.28. One without fields is read, and one where several of `onlyContains` are true: the RFC forbids both.
+/// 2.5.29.28. One without fields is read, and one in which several of `onlyContains` are true: the RFC forbids both.
 #[derive(asn1::Asn1Read, asn1::Asn1Write, Debug, Clone, PartialEq, Eq)]
 pub struct IssuingDistributionPoint<'a> {
     /// Where the list is.

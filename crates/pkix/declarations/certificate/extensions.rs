@@ -13,7 +13,7 @@ pub struct BasicConstraints<'a> {
 }
 
 /// AuthorityKeyIdentifier (RFC 5280, 4.2.1.1), a SEQUENCE; identifier 2.5.29.35. That it has both or neither of the
-/// issuer and the serial number isn't looked at.
+/// issuer and the serial number isn't checked.
 #[derive(asn1::Asn1Read, asn1::Asn1Write, Debug, Clone, PartialEq, Eq)]
 pub struct AuthorityKeyIdentifier<'a> {
     /// The identifier of the key that signed.
@@ -30,8 +30,8 @@ pub struct AuthorityKeyIdentifier<'a> {
 /// SubjectKeyIdentifier (RFC 5280, 4.2.1.2), an OCTET STRING; identifier 2.5.29.14.
 pub type SubjectKeyIdentifier<'a> = &'a [u8];
 
-/// KeyUsage (RFC 5280, 4.2.1.3), a BIT STRING with named bits; identifier 2.5.29.15. That one bit is set at least isn't
-/// looked at.
+/// KeyUsage (RFC 5280, 4.2.1.3), a BIT STRING with named bits; identifier 2.5.29.15. That at least one bit is set isn't
+/// checked.
 pub type KeyUsage<'a> = NamedBits<'a>;
 
 /// SubjectAltName (RFC 5280, 4.2.1.6), GeneralNames; identifier 2.5.29.17.

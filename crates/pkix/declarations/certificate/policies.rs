@@ -3,12 +3,12 @@
 
 use crate::common::{GeneralName, general_name_is_lawful};
 
-/// PolicyQualifierInfo (RFC 5280, 4.2.1.4), a SEQUENCE: what else is told of a policy.
+/// PolicyQualifierInfo (RFC 5280, 4.2.1.4), a SEQUENCE: more about a policy.
 #[derive(asn1::Asn1Read, asn1::Asn1Write, Debug, Clone, PartialEq, Eq)]
 pub struct PolicyQualifierInfo<'a> {
-    /// What it is: the RFC has id-qt-cps and id-qt-unotice. Any identifier is read.
+    /// Which qualifier it is: the RFC has id-qt-cps and id-qt-unotice. Any identifier is read.
     pub policy_qualifier_id: asn1::ObjectIdentifier,
-    /// The qualifier: an element of the type that `policy_qualifier_id` defines, which isn't looked at.
+    /// The qualifier: an element of the type that `policy_qualifier_id` defines, which isn't checked.
     pub qualifier: asn1::Tlv<'a>,
 }
 
@@ -17,16 +17,16 @@ pub struct PolicyQualifierInfo<'a> {
 pub struct PolicyInformation<'a> {
     /// Which policy it is.
     pub policy_identifier: asn1::ObjectIdentifier,
-    /// What else is told of it, a SEQUENCE of at least one PolicyQualifierInfo.
+    /// More about the policy, a SEQUENCE of at least one PolicyQualifierInfo.
     pub policy_qualifiers: Option<asn1::SequenceOf<'a, PolicyQualifierInfo<'a>, 1>>,
 }
 
 /// CertificatePolicies (RFC 5280, 4.2.1.4), a SEQUENCE of at least one PolicyInformation; identifier 2.5.29.32. That
-/// each policy stands once isn't looked at.
+/// each policy occurs once isn't checked.
 pub type CertificatePolicies<'a> = asn1::SequenceOf<'a, PolicyInformation<'a>, 1>;
 
 /// An item of PolicyMappings (RFC 5280, 4.2.1.5), a SEQUENCE: two policies that are equal for the issuer. That neither
-/// is anyPolicy isn't looked at.
+/// is anyPolicy isn't checked.
 #[derive(asn1::Asn1Read, asn1::Asn1Write, Debug, Clone, PartialEq, Eq)]
 pub struct PolicyMapping {
     /// The issuer's policy.
@@ -43,11 +43,11 @@ pub type PolicyMappings<'a> = asn1::SequenceOf<'a, PolicyMapping, 1>;
 pub struct GeneralSubtree<'a> {
     /// The name.
     pub base: GeneralName<'a>,
-    /// How far below it they begin: the RFC allows 0 alone. A number of 2^32 or more is rejected.
+    /// How far below `base` the names begin: the RFC allows 0 alone. A number of 2^32 or more is rejected.
     #[implicit(0)]
     #[default(0)]
     pub minimum: u32,
-    /// How far below it they end. The RFC allows none here, which isn't looked at.
+    /// How far below `base` the names end. The RFC allows none here, which isn't checked.
     #[implicit(1)]
     pub maximum: Option<asn1::BigUint<'a>>,
 }
@@ -68,7 +68,7 @@ pub struct NameConstraints<'a> {
 }
 
 /// PolicyConstraints (RFC 5280, 4.2.1.11), a SEQUENCE; identifier 2.5.29.36. One without fields is read, which the RFC
-/// forbids. Its numbers are SkipCerts, of certificates that may come before.
+/// forbids. Its numbers are SkipCerts: how many certificates may come before.
 #[derive(asn1::Asn1Read, asn1::Asn1Write, Debug, Clone, PartialEq, Eq)]
 pub struct PolicyConstraints<'a> {
     /// After how many certificates each has to have a policy that is accepted.
@@ -79,6 +79,6 @@ pub struct PolicyConstraints<'a> {
     pub inhibit_policy_mapping: Option<asn1::BigUint<'a>>,
 }
 
-/// InhibitAnyPolicy (RFC 5280, 4.2.1.14), an INTEGER from 0: after how many certificates anyPolicy stands for no
-/// others; identifier 2.5.29.54.
+/// InhibitAnyPolicy (RFC 5280, 4.2.1.14), an INTEGER from 0: after how many certificates anyPolicy matches no other
+/// policy; identifier 2.5.29.54.
 pub type InhibitAnyPolicy<'a> = asn1::BigUint<'a>;

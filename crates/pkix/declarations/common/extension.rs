@@ -5,7 +5,7 @@
 pub struct Extension<'a> {
     /// Which extension it is.
     pub extn_id: asn1::ObjectIdentifier,
-    /// Whether who doesn't know it has to reject what carries it.
+    /// Whether a reader that doesn't know the extension has to reject what carries it.
     #[default(false)]
     pub critical: bool,
     /// The encoding of its value, whose type `extn_id` defines.

@@ -2,7 +2,7 @@
 
 use crate::common::{Name, name_is_lawful};
 
-/// OtherName (RFC 5280, 4.2.1.6), a SEQUENCE: a name of a form that an identifier tells.
+/// OtherName (RFC 5280, 4.2.1.6), a SEQUENCE: a name of a form that an identifier names.
 #[derive(asn1::Asn1Read, asn1::Asn1Write, Debug, Clone, PartialEq, Eq)]
 pub struct OtherName<'a> {
     /// The form.
@@ -12,7 +12,7 @@ pub struct OtherName<'a> {
     pub value: asn1::Tlv<'a>,
 }
 
-/// EDIPartyName (RFC 5280, 4.2.1.6), a SEQUENCE. Its strings are elements of any type: of which the RFC allows five.
+/// EDIPartyName (RFC 5280, 4.2.1.6), a SEQUENCE. Its strings are elements of any type, of which the RFC allows five.
 #[derive(asn1::Asn1Read, asn1::Asn1Write, Debug, Clone, PartialEq, Eq)]
 pub struct EdiPartyName<'a> {
     /// Who assigned the name.
@@ -35,7 +35,7 @@ pub enum GeneralName<'a> {
     /// A name of the domain name system.
     #[implicit(2)]
     DnsName(asn1::IA5String<'a>),
-    /// An ORAddress, whose elements aren't looked at.
+    /// An ORAddress, whose elements aren't read.
     #[implicit(3)]
     X400Address(asn1::Sequence<'a>),
     /// A name of a directory.
@@ -48,7 +48,7 @@ pub enum GeneralName<'a> {
     #[implicit(6)]
     UniformResourceIdentifier(asn1::IA5String<'a>),
     /// The octets of an address of the internet: four or sixteen, or in name constraints twice as many. How many there
-    /// are isn't looked at.
+    /// are isn't checked.
     #[implicit(7)]
     IpAddress(&'a [u8]),
     /// A registered identifier.

@@ -10,11 +10,11 @@ pub struct AttributeTypeAndValue<'a> {
 }
 
 /// Name (RFC 5280, 4.1.2.4), an RDNSequence: a SEQUENCE of sets of attributes. Of a set the RFC says `SIZE (1..MAX)`,
-/// which isn't looked at.
+/// which isn't checked.
 pub type Name<'a> = asn1::SequenceOf<'a, asn1::SetOf<'a, AttributeTypeAndValue<'a>>>;
 
 /// Attribute (RFC 2986, 4.1; RFC 5652, 5.3), a SEQUENCE: a type and a set of values. Of the set RFC 2986 says
-/// `SIZE (1..MAX)`, which isn't looked at; RFC 5652 allows it to be empty.
+/// `SIZE (1..MAX)`, which isn't checked; RFC 5652 allows it to be empty.
 #[derive(asn1::Asn1Read, asn1::Asn1Write, Debug, Clone, PartialEq, Eq)]
 pub struct Attribute<'a> {
     /// The attribute's type.

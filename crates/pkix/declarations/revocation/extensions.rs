@@ -7,7 +7,7 @@ pub type CrlNumber<'a> = asn1::BigUint<'a>;
 /// 2.5.29.27.
 pub type BaseCrlNumber<'a> = asn1::BigUint<'a>;
 
-/// CRLReason (RFC 5280, 5.3.1), an ENUMERATED of 0 to 6 and 8 to 10, which isn't looked at; identifier 2.5.29.21.
+/// CRLReason (RFC 5280, 5.3.1), an ENUMERATED of 0 to 6 and 8 to 10, which isn't checked; identifier 2.5.29.21.
 pub type CrlReason = asn1::Enumerated;
 
 /// InvalidityDate (RFC 5280, 5.3.2), a GeneralizedTime in whole seconds: since when the key may be known to others;

@@ -12,7 +12,7 @@ pub struct RevokedCertificate<'a> {
     pub user_certificate: asn1::BigInt<'a>,
     /// When it was revoked.
     pub revocation_date: Time,
-    /// What else is told of it.
+    /// The extensions of the entry.
     pub crl_entry_extensions: Option<Extensions<'a>>,
 }
 

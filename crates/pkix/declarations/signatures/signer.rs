@@ -24,8 +24,8 @@ pub enum SignerIdentifier<'a> {
     SubjectKeyIdentifier(&'a [u8]),
 }
 
-/// SignerInfo (RFC 5652, 5.3), a SEQUENCE. Of both sets of attributes the RFC says `SIZE (1..MAX)`, which isn't looked
-/// at.
+/// SignerInfo (RFC 5652, 5.3), a SEQUENCE. Of both sets of attributes the RFC says `SIZE (1..MAX)`, which isn't
+/// checked.
 #[derive(asn1::Asn1Read, asn1::Asn1Write, Debug, Clone, PartialEq, Eq)]
 pub struct SignerInfo<'a> {
     /// The version: 1 or 3. Any from 0 to 255 is read.
@@ -34,14 +34,14 @@ pub struct SignerInfo<'a> {
     pub sid: SignerIdentifier<'a>,
     /// The algorithm of the digest.
     pub digest_algorithm: AlgorithmIdentifier<'a>,
-    /// What is signed beside the content.
+    /// The attributes that are signed with the content.
     #[implicit(0)]
     pub signed_attrs: Option<Attributes<'a>>,
     /// The algorithm of the signature.
     pub signature_algorithm: AlgorithmIdentifier<'a>,
     /// The signature.
     pub signature: &'a [u8],
-    /// What isn't signed.
+    /// The attributes that aren't signed.
     #[implicit(1)]
     pub unsigned_attrs: Option<Attributes<'a>>,
 }

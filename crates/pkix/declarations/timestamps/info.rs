@@ -8,10 +8,10 @@ use crate::timestamps::{MessageImprint, message_imprint_is_lawful};
 pub struct Accuracy<'a> {
     /// Seconds.
     pub seconds: Option<asn1::BigInt<'a>>,
-    /// Thousandths of a second: of 1 to 999, which isn't looked at.
+    /// Thousandths of a second: from 1 to 999, which isn't checked.
     #[implicit(0)]
     pub millis: Option<u16>,
-    /// Millionths of a second: of 1 to 999, which isn't looked at.
+    /// Millionths of a second: from 1 to 999, which isn't checked.
     #[implicit(1)]
     pub micros: Option<u16>,
 }
@@ -27,7 +27,7 @@ pub struct TstInfo<'a> {
     pub message_imprint: MessageImprint<'a>,
     /// The number of the time stamp.
     pub serial_number: asn1::BigInt<'a>,
-    /// When it was made. A fraction has nine digits at most.
+    /// When the time stamp was made. A fraction has nine digits at most.
     pub gen_time: asn1::GeneralizedTime,
     /// How far the time may be off.
     pub accuracy: Option<Accuracy<'a>>,
@@ -36,7 +36,7 @@ pub struct TstInfo<'a> {
     pub ordering: bool,
     /// The number of the request.
     pub nonce: Option<asn1::BigInt<'a>>,
-    /// Who made it.
+    /// Who made the time stamp.
     #[explicit(0)]
     pub tsa: Option<GeneralName<'a>>,
     /// The extensions.

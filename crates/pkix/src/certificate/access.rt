@@ -1,5 +1,5 @@
 //! Where other data of an issuer or a subject is (RFC 5280, 4.2.2).
-// Printed by scripts/derive from declarations/certificate/access.rs, with the sum e130dbf1.
+// Printed by scripts/derive from declarations/certificate/access.rs, with the sum 077f45b9.
 
 ghost use Rattle.std.specs.Prelude.{◌≡◌, ◌∷◌, [], codes};
 ghost use Rattle.asn1.specs.Reads.{HasOneEncoding, ReadsContents};
@@ -16,9 +16,9 @@ use std::alloc::Global;
 /// AccessDescription (RFC 5280, 4.2.2.1), a SEQUENCE.
 #[derive(Debug, Clone, PartialEq, Eq, Drop)]
 pub struct AccessDescription<'a> {
-    /// What is to be had.
+    /// What the data is.
     pub access_method: ObjectIdentifier,
-    /// Where.
+    /// Where the data is.
     pub access_location: GeneralName<'a>,
 }
 

@@ -1,5 +1,5 @@
 //! Where revocation lists are found, and what they have (RFC 5280, 4.2.1.13 and 5.2.5).
-// Printed by scripts/derive from declarations/certificate/distribution.rs, with the sum 1e9715b5.
+// Printed by scripts/derive from declarations/certificate/distribution.rs, with the sum da19d992.
 
 ghost use Rattle.std.specs.Prelude.{◌≡◌, ◌∷◌, [], codes, false, OnErr};
 ghost use Rattle.std.proofs.Common.{inl, inr};
@@ -32,7 +32,7 @@ pub enum DistributionPointName<'a> {
     /// The names of the list, each by itself.
     FullName(GeneralNames<'a>),
     /// The attributes that follow the name of the list's issuer. Of this set the RFC says `SIZE (1..MAX)`, which isn't
-    /// looked at.
+    /// checked.
     NameRelativeToCrlIssuer(SetOf<'a, AttributeTypeAndValue<'a>>),
 }
 
@@ -109,14 +109,14 @@ impl<'a> Asn1Writable for DistributionPointName<'a> {
 }
 
 /// DistributionPoint (RFC 5280, 4.2.1.13), a SEQUENCE: where a revocation list is, and what it is for. That it has a
-/// place or an issuer isn't looked at.
+/// distribution point or an issuer isn't checked.
 #[derive(Debug, Clone, PartialEq, Eq, Drop)]
 pub struct DistributionPoint<'a> {
     /// Where the list is.
     pub distribution_point: Option<DistributionPointName<'a>>,
-    /// The reasons that the list has; all of them where there are none here.
+    /// The reasons that the list has; all of them if there are none here.
     pub reasons: Option<NamedBits<'a>>,
-    /// Who issues the list, where that isn't the certificate's issuer.
+    /// Who issues the list, if that isn't the certificate's issuer.
     pub crl_issuer: Option<GeneralNames<'a>>,
 }
 
@@ -196,7 +196,7 @@ impl<'a> SimpleAsn1Writable for DistributionPoint<'a> {
 pub type CrlDistributionPoints<'a> = SequenceOf<'a, DistributionPoint<'a>, 1, { usize::MAX }>;
 
 /// IssuingDistributionPoint (RFC 5280, 5.2.5), a SEQUENCE: where this revocation list is, and what it has; identifier
-/// 2.5.29.28. One without fields is read, and one where several of `onlyContains` are true: the RFC forbids both.
+/// 2.5.29.28. One without fields is read, and one in which several of `onlyContains` are true: the RFC forbids both.
 #[derive(Debug, Clone, PartialEq, Eq, Drop)]
 pub struct IssuingDistributionPoint<'a> {
     /// Where the list is.
@@ -213,7 +213,7 @@ pub struct IssuingDistributionPoint<'a> {
     pub only_contains_attribute_certs: bool,
 }
 
-/// What `only_contains_user_certs` is where it is left out.
+/// What `only_contains_user_certs` is if it is left out.
 #[derive(Debug, PartialEq, Eq, Drop)]
 pub struct IssuingDistributionPointOnlyContainsUserCerts;
 
@@ -225,7 +225,7 @@ impl DefaultValue<Implicit<bool, 1>> for IssuingDistributionPointOnlyContainsUse
     }
 }
 
-/// What `only_contains_ca_certs` is where it is left out.
+/// What `only_contains_ca_certs` is if it is left out.
 #[derive(Debug, PartialEq, Eq, Drop)]
 pub struct IssuingDistributionPointOnlyContainsCaCerts;
 
@@ -237,7 +237,7 @@ impl DefaultValue<Implicit<bool, 2>> for IssuingDistributionPointOnlyContainsCaC
     }
 }
 
-/// What `indirect_crl` is where it is left out.
+/// What `indirect_crl` is if it is left out.
 #[derive(Debug, PartialEq, Eq, Drop)]
 pub struct IssuingDistributionPointIndirectCrl;
 
@@ -249,7 +249,7 @@ impl DefaultValue<Implicit<bool, 4>> for IssuingDistributionPointIndirectCrl {
     }
 }
 
-/// What `only_contains_attribute_certs` is where it is left out.
+/// What `only_contains_attribute_certs` is if it is left out.
 #[derive(Debug, PartialEq, Eq, Drop)]
 pub struct IssuingDistributionPointOnlyContainsAttributeCerts;
 

@@ -1,5 +1,5 @@
 //! Values of extensions (RFC 5280, 4.2.1 and 4.2.2): each type is what the octets of an extension hold.
-// Printed by scripts/derive from declarations/certificate/extensions.rs, with the sum 79f6f43e.
+// Printed by scripts/derive from declarations/certificate/extensions.rs, with the sum d328c829.
 
 ghost use Rattle.std.specs.Prelude.{◌≡◌, ◌∷◌, [], codes, false};
 ghost use Rattle.asn1.specs.Options.{option_meaning};
@@ -24,7 +24,7 @@ pub struct BasicConstraints<'a> {
     pub path_len_constraint: Option<BigUint<'a>>,
 }
 
-/// What `ca` is where it is left out.
+/// What `ca` is if it is left out.
 #[derive(Debug, PartialEq, Eq, Drop)]
 pub struct BasicConstraintsCa;
 
@@ -88,7 +88,7 @@ impl<'a> SimpleAsn1Writable for BasicConstraints<'a> {
 }
 
 /// AuthorityKeyIdentifier (RFC 5280, 4.2.1.1), a SEQUENCE; identifier 2.5.29.35. That it has both or neither of the
-/// issuer and the serial number isn't looked at.
+/// issuer and the serial number isn't checked.
 #[derive(Debug, Clone, PartialEq, Eq, Drop)]
 pub struct AuthorityKeyIdentifier<'a> {
     /// The identifier of the key that signed.
@@ -176,8 +176,8 @@ impl<'a> SimpleAsn1Writable for AuthorityKeyIdentifier<'a> {
 /// SubjectKeyIdentifier (RFC 5280, 4.2.1.2), an OCTET STRING; identifier 2.5.29.14.
 pub type SubjectKeyIdentifier<'a> = &'a [u8];
 
-/// KeyUsage (RFC 5280, 4.2.1.3), a BIT STRING with named bits; identifier 2.5.29.15. That one bit is set at least isn't
-/// looked at.
+/// KeyUsage (RFC 5280, 4.2.1.3), a BIT STRING with named bits; identifier 2.5.29.15. That at least one bit is set isn't
+/// checked.
 pub type KeyUsage<'a> = NamedBits<'a>;
 
 /// SubjectAltName (RFC 5280, 4.2.1.6), GeneralNames; identifier 2.5.29.17.

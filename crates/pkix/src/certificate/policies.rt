@@ -1,6 +1,6 @@
 //! The policies of a certificate, and what it demands of those that follow it in a path (RFC 5280, 4.2.1.4, 4.2.1.5,
 //! 4.2.1.10, 4.2.1.11 and 4.2.1.14).
-// Printed by scripts/derive from declarations/certificate/policies.rs, with the sum d32a2102.
+// Printed by scripts/derive from declarations/certificate/policies.rs, with the sum ecc7aefe.
 
 ghost use Rattle.std.specs.Prelude.{◌≡◌, ◌∷◌, [], codes};
 ghost use Rattle.asn1.specs.Options.{option_meaning};
@@ -16,12 +16,12 @@ use asn1::{
 };
 use std::alloc::Global;
 
-/// PolicyQualifierInfo (RFC 5280, 4.2.1.4), a SEQUENCE: what else is told of a policy.
+/// PolicyQualifierInfo (RFC 5280, 4.2.1.4), a SEQUENCE: more about a policy.
 #[derive(Debug, Clone, PartialEq, Eq, Drop)]
 pub struct PolicyQualifierInfo<'a> {
-    /// What it is: the RFC has id-qt-cps and id-qt-unotice. Any identifier is read.
+    /// Which qualifier it is: the RFC has id-qt-cps and id-qt-unotice. Any identifier is read.
     pub policy_qualifier_id: ObjectIdentifier,
-    /// The qualifier: an element of the type that `policy_qualifier_id` defines, which isn't looked at.
+    /// The qualifier: an element of the type that `policy_qualifier_id` defines, which isn't checked.
     pub qualifier: Tlv<'a>,
 }
 
@@ -81,7 +81,7 @@ impl<'a> SimpleAsn1Writable for PolicyQualifierInfo<'a> {
 pub struct PolicyInformation<'a> {
     /// Which policy it is.
     pub policy_identifier: ObjectIdentifier,
-    /// What else is told of it, a SEQUENCE of at least one PolicyQualifierInfo.
+    /// More about the policy, a SEQUENCE of at least one PolicyQualifierInfo.
     pub policy_qualifiers: Option<SequenceOf<'a, PolicyQualifierInfo<'a>, 1, { usize::MAX }>>,
 }
 
@@ -138,11 +138,11 @@ impl<'a> SimpleAsn1Writable for PolicyInformation<'a> {
 }
 
 /// CertificatePolicies (RFC 5280, 4.2.1.4), a SEQUENCE of at least one PolicyInformation; identifier 2.5.29.32. That
-/// each policy stands once isn't looked at.
+/// each policy occurs once isn't checked.
 pub type CertificatePolicies<'a> = SequenceOf<'a, PolicyInformation<'a>, 1, { usize::MAX }>;
 
 /// An item of PolicyMappings (RFC 5280, 4.2.1.5), a SEQUENCE: two policies that are equal for the issuer. That neither
-/// is anyPolicy isn't looked at.
+/// is anyPolicy isn't checked.
 #[derive(Debug, Clone, PartialEq, Eq, Drop)]
 pub struct PolicyMapping {
     /// The issuer's policy.
@@ -199,13 +199,13 @@ pub type PolicyMappings<'a> = SequenceOf<'a, PolicyMapping, 1, { usize::MAX }>;
 pub struct GeneralSubtree<'a> {
     /// The name.
     pub base: GeneralName<'a>,
-    /// How far below it they begin: the RFC allows 0 alone. A number of 2^32 or more is rejected.
+    /// How far below `base` the names begin: the RFC allows 0 alone. A number of 2^32 or more is rejected.
     pub minimum: u32,
-    /// How far below it they end. The RFC allows none here, which isn't looked at.
+    /// How far below `base` the names end. The RFC allows none here, which isn't checked.
     pub maximum: Option<BigUint<'a>>,
 }
 
-/// What `minimum` is where it is left out.
+/// What `minimum` is if it is left out.
 #[derive(Debug, PartialEq, Eq, Drop)]
 pub struct GeneralSubtreeMinimum;
 
@@ -355,7 +355,7 @@ impl<'a> SimpleAsn1Writable for NameConstraints<'a> {
 }
 
 /// PolicyConstraints (RFC 5280, 4.2.1.11), a SEQUENCE; identifier 2.5.29.36. One without fields is read, which the RFC
-/// forbids. Its numbers are SkipCerts, of certificates that may come before.
+/// forbids. Its numbers are SkipCerts: how many certificates may come before.
 #[derive(Debug, Clone, PartialEq, Eq, Drop)]
 pub struct PolicyConstraints<'a> {
     /// After how many certificates each has to have a policy that is accepted.
@@ -429,8 +429,8 @@ impl<'a> SimpleAsn1Writable for PolicyConstraints<'a> {
     }
 }
 
-/// InhibitAnyPolicy (RFC 5280, 4.2.1.14), an INTEGER from 0: after how many certificates anyPolicy stands for no
-/// others; identifier 2.5.29.54.
+/// InhibitAnyPolicy (RFC 5280, 4.2.1.14), an INTEGER from 0: after how many certificates anyPolicy matches no other
+/// policy; identifier 2.5.29.54.
 pub type InhibitAnyPolicy<'a> = BigUint<'a>;
 
 /// Each value of `PolicyQualifierInfo` has one encoding, which is read back.

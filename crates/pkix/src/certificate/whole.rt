@@ -1,5 +1,5 @@
 //! Certificates (RFC 5280, 4.1).
-// Printed by scripts/derive from declarations/certificate/whole.rs, with the sum 87fba48b.
+// Printed by scripts/derive from declarations/certificate/whole.rs, with the sum b786b9d1.
 
 ghost use Rattle.std.specs.Prelude.{◌≡◌, ◌∷◌, [], codes};
 ghost use Rattle.asn1.specs.Options.{option_meaning};
@@ -90,7 +90,7 @@ pub struct TbsCertificate<'a> {
     pub extensions: Option<Extensions<'a>>,
 }
 
-/// What `version` is where it is left out.
+/// What `version` is if it is left out.
 #[derive(Debug, PartialEq, Eq, Drop)]
 pub struct TbsCertificateVersion;
 

@@ -1,5 +1,5 @@
 //! Extensions (RFC 5280, 4.1.2.9).
-// Printed by scripts/derive from declarations/common/extension.rs, with the sum 0507c635.
+// Printed by scripts/derive from declarations/common/extension.rs, with the sum 9a6cc502.
 
 ghost use Rattle.std.specs.Prelude.{◌≡◌, ◌∷◌, [], codes, false};
 ghost use Rattle.asn1.specs.Reads.{HasOneEncoding, ReadsContents};
@@ -18,13 +18,13 @@ use std::alloc::Global;
 pub struct Extension<'a> {
     /// Which extension it is.
     pub extn_id: ObjectIdentifier,
-    /// Whether who doesn't know it has to reject what carries it.
+    /// Whether a reader that doesn't know the extension has to reject what carries it.
     pub critical: bool,
     /// The encoding of its value, whose type `extn_id` defines.
     pub extn_value: &'a [u8],
 }
 
-/// What `critical` is where it is left out.
+/// What `critical` is if it is left out.
 #[derive(Debug, PartialEq, Eq, Drop)]
 pub struct ExtensionCritical;
 

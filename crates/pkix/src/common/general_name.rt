@@ -1,5 +1,5 @@
 //! General names (RFC 5280, 4.2.1.6).
-// Printed by scripts/derive from declarations/common/general_name.rs, with the sum 714a1087.
+// Printed by scripts/derive from declarations/common/general_name.rs, with the sum 91e3a0f8.
 
 ghost use Rattle.std.specs.Prelude.{◌≡◌, ◌∷◌, [], codes, OnErr};
 ghost use Rattle.std.proofs.Common.{inl, inr};
@@ -19,7 +19,7 @@ use asn1::{
 };
 use std::alloc::Global;
 
-/// OtherName (RFC 5280, 4.2.1.6), a SEQUENCE: a name of a form that an identifier tells.
+/// OtherName (RFC 5280, 4.2.1.6), a SEQUENCE: a name of a form that an identifier names.
 #[derive(Debug, Clone, PartialEq, Eq, Drop)]
 pub struct OtherName<'a> {
     /// The form.
@@ -79,7 +79,7 @@ impl<'a> SimpleAsn1Writable for OtherName<'a> {
     }
 }
 
-/// EDIPartyName (RFC 5280, 4.2.1.6), a SEQUENCE. Its strings are elements of any type: of which the RFC allows five.
+/// EDIPartyName (RFC 5280, 4.2.1.6), a SEQUENCE. Its strings are elements of any type, of which the RFC allows five.
 #[derive(Debug, Clone, PartialEq, Eq, Drop)]
 pub struct EdiPartyName<'a> {
     /// Who assigned the name.
@@ -184,7 +184,7 @@ pub enum GeneralName<'a> {
     Rfc822Name(IA5String<'a>),
     /// A name of the domain name system.
     DnsName(IA5String<'a>),
-    /// An ORAddress, whose elements aren't looked at.
+    /// An ORAddress, whose elements aren't read.
     X400Address(Sequence<'a>),
     /// A name of a directory.
     DirectoryName(Name<'a>),
@@ -193,7 +193,7 @@ pub enum GeneralName<'a> {
     /// A uniform resource identifier.
     UniformResourceIdentifier(IA5String<'a>),
     /// The octets of an address of the internet: four or sixteen, or in name constraints twice as many. How many there
-    /// are isn't looked at.
+    /// are isn't checked.
     IpAddress(&'a [u8]),
     /// A registered identifier.
     RegisteredId(ObjectIdentifier),

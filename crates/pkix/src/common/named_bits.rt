@@ -24,8 +24,8 @@ fn has_one_at_end(bits: &BitString<'_>) -> bool
 }
 
 /// BIT STRING with named bits (X.690 11.2.2; universal 3): zero bits at its end are removed before it is encoded, so
-/// that the last bit, where there is one, is a one. Reading rejects other contents octets with `InvalidValue`. Which
-/// bits have names isn't looked at.
+/// that the last bit, if there is any, is a one. Reading rejects other contents octets with `InvalidValue`. Which bits
+/// have names isn't checked.
 #[derive(Debug, PartialEq, Eq, Drop)]
 pub struct NamedBits<'a> {
     bits: BitString<'a>,
@@ -33,7 +33,7 @@ pub struct NamedBits<'a> {
 }
 
 impl<'a> NamedBits<'a> {
-    /// These bits. `None` where the last one is a zero.
+    /// These bits. `None` if the last bit is a zero.
     pub fn new(bits: BitString<'a>) -> Option<NamedBits<'a>>
         ensures { MatchOption result (¬ (ends_with_one (bits_of bits.entry) ≡ true))
             (λ named. named.bits ≡ bits.entry) }
@@ -59,7 +59,7 @@ impl<'a> NamedBits<'a> {
     }
 }
 
-/// Takes no memory, and never fails.
+/// Allocates nothing, and never fails.
 impl<'a> Clone for NamedBits<'a> {
     ghost is_clone = { λ x y. bits_of y.bits ≡ bits_of x.bits };
 

@@ -1,5 +1,5 @@
 //! Names and attributes (RFC 5280, 4.1.2.4; RFC 2986, 4.1; RFC 5652, 5.3).
-// Printed by scripts/derive from declarations/common/names.rs, with the sum adb4b9ca.
+// Printed by scripts/derive from declarations/common/names.rs, with the sum 86836238.
 
 ghost use Rattle.std.specs.Prelude.{◌≡◌, ◌∷◌, [], codes};
 ghost use Rattle.asn1.specs.Reads.{HasOneEncoding, ReadsContents};
@@ -73,11 +73,11 @@ impl<'a> SimpleAsn1Writable for AttributeTypeAndValue<'a> {
 }
 
 /// Name (RFC 5280, 4.1.2.4), an RDNSequence: a SEQUENCE of sets of attributes. Of a set the RFC says `SIZE (1..MAX)`,
-/// which isn't looked at.
+/// which isn't checked.
 pub type Name<'a> = SequenceOf<'a, SetOf<'a, AttributeTypeAndValue<'a>>, 0, { usize::MAX }>;
 
 /// Attribute (RFC 2986, 4.1; RFC 5652, 5.3), a SEQUENCE: a type and a set of values. Of the set RFC 2986 says
-/// `SIZE (1..MAX)`, which isn't looked at; RFC 5652 allows it to be empty.
+/// `SIZE (1..MAX)`, which isn't checked; RFC 5652 allows it to be empty.
 #[derive(Debug, Clone, PartialEq, Eq, Drop)]
 pub struct Attribute<'a> {
     /// The attribute's type.

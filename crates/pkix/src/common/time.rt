@@ -1,5 +1,5 @@
 //! Times (RFC 5280, 4.1.2.5).
-// Printed by scripts/derive from declarations/common/time.rs, with the sum 6c4797bf.
+// Printed by scripts/derive from declarations/common/time.rs, with the sum 6c23488c.
 
 ghost use Rattle.std.proofs.Common.{inl, inr};
 ghost use Rattle.asn1.specs.Choices.{choice_der, only, or};
@@ -12,8 +12,8 @@ use asn1::{
 
 type TimeChoice = Choice2<UtcTime, X509GeneralizedTime>;
 
-/// Time (RFC 5280, 4.1), a CHOICE of two forms of a time in UTC, told by the tag. Which form a year has to have isn't
-/// looked at.
+/// Time (RFC 5280, 4.1), a CHOICE of two forms of a time in UTC, distinguished by the tag. Which form a year has to
+/// have isn't checked.
 #[derive(Debug, Clone, PartialEq, Eq, Drop)]
 pub enum Time {
     /// utcTime: a time from 1950 to 2049.

@@ -1,5 +1,5 @@
 //! Values of extensions of revocation lists and of their entries (RFC 5280, 5.2.3, 5.2.4, 5.3.1 and 5.3.2).
-// Printed by scripts/derive from declarations/revocation/extensions.rs, with the sum 83d60df5.
+// Printed by scripts/derive from declarations/revocation/extensions.rs, with the sum f9190a47.
 
 ghost use Rattle.asn1.specs.Reads.{HasOneEncoding};
 
@@ -12,7 +12,7 @@ pub type CrlNumber<'a> = BigUint<'a>;
 /// 2.5.29.27.
 pub type BaseCrlNumber<'a> = BigUint<'a>;
 
-/// CRLReason (RFC 5280, 5.3.1), an ENUMERATED of 0 to 6 and 8 to 10, which isn't looked at; identifier 2.5.29.21.
+/// CRLReason (RFC 5280, 5.3.1), an ENUMERATED of 0 to 6 and 8 to 10, which isn't checked; identifier 2.5.29.21.
 pub type CrlReason = Enumerated;
 
 /// InvalidityDate (RFC 5280, 5.3.2), a GeneralizedTime in whole seconds: since when the key may be known to others;

@@ -1,5 +1,5 @@
 //! Revocation lists (RFC 5280, 5.1 to 5.3).
-// Printed by scripts/derive from declarations/revocation/lists.rs, with the sum fc9edcf2.
+// Printed by scripts/derive from declarations/revocation/lists.rs, with the sum 35bf2a09.
 
 ghost use Rattle.std.specs.Prelude.{◌≡◌, ◌∷◌, [], codes};
 ghost use Rattle.asn1.specs.Options.{option_meaning};
@@ -25,7 +25,7 @@ pub struct RevokedCertificate<'a> {
     pub user_certificate: BigInt<'a>,
     /// When it was revoked.
     pub revocation_date: Time,
-    /// What else is told of it.
+    /// The extensions of the entry.
     pub crl_entry_extensions: Option<Extensions<'a>>,
 }
 

@@ -1,5 +1,5 @@
 //! Who signed (RFC 5652, 5.3).
-// Printed by scripts/derive from declarations/signatures/signer.rs, with the sum 447faf5e.
+// Printed by scripts/derive from declarations/signatures/signer.rs, with the sum f5493afc.
 
 ghost use Rattle.std.specs.Prelude.{◌≡◌, ◌∷◌, [], codes, OnErr};
 ghost use Rattle.std.proofs.Common.{inl, inr};
@@ -154,8 +154,8 @@ impl<'a> Asn1Writable for SignerIdentifier<'a> {
     }
 }
 
-/// SignerInfo (RFC 5652, 5.3), a SEQUENCE. Of both sets of attributes the RFC says `SIZE (1..MAX)`, which isn't looked
-/// at.
+/// SignerInfo (RFC 5652, 5.3), a SEQUENCE. Of both sets of attributes the RFC says `SIZE (1..MAX)`, which isn't
+/// checked.
 #[derive(Debug, Clone, PartialEq, Eq, Drop)]
 pub struct SignerInfo<'a> {
     /// The version: 1 or 3. Any from 0 to 255 is read.
@@ -164,13 +164,13 @@ pub struct SignerInfo<'a> {
     pub sid: SignerIdentifier<'a>,
     /// The algorithm of the digest.
     pub digest_algorithm: AlgorithmIdentifier<'a>,
-    /// What is signed beside the content.
+    /// The attributes that are signed with the content.
     pub signed_attrs: Option<Attributes<'a>>,
     /// The algorithm of the signature.
     pub signature_algorithm: AlgorithmIdentifier<'a>,
     /// The signature.
     pub signature: &'a [u8],
-    /// What isn't signed.
+    /// The attributes that aren't signed.
     pub unsigned_attrs: Option<Attributes<'a>>,
 }
 

@@ -1,5 +1,5 @@
 //! What a time stamp says (RFC 3161, 2.4.2).
-// Printed by scripts/derive from declarations/timestamps/info.rs, with the sum 16de2f89.
+// Printed by scripts/derive from declarations/timestamps/info.rs, with the sum 9bd0998f.
 
 ghost use Rattle.std.specs.Prelude.{◌≡◌, ◌∷◌, [], codes, false};
 ghost use Rattle.asn1.specs.Options.{option_meaning};
@@ -21,9 +21,9 @@ use std::alloc::Global;
 pub struct Accuracy<'a> {
     /// Seconds.
     pub seconds: Option<BigInt<'a>>,
-    /// Thousandths of a second: of 1 to 999, which isn't looked at.
+    /// Thousandths of a second: from 1 to 999, which isn't checked.
     pub millis: Option<u16>,
-    /// Millionths of a second: of 1 to 999, which isn't looked at.
+    /// Millionths of a second: from 1 to 999, which isn't checked.
     pub micros: Option<u16>,
 }
 
@@ -91,7 +91,7 @@ pub struct TstInfo<'a> {
     pub message_imprint: MessageImprint<'a>,
     /// The number of the time stamp.
     pub serial_number: BigInt<'a>,
-    /// When it was made. A fraction has nine digits at most.
+    /// When the time stamp was made. A fraction has nine digits at most.
     pub gen_time: GeneralizedTime,
     /// How far the time may be off.
     pub accuracy: Option<Accuracy<'a>>,
@@ -99,13 +99,13 @@ pub struct TstInfo<'a> {
     pub ordering: bool,
     /// The number of the request.
     pub nonce: Option<BigInt<'a>>,
-    /// Who made it.
+    /// Who made the time stamp.
     pub tsa: Option<GeneralName<'a>>,
     /// The extensions.
     pub extensions: Option<Extensions<'a>>,
 }
 
-/// What `ordering` is where it is left out.
+/// What `ordering` is if it is left out.
 #[derive(Debug, PartialEq, Eq, Drop)]
 pub struct TstInfoOrdering;
 

@@ -13,7 +13,7 @@ use crate::wrappers::{DefaultValue, Defaulted, Explicit, MeaningEq};
 use asn1_core::writer::full_length;
 use asn1_core::{Asn1Type, Asn1Writable, Writer, explicit_tag};
 
-/// How many octets a value has under an explicit tag, where that is known.
+/// How many octets the encoding of a value under an explicit tag has, if that is known.
 fn explicit_length<T: Asn1Writable>(value: &T, tag: u32) -> Option<usize>
     ensures { GivesLength (T.length_known value.now) (IsElementOf (explicit_tag_of tag)
         (T.der.texts (T.der.meaning value.now))) result }
@@ -21,7 +21,7 @@ fn explicit_length<T: Asn1Writable>(value: &T, tag: u32) -> Option<usize>
     full_length(explicit_tag(tag), value.encoded_length()?)
 }
 
-/// Whether a value equals the default, which stands under an explicit tag.
+/// Whether a value equals the default, which is under an explicit tag.
 fn is_explicit_default<T: MeaningEq + Drop, const N: u32, D: DefaultValue<Explicit<T, N>>>(
     value: &T,
 ) -> bool

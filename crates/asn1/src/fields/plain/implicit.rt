@@ -13,7 +13,7 @@ use crate::wrappers::{DefaultValue, Defaulted, Implicit, SimpleMeaningEq};
 use asn1_core::writer::full_length;
 use asn1_core::{Asn1Type, SimpleAsn1Writable, Writer, implicit_tag};
 
-/// How many octets a value has under an implicit tag, where that is known.
+/// How many octets the encoding of a value under an implicit tag has, if that is known.
 fn implicit_length<T: SimpleAsn1Writable>(value: &T, tag: u32) -> Option<usize>
     ensures { GivesLength (T.length_known value.now) (IsElementOf
         (implicit_tag_of tag T.der.content.tag) (T.der.content.texts (T.der.meaning value.now)))
@@ -22,7 +22,7 @@ fn implicit_length<T: SimpleAsn1Writable>(value: &T, tag: u32) -> Option<usize>
     full_length(implicit_tag(tag, T::tag()), value.data_length()?)
 }
 
-/// Whether a value equals the default, which stands under an implicit tag.
+/// Whether a value equals the default, which is under an implicit tag.
 fn is_implicit_default<T: SimpleMeaningEq + Drop, const N: u32, D: DefaultValue<Implicit<T, N>>>(
     value: &T,
 ) -> bool

@@ -3,7 +3,7 @@ use Rattle.std.specs.Int.Digits.{digits_of}
 use Rattle.asn1_core.specs.Base128.{number_text}
 use Rattle.asn1_core.proofs.base128.write.Given as goal
 
--- the digits that are left, put in front of what is written, complete the text
+-- the digits that are left, before the written octets, complete the encoding
 abbrev pub invariant-loop-i : goal.invariant-loop-i
 invariant-loop-i l = record {
   left : length (digits_of 128 l.rest) ≡ l.i;

@@ -15,7 +15,7 @@ fronts : Fronts
 unfolding front tag_front length_front number_front
 fronts = record { nothing = refl; octets = refl; cut_content = refl; cut_length = refl; long_length = refl; indefinite_length = refl; open_tag = refl; large_tag = refl }
 
--- the text in base 128 of a number, by its digits
+-- the encoding in base 128 of a number, by its digits
 number_is : IsNumberText (0x81 ∷ 0x80 ∷ 0x01 ∷ []) 16385
 number_is = record {
   finished = (lit≤ tt, lit< tt, (lit≤ tt, lit< tt, lit< tt));
@@ -35,7 +35,7 @@ tags = record {
   text = ap (λ (s : List ℕ). 0x1f ∷ s) (sym (text_only (0x81 ∷ 0x80 ∷ 0x01 ∷ []) 16385 number_is));
 }
 
--- the text of a long length, by its octets
+-- the length octets of a long length, by the octets of its number
 long_is : (octets : List ℕ) (n : ℕ) → 128 ≤ n → IsText octets → Leads octets → number octets ≡ n → length_text n ≡ (128 + length octets) ∷ octets
 long_is octets n long is leads value =
     let same : digits_of 256 n ≡ octets = ap (digits_of 256) (sym (number_by_digits octets ∙ value)) ∙ digits_back 256 octets (lit≤ tt) is leads in

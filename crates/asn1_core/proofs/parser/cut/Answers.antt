@@ -8,7 +8,7 @@ use Rattle.asn1_core.specs.Lemmas.Texts.{IsText-from_reads}
 use Rattle.asn1_core.specs.Lemmas.Elements.{front_ok_is, cut_whole}
 use Rattle.asn1_core.proofs.parser.cut.Goals as goal
 
--- the element that was cut, and the text that it was cut from
+-- the element that was cut off, and the octets that it was cut from
 found : (text : List ℕ) (tag : Tag) (n : ℕ) (behind content rest : List ℕ) → front text ≡ content_front tag n behind → n ≤ length behind → content ≡ take n behind → rest ≡ drop n behind → front text ≡ Ok (element tag content, rest)
 found text tag n behind content rest header enough c r = rw (c, r) (header ∙ rw (le-ltb (length behind) n enough) refl)
 

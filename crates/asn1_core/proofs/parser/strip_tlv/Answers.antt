@@ -12,7 +12,7 @@ use Rattle.asn1_core.specs.Lemmas.Elements.{ElementFront, front_is, front_only}
 use Rattle.asn1_core.specs.Lemmas.Stands.{answers_stand, fewer_are_short}
 use Rattle.asn1_core.proofs.parser.strip_tlv.Goals as goal
 
--- what `strip_tlv` gives is what stands in front
+-- what `strip_tlv` returns is what is at the start
 stripped_is : (r : Result (Tlv × Bor (List ℕ)) ParseErrorKind) (answer : Result (Element × List ℕ) ParseErrorKind) → AnswersKind (λ x. (element_of x.0, x.1.now)) r answer → answer ≡ stripped (framed r)
 stripped_is (Ok x) answer e = e
 stripped_is (Err kind) answer e = e

@@ -56,7 +56,7 @@ impl SimpleAsn1Writable for i8 {
     }
 }
 
-/// INTEGER (X.690 8.3; universal 2) from -2^15 to 2^15 - 1. Reading rejects as that of `i8`.
+/// INTEGER (X.690 8.3; universal 2) from -2^15 to 2^15 - 1. Reading has the errors of `i8`.
 impl Asn1Type for i16 {
     ghost der = { signed_der 16 (λ number. number) };
 
@@ -100,7 +100,7 @@ impl SimpleAsn1Writable for i16 {
     }
 }
 
-/// INTEGER (X.690 8.3; universal 2) from -2^31 to 2^31 - 1. Reading rejects as that of `i8`.
+/// INTEGER (X.690 8.3; universal 2) from -2^31 to 2^31 - 1. Reading has the errors of `i8`.
 impl Asn1Type for i32 {
     ghost der = { signed_der 32 (λ number. number) };
 
@@ -144,7 +144,7 @@ impl SimpleAsn1Writable for i32 {
     }
 }
 
-/// INTEGER (X.690 8.3; universal 2) from -2^63 to 2^63 - 1. Reading rejects as that of `i8`.
+/// INTEGER (X.690 8.3; universal 2) from -2^63 to 2^63 - 1. Reading has the errors of `i8`.
 impl Asn1Type for i64 {
     ghost der = { signed_der 64 (λ number. number) };
 

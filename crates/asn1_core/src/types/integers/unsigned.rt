@@ -56,7 +56,7 @@ impl SimpleAsn1Writable for u8 {
     }
 }
 
-/// INTEGER (X.690 8.3; universal 2) from 0 to 2^16 - 1. Reading rejects as that of `u8`.
+/// INTEGER (X.690 8.3; universal 2) from 0 to 2^16 - 1. Reading has the errors of `u8`.
 impl Asn1Type for u16 {
     ghost der = { unsigned_der 16 (λ number. number) };
 
@@ -100,7 +100,7 @@ impl SimpleAsn1Writable for u16 {
     }
 }
 
-/// INTEGER (X.690 8.3; universal 2) from 0 to 2^32 - 1. Reading rejects as that of `u8`.
+/// INTEGER (X.690 8.3; universal 2) from 0 to 2^32 - 1. Reading has the errors of `u8`.
 impl Asn1Type for u32 {
     ghost der = { unsigned_der 32 (λ number. number) };
 
@@ -144,7 +144,7 @@ impl SimpleAsn1Writable for u32 {
     }
 }
 
-/// INTEGER (X.690 8.3; universal 2) from 0 to 2^64 - 1. Reading rejects as that of `u8`.
+/// INTEGER (X.690 8.3; universal 2) from 0 to 2^64 - 1. Reading has the errors of `u8`.
 impl Asn1Type for u64 {
     ghost der = { unsigned_der 64 (λ number. number) };
 

@@ -2,7 +2,7 @@ use Rattle.std.proofs.Common.{◌≡◌, ◌++◌, List, ℕ, length}
 use Rattle.std.specs.Io.KnownBytes.{Appends}
 use Rattle.dercheck.proofs.frame_lines.put_all.Given as goal
 
--- what was put stands in the sink, and the rest is to come
+-- what was put is in the sink, and `rest` is still to come
 abbrev pub invariant-loop-rest : goal.invariant-loop-rest
 invariant-loop-rest g l =
     (done : List ℕ)

@@ -5,7 +5,7 @@ use Rattle.asn1_core.specs.Reading.{element_front}
 use Rattle.asn1.specs.Sets.{checked}
 use Rattle.asn1.proofs.lists.sets.check_elements.Given as goal
 
--- what is left stands behind an element with this text
+-- the remaining octets come after an element with this encoding
 abbrev pub invariant-elements : goal.invariant-elements
 invariant-elements l = record {
   before : List ℕ;

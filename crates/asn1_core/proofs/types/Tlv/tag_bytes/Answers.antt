@@ -6,7 +6,7 @@ use Rattle.asn1_core.specs.Length.{length_text}
 use Rattle.asn1_core.specs.Element.{element, element_text}
 use Rattle.asn1_core.proofs.types.Tlv.tag_bytes.Goals as goal
 
--- the tag stands in front of the element's text
+-- the identifier octets are at the start of the element's encoding
 in_front : (full : List ℕ) (tag : Tag) (content : List ℕ) (n : ℕ) → full ≡ element_text (element tag content) → n ≡ length (tag_text tag) → take n full ≡ tag_text tag
 unfolding element_text
 in_front full tag content n is count = rw (is, count) (take_at (tag_text tag) (length_text (length content) ++ content) (length (tag_text tag)) refl)

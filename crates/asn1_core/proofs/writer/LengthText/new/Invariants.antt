@@ -2,7 +2,7 @@ use Rattle.std.proofs.Common.{◌≡◌, ◌+◌, ◌++◌, ◌≤◌, length, d
 use Rattle.std.specs.Int.Digits.{digits_of}
 use Rattle.asn1_core.proofs.writer.LengthText.new.Given as goal
 
--- the digits that are left, put in front of those that are written, are all the digits
+-- the digits that are left, before those that are written, are all the digits
 abbrev pub invariant-loop-rest : goal.invariant-loop-rest
 invariant-loop-rest l = record {
   size : length l.octets ≡ 9;

@@ -8,11 +8,11 @@ use Rattle.asn1_core.specs.Lemmas.Lengths.{length_text_high, write_step, low_eig
 use Rattle.asn1_core.proofs.Patch.{grown_is, moved_is, moved_tail, moved_front, some_number, none_left, top_of}
 use Rattle.asn1_core.proofs.writer.WriteBuf.patch_long_length.Goals as goal
 
--- a front of a front
+-- a prefix of a prefix
 shorter : (xs : List ℕ) (n : ℕ) → take (n - 1) (take n xs) ≡ take (n - 1) xs
 shorter xs n = take-take (n - 1) n xs (omega arith)
 
--- a long length's octets but the first
+-- the length octets of a long length except the first
 more_octets : (n m : ℕ) → 128 ≤ n → m ≡ length (length_text n) → m ≡ length (digits_of 256 n) + 1
 more_octets n m l e = omega (arith, e, ap length (length_text_high n l))
 

@@ -2,7 +2,7 @@ use Rattle.std.proofs.Common.{◌≡◌, ◌+◌, ◌-◌, ◌++◌, length, tak
 use Rattle.std.specs.Int.Digits.{digits_of}
 use Rattle.asn1_core.proofs.writer.WriteBuf.patch_long_length.Given as goal
 
--- the digits that are left, put in front of those that are written, are all the digits
+-- the digits that are left, before those that are written, are all the digits
 abbrev pub invariant-loop-place : goal.invariant-loop-place
 invariant-loop-place l =
     let now = l.self-inside.octets.items in

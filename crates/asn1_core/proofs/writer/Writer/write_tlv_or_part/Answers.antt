@@ -6,7 +6,7 @@ use Rattle.std.proofs.lemmas.Grind.{common_steps}
 use Rattle.asn1_core.specs.Lemmas.Bodies.{call_at, keeps_front_on, keeps_front_by, on_err_any, refused, refused_by, announced_ok, announced_err, patched_ok}
 use Rattle.asn1_core.proofs.writer.Writer.write_tlv_or_part.Goals as goal
 
--- the tag, and the octet that is kept for the length
+-- the identifier octets, and the octet that is kept for the length
 kept : (old b1 b2 tag : List ℕ) → b1 ≡ old ++ tag → b2 ≡ b1 ++ 0 ∷ [] → b2 ≡ old ++ (tag ++ 0 ∷ [])
 kept old b1 b2 tag e f = f ∙ ap (λ xs. xs ++ 0 ∷ []) e ∙ append_assoc old tag (0 ∷ [])
 

@@ -10,7 +10,7 @@ use Rattle.dercheck.proofs.Parts.{moves_front}
 use Rattle.dercheck.proofs.Steps.{taken_none, goes_on, completes, fails, around, text_left}
 use Rattle.dercheck.proofs.pending.Pending.take_octets.Goals as goal
 
--- the lines of the rest still fit
+-- the lines of the remaining octets still fit
 room : (rest : List ℕ) (count count' n : ℕ) → 0 < n → n ≤ length rest → count' ≤ count + 62 → count + 62 * length rest ≤ 62 * 256
     → count' + 62 * length (take (length rest - n) (drop n rest)) ≤ 62 * 256
 room rest count count' n some within more fits = omega (arith, length-take (length rest - n) (drop n rest), length-drop n rest)

@@ -1,4 +1,4 @@
--- The right to read can be had twice, so a `&` holds it too. Assumes `Logic`.
+-- The right to read can be duplicated, so a `&` holds the right too. Assumes `Logic`.
 use mathlib.Core.List.{[], ◌∷◌}
 use base.Logic.{sep, wand, snd∗, apply∗}
 use base.Fml.{fbor}
