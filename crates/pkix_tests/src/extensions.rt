@@ -10,7 +10,7 @@ use pkix::certificate::extensions::{
 use pkix::certificate::policies::{
     CertificatePolicies, InhibitAnyPolicy, NameConstraints, PolicyConstraints, PolicyMappings,
 };
-use pkix::common::GeneralNames;
+use pkix::common::{EdiPartyName, GeneralNames, OtherName};
 use pkix::revocation::extensions::{BaseCrlNumber, CrlNumber, CrlReason, InvalidityDate};
 use std::test::Fail;
 use testing::are_written_back;
@@ -53,7 +53,10 @@ fn short_values(rt: HostRuntime) -> Result<(), Fail> {
         b"\x04\x14\xc7\xf2\xe2\x72\x1c\xa1\x22\x85\x41\xf5\x39\xdd\xeb\x9a\xec\xdd\x1e\xa6\xb3\x0b";
     are_written_back::<SubjectKeyIdentifier<'_>>(alloc, &[key])?;
     are_written_back::<CrlNumber<'_>>(alloc, &[b"\x02\x01\x1f"])?;
-    are_written_back::<CrlReason>(alloc, &[b"\x0a\x01\x01", b"\x0a\x01\x04"])
+    are_written_back::<CrlReason>(alloc, &[b"\x0a\x01\x01", b"\x0a\x01\x04"])?;
+    // A GeneralName has these under other tags.
+    are_written_back::<OtherName<'_>>(alloc, &[b"\x30\x08\x06\x02\x2a\x03\xa0\x02\x05\x00"])?;
+    are_written_back::<EdiPartyName<'_>>(alloc, &[b"\x30\x05\xa1\x03\x0c\x01a"])
 }
 
 #[test]

@@ -1,6 +1,8 @@
 //! Keys (RFC 5958, RFC 8017, RFC 5915).
 
-use crate::objects::{EC_KEY, EC_PKCS8, ED_PKCS8, ENCRYPTED_KEY, RSA_KEY, RSA_PKCS8, RSA_PUBLIC};
+use crate::objects::{
+    EC_KEY, EC_PKCS8, ED_PKCS8, ED_PKCS8_V2, ENCRYPTED_KEY, RSA_KEY, RSA_PKCS8, RSA_PUBLIC,
+};
 use crate::walks::{changed, walk};
 use asn1::parse_single;
 use pkix::keys::{
@@ -12,7 +14,7 @@ use testing::same;
 #[test]
 fn keys_of_any_algorithm(rt: HostRuntime) -> Result<(), Fail> {
     let alloc = rt.alloc();
-    for text in [EC_PKCS8, ED_PKCS8, RSA_PKCS8] {
+    for text in [EC_PKCS8, ED_PKCS8, ED_PKCS8_V2, RSA_PKCS8] {
         let whole = hex::decode(alloc, text)?;
         let others = changed(alloc, whole.as_slice())?;
         walk::<OneAsymmetricKey<'_>>(alloc, whole.as_slice(), others.as_slice())?;

@@ -7,10 +7,11 @@ use std::test::Fail;
 use testing::same;
 
 /// Each object with its lines.
-const SHOWN: [(Kind, &str, &str); 20] = [
+const SHOWN: [(Kind, &str, &str); 23] = [
     (Kind::Certificate, objects::RSA, listings::RSA),
     (Kind::Certificate, objects::CURVE, listings::CURVE),
     (Kind::Certificate, objects::FULL, listings::FULL),
+    (Kind::Certificate, objects::ISSUED, listings::ISSUED),
     (Kind::Crl, objects::CRL, listings::CRL),
     (Kind::Crl, objects::EMPTY_CRL, listings::EMPTY_CRL),
     (Kind::Crl, objects::EMPTY_LISTS, listings::EMPTY_LISTS),
@@ -21,9 +22,11 @@ const SHOWN: [(Kind, &str, &str); 20] = [
     (Kind::Key, objects::EC_PKCS8, listings::EC_PKCS8),
     (Kind::Key, objects::EC_KEY, listings::EC_KEY),
     (Kind::Key, objects::ED_PKCS8, listings::ED_PKCS8),
+    (Kind::Key, objects::ED_PKCS8_V2, listings::ED_PKCS8_V2),
     (Kind::Signature, objects::ECDSA, listings::ECDSA),
     (Kind::Signature, objects::DIGEST, listings::DIGEST),
     (Kind::Signature, objects::EMPTY_SETS, listings::EMPTY_SETS),
+    (Kind::Signature, objects::SIGNED, listings::SIGNED),
     (
         Kind::TimestampRequest,
         objects::STAMP_REQUEST,

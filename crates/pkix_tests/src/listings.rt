@@ -165,6 +165,34 @@ sha256: 0cd4380b2edbed9e387e3e31ccb50cc8eb07b33f578eae3cd6749f29fccad8c0\n\
 same\n\
 ";
 
+/// The lines of the certificate by another issuer.
+pub const ISSUED: &str = "\
+version: 02\n\
+serialNumber: 0123456789\n\
+signature: 1.2.840.10045.4.3.2 (ecdsa-with-SHA256)\n\
+issuer.0.countryName: AT\n\
+issuer.1.organizationName: Example Works\n\
+issuer.2.commonName: issuer.example\n\
+validity.notBefore: 2026-11-26T12:00:00Z\n\
+validity.notAfter: 2076-11-13T12:00:00Z\n\
+subject.0.countryName: AT\n\
+subject.1.organizationName: Example Works\n\
+subject.2.commonName: subject.example\n\
+subjectPublicKeyInfo.algorithm: 1.3.101.112 (Ed25519)\n\
+subjectPublicKeyInfo.subjectPublicKey: cb94d683a04b55e5597d3251ef43caf317f9af9ff5fa4c1d22023f545cc646da\n\
+issuerUniqueID: a5\n\
+subjectUniqueID: 5a80\n\
+subjectUniqueID.unusedBits: 07\n\
+extensions.0.extnID: 2.5.29.19 (basicConstraints)\n\
+extensions.0.critical: true\n\
+extensions.0.basicConstraints.cA: false\n\
+signatureAlgorithm: 1.2.840.10045.4.3.3 (ecdsa-with-SHA384)\n\
+signatureValue: 304502203cdcdcd868e3cfa7cb0b1033646dbd9a1702c2a3a0da188059fd5c574e9e914b022100f6c0ee60a5fb247cba847cbb\
+0759376117a0b7bc336a3dc363d0fc96776fb986\n\
+sha256: b2a8d79b4d62ae22bbc7243522b7f75a905103f7f99d9e29fa3a9b1d60d2fb95\n\
+same\n\
+";
+
 /// The lines of the revocation list with three entries.
 pub const CRL: &str = "\
 version: 01\n\
@@ -325,6 +353,17 @@ version: 00\n\
 privateKeyAlgorithm: 1.3.101.112 (Ed25519)\n\
 privateKey: 04201182e18da9e05816380d28fec7342feff3e6ed03d509449512c94e410f50c801\n\
 sha256: ed4e758625cb437ebf28245124177ca8f8382778bb72233dbe3edc3f6007c2f5\n\
+same\n\
+";
+
+/// The lines of the key with an attribute and a public key.
+pub const ED_PKCS8_V2: &str = "\
+version: 01\n\
+privateKeyAlgorithm: 1.3.101.112 (Ed25519)\n\
+privateKey: 0420d4ee72dbf913584ad5b6d8f1f769f8ad3afe7c28cbf1d4fbe097a88f44755842\n\
+attributes.0.1.2.840.113549.1.9.9.20: Curdle Chairs\n\
+publicKey: 19bf44096984cdfe8541bac167dc3b96c85086aa30b6b6cb0c5c38ad703166e1\n\
+sha256: 78f1cd2051065b209431249093f218b0e01a5fd0b9e756db820d4893d9dbbf55\n\
 same\n\
 ";
 
@@ -623,5 +662,30 @@ subjectPublicKey: 028180763c9d843a164605c87256eae91d6208d13923a3f24171f4464ef929
 6bb2612a0a26a2d3987be3514bd22b798ad3b5982d63862e7ad8f55abc5023bd8319d5d0653368b716007c7b4e6812b746bd6fa0289ada\
 04b9e72c402493ea16aac7aebbe498349627074934fc117152c678b17bef\n\
 sha256: 7bf52dac56c3f1e64e7e346abea51e591d8abdb3ed4d45a8e5460f8a7ca42e73\n\
+same\n\
+";
+
+/// The lines of the SignedData whose signer has a key identifier.
+pub const SIGNED: &str = "\
+contentType: 1.2.840.113549.1.7.2 (signedData)\n\
+content.version: 03\n\
+content.digestAlgorithms.0: 2.16.840.1.101.3.4.2.1 (sha256)\n\
+content.encapContentInfo.eContentType: 1.2.840.113549.1.7.1 (data)\n\
+content.encapContentInfo.eContent: 616263\n\
+content.crls.0.version: 01\n\
+content.crls.0.signature: 1.2.3\n\
+content.crls.0.issuer.0: (empty)\n\
+content.crls.0.thisUpdate: 2020-01-01T00:00:00Z\n\
+content.crls.0.revokedCertificates: (empty)\n\
+content.crls.0.signatureAlgorithm: 1.2.3\n\
+content.crls.0.signatureValue: \n\
+content.signerInfos.0.version: 03\n\
+content.signerInfos.0.sid.subjectKeyIdentifier: a1757ba6c793ea1870d736c088b9d6fdf46059e2\n\
+content.signerInfos.0.digestAlgorithm: 2.16.840.1.101.3.4.2.1 (sha256)\n\
+content.signerInfos.0.signatureAlgorithm: 1.2.840.10045.4.3.2 (ecdsa-with-SHA256)\n\
+content.signerInfos.0.signature: 3045022100e78dc4b9a9e5113b59f8f07aa3e953ca513ed1567898c8c2abecc88570d7b7cf022010730a\
+36f0e9c689783dcb3e5de1c5a7d2e23ffac366e0ff66f67d6a46c57fda\n\
+content.signerInfos.0.unsignedAttrs.0.1.2.3.4: #0500\n\
+sha256: b532d5824bb2d0fa294c8e0aa221921cb6dbdf3bacf28e7b4d5c199e8cbb23b1\n\
 same\n\
 ";

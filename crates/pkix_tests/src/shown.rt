@@ -54,7 +54,7 @@ fn request(alloc: Global, name: &[u8], attributes: &[u8]) -> Result<Vec<u8>, Fai
 fn has_line(alloc: Global, octets: &[u8], place: &str, wanted: &str) -> Result<(), Fail> {
     let text = lines(alloc, Kind::Request, octets)?;
     let whole = format!(in alloc; "{place}: {wanted}")?;
-    same(line(text.as_str(), place), Some(whole.as_str()))
+    same(line(text.as_str(), whole.as_str()), Some(whole.as_str()))
 }
 
 /// The type of a character string is shown if it is neither PrintableString nor UTF8String. The characters aren't taken
@@ -98,7 +98,7 @@ fn asking_for(alloc: Global, n: u8, value: &[u8]) -> Result<Vec<u8>, Fail> {
 #[test]
 fn values_of_extensions(rt: HostRuntime) -> Result<(), Fail> {
     let alloc = rt.alloc();
-    let rows: [(u8, &[u8], &str, &str); 6] = [
+    let rows: [(u8, &[u8], &str, &str); 8] = [
         (29, b"\x30\x03\x82\x01a", "certificateIssuer.0.dNSName", "a"),
         (
             30,
@@ -130,11 +130,105 @@ fn values_of_extensions(rt: HostRuntime) -> Result<(), Fail> {
             "issuingDistributionPoint.distributionPoint.nameRelativeToCRLIssuer.commonName",
             "a",
         ),
+        (
+            17,
+            b"\x30\x0c\xa5\x0a\xa0\x03\x0c\x01b\xa1\x03\x0c\x01a",
+            "subjectAltName.0.ediPartyName.nameAssigner",
+            "b",
+        ),
+        (
+            17,
+            b"\x30\x07\xa5\x05\xa1\x03\x0c\x01a",
+            "subjectAltName.0.ediPartyName.partyName",
+            "a",
+        ),
     ];
     for (n, value, place, wanted) in rows {
-        let octets = asking_for(alloc, n, value)?;
-        let place = format!(in alloc; "attributes.0.extensionRequest.0.{place}")?;
-        has_line(alloc, octets.as_slice(), place.as_str(), wanted)?;
+        asked_has_line(alloc, n, value, place, wanted)?;
+    }
+    Ok(())
+}
+
+/// Demands the line of the extension 2.5.29.n with this value at this location, as a request asks for it.
+fn asked_has_line(
+    alloc: Global,
+    n: u8,
+    value: &[u8],
+    place: &str,
+    wanted: &str,
+) -> Result<(), Fail> {
+    let octets = asking_for(alloc, n, value)?;
+    let place = format!(in alloc; "attributes.0.extensionRequest.0.{place}")?;
+    has_line(alloc, octets.as_slice(), place.as_str(), wanted)
+}
+
+/// Named bits, each set alone, as a key's usage (RFC 5280, 4.2.1.3) and as a reason (4.2.1.13).
+#[test]
+fn names_of_bits(rt: HostRuntime) -> Result<(), Fail> {
+    let alloc = rt.alloc();
+    let rows: [(&[u8], &str, &str); 9] = [
+        (b"\x07\x80", "digitalSignature", "unused"),
+        (b"\x06\x40", "nonRepudiation", "keyCompromise"),
+        (b"\x05\x20", "keyEncipherment", "cACompromise"),
+        (b"\x04\x10", "dataEncipherment", "affiliationChanged"),
+        (b"\x03\x08", "keyAgreement", "superseded"),
+        (b"\x02\x04", "keyCertSign", "cessationOfOperation"),
+        (b"\x01\x02", "cRLSign", "certificateHold"),
+        (b"\x00\x01", "encipherOnly", "privilegeWithdrawn"),
+        (b"\x07\x00\x80", "decipherOnly", "aACompromise"),
+    ];
+    for (bits, usage, reason) in rows {
+        let usages = element(alloc, 0x03, bits, b"")?;
+        let place = format!(in alloc; "keyUsage.{usage}")?;
+        asked_has_line(alloc, 15, usages.as_slice(), place.as_str(), "true")?;
+        let reasons = element(alloc, 0x83, bits, b"")?;
+        let point = element(alloc, 0x30, reasons.as_slice(), b"")?;
+        let place = format!(in alloc; "issuingDistributionPoint.onlySomeReasons.{reason}")?;
+        asked_has_line(alloc, 28, point.as_slice(), place.as_str(), "true")?;
+    }
+    Ok(())
+}
+
+/// The names of reasons for a revocation (RFC 5280, 5.3.1).
+#[test]
+fn names_of_reasons(rt: HostRuntime) -> Result<(), Fail> {
+    let rows = [
+        "00 (unspecified)",
+        "01 (keyCompromise)",
+        "02 (cACompromise)",
+        "03 (affiliationChanged)",
+        "04 (superseded)",
+        "05 (cessationOfOperation)",
+        "06 (certificateHold)",
+        "07 (unknown)",
+        "08 (removeFromCRL)",
+        "09 (privilegeWithdrawn)",
+        "0a (aACompromise)",
+    ];
+    for (number, wanted) in rows.iter().enumerate() {
+        let value = [0x0a, 0x01, u8::try_from(number)?];
+        asked_has_line(rt.alloc(), 21, value.as_slice(), "cRLReason", wanted)?;
+    }
+    Ok(())
+}
+
+/// The names of the statuses of time stamps (RFC 3161, 2.4.2).
+#[test]
+fn names_of_statuses(rt: HostRuntime) -> Result<(), Fail> {
+    let alloc = rt.alloc();
+    let rows = [
+        "status.status: 00 (granted)",
+        "status.status: 01 (grantedWithMods)",
+        "status.status: 02 (rejection)",
+        "status.status: 03 (waiting)",
+        "status.status: 04 (revocationWarning)",
+        "status.status: 05 (revocationNotification)",
+        "status.status: 06 (unknown)",
+    ];
+    for (number, wanted) in rows.iter().enumerate() {
+        let response = [0x30, 0x05, 0x30, 0x03, 0x02, 0x01, u8::try_from(number)?];
+        let text = lines(alloc, Kind::TimestampResponse, response.as_slice())?;
+        same(line(text.as_str(), "status.status"), Some(*wanted))?;
     }
     Ok(())
 }
@@ -155,9 +249,13 @@ fn addresses(rt: HostRuntime) -> Result<(), Fail> {
         let octets = hex::decode(alloc, digits)?;
         let address = element(alloc, 0x87, b"", octets.as_slice())?;
         let names = element(alloc, 0x30, b"", address.as_slice())?;
-        let octets = asking_for(alloc, 0x11, names.as_slice())?;
-        let place = "attributes.0.extensionRequest.0.subjectAltName.0.iPAddress";
-        has_line(alloc, octets.as_slice(), place, wanted)?;
+        asked_has_line(
+            alloc,
+            17,
+            names.as_slice(),
+            "subjectAltName.0.iPAddress",
+            wanted,
+        )?;
     }
     Ok(())
 }
