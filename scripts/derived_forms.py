@@ -150,7 +150,6 @@ class Structure(Form):
             term, made = f"record {{ inner = {term} }}", f"{part.tag.capitalize()}::new({value})"
         return f"""
 /// What `{part.name}` is if it is left out.
-#[derive(Debug, PartialEq, Eq, Drop)]
 pub struct {part.title};
 
 impl DefaultValue<{inner}> for {part.title} {{

@@ -28,7 +28,7 @@ from collections import namedtuple
 
 from sources import CRATES, TOP, clauses_of, functions, functions_in, uses
 
-COMMENT = re.compile(r"^\s*//.*\n", re.MULTILINE)
+COMMENT = re.compile(r"^\s*(?://.*|--( .*)?)\n", re.MULTILINE)
 NAMED_TEST = re.compile(r"^test: .*", re.MULTILINE)
 LIST = re.compile(r"\{(\w+(?:,\w+)+)\}")
 FOLDERS = ["must-fail", "wrong-bodies/first", "wrong-bodies"]
@@ -146,9 +146,8 @@ def below(name):
 
 
 def without_comments(file):
-    """The text of a file; a source's without lines of comments, which change no proof."""
-    text = file.read_text()
-    return COMMENT.sub("", text) if file.suffix == ".rt" else text
+    """The text of a file without lines of comments, which change no proof."""
+    return COMMENT.sub("", file.read_text())
 
 
 def without_bodies(file):

@@ -65,7 +65,6 @@ impl MeaningEq for Port {
         2)) ⟦<u16 as PartialEq>⟧.eq a b (naturals_tell (universal 2) a.number b.number) };
 }
 
-#[derive(Debug, PartialEq, Eq)]
 struct Defaults;
 
 impl DefaultValue<Port> for Defaults {

@@ -116,7 +116,6 @@ fn fields_with_tags_that_are_missing(rt: HostRuntime) -> Result<(), Fail> {
 }
 
 /// What each field is if it is left out.
-#[derive(Drop)]
 pub struct Three;
 
 impl DefaultValue<u64> for Three {

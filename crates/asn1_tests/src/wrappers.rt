@@ -181,7 +181,6 @@ fn faults_of_choices(rt: HostRuntime) -> Result<(), Fail> {
 }
 
 /// A Boolean is false if it is left out.
-#[derive(Debug, PartialEq, Eq)]
 struct False;
 
 impl DefaultValue<bool> for False {
@@ -193,7 +192,6 @@ impl DefaultValue<bool> for False {
 }
 
 /// A number is 1 if it is left out.
-#[derive(Debug, PartialEq, Eq)]
 struct One;
 
 impl DefaultValue<Explicit<u8, 0>> for One {

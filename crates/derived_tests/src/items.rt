@@ -1,5 +1,5 @@
 //! Values that an item before them defines: each attribute of the original's derives for them, once.
-// Printed by scripts/derive from declarations/items.rs, with the sum c5c050f9.
+// Printed by scripts/derive from declarations/items.rs, with the sum 04cf82ef.
 
 ghost use Rattle.std.specs.Prelude.{◌≡◌, ◌⊎◌, ◌∷◌, [], codes, true, false, ⊤, MatchOption, OnErr};
 ghost use Rattle.std.specs.Str.{bytes_eq};
@@ -444,7 +444,6 @@ pub struct Notice {
 }
 
 /// What `critical` is if it is left out.
-#[derive(Debug, PartialEq, Eq, Drop)]
 pub struct NoticeCritical;
 
 impl DefaultValue<bool> for NoticeCritical {
@@ -528,7 +527,6 @@ pub struct Letter {
 }
 
 /// What `critical` is if it is left out.
-#[derive(Debug, PartialEq, Eq, Drop)]
 pub struct LetterCritical;
 
 impl DefaultValue<bool> for LetterCritical {

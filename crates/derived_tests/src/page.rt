@@ -1,5 +1,5 @@
 //! Structures and choices: each attribute of the original's derives for them, once.
-// Printed by scripts/derive from declarations/page.rs, with the sum c70580c6.
+// Printed by scripts/derive from declarations/page.rs, with the sum a29574a0.
 
 ghost use Rattle.std.specs.Prelude.{◌≡◌, ◌∷◌, [], codes, negsuc, false, OnErr};
 ghost use Rattle.std.proofs.Common.{inl, inr};
@@ -124,7 +124,6 @@ pub struct Tagged<'a> {
 }
 
 /// What `critical` is if it is left out.
-#[derive(Debug, PartialEq, Eq, Drop)]
 pub struct TaggedCritical;
 
 impl DefaultValue<bool> for TaggedCritical {
@@ -136,7 +135,6 @@ impl DefaultValue<bool> for TaggedCritical {
 }
 
 /// What `version` is if it is left out.
-#[derive(Debug, PartialEq, Eq, Drop)]
 pub struct TaggedVersion;
 
 impl DefaultValue<Explicit<u8, 2>> for TaggedVersion {
@@ -148,7 +146,6 @@ impl DefaultValue<Explicit<u8, 2>> for TaggedVersion {
 }
 
 /// What `level` is if it is left out.
-#[derive(Debug, PartialEq, Eq, Drop)]
 pub struct TaggedLevel;
 
 impl DefaultValue<Implicit<i8, 5>> for TaggedLevel {

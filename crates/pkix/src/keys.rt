@@ -1,5 +1,5 @@
 //! Keys, and the parameters of their algorithms (RFC 5958, 8017, 5915, 5480, 3279 and 4055).
-// Printed by scripts/derive from declarations/keys.rs, with the sum b40245bc.
+// Printed by scripts/derive from declarations/keys.rs, with the sum c1d38a80.
 
 ghost use Rattle.std.specs.Prelude.{◌≡◌, ◌∷◌, [], codes};
 ghost use Rattle.asn1.specs.Options.{option_meaning};
@@ -469,7 +469,6 @@ pub struct RsassaPssParams<'a> {
 }
 
 /// What `salt_length` is if it is left out.
-#[derive(Debug, PartialEq, Eq, Drop)]
 pub struct RsassaPssParamsSaltLength;
 
 impl DefaultValue<Explicit<u32, 2>> for RsassaPssParamsSaltLength {
@@ -481,7 +480,6 @@ impl DefaultValue<Explicit<u32, 2>> for RsassaPssParamsSaltLength {
 }
 
 /// What `trailer_field` is if it is left out.
-#[derive(Debug, PartialEq, Eq, Drop)]
 pub struct RsassaPssParamsTrailerField;
 
 impl DefaultValue<Explicit<u32, 3>> for RsassaPssParamsTrailerField {

@@ -123,7 +123,7 @@ shorter : (texts : List ℕ → Type 0) (tag : Tag) (t : List ℕ) (e : IsElemen
 unfolding full_count
 shorter texts tag t e small = omega (arith, ap length e.is ∙ length-element tag e.content)
 
-pub unknown : {n : ℕ} → None ≡ Some n → ⊥
+unknown : {n : ℕ} → None ≡ Some n → ⊥
 unknown e = cc
 
 pub element_unknown : (has : Type 0) (texts : List ℕ → Type 0) (tag : Tag) → GivesLength has texts None → GivesLength has (IsElementOf tag texts) None

@@ -13,7 +13,6 @@ use asn1::{
 use std::alloc::Global;
 
 /// The version that an entry has if it states none.
-#[derive(Debug, PartialEq, Eq, Drop)]
 pub struct One;
 
 impl DefaultValue<Explicit<u8, 0>> for One {

@@ -17,7 +17,6 @@ use std::test::Fail;
 use testing::{are_both_ways, are_refused_with, both_ways};
 
 /// False, by default.
-#[derive(Debug, PartialEq, Eq, Drop)]
 struct No;
 
 impl DefaultValue<bool> for No {

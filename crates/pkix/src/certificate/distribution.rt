@@ -1,5 +1,5 @@
 //! Where revocation lists are found, and what they have (RFC 5280, 4.2.1.13 and 5.2.5).
-// Printed by scripts/derive from declarations/certificate/distribution.rs, with the sum da19d992.
+// Printed by scripts/derive from declarations/certificate/distribution.rs, with the sum a5856057.
 
 ghost use Rattle.std.specs.Prelude.{◌≡◌, ◌∷◌, [], codes, false, OnErr};
 ghost use Rattle.std.proofs.Common.{inl, inr};
@@ -214,7 +214,6 @@ pub struct IssuingDistributionPoint<'a> {
 }
 
 /// What `only_contains_user_certs` is if it is left out.
-#[derive(Debug, PartialEq, Eq, Drop)]
 pub struct IssuingDistributionPointOnlyContainsUserCerts;
 
 impl DefaultValue<Implicit<bool, 1>> for IssuingDistributionPointOnlyContainsUserCerts {
@@ -226,7 +225,6 @@ impl DefaultValue<Implicit<bool, 1>> for IssuingDistributionPointOnlyContainsUse
 }
 
 /// What `only_contains_ca_certs` is if it is left out.
-#[derive(Debug, PartialEq, Eq, Drop)]
 pub struct IssuingDistributionPointOnlyContainsCaCerts;
 
 impl DefaultValue<Implicit<bool, 2>> for IssuingDistributionPointOnlyContainsCaCerts {
@@ -238,7 +236,6 @@ impl DefaultValue<Implicit<bool, 2>> for IssuingDistributionPointOnlyContainsCaC
 }
 
 /// What `indirect_crl` is if it is left out.
-#[derive(Debug, PartialEq, Eq, Drop)]
 pub struct IssuingDistributionPointIndirectCrl;
 
 impl DefaultValue<Implicit<bool, 4>> for IssuingDistributionPointIndirectCrl {
@@ -250,7 +247,6 @@ impl DefaultValue<Implicit<bool, 4>> for IssuingDistributionPointIndirectCrl {
 }
 
 /// What `only_contains_attribute_certs` is if it is left out.
-#[derive(Debug, PartialEq, Eq, Drop)]
 pub struct IssuingDistributionPointOnlyContainsAttributeCerts;
 
 impl DefaultValue<Implicit<bool, 5>> for IssuingDistributionPointOnlyContainsAttributeCerts {

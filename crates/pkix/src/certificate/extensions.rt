@@ -1,5 +1,5 @@
 //! Values of extensions (RFC 5280, 4.2.1 and 4.2.2): each type is what the octets of an extension hold.
-// Printed by scripts/derive from declarations/certificate/extensions.rs, with the sum d328c829.
+// Printed by scripts/derive from declarations/certificate/extensions.rs, with the sum 29109aa8.
 
 ghost use Rattle.std.specs.Prelude.{◌≡◌, ◌∷◌, [], codes, false};
 ghost use Rattle.asn1.specs.Options.{option_meaning};
@@ -25,7 +25,6 @@ pub struct BasicConstraints<'a> {
 }
 
 /// What `ca` is if it is left out.
-#[derive(Debug, PartialEq, Eq, Drop)]
 pub struct BasicConstraintsCa;
 
 impl DefaultValue<bool> for BasicConstraintsCa {

@@ -1,6 +1,6 @@
 //! The policies of a certificate, and what it demands of those that follow it in a path (RFC 5280, 4.2.1.4, 4.2.1.5,
 //! 4.2.1.10, 4.2.1.11 and 4.2.1.14).
-// Printed by scripts/derive from declarations/certificate/policies.rs, with the sum ecc7aefe.
+// Printed by scripts/derive from declarations/certificate/policies.rs, with the sum 84c13b95.
 
 ghost use Rattle.std.specs.Prelude.{◌≡◌, ◌∷◌, [], codes};
 ghost use Rattle.asn1.specs.Options.{option_meaning};
@@ -206,7 +206,6 @@ pub struct GeneralSubtree<'a> {
 }
 
 /// What `minimum` is if it is left out.
-#[derive(Debug, PartialEq, Eq, Drop)]
 pub struct GeneralSubtreeMinimum;
 
 impl DefaultValue<Implicit<u32, 0>> for GeneralSubtreeMinimum {

@@ -1,5 +1,5 @@
 //! Certificates (RFC 5280, 4.1).
-// Printed by scripts/derive from declarations/certificate/whole.rs, with the sum b786b9d1.
+// Printed by scripts/derive from declarations/certificate/whole.rs, with the sum 6aca0c3e.
 
 ghost use Rattle.std.specs.Prelude.{◌≡◌, ◌∷◌, [], codes};
 ghost use Rattle.asn1.specs.Options.{option_meaning};
@@ -91,7 +91,6 @@ pub struct TbsCertificate<'a> {
 }
 
 /// What `version` is if it is left out.
-#[derive(Debug, PartialEq, Eq, Drop)]
 pub struct TbsCertificateVersion;
 
 impl DefaultValue<Explicit<u8, 0>> for TbsCertificateVersion {

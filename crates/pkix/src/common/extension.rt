@@ -1,5 +1,5 @@
 //! Extensions (RFC 5280, 4.1.2.9).
-// Printed by scripts/derive from declarations/common/extension.rs, with the sum 9a6cc502.
+// Printed by scripts/derive from declarations/common/extension.rs, with the sum c508c199.
 
 ghost use Rattle.std.specs.Prelude.{◌≡◌, ◌∷◌, [], codes, false};
 ghost use Rattle.asn1.specs.Reads.{HasOneEncoding, ReadsContents};
@@ -25,7 +25,6 @@ pub struct Extension<'a> {
 }
 
 /// What `critical` is if it is left out.
-#[derive(Debug, PartialEq, Eq, Drop)]
 pub struct ExtensionCritical;
 
 impl DefaultValue<bool> for ExtensionCritical {

@@ -1,5 +1,5 @@
 //! Requests for time stamps, and responses (RFC 3161, 2.4).
-// Printed by scripts/derive from declarations/timestamps/exchange.rs, with the sum 12e8fb23.
+// Printed by scripts/derive from declarations/timestamps/exchange.rs, with the sum 977bc12a.
 
 ghost use Rattle.std.specs.Prelude.{◌≡◌, ◌∷◌, [], codes, false};
 ghost use Rattle.asn1.specs.Options.{option_meaning};
@@ -95,7 +95,6 @@ pub struct TimeStampReq<'a> {
 }
 
 /// What `cert_req` is if it is left out.
-#[derive(Debug, PartialEq, Eq, Drop)]
 pub struct TimeStampReqCertReq;
 
 impl DefaultValue<bool> for TimeStampReqCertReq {

@@ -1,5 +1,5 @@
 //! What a time stamp says (RFC 3161, 2.4.2).
-// Printed by scripts/derive from declarations/timestamps/info.rs, with the sum 9bd0998f.
+// Printed by scripts/derive from declarations/timestamps/info.rs, with the sum 8ea036ec.
 
 ghost use Rattle.std.specs.Prelude.{◌≡◌, ◌∷◌, [], codes, false};
 ghost use Rattle.asn1.specs.Options.{option_meaning};
@@ -106,7 +106,6 @@ pub struct TstInfo<'a> {
 }
 
 /// What `ordering` is if it is left out.
-#[derive(Debug, PartialEq, Eq, Drop)]
 pub struct TstInfoOrdering;
 
 impl DefaultValue<bool> for TstInfoOrdering {
