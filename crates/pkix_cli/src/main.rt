@@ -4,19 +4,28 @@
 
 use pkix_text::{Asked, Fault, HELP, Kind, Report, ask, report_on, status};
 use std::env;
-use std::io::Read;
+use std::io::{ErrorKind, Read};
 use std::process::ExitCode;
 
-/// The words after the program's name, if all of them are UTF-8.
-fn words(rt: &HostRuntime) -> Option<Vec<String>> {
-    env::args(rt).ok()?.skip(1).collect(rt.alloc()).ok()
+/// What the words after the program's name ask for. `None` if they aren't known, or not UTF-8.
+fn asked(rt: &HostRuntime) -> Result<Option<Asked>, Fault> {
+    match env::args(rt) {
+        Ok(words) => {
+            let words: Vec<String> = words.skip(1).collect(rt.alloc())?;
+            Ok(ask(&words))
+        }
+        Err(error) if error.kind() == ErrorKind::OutOfMemory => Err(Fault::Memory),
+        Err(_) => Ok(None),
+    }
 }
 
 /// Writes the lines of standard input, whose objects are of this kind, and returns the report.
 fn answer(rt: &HostRuntime, kind: Option<Kind>) -> Result<Report, Fault> {
     let mut input = Vec::new(rt.alloc());
-    if rt.reader().read_to_end(&mut input).is_err() {
-        return Err(Fault::Read);
+    match rt.reader().read_to_end(&mut input) {
+        Ok(_) => {}
+        Err(error) if error.kind() == ErrorKind::OutOfMemory => return Err(Fault::Memory),
+        Err(_) => return Err(Fault::Read),
     }
     let report = report_on(rt.alloc(), kind, &input)?;
     if print!(rt; "{}", report.lines).is_err() {
@@ -27,13 +36,14 @@ fn answer(rt: &HostRuntime, kind: Option<Kind>) -> Result<Report, Fault> {
 
 /// The lines of objects go to standard output, and why others are rejected to standard error.
 fn main(rt: HostRuntime) -> ExitCode {
-    let answer = match words(&rt).and_then(|words| ask(&words)) {
-        Some(Asked::Help) => {
+    let answer = match asked(&rt) {
+        Ok(Some(Asked::Help)) => {
             let is_written = print!(rt; "{HELP}").is_ok();
             return ExitCode::from(if is_written { 0 } else { 2 });
         }
-        Some(Asked::Objects(kind)) => Some(answer(&rt, kind)),
-        None => None,
+        Ok(Some(Asked::Objects(kind))) => Some(answer(&rt, kind)),
+        Ok(None) => None,
+        Err(fault) => Some(Err(fault)),
     };
     let _ = match &answer {
         None => eprintln!(rt;

@@ -1,7 +1,6 @@
 //! Parameters of algorithms, read by their identifiers (RFC 3279, 3370, 4055, 5480, 5754, 5758, 8410).
 
 use crate::objects::{CURVE, DIGEST, DSA_PUBLIC, EC_PKCS8, ED_PKCS8, RSA, RSA_PKCS8};
-use crate::walks::{changed, walk};
 use asn1::{ObjectIdentifier, ParseErrorKind, ParseResult, Tag, Tlv, parse_single};
 use pkix::algorithm_parameters::{AlgorithmParameters, KnownAlgorithm};
 use pkix::certificate::Certificate;
@@ -13,7 +12,7 @@ use std::test::Fail;
 use testing::{all_same, are_written_back, kind_of, same, same_at};
 
 /// Each known algorithm with its identifier.
-const IDENTIFIERS: [(KnownAlgorithm, &str); 28] = [
+const IDENTIFIERS: &[(KnownAlgorithm, &str)] = &[
     (KnownAlgorithm::RsaEncryption, "1.2.840.113549.1.1.1"),
     (
         KnownAlgorithm::Sha1WithRsaEncryption,
@@ -66,9 +65,9 @@ fn identifiers_of_algorithms(rt: HostRuntime) -> Result<(), Fail> {
         let identifier = algorithm.identifier();
         same(
             KnownAlgorithm::with_identifier(&identifier),
-            Some(algorithm),
+            Some(*algorithm),
         )?;
-        same(format!(in alloc; "{identifier}")?.as_str(), dotted)?;
+        same(format!(in alloc; "{identifier}")?.as_str(), *dotted)?;
     }
     Ok(())
 }
@@ -318,20 +317,18 @@ fn parameters_of_dsa(rt: HostRuntime) -> Result<(), Fail> {
 }
 
 /// The parameters of RSASSA-PSS in the certificate: SHA-256, MGF1 with SHA-256, and 32 octets of salt.
-const PSS: &str = "\
-3034a00f300d06096086480165030402010500a11c301a06092a864886f70d010108300d\
-06096086480165030402010500a203020120";
+const PSS: &[u8] =
+    b"\x30\x34\xa0\x0f\x30\x0d\x06\x09\x60\x86\x48\x01\x65\x03\x04\x02\x01\x05\x00\xa1\x1c\x30\
+    \x1a\x06\x09\x2a\x86\x48\x86\xf7\x0d\x01\x01\x08\x30\x0d\x06\x09\x60\x86\x48\x01\x65\x03\x04\
+    \x02\x01\x05\x00\xa2\x03\x02\x01\x20";
 
 /// Each default left out; the defaults that are structures also encoded, which isn't rejected; and other numbers.
 #[test]
 fn parameters_of_pss(rt: HostRuntime) -> Result<(), Fail> {
     let alloc = rt.alloc();
-    let whole = hex::decode(alloc, PSS)?;
-    let others = changed(alloc, whole.as_slice())?;
-    walk::<RsassaPssParams<'_>>(alloc, whole.as_slice(), others.as_slice())?;
     let sha1 = b"\x30\x0d\xa0\x0b\x30\x09\x06\x05\x2b\x0e\x03\x02\x1a\x05\x00";
     let trailer = b"\x30\x05\xa3\x03\x02\x01\x02";
-    are_written_back::<RsassaPssParams<'_>>(alloc, &[b"\x30\x00", sha1, trailer])?;
+    are_written_back::<RsassaPssParams<'_>>(alloc, &[PSS, b"\x30\x00", sha1, trailer])?;
     are_answered(
         alloc,
         &[KnownAlgorithm::RsassaPss],
@@ -339,7 +336,7 @@ fn parameters_of_pss(rt: HostRuntime) -> Result<(), Fail> {
             (NONE, None),
             (b"\x30\x00", None),
             (sha1, None),
-            (whole.as_slice(), None),
+            (PSS, None),
             (NULL, Some(ParseErrorKind::ExtraData)),
             (
                 b"\x30\x05\xa2\x03\x02\x01\x14",

@@ -11,7 +11,7 @@ use std::test::Fail;
 use testing::{error_of, same};
 
 /// Each known extension with its identifier.
-const IDENTIFIERS: [(KnownExtension, &str); 22] = [
+const IDENTIFIERS: &[(KnownExtension, &str)] = &[
     (KnownExtension::AuthorityInfoAccess, "1.3.6.1.5.5.7.1.1"),
     (KnownExtension::AuthorityKeyIdentifier, "2.5.29.35"),
     (KnownExtension::BasicConstraints, "2.5.29.19"),
@@ -43,9 +43,9 @@ fn identifiers_of_extensions(rt: HostRuntime) -> Result<(), Fail> {
         let identifier = extension.identifier();
         same(
             KnownExtension::with_identifier(&identifier),
-            Some(extension),
+            Some(*extension),
         )?;
-        same(format!(in alloc; "{identifier}")?.as_str(), dotted)?;
+        same(format!(in alloc; "{identifier}")?.as_str(), *dotted)?;
     }
     Ok(())
 }
@@ -99,7 +99,7 @@ fn are_read(
 }
 
 /// The extensions of each certificate that OpenSSL made, as its own listing has them.
-const OF_CERTIFICATES: [(&str, &[KnownExtension]); 4] = [
+const OF_CERTIFICATES: &[(&str, &[KnownExtension])] = &[
     (
         RSA,
         &[
@@ -162,7 +162,7 @@ fn extensions_of_certificates(rt: HostRuntime) -> Result<(), Fail> {
 }
 
 /// The extensions of each revocation list, and of its entries that have some.
-const OF_LISTS: [(&str, &[KnownExtension], &[KnownExtension]); 2] = [
+const OF_LISTS: &[(&str, &[KnownExtension], &[KnownExtension])] = &[
     (
         CRL,
         &[

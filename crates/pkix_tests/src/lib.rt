@@ -1,23 +1,15 @@
-//! Tests of `pkix`: real objects, made with throwaway keys, are read and written back, and shown as lines; what is cut,
-//! changed or not DER is rejected.
+//! Tests of `pkix`: real objects, made with throwaway keys, are read and written back; what is cut, changed or not DER
+//! is rejected. The lines of objects are in the cases of `pkix_cli`.
 #![tactic(auto)]
 
 #[cfg(test)]
 mod algorithm_parameters;
 #[cfg(test)]
-mod certificates;
-#[cfg(test)]
 mod extension_values;
 #[cfg(test)]
 mod extensions;
 #[cfg(test)]
-mod files;
-#[cfg(test)]
 mod keys;
-#[cfg(test)]
-mod lines;
-#[cfg(test)]
-mod listings;
 #[cfg(test)]
 mod named_bits;
 #[cfg(test)]
@@ -26,15 +18,5 @@ mod not_der;
 mod objects;
 #[cfg(test)]
 mod readme;
-#[cfg(test)]
-mod requests;
-#[cfg(test)]
-mod revocation;
-#[cfg(test)]
-mod shown;
-#[cfg(test)]
-mod signatures;
-#[cfg(test)]
-mod timestamps;
 #[cfg(test)]
 mod walks;

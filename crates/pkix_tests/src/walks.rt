@@ -1,6 +1,9 @@
-//! Walks over encodings that are cut or changed.
+//! Encodings that are cut or changed: a certificate (RFC 5280, 4.1) and a response with a time stamp (RFC 3161).
 
+use crate::objects::{FULL, STAMP_RESPONSE};
 use asn1::{Asn1Readable, Asn1Writable, WriteError, parse_single};
+use pkix::certificate::Certificate;
+use pkix::timestamps::TimeStampResp;
 use std::alloc::Global;
 use std::test::Fail;
 use testing::is_written_back;
@@ -9,7 +12,7 @@ use testing::is_written_back;
 const MASKS: [u8; 4] = [0x01, 0x20, 0x80, 0xff];
 
 /// An encoding again and again, each time with one octet changed: each octet by each of the masks.
-pub fn changed(alloc: Global, whole: &[u8]) -> Result<Vec<u8>, Fail> {
+fn changed(alloc: Global, whole: &[u8]) -> Result<Vec<u8>, Fail> {
     let mut others = Vec::new(alloc);
     for place in 0..whole.len() {
         for mask in MASKS {
@@ -52,7 +55,7 @@ fn are_rejected_or_written<'a, T: Asn1Readable<'a> + Asn1Writable<Error = WriteE
 
 /// The encoding is written again as it is, each of its proper prefixes is rejected, and each of the changed ones is
 /// rejected or written again as it is.
-pub fn walk<'a, T: Asn1Readable<'a> + Asn1Writable<Error = WriteError>>(
+fn walk<'a, T: Asn1Readable<'a> + Asn1Writable<Error = WriteError>>(
     alloc: Global,
     whole: &'a [u8],
     others: &'a [u8],
@@ -62,4 +65,20 @@ pub fn walk<'a, T: Asn1Readable<'a> + Asn1Writable<Error = WriteError>>(
     is_written_back::<T>(alloc, whole)?;
     are_prefixes_rejected::<T>(alloc, whole)?;
     are_rejected_or_written::<T>(alloc, others, whole.len())
+}
+
+#[test]
+fn certificates(rt: HostRuntime) -> Result<(), Fail> {
+    let alloc = rt.alloc();
+    let whole = hex::decode(alloc, FULL)?;
+    let others = changed(alloc, whole.as_slice())?;
+    walk::<Certificate<'_>>(alloc, whole.as_slice(), others.as_slice())
+}
+
+#[test]
+fn responses_with_time_stamps(rt: HostRuntime) -> Result<(), Fail> {
+    let alloc = rt.alloc();
+    let whole = hex::decode(alloc, STAMP_RESPONSE)?;
+    let others = changed(alloc, whole.as_slice())?;
+    walk::<TimeStampResp<'_>>(alloc, whole.as_slice(), others.as_slice())
 }
