@@ -4,44 +4,80 @@ use asn1_core::parser::{ParseError, ParseErrorKind, ParseLocation, strip_tlv};
 use asn1_core::tag::{Tag, TagClass, explicit_tag};
 use asn1_core::writer::WriteError;
 use std::test::Fail;
-use testing::{is_shown, same};
+use testing::{are_shown, is_shown, same};
+
+/// Kinds of errors, each with what `Debug` and `Display` show.
+pub const KINDS: &[(ParseErrorKind, &str, &str)] = &[
+    (
+        ParseErrorKind::InvalidValue,
+        "InvalidValue",
+        "invalid value",
+    ),
+    (ParseErrorKind::InvalidTag, "InvalidTag", "invalid tag"),
+    (
+        ParseErrorKind::InvalidLength,
+        "InvalidLength",
+        "invalid length",
+    ),
+    (
+        ParseErrorKind::InvalidSize {
+            min: 1,
+            max: 5,
+            actual: 0,
+        },
+        "InvalidSize { min: 1, max: 5, actual: 0 }",
+        "invalid container size (expected between 1 and 5, got 0)",
+    ),
+    (
+        ParseErrorKind::ShortData { needed: 7 },
+        "ShortData { needed: 7 }",
+        "short data (needed at least 7 additional bytes)",
+    ),
+    (
+        ParseErrorKind::IntegerOverflow,
+        "IntegerOverflow",
+        "integer overflow",
+    ),
+    (ParseErrorKind::ExtraData, "ExtraData", "extra data"),
+    (
+        ParseErrorKind::InvalidSetOrdering,
+        "InvalidSetOrdering",
+        "SET value was ordered incorrectly",
+    ),
+    (
+        ParseErrorKind::EncodedDefault,
+        "EncodedDefault",
+        "DEFAULT value was explicitly encoded",
+    ),
+    (
+        ParseErrorKind::OidTooLong,
+        "OidTooLong",
+        "OBJECT IDENTIFIER was too large to be stored in rust-asn1's buffer",
+    ),
+    (
+        ParseErrorKind::UnknownDefinedBy,
+        "UnknownDefinedBy",
+        "DEFINED BY with unknown value",
+    ),
+    (
+        ParseErrorKind::AllocationError,
+        "AllocationError",
+        "allocation error",
+    ),
+];
 
 #[test]
 fn kinds_of_errors_are_shown(rt: HostRuntime) -> Result<(), Fail> {
-    let texts = [
-        (ParseErrorKind::InvalidValue, "InvalidValue"),
-        (ParseErrorKind::InvalidTag, "InvalidTag"),
-        (ParseErrorKind::InvalidLength, "InvalidLength"),
-        (
-            ParseErrorKind::InvalidSize {
-                min: 1,
-                max: 5,
-                actual: 0,
-            },
-            "InvalidSize { min: 1, max: 5, actual: 0 }",
-        ),
-        (
-            ParseErrorKind::UnexpectedTag {
-                actual: Tag::primitive(12),
-            },
-            "UnexpectedTag { actual: Tag { value: 12, constructed: false, class: Universal } }",
-        ),
-        (
-            ParseErrorKind::ShortData { needed: 7 },
-            "ShortData { needed: 7 }",
-        ),
-        (ParseErrorKind::IntegerOverflow, "IntegerOverflow"),
-        (ParseErrorKind::ExtraData, "ExtraData"),
-        (ParseErrorKind::InvalidSetOrdering, "InvalidSetOrdering"),
-        (ParseErrorKind::EncodedDefault, "EncodedDefault"),
-        (ParseErrorKind::OidTooLong, "OidTooLong"),
-        (ParseErrorKind::UnknownDefinedBy, "UnknownDefinedBy"),
-        (ParseErrorKind::AllocationError, "AllocationError"),
-    ];
-    for (kind, text) in texts {
-        is_shown(rt.alloc(), &kind, text)?;
+    for (kind, text, _) in KINDS {
+        is_shown(rt.alloc(), kind, text)?;
     }
-    Ok(())
+    is_shown(
+        rt.alloc(),
+        &ParseErrorKind::UnexpectedTag {
+            actual: Tag::primitive(12),
+        },
+        "UnexpectedTag { actual: Tag { value: 12, constructed: false, class: Universal } }",
+    )
 }
 
 #[test]
@@ -58,23 +94,21 @@ fn errors_and_places_are_shown(rt: HostRuntime) -> Result<(), Fail> {
         &error,
         "ParseError { kind: ShortData { needed: 7 }, location: [12, \"Abc::123\"] }",
     )?;
-    let memory = WriteError::AllocationError;
-    is_shown(alloc, &memory, "AllocationError")?;
-    let order = WriteError::InvalidSetOrdering;
-    is_shown(alloc, &order, "InvalidSetOrdering")
+    is_shown(alloc, &WriteError::AllocationError, "AllocationError")?;
+    is_shown(alloc, &WriteError::InvalidSetOrdering, "InvalidSetOrdering")
 }
 
 #[test]
 fn tags_and_elements_are_shown(rt: HostRuntime) -> Result<(), Fail> {
-    let classes = [
-        (TagClass::Universal, "Universal"),
-        (TagClass::Application, "Application"),
-        (TagClass::ContextSpecific, "ContextSpecific"),
-        (TagClass::Private, "Private"),
-    ];
-    for (class, text) in classes {
-        is_shown(rt.alloc(), &class, text)?;
-    }
+    are_shown(
+        rt.alloc(),
+        &[
+            (TagClass::Universal, "Universal"),
+            (TagClass::Application, "Application"),
+            (TagClass::ContextSpecific, "ContextSpecific"),
+            (TagClass::Private, "Private"),
+        ],
+    )?;
     is_shown(
         rt.alloc(),
         &explicit_tag(3),

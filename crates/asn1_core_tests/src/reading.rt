@@ -1,3 +1,4 @@
+use crate::elements::with_places;
 use asn1_core::parser::{
     ParseError, ParseErrorKind, ParseLocation, ParseResult, Parser, parse, parse_single,
 };
@@ -8,12 +9,9 @@ use testing::{all_same, are_refused, different, is_refusal, is_shown, same, same
 
 #[test]
 fn truth_values(rt: HostRuntime) -> Result<(), Fail> {
-    same(parse_single::<bool>(rt.alloc(), &[0x01, 0x01, 0xff])?, true)?;
-    same(
-        parse_single::<bool>(rt.alloc(), &[0x01, 0x01, 0x00])?,
-        false,
-    )?;
-    let actual = Tag::primitive(2);
+    let yes = parse_single::<bool>(rt.alloc(), &[0x01, 0x01, 0xff])?;
+    let no = parse_single::<bool>(rt.alloc(), &[0x01, 0x01, 0x00])?;
+    same((yes, no), (true, false))?;
     are_refused::<bool>(
         rt.alloc(),
         &[
@@ -27,11 +25,12 @@ fn truth_values(rt: HostRuntime) -> Result<(), Fail> {
             (&[0x1f, 0x1e, 0x00], ParseErrorKind::InvalidTag),
             (&[0x02, 0x01], ParseErrorKind::ShortData { needed: 1 }),
             (&[], ParseErrorKind::ShortData { needed: 1 }),
-            (
-                &[0x02, 0x01, 0x05],
-                ParseErrorKind::UnexpectedTag { actual },
-            ),
         ],
+    )?;
+    let actual = Tag::primitive(2);
+    is_refusal(
+        parse_single::<bool>(rt.alloc(), &[0x02, 0x01, 0x05]),
+        ParseErrorKind::UnexpectedTag { actual },
     )
 }
 
@@ -114,13 +113,12 @@ fn second_boolean(alloc: Global, octets: &[u8]) -> ParseResult<bool> {
 
 #[test]
 fn a_closure_ignores_a_refusal(rt: HostRuntime) -> Result<(), Fail> {
-    same(
-        &second_boolean(rt.alloc(), &[0x02, 0x01, 0x05, 0x01, 0x01, 0xff]),
-        &Ok(true),
-    )?;
-    same(
-        &second_boolean(rt.alloc(), &[0x01, 0x01, 0x05, 0x01, 0x01, 0xff, 0x00]),
-        &Err(ParseError::new(ParseErrorKind::ExtraData)),
+    let octets = [0x02, 0x01, 0x05, 0x01, 0x01, 0xff];
+    same(second_boolean(rt.alloc(), &octets)?, true)?;
+    let octets = [0x01, 0x01, 0x05, 0x01, 0x01, 0xff, 0x00];
+    is_refusal(
+        second_boolean(rt.alloc(), &octets),
+        ParseErrorKind::ExtraData,
     )
 }
 
@@ -134,28 +132,25 @@ fn a_refusal_that_is_ignored(rt: HostRuntime) -> Result<(), Fail> {
         ParseErrorKind::UnexpectedTag { actual },
     )?;
     same(parser.rest(), &octets[3..])?;
-    same(parser.read_element::<bool>()?, true)?;
-    same(parser.is_empty(), true)
+    let truth = parser.read_element::<bool>()?;
+    same((truth, parser.is_empty()), (true, true))
 }
 
 #[test]
 fn places_of_an_error(rt: HostRuntime) -> Result<(), Fail> {
-    let new = || ParseError::new(ParseErrorKind::InvalidValue);
-    let field = || ParseLocation::Field("Abc::123");
-    let texts = [
-        (new(), "ParseError { kind: InvalidValue }"),
+    const SHOWN: &[(usize, &str)] = &[
+        (0, "ParseError { kind: InvalidValue }"),
         (
-            new().add_location(field()),
+            1,
             "ParseError { kind: InvalidValue, location: [\"Abc::123\"] }",
         ),
         (
-            new()
-                .add_location(ParseLocation::Index(12))
-                .add_location(field()),
+            2,
             "ParseError { kind: InvalidValue, location: [\"Abc::123\", 12] }",
         ),
     ];
-    for (error, text) in texts {
+    for (places, text) in SHOWN {
+        let error = with_places(ParseErrorKind::InvalidValue, *places);
         is_shown(rt.alloc(), &error, text)?;
     }
     Ok(())
@@ -181,18 +176,26 @@ fn innermost_places_are_kept(rt: HostRuntime) -> Result<(), Fail> {
     same(nine.kind(), ParseErrorKind::ExtraData)
 }
 
+/// Twice the arguments of `deep`. The two errors differ.
+const DIFFERENT: &[(usize, usize, usize, usize)] = &[
+    (9, 1, 9, 0),
+    (9, 2, 9, 0),
+    (9, 3, 9, 0),
+    (9, 4, 9, 0),
+    (9, 5, 9, 0),
+    (9, 6, 9, 0),
+    (9, 7, 9, 0),
+    (9, 8, 9, 0),
+    (5, 0, 5, 5),
+    (7, 0, 8, 0),
+    (3, 0, 4, 0),
+];
+
 #[test]
 fn kept_places_are_compared() -> Result<(), Fail> {
-    for other in 1..9 {
-        different(&deep(9, other), &deep(9, 0))?;
-    }
-    let pairs: [((usize, usize), (usize, usize)); 3] = [
-        ((5, 0), (5, 5)),
-        ((7, 0), (8, 0)),
-        ((3, 0), (4, 0)),
-    ];
-    for ((count, other), (second_count, second_other)) in pairs {
-        different(&deep(count, other), &deep(second_count, second_other))?;
+    for (count, other, second_count, second_other) in DIFFERENT {
+        let second = deep(*second_count, *second_other);
+        different(&deep(*count, *other), &second)?;
     }
     Ok(())
 }

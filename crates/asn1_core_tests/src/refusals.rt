@@ -2,6 +2,7 @@
 
 ghost use Rattle.std.specs.Prelude.{◌≡◌};
 
+use crate::sets::refuse_true;
 use asn1_core::{
     ParseErrorKind, Parser, SetElementWriter, SetOfWriter, SetWriter, Tlv, WriteError, WriteResult,
     Writer, strip_tlv,
@@ -31,14 +32,8 @@ fn an_order_is_kept_over_a_refusal(rt: HostRuntime) -> Result<(), Fail> {
         ensures { set.new.front ≡ set.old.front }
     {
         set.write_element(&1i64)?;
-        match set.write_element(&true) {
-            Err(WriteError::InvalidSetOrdering) => {}
-            answer => return answer,
-        }
-        match set.write_element(&true) {
-            Err(WriteError::InvalidSetOrdering) => Ok(()),
-            answer => answer,
-        }
+        refuse_true(set)?;
+        refuse_true(set)
     };
     closure_writes_set(rt.alloc(), &twice, &[0x31, 0x03, 0x02, 0x01, 0x01])
 }
@@ -63,9 +58,8 @@ fn a_refused_value_leaves_no_octets(rt: HostRuntime) -> Result<(), Fail> {
 
 #[test]
 fn elements_of_several_tags_in_order(rt: HostRuntime) -> Result<(), Fail> {
-    let (octets, number) = ([0x04, 0x01, 0x00], [0x02, 0x02, 0x01, 0x00]);
-    let (octets, _rest) = strip_tlv(&octets)?;
-    let (number, _rest) = strip_tlv(&number)?;
+    let (octets, _rest) = strip_tlv(&[0x04, 0x01, 0x00])?;
+    let (number, _rest) = strip_tlv(&[0x02, 0x02, 0x01, 0x00])?;
     is_written(
         rt.alloc(),
         &SetOfWriter::new(&[octets, number]),

@@ -6,7 +6,7 @@ ghost use Rattle.asn1_core.specs.Der.{simple_der};
 ghost use Rattle.asn1_core.specs.Written.{written};
 ghost use Rattle.asn1_core_tests.specs.declared.sets.Custom.TheVariants.{Memory, Refused};
 
-use asn1_core::parser::strip_tlv;
+use crate::writing::compare_parts;
 use asn1_core::tag::Tag;
 use asn1_core::types::{Asn1Type, Asn1Writable, SimpleAsn1Writable};
 use asn1_core::writer::{
@@ -14,20 +14,22 @@ use asn1_core::writer::{
 };
 use std::alloc::Global;
 use std::test::Fail;
-use testing::{closure_writes_set, is_written, same, written_set};
+use testing::{closure_writes_set, is_written, same, same_owned, written_set};
+
+/// Numbers, and the sets of these.
+const SETS: &[(&[u8], &[u8])] = &[
+    (&[], &[0x31, 0]),
+    (&[1], &[0x31, 3, 2, 1, 1]),
+    (&[1, 2, 3], &[0x31, 9, 2, 1, 1, 2, 1, 2, 2, 1, 3]),
+    (&[3, 2, 1], &[0x31, 9, 2, 1, 1, 2, 1, 2, 2, 1, 3]),
+    (&[5, 5], &[0x31, 6, 2, 1, 5, 2, 1, 5]),
+];
 
 #[test]
 fn sets_of_a_slice(rt: HostRuntime) -> Result<(), Fail> {
     let alloc = rt.alloc();
-    let cases: [(&[u8], &[u8]); 5] = [
-        (&[], &[0x31, 0]),
-        (&[1], &[0x31, 3, 2, 1, 1]),
-        (&[1, 2, 3], &[0x31, 9, 2, 1, 1, 2, 1, 2, 2, 1, 3]),
-        (&[3, 2, 1], &[0x31, 9, 2, 1, 1, 2, 1, 2, 2, 1, 3]),
-        (&[5, 5], &[0x31, 6, 2, 1, 5, 2, 1, 5]),
-    ];
-    for (items, octets) in cases {
-        is_written(alloc, &SetOfWriter::new(items), octets)?;
+    for (items, octets) in SETS {
+        is_written(alloc, &SetOfWriter::new(*items), octets)?;
     }
     let longer = [256u16, 1, 255, 1];
     is_written(
@@ -51,60 +53,86 @@ fn sets_of_sets(rt: HostRuntime) -> Result<(), Fail> {
 }
 
 #[test]
-fn sets_of_a_slice_are_copied(rt: HostRuntime) -> Result<(), Fail> {
+fn sets_of_a_slice_are_copied() -> Result<(), Fail> {
     let items = [1u8, 2, 3];
     let set = SetOfWriter::new(&items);
     let copy = set.clone()?;
-    assert!(rt; copy == set);
-    assert!(rt; copy != SetOfWriter::new(&items[1..]));
-    Ok(())
+    let found = (copy == set, copy != SetOfWriter::new(&items[1..]));
+    same(found, (true, true))
+}
+
+/// The set of the value, as a closure writes it.
+fn written_alone<T: Asn1Writable<Error = WriteError>>(
+    alloc: Global,
+    value: &T,
+) -> WriteResult<Vec<u8>>
+    requires { T.der.plain }
+{
+    let alone = |set: &mut SetElementWriter<'_>| -> WriteResult<()>
+        requires { T.der.plain }
+        ensures { set.new.front ≡ set.old.front }
+    { set.write_element(value) };
+    written_set(alloc, &alone)
 }
 
 #[test]
 fn sets_of_a_closure(rt: HostRuntime) -> Result<(), Fail> {
-    let alloc = rt.alloc();
-    let null = |set: &mut SetElementWriter<'_>| -> WriteResult<()> { set.write_element(&()) };
-    closure_writes_set(alloc, &null, &[0x31, 2, 5, 0])?;
-    let truth = |set: &mut SetElementWriter<'_>| -> WriteResult<()> { set.write_element(&true) };
-    closure_writes_set(alloc, &truth, &[0x31, 3, 1, 1, 0xff])
+    same(written_alone(rt.alloc(), &())?.as_slice(), &[0x31, 2, 5, 0])?;
+    same(
+        written_alone(rt.alloc(), &true)?.as_slice(),
+        &[0x31, 3, 1, 1, 0xff],
+    )
 }
 
 #[test]
 fn long_sets_of_a_closure(rt: HostRuntime) -> Result<(), Fail> {
     let letters: &[u8] = &[0x61; 129];
-    let long = |set: &mut SetElementWriter<'_>| -> WriteResult<()> { set.write_element(&letters) };
-    let octets = written_set(rt.alloc(), &long)?;
-    let (tlv, rest) = strip_tlv(octets.as_slice())?;
-    assert!(rt; rest.is_empty() && octets.as_slice().starts_with(&[0x31, 0x81, 0x84]));
-    assert!(rt; tlv.data().starts_with(&[4, 0x81, 0x81, 0x61]) && tlv.data().ends_with(letters));
-    Ok(())
+    let octets = written_alone(rt.alloc(), &letters)?;
+    compare_parts(
+        octets.as_slice(),
+        &[0x31, 0x81, 0x84, 4, 0x81, 0x81],
+        letters,
+    )
 }
 
-/// A set of `true` and then the value is written as these octets.
-fn compare_behind_true<T: Asn1Writable<Error = WriteError>>(
+/// The set of both values, as a closure writes it.
+fn written_pair<S: Asn1Writable<Error = WriteError>, T: Asn1Writable<Error = WriteError>>(
     alloc: Global,
-    value: &T,
-    octets: &[u8],
-) -> Result<(), Fail>
-    requires { T.der.plain }
+    first: &S,
+    second: &T,
+) -> WriteResult<Vec<u8>>
+    requires of_first { S.der.plain }
+    requires of_second { T.der.plain }
 {
     let both = |set: &mut SetElementWriter<'_>| -> WriteResult<()>
-        requires { T.der.plain }
+        requires of_first { S.der.plain }
+        requires of_second { T.der.plain }
         ensures { set.new.front ≡ set.old.front }
     {
-        set.write_element(&true)?;
-        set.write_element(value)
+        set.write_element(first)?;
+        set.write_element(second)
     };
-    closure_writes_set(alloc, &both, octets)
+    written_set(alloc, &both)
 }
 
 #[test]
 fn elements_of_a_set_in_order(rt: HostRuntime) -> Result<(), Fail> {
     let alloc = rt.alloc();
     let both: &[u8] = &[0x31, 6, 1, 1, 0xff, 2, 1, 1];
-    compare_behind_true(alloc, &Some(1i64), both)?;
-    compare_behind_true(alloc, &1i64, both)?;
-    compare_behind_true(alloc, &Option::<i64>::None, &[0x31, 3, 1, 1, 0xff])
+    same(written_pair(alloc, &true, &Some(1i64))?.as_slice(), both)?;
+    same(written_pair(alloc, &true, &1i64)?.as_slice(), both)?;
+    let truth = written_pair(alloc, &true, &Option::<i64>::None)?;
+    same(truth.as_slice(), &[0x31, 3, 1, 1, 0xff])
+}
+
+/// The set rejects `true` behind a number.
+pub fn refuse_true(set: &mut SetElementWriter<'_>) -> WriteResult<()>
+    ensures { set.new.front ≡ set.old.front }
+{
+    match set.write_element(&true) {
+        Err(WriteError::InvalidSetOrdering) => Ok(()),
+        answer => answer,
+    }
 }
 
 #[test]
@@ -113,42 +141,26 @@ fn elements_of_a_set_out_of_order(rt: HostRuntime) -> Result<(), Fail> {
         ensures { set.new.front ≡ set.old.front }
     {
         set.write_element(&1i64)?;
-        match set.write_element(&true) {
-            Err(WriteError::InvalidSetOrdering) => set.write_element(&2i64),
-            answer => answer,
-        }
+        refuse_true(set)?;
+        set.write_element(&2i64)
     };
     closure_writes_set(rt.alloc(), &goes_on, &[0x31, 6, 2, 1, 1, 2, 1, 2])
 }
 
 #[test]
 fn an_error_of_order_is_handed_on(rt: HostRuntime) -> Result<(), Fail> {
-    let hands_on = |set: &mut SetElementWriter<'_>| -> WriteResult<()>
-        ensures { set.new.front ≡ set.old.front }
-    {
-        set.write_element(&1i64)?;
-        set.write_element(&true)
-    };
-    match written_set(rt.alloc(), &hands_on) {
-        Err(WriteError::AllocationError) => Err(WriteError::AllocationError)?,
-        answer => assert!(rt; matches!(answer, Err(WriteError::InvalidSetOrdering))),
-    }
-    Ok(())
+    let answer = written_pair(rt.alloc(), &1i64, &true);
+    same_owned(answer, Err(WriteError::InvalidSetOrdering))
 }
 
 #[test]
 fn equal_tags_in_any_order(rt: HostRuntime) -> Result<(), Fail> {
-    let numbers = |set: &mut SetElementWriter<'_>| -> WriteResult<()>
-        ensures { set.new.front ≡ set.old.front }
-    {
-        set.write_element(&7u8)?;
-        set.write_element(&5u8)
-    };
-    closure_writes_set(rt.alloc(), &numbers, &[0x31, 6, 2, 1, 7, 2, 1, 5])
+    let numbers = written_pair(rt.alloc(), &7u8, &5u8)?;
+    same(numbers.as_slice(), &[0x31, 6, 2, 1, 7, 2, 1, 5])
 }
 
 /// Why a digit was rejected.
-#[derive(Debug, PartialEq, Eq, Drop)]
+#[derive(Drop)]
 enum Custom {
     Memory,
     Refused,

@@ -10,24 +10,25 @@ type Seen = Result<(u8, bool, u128, usize, usize), ParseErrorKind>;
 
 const SHORT: ParseErrorKind = ParseErrorKind::ShortData { needed: 1 };
 
-/// A number in base 128: each of its octets is a digit.
+/// A number in base 128: each of its octets is a digit, and all but the last have the top bit.
 fn slow_number(text: &[u8]) -> Result<(u128, &[u8]), ParseErrorKind> {
-    let open = text.iter().take_while(|octet| **octet >= 0x80).count();
-    if text.first() == Some(&0x80) || open >= 19 {
+    if text.first() == Some(&0x80) {
         return Err(ParseErrorKind::InvalidTag);
     }
-    if open >= text.len() {
-        return Err(SHORT);
-    }
-    let (octets, rest) = text.split_at(open + 1);
     let mut number = 0u128;
-    for octet in octets {
+    for (place, octet) in text.iter().enumerate() {
         let Some(more) = number.checked_mul(128) else {
             return Err(ParseErrorKind::InvalidTag);
         };
-        number = more | u128::from(octet % 128);
+        number = more | u128::from(*octet % 128);
+        if *octet < 0x80 {
+            return Ok((number, &text[place + 1..]));
+        }
+        if place >= 18 {
+            return Err(ParseErrorKind::InvalidTag);
+        }
     }
-    Ok((number, rest))
+    Err(SHORT)
 }
 
 fn slow_tag(text: &[u8]) -> Result<(u8, bool, u128, &[u8]), ParseErrorKind> {

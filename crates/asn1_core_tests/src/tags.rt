@@ -1,9 +1,11 @@
 use crate::writing::announced_element;
 use asn1_core::base128;
-use asn1_core::parser::{ParseErrorKind, ParseResult};
+use asn1_core::parser::ParseErrorKind;
 use asn1_core::tag::{Tag, TagClass};
 use std::test::Fail;
 use testing::{kind_of, same, same_at};
+
+const INVALID: ParseErrorKind = ParseErrorKind::InvalidTag;
 
 const SHORT: ParseErrorKind = ParseErrorKind::ShortData { needed: 1 };
 
@@ -14,25 +16,35 @@ fn numbers_that_are_too_large() -> Result<(), Fail> {
     let mut highest = [0xff; 19];
     highest[0] = 0x83;
     highest[18] = 0x80;
-    for octets in [lowest, highest] {
-        let found = kind_of(base128::read(&octets));
-        same(found, Some(ParseErrorKind::InvalidValue))?;
-    }
-    Ok(())
+    let kinds = (
+        kind_of(base128::read(&lowest)),
+        kind_of(base128::read(&highest)),
+    );
+    let invalid = Some(ParseErrorKind::InvalidValue);
+    same(kinds, (invalid, invalid))
+}
+
+/// The number has this many octets, which are read back, and no other is written.
+fn compare_number(number: u128, length: usize) -> Result<(), Fail> {
+    let mut octets = [7; 32];
+    let lengths = (base128::length(number), base128::write(number, &mut octets));
+    same_at(number, lengths, (length, Some(length)))?;
+    let (written, others) = octets.split_at_checked(length).ok_or("too long")?;
+    let (read, rest) = base128::read(written)?;
+    same_at(
+        number,
+        (read, rest.len(), others.first()),
+        (number, 0, Some(&7)),
+    )
 }
 
 #[test]
-fn numbers_are_read_back(rt: HostRuntime) -> Result<(), Fail> {
-    for (number, length) in [(0, 1), (10, 1), (127, 1), (128, 2), (u128::MAX, 19)] {
-        let mut octets = [7; 32];
-        assert_eq!(rt; base128::length(number), length, "{number}");
-        same_at(number, base128::write(number, &mut octets), Some(length))?;
-        same_at(number, octets[length], 7)?;
-        let (read, rest) = base128::read(&octets[..length])?;
-        same(read, number)?;
-        same(rest, &[])?;
-    }
-    Ok(())
+fn numbers_are_read_back() -> Result<(), Fail> {
+    compare_number(0, 1)?;
+    compare_number(10, 1)?;
+    compare_number(127, 1)?;
+    compare_number(128, 2)?;
+    compare_number(u128::MAX, 19)
 }
 
 #[test]
@@ -42,37 +54,22 @@ fn numbers_without_room_are_not_written() -> Result<(), Fail> {
     same(octets.as_slice(), &[7, 7, 7])
 }
 
-/// The tag of one octet.
-fn tag_of(octet: u8) -> ParseResult<Tag> {
-    let octets = [octet, 0x07];
-    let (tag, _rest) = Tag::from_bytes(&octets)?;
-    Ok(tag)
-}
+/// The octet of a tag, its class, whether it is constructed, and its number.
+const ONE_OCTET: &[(u8, TagClass, bool, u32)] = &[
+    (0x65, TagClass::Application, true, 5),
+    (0x05, TagClass::Universal, false, 5),
+    (0xa0, TagClass::ContextSpecific, true, 0),
+    (0xde, TagClass::Private, false, 30),
+];
 
 #[test]
 fn tags_of_one_octet() -> Result<(), Fail> {
-    let cases = [
-        (0x65, TagClass::Application, true, 5),
-        (0x05, TagClass::Universal, false, 5),
-        (0xa0, TagClass::ContextSpecific, true, 0),
-        (0xde, TagClass::Private, false, 30),
-    ];
-    for (octet, class, constructed, number) in cases {
-        let tag = tag_of(octet)?;
-        same_at(octet, tag.class(), class)?;
-        same_at(octet, tag.is_constructed(), constructed)?;
-        same_at(octet, tag.value(), number)?;
-        same(tag.as_u8(), Some(octet))?;
-    }
-    Ok(())
-}
-
-#[test]
-fn octets_behind_a_tag_are_left() -> Result<(), Fail> {
-    for octet in [0x65, 0x05, 0xa0, 0xde] {
-        let octets = [octet, 0x07];
-        let (_tag, rest) = Tag::from_bytes(&octets)?;
-        same_at(octet, rest, &[0x07])?;
+    for (octet, class, constructed, number) in ONE_OCTET {
+        let octets = [*octet, 0x07];
+        let (tag, rest) = Tag::from_bytes(&octets)?;
+        let found = (tag.class(), tag.is_constructed(), tag.value());
+        same_at(*octet, found, (*class, *constructed, *number))?;
+        same((tag.as_u8(), rest), (Some(*octet), b"\x07".as_slice()))?;
     }
     Ok(())
 }
@@ -81,60 +78,58 @@ fn octets_behind_a_tag_are_left() -> Result<(), Fail> {
 fn constructed_tags_of_one_octet() -> Result<(), Fail> {
     for number in 0..31u8 {
         let tag = Tag::constructed(u32::from(number));
-        same_at(number, tag.is_constructed(), true)?;
-        same(tag.as_u8(), Some(0x20 | number))?;
+        let found = (tag.is_constructed(), tag.as_u8());
+        same_at(number, found, (true, Some(0x20 | number)))?;
     }
-    same(Tag::constructed(31).as_u8(), None)?;
-    same(Tag::primitive(31).as_u8(), None)
+    let longer = (Tag::constructed(31).as_u8(), Tag::primitive(31).as_u8());
+    same(longer, (None, None))
 }
 
 #[test]
 fn tags_of_several_octets() -> Result<(), Fail> {
     let octets = [0x1f, 0x8f, 0xff, 0xff, 0xff, 0x7f];
     let (tag, rest) = Tag::from_bytes(&octets)?;
-    same(tag, Tag::primitive(4294967295))?;
-    same(tag.class(), TagClass::Universal)?;
-    same(tag.is_constructed(), false)?;
-    same(tag.value(), 4294967295)?;
-    same(tag.as_u8(), None)?;
-    same(rest, &[])
+    same((tag, rest.len()), (Tag::primitive(4294967295), 0))?;
+    let found = (tag.class(), tag.is_constructed(), tag.value(), tag.as_u8());
+    same(found, (TagClass::Universal, false, 4294967295, None))
 }
+
+const FAULTS: &[(&[u8], ParseErrorKind)] = &[
+    (&[0x1f, 0x90, 0x80, 0x80, 0x80, 0x00], INVALID),
+    (&[0x1f, 0x90, 0x80, 0x80, 0x80, 0x1f], INVALID),
+    (&[0x1f, 0x1e], INVALID),
+    (&[0x1f, 0x80], INVALID),
+    (&[0x1f], SHORT),
+    (&[], SHORT),
+];
 
 #[test]
 fn faults_of_tags() -> Result<(), Fail> {
-    let invalid = Some(ParseErrorKind::InvalidTag);
-    let faults: [(&[u8], Option<ParseErrorKind>); 6] = [
-        (&[0x1f, 0x90, 0x80, 0x80, 0x80, 0x00], invalid),
-        (&[0x1f, 0x90, 0x80, 0x80, 0x80, 0x1f], invalid),
-        (&[0x1f, 0x1e], invalid),
-        (&[0x1f, 0x80], invalid),
-        (&[0x1f], Some(SHORT)),
-        (&[], Some(SHORT)),
-    ];
-    for (octets, kind) in faults {
-        same_at(octets, kind_of(Tag::from_bytes(octets)), kind)?;
+    for (octets, kind) in FAULTS {
+        same_at(*octets, kind_of(Tag::from_bytes(octets)), Some(*kind))?;
     }
     let mut octets = [0xff; 20];
     octets[0] = 0x1f;
     same(kind_of(Tag::from_bytes(&octets[..19])), Some(SHORT))?;
     octets[19] = 0x00;
-    same(kind_of(Tag::from_bytes(&octets)), invalid)
+    same(kind_of(Tag::from_bytes(&octets)), Some(INVALID))
 }
+
+const TAGS: &[&[u8]] = &[
+    &[0x65, 0x00],
+    &[0x05, 0x00],
+    &[0x1f, 0x1f, 0x00],
+    &[0xa0, 0x00],
+    &[0xdf, 0x7f, 0x00],
+    &[0x1f, 0x8f, 0xff, 0xff, 0xff, 0x7f, 0x00],
+];
 
 #[test]
 fn tags_are_read_back(rt: HostRuntime) -> Result<(), Fail> {
-    let cases: [&[u8]; 6] = [
-        &[0x65, 0x00],
-        &[0x05, 0x00],
-        &[0x1f, 0x1f, 0x00],
-        &[0xa0, 0x00],
-        &[0xdf, 0x7f, 0x00],
-        &[0x1f, 0x8f, 0xff, 0xff, 0xff, 0x7f, 0x00],
-    ];
-    for text in cases {
+    for text in TAGS {
         let (tag, _rest) = Tag::from_bytes(text)?;
         let octets = announced_element(rt.alloc(), tag, &[])?;
-        same(octets.as_slice(), text)?;
+        same(octets.as_slice(), *text)?;
     }
     Ok(())
 }
@@ -160,6 +155,9 @@ fn order_of_tags() -> Result<(), Fail> {
     }
     let (constructed, _rest) = Tag::from_bytes(&[0xa0])?;
     let (primitive, _rest) = Tag::from_bytes(&[0x80])?;
-    same(constructed.comes_before(primitive), false)?;
-    same(primitive.comes_before(constructed), false)
+    let found = (
+        constructed.comes_before(primitive),
+        primitive.comes_before(constructed),
+    );
+    same(found, (false, false))
 }

@@ -5,6 +5,7 @@ ghost use Rattle.asn1.specs.Reads.{HasOneEncoding, ReadsContents};
 ghost use Rattle.asn1.specs.Structures.{fields2, structure};
 ghost use Rattle.asn1.specs.Tagged.{application_tag, seen_under_tag, seen_with_tag};
 
+use crate::lists::{is_refused, other_tag};
 use asn1::fields::{Fields2, Row};
 use asn1::{
     Asn1Type, Asn1Writable, Explicit, Implicit, ParseError, ParseErrorKind, ParseResult,
@@ -13,7 +14,7 @@ use asn1::{
 };
 use std::alloc::Global;
 use std::test::Fail;
-use testing::{are_refused_with, both_ways, is_written, same};
+use testing::both_ways;
 
 /// Type2 ::= [APPLICATION 3] IMPLICIT VisibleString
 #[derive(Debug, Clone, PartialEq, Eq, Drop)]
@@ -70,7 +71,7 @@ impl<'a> SimpleAsn1Writable for Type2<'a> {
 type Type3<'a> = Explicit<Type2<'a>, 2>;
 
 /// Type4 ::= [APPLICATION 7] IMPLICIT Type3
-#[derive(Debug, Clone, PartialEq, Eq, Drop)]
+#[derive(PartialEq, Drop)]
 pub struct Type4<'a>(pub Type3<'a>);
 
 impl<'a> Asn1Type for Type4<'a> {
@@ -217,26 +218,19 @@ pub fn types_with_tags_are_lawful()
     ensures stamp { HasOneEncoding ⟦<Stamp as Asn1Type>⟧.der }
 {}
 
+/// "Jones" as the type with the tag 3.
+fn jones() -> Result<Type2<'static>, Fail> {
+    Ok(Type2(VisibleString::new("Jones").ok_or("no text")?))
+}
+
 /// "Jones" in the types `Type2` to `Type5`, as X.690 has it in 8.14.3.
 #[test]
 fn texts_of_an_application(rt: HostRuntime) -> Result<(), Fail> {
     let alloc = rt.alloc();
-    let octets: &[u8] = b"\x43\x05Jones";
-    let text = parse_single::<Type2<'_>>(alloc, octets)?;
-    same(text.0.as_str(), "Jones")?;
-    is_written(alloc, &text, octets)?;
-    let octets: &[u8] = b"\xa2\x07\x43\x05Jones";
-    let text = parse_single::<Type3<'_>>(alloc, octets)?;
-    same(text.as_inner().0.as_str(), "Jones")?;
-    is_written(alloc, &text, octets)?;
-    let octets: &[u8] = b"\x67\x07\x43\x05Jones";
-    let text = parse_single::<Type4<'_>>(alloc, octets)?;
-    same(text.0.as_inner().0.as_str(), "Jones")?;
-    is_written(alloc, &text, octets)?;
-    let octets: &[u8] = b"\x82\x05Jones";
-    let text = parse_single::<Type5<'_>>(alloc, octets)?;
-    same(text.as_inner().0.as_str(), "Jones")?;
-    is_written(alloc, &text, octets)
+    both_ways(alloc, jones()?, b"\x43\x05Jones")?;
+    both_ways(alloc, Type3::new(jones()?), b"\xa2\x07\x43\x05Jones")?;
+    both_ways(alloc, Type4(Type3::new(jones()?)), b"\x67\x07\x43\x05Jones")?;
+    both_ways(alloc, Type5::new(jones()?), b"\x82\x05Jones")
 }
 
 /// The tag without the structure in it, or with another class, or with an octet more in it.
@@ -248,24 +242,10 @@ fn stamps(rt: HostRuntime) -> Result<(), Fail> {
         used: true,
     });
     both_ways(alloc, stamp, &[0x61, 8, 0x30, 6, 2, 1, 7, 1, 1, 0xff])?;
-    let number = ParseErrorKind::UnexpectedTag {
-        actual: Tag::primitive(2),
-    };
-    let private = ParseErrorKind::UnexpectedTag {
-        actual: Tag::new(1, TagClass::Private, true),
-    };
-    are_refused_with::<Stamp>(
-        alloc,
-        &[
-            (&[0x61, 6, 2, 1, 7, 1, 1, 0xff], ParseError::new(number)),
-            (
-                &[0xe1, 8, 0x30, 6, 2, 1, 7, 1, 1, 0xff],
-                ParseError::new(private),
-            ),
-            (
-                &[0x61, 9, 0x30, 6, 2, 1, 7, 1, 1, 0xff, 5],
-                ParseError::new(ParseErrorKind::ExtraData),
-            ),
-        ],
-    )
+    let number = other_tag(Tag::primitive(2));
+    is_refused::<Stamp>(alloc, &[0x61, 6, 2, 1, 7, 1, 1, 0xff], number)?;
+    let private = other_tag(Tag::new(1, TagClass::Private, true));
+    is_refused::<Stamp>(alloc, &[0xe1, 8, 0x30, 6, 2, 1, 7, 1, 1, 0xff], private)?;
+    let extra = ParseError::new(ParseErrorKind::ExtraData);
+    is_refused::<Stamp>(alloc, &[0x61, 9, 0x30, 6, 2, 1, 7, 1, 1, 0xff, 5], extra)
 }

@@ -7,15 +7,15 @@ ghost use Rattle.asn1.specs.IdentifierValues.{identifier_of};
 ghost use Rattle.asn1.specs.Tag.{universal};
 ghost use Rattle.asn1_tests.specs.Identifiers.{some_identifier};
 
+use crate::lists::is_refused;
 use asn1::{
     Asn1Readable, Asn1Type, Asn1Writable, DefaultValue, Defaulted, Implicit, MeaningEq,
     ObjectIdentifier, ParseError, ParseErrorKind, ParseResult, SimpleAsn1Readable,
-    SimpleAsn1Writable, Tag, WriteBuf, WriteError, WriteResult, parse_single,
+    SimpleAsn1Writable, Tag, WriteBuf, WriteError, WriteResult,
 };
 use std::alloc::Global;
-use std::process::Abort;
 use std::test::Fail;
-use testing::{error_of, is_written, same};
+use testing::both_ways;
 
 /// A port.
 #[derive(Debug, Clone, Copy, PartialEq, Eq)]
@@ -112,41 +112,25 @@ impl DefaultValue<[u8; 2]> for Defaults {
 /// The value is written as these octets and read from them, the default as none. The default's encoding is rejected.
 fn has_a_default<
     'a,
-    A: Abort,
     T: Asn1Readable<'a> + Asn1Writable<Error = WriteError> + MeaningEq,
     D: DefaultValue<T>,
->(rt: &A, alloc: Global, value: T, octets: &'a [u8], encoded_default: &'a [u8]) -> Result<(), Fail>
+>(alloc: Global, value: T, octets: &'a [u8], encoded_default: &'a [u8]) -> Result<(), Fail>
     requires { T.der.plain }
 {
-    let value: Defaulted<T, D> = Defaulted::new(value);
-    is_written(alloc, &value, octets)?;
-    let read = parse_single::<Defaulted<T, D>>(alloc, octets)?;
-    assert!(rt; *read.as_inner() == *value.as_inner());
-    let default: Defaulted<T, D> = Defaulted::new(D::value());
-    is_written(alloc, &default, &[])?;
-    let read = parse_single::<Defaulted<T, D>>(alloc, &[])?;
-    assert!(rt; *read.as_inner() == D::value());
-    let refused = error_of(parse_single::<Defaulted<T, D>>(alloc, encoded_default));
-    same(
-        &refused,
-        &Some(ParseError::new(ParseErrorKind::EncodedDefault)),
-    )
+    both_ways(alloc, Defaulted::<T, D>::new(value), octets)?;
+    both_ways(alloc, Defaulted::<T, D>::new(D::value()), &[])?;
+    let error = ParseError::new(ParseErrorKind::EncodedDefault);
+    is_refused::<Defaulted<T, D>>(alloc, encoded_default, error)
 }
 
 #[test]
 fn types_with_a_default(rt: HostRuntime) -> Result<(), Fail> {
     let alloc = rt.alloc();
-    let encoded: &[u8] = &[2, 2, 1, 0xbb];
-    has_a_default::<_, Port, Defaults>(&rt, alloc, Port { number: 80 }, &[2, 1, 80], encoded)?;
+    let port = Port { number: 80 };
+    has_a_default::<Port, Defaults>(alloc, port, &[2, 1, 80], &[2, 2, 1, 0xbb])?;
     let two: Implicit<i64, 0> = Implicit::new(2);
-    has_a_default::<_, _, Defaults>(&rt, alloc, two, &[0x80, 1, 2], &[0x80, 1, 0xff])?;
-    has_a_default::<_, [u8; 2], Defaults>(&rt, alloc, [0, 1], &[4, 2, 0, 1], &[4, 2, 0, 0])?;
+    has_a_default::<_, Defaults>(alloc, two, &[0x80, 1, 2], &[0x80, 1, 0xff])?;
+    has_a_default::<[u8; 2], Defaults>(alloc, [0, 1], &[4, 2, 0, 1], &[4, 2, 0, 0])?;
     let other = ObjectIdentifier::from_der(&[0x2a, 4])?;
-    has_a_default::<_, ObjectIdentifier, Defaults>(
-        &rt,
-        alloc,
-        other,
-        &[6, 2, 0x2a, 4],
-        &[6, 2, 0x2a, 3],
-    )
+    has_a_default::<_, Defaults>(alloc, other, &[6, 2, 0x2a, 4], &[6, 2, 0x2a, 3])
 }

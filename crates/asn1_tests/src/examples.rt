@@ -6,10 +6,11 @@ ghost use Rattle.asn1.specs.Writing.{buffer_name, octets_of};
 
 use asn1::{
     Explicit, IA5String, Implicit, ParseResult, Parser, Sequence, SequenceWriter, Tag, TagClass,
-    Tlv, VisibleString, WriteResult, Writer, parse_single, write,
+    Tlv, VisibleString, WriteResult, Writer, parse_single,
 };
+use std::alloc::Global;
 use std::test::Fail;
-use testing::{both_ways, is_written, same, same_at};
+use testing::{both_ways, closure_writes, is_written, same};
 
 /// 8.2.2 and 8.8.2: a Boolean that is true, and null.
 #[test]
@@ -58,36 +59,39 @@ const JONES: [&[u8]; 5] = [
 #[test]
 fn texts_under_tags(rt: HostRuntime) -> Result<(), Fail> {
     let alloc = rt.alloc();
-    let text = parse_single::<VisibleString<'_>>(alloc, JONES[0])?;
-    same(text.as_str(), "Jones")?;
-    is_written(alloc, &text, JONES[0])?;
-    let implicit = parse_single::<Implicit<VisibleString<'_>, 2>>(alloc, JONES[4])?;
-    same(implicit.as_inner().as_str(), "Jones")?;
-    is_written(alloc, &implicit, JONES[4])?;
+    let jones = VisibleString::new("Jones").ok_or("no text")?;
+    both_ways(alloc, jones.clone()?, JONES[0])?;
+    both_ways(alloc, Implicit::<_, 2>::new(jones), JONES[4])?;
     let explicit = parse_single::<Explicit<Tlv<'_>, 2>>(alloc, JONES[2])?;
     same(explicit.as_inner().full_data(), JONES[1])?;
     is_written(alloc, &explicit, JONES[2])
 }
 
+/// An element of the class application with these contents octets is read and written.
+fn is_of_an_application(
+    alloc: Global,
+    text: &[u8],
+    number: u32,
+    content: &[u8],
+) -> Result<(), Fail> {
+    let tlv = parse_single::<Tlv<'_>>(alloc, text)?;
+    let (tag, _rest) = Tag::from_bytes(text)?;
+    same(
+        (tag.class(), tag.value(), tag.is_constructed()),
+        (TagClass::Application, number, number == 7),
+    )?;
+    same((tlv.tag(), tlv.data()), (tag, content))?;
+    is_written(alloc, &tlv, text)?;
+    closure_writes(
+        alloc,
+        |writer: &mut Writer<'_>| writer.write_tlv(tag, None, |dest| dest.push_slice(content)),
+        text,
+    )
+}
+
 /// Any elements with tags of the application class. `application` has types with these tags.
 #[test]
 fn texts_under_tags_of_an_application(rt: HostRuntime) -> Result<(), Fail> {
-    let alloc = rt.alloc();
-    for (text, number, content) in [(JONES[1], 3, b"Jones".as_slice()), (JONES[3], 7, JONES[1])] {
-        let tlv = parse_single::<Tlv<'_>>(alloc, text)?;
-        let tag = tlv.tag();
-        same_at(
-            text,
-            (tag.class(), tag.value(), tag.is_constructed()),
-            (TagClass::Application, number, number == 7),
-        )?;
-        same(tlv.data(), content)?;
-        is_written(alloc, &tlv, text)?;
-        let (tag, _rest) = Tag::from_bytes(text)?;
-        let written = write(alloc, |writer: &mut Writer<'_>| {
-            writer.write_tlv(tag, None, |dest| dest.push_slice(content))
-        })?;
-        same(written.as_slice(), text)?;
-    }
-    Ok(())
+    is_of_an_application(rt.alloc(), JONES[1], 3, b"Jones")?;
+    is_of_an_application(rt.alloc(), JONES[3], 7, JONES[1])
 }

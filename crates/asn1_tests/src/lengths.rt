@@ -8,7 +8,7 @@ use asn1::{
 };
 use std::alloc::Global;
 use std::test::Fail;
-use testing::{all_same, same_at};
+use testing::{same, same_at};
 
 /// The length of each value is known, and is that of the encoding from which the value was read.
 fn lengths_are_known<'a, T: Asn1Readable<'a> + Asn1Writable>(
@@ -37,29 +37,45 @@ fn both_are_known<'a, T: Asn1Readable<'a> + SimpleAsn1Writable>(
 }
 
 /// An element with this tag around 43 integers, whose length takes two octets.
-fn many(alloc: Global, tag: u8) -> Result<Vec<u8>, Fail> {
+fn many(alloc: Global, tag: u8) -> Result<&'static [u8], Fail> {
     let mut octets = Vec::from_slice(alloc, &[tag, 0x81, 129])?;
     for _ in 0..43 {
         octets.extend_from_slice(&[2, 1, 5])?;
     }
-    Ok(octets)
+    Ok(octets.leak())
+}
+
+const LISTS: [&[u8]; 3] = [
+    &[0x30, 0],
+    &[0x30, 3, 2, 1, 5],
+    &[0x30, 6, 2, 1, 5, 2, 1, 7],
+];
+
+const SETS: &[&[u8]] = &[
+    &[0x31, 0],
+    &[0x31, 3, 2, 1, 5],
+    &[0x31, 6, 2, 1, 5, 2, 1, 7],
+];
+
+/// The same of these elements and of a long one.
+fn are_known_with_a_long_one<'a, T: Asn1Readable<'a> + SimpleAsn1Writable>(
+    alloc: Global,
+    encodings: &[&'a [u8]],
+    long: &'a [u8],
+) -> Result<(), Fail> {
+    both_are_known::<T>(alloc, encodings)?;
+    both_are_known::<T>(alloc, &[long])
 }
 
 #[test]
 fn lengths_of_lists(rt: HostRuntime) -> Result<(), Fail> {
     let alloc = rt.alloc();
     let many = many(alloc, 0x30)?;
-    let lists: [&[u8]; 4] = [
-        &[0x30, 0],
-        &[0x30, 3, 2, 1, 5],
-        &[0x30, 6, 2, 1, 5, 2, 1, 7],
-        many.as_slice(),
-    ];
-    both_are_known::<List<'_, u64>>(alloc, &lists)?;
-    both_are_known::<List<'_, Option<u8>>>(alloc, &lists)?;
-    both_are_known::<List<'_, Choice2<bool, i64>>>(alloc, &lists)?;
-    both_are_known::<SequenceOf<'_, u64, 1, 2>>(alloc, &lists[1..3])?;
-    both_are_known::<Sequence<'_>>(alloc, &lists)?;
+    are_known_with_a_long_one::<List<'_, u64>>(alloc, &LISTS, many)?;
+    are_known_with_a_long_one::<List<'_, Option<u8>>>(alloc, &LISTS, many)?;
+    are_known_with_a_long_one::<List<'_, Choice2<bool, i64>>>(alloc, &LISTS, many)?;
+    are_known_with_a_long_one::<Sequence<'_>>(alloc, &LISTS, many)?;
+    both_are_known::<SequenceOf<'_, u64, 1, 2>>(alloc, &LISTS[1..])?;
     both_are_known::<List<'_, List<'_, u8>>>(alloc, &[&[0x30, 5, 0x30, 3, 2, 1, 5]])
 }
 
@@ -67,16 +83,10 @@ fn lengths_of_lists(rt: HostRuntime) -> Result<(), Fail> {
 fn lengths_of_sets(rt: HostRuntime) -> Result<(), Fail> {
     let alloc = rt.alloc();
     let many = many(alloc, 0x31)?;
-    let sets: [&[u8]; 4] = [
-        &[0x31, 0],
-        &[0x31, 3, 2, 1, 5],
-        &[0x31, 6, 2, 1, 5, 2, 1, 7],
-        many.as_slice(),
-    ];
-    both_are_known::<SetOf<'_, u64>>(alloc, &sets)?;
-    both_are_known::<SetOf<'_, Option<u8>>>(alloc, &sets)?;
-    both_are_known::<SetOf<'_, Choice2<bool, i64>>>(alloc, &sets)?;
-    both_are_known::<Set<'_>>(alloc, &sets)?;
+    are_known_with_a_long_one::<SetOf<'_, u64>>(alloc, SETS, many)?;
+    are_known_with_a_long_one::<SetOf<'_, Option<u8>>>(alloc, SETS, many)?;
+    are_known_with_a_long_one::<SetOf<'_, Choice2<bool, i64>>>(alloc, SETS, many)?;
+    are_known_with_a_long_one::<Set<'_>>(alloc, SETS, many)?;
     both_are_known::<SetOf<'_, SetOf<'_, u8>>>(alloc, &[&[0x31, 5, 0x31, 3, 2, 1, 5]])
 }
 
@@ -85,15 +95,10 @@ fn lengths_of_sets(rt: HostRuntime) -> Result<(), Fail> {
 fn lengths_of_items_left(rt: HostRuntime) -> Result<(), Fail> {
     let mut list = parse_single::<List<'_, u8>>(rt.alloc(), &[0x30, 7, 2, 1, 5, 2, 2, 0, 0x80])?;
     let mut set = parse_single::<SetOf<'_, u8>>(rt.alloc(), &[0x31, 7, 2, 1, 5, 2, 2, 0, 0x80])?;
-    for count in [7, 4, 0usize] {
-        all_same(&[
-            (list.data_length(), Some(count)),
-            (list.encoded_length(), Some(count + 2)),
-            (set.data_length(), Some(count)),
-            (set.encoded_length(), Some(count + 2)),
-        ])?;
-        assert!(rt; list.next().is_some() == (count > 0));
-        assert!(rt; set.next().is_some() == (count > 0));
+    for count in &[7, 4, 0] {
+        length_is(&list, Some(*count))?;
+        length_is(&set, Some(*count))?;
+        assert!(rt; list.next().is_some() == (*count > 0) && set.next().is_some() == (*count > 0));
     }
     Ok(())
 }
@@ -102,8 +107,7 @@ fn lengths_of_items_left(rt: HostRuntime) -> Result<(), Fail> {
 fn lengths_of_wrappers(rt: HostRuntime) -> Result<(), Fail> {
     let alloc = rt.alloc();
     both_are_known::<Explicit<bool, 2>>(alloc, &[&[0xa2, 3, 1, 1, 0xff]])?;
-    let options: [&[u8]; 2] = [&[0xa0, 0], &[0xa0, 3, 1, 1, 0xff]];
-    both_are_known::<Explicit<Option<bool>, 0>>(alloc, &options)?;
+    both_are_known::<Explicit<Option<bool>, 0>>(alloc, &[&[0xa0, 0], &[0xa0, 3, 1, 1, 0xff]])?;
     both_are_known::<Explicit<bool, 200>>(alloc, &[&[0xbf, 0x81, 0x48, 3, 1, 1, 0xff]])?;
     both_are_known::<Implicit<bool, 2>>(alloc, &[&[0x82, 1, 0xff]])?;
     both_are_known::<Implicit<SetOf<'_, u64>, 1>>(alloc, &[&[0xa1, 3, 2, 1, 5]])?;
@@ -116,8 +120,7 @@ fn lengths_of_alternatives(rt: HostRuntime) -> Result<(), Fail> {
     lengths_are_known::<Option<bool>>(alloc, &[&[1, 1, 0xff], &[]])?;
     lengths_are_known::<Choice1<bool>>(alloc, &[&[1, 1, 0xff]])?;
     lengths_are_known::<Choice2<bool, i64>>(alloc, &[&[1, 1, 0xff], &[2, 2, 1, 0]])?;
-    let three: [&[u8]; 3] = [&[1, 1, 0xff], &[2, 2, 1, 0], &[5, 0]];
-    lengths_are_known::<Choice3<bool, i64, ()>>(alloc, &three)?;
+    lengths_are_known::<Choice3<bool, i64, ()>>(alloc, &[&[1, 1, 0xff], &[2, 2, 1, 0], &[5, 0]])?;
     lengths_are_known::<Tlv<'_>>(alloc, &[&[0x1f, 0x81, 0x80, 0x01, 1, 7]])
 }
 
@@ -127,10 +130,10 @@ fn length_is<T: SimpleAsn1Writable>(value: &T, count: Option<usize>) -> Result<(
         Some(count) => count.checked_add(2),
         None => None,
     };
-    all_same(&[
-        (value.data_length(), count),
-        (value.encoded_length(), whole),
-    ])
+    same(
+        (value.data_length(), value.encoded_length()),
+        (count, whole),
+    )
 }
 
 /// The same of a list and of a set of these items.
@@ -142,11 +145,11 @@ fn lengths_are<T: Asn1Writable>(items: &[T], count: Option<usize>) -> Result<(),
 #[test]
 fn lengths_of_slices() -> Result<(), Fail> {
     let items = [1u16, 2, 256];
-    for (end, count) in [(0, 0), (1, 3), (2, 6), (3, 10usize)] {
-        let items = &items[..end];
-        lengths_are(items, Some(count))?;
-        lengths_are(&[SequenceOfWriter::new(items)], Some(count + 2))?;
-        lengths_are(&[SetOfWriter::new(items)], Some(count + 2))?;
+    for (end, count, whole) in &[(0, 0, 2), (1, 3, 5), (2, 6, 8), (3, 10, 12)] {
+        let items = items.get(..*end).ok_or("too few items")?;
+        lengths_are(items, Some(*count))?;
+        lengths_are(&[SequenceOfWriter::new(items)], Some(*whole))?;
+        lengths_are(&[SetOfWriter::new(items)], Some(*whole))?;
     }
     Ok(())
 }

@@ -3,26 +3,50 @@
 ghost use Rattle.std.specs.Prelude.{◌≡◌, []};
 ghost use Rattle.asn1.specs.Tag.{universal};
 ghost use Rattle.asn1.specs.Buffer.{KeepsFront};
+ghost use Rattle.asn1.specs.Closures.{IsWriter};
 ghost use Rattle.asn1.specs.Writing.{buffer_name, octets_of};
 ghost use Rattle.asn1.specs.Der.{simple_der};
 ghost use Rattle.asn1.specs.Written.{written};
 ghost use Rattle.asn1_tests.specs.declared.lists.Custom.TheVariants.{Memory, Refused};
 
 use asn1::{
-    Asn1Type, Asn1Writable, Choice2, ParseError, ParseErrorKind, ParseLocation, ParseResult,
-    Parser, Sequence, SequenceOf, SequenceOfWriter, SequenceWriter, SetOf, SetOfWriter,
-    SimpleAsn1Readable, SimpleAsn1Writable, Tag, WriteBuf, WriteError, WriteResult, Writer,
-    parse_single, strip_tlv, write, write_single,
+    Asn1Readable, Asn1Type, Asn1Writable, Choice2, ParseError, ParseErrorKind, ParseLocation,
+    ParseResult, Parser, Sequence, SequenceOf, SequenceOfWriter, SequenceWriter, SetOf,
+    SetOfWriter, SimpleAsn1Readable, SimpleAsn1Writable, Tag, WriteBuf, WriteError, WriteResult,
+    Writer, parse_single, strip_tlv, write, write_single,
 };
 use std::alloc::Global;
 use std::test::Fail;
 use testing::{
-    all_same, are_equal_or_not, are_refused_with, hash_of, is_shown, is_written, same, same_at,
+    are_equal_or_not, error_of, hash_of, is_refusal, is_shown, is_written, same, same_at,
 };
 
 /// An error at the item of this index.
 pub fn at(index: usize, kind: ParseErrorKind) -> ParseError {
     ParseError::new(kind).add_location(ParseLocation::Index(index))
+}
+
+/// The error of contents octets that encode no value, without a location.
+pub fn invalid() -> ParseError {
+    ParseError::new(ParseErrorKind::InvalidValue)
+}
+
+/// The error of an element with another tag, without a location.
+pub fn other_tag(actual: Tag) -> ParseError {
+    ParseError::new(ParseErrorKind::UnexpectedTag { actual })
+}
+
+/// The octets are rejected as the type, with this error and its locations.
+pub fn is_refused<'a, T: Asn1Readable<'a>>(
+    alloc: Global,
+    octets: &'a [u8],
+    error: ParseError,
+) -> Result<(), Fail> {
+    same_at(
+        octets,
+        &error_of(parse_single::<T>(alloc, octets)),
+        &Some(error),
+    )
 }
 
 /// A list of any number of items.
@@ -51,7 +75,7 @@ fn sequences_read_by_the_caller(rt: HostRuntime) -> Result<(), Fail> {
         alloc,
         |parser: &mut Parser<'_>| parser.read_element::<bool>(),
     );
-    same(&first, &Err(ParseError::new(ParseErrorKind::ExtraData)))
+    is_refusal(first, ParseErrorKind::ExtraData)
 }
 
 #[test]
@@ -68,11 +92,9 @@ fn equal_sequences(rt: HostRuntime) -> Result<(), Fail> {
 fn lists_have_the_items_left(rt: HostRuntime) -> Result<(), Fail> {
     let mut list = parse_single::<SequenceOf<'_, u64, 2, 3>>(rt.alloc(), FIVE_AND_SEVEN)?;
     assert!(rt; list.len() == 2 && !list.is_empty());
-    same(
-        &[list.next(), list.next(), list.next()],
-        &[Some(Ok(5)), Some(Ok(7)), None],
-    )?;
-    assert!(rt; list.is_empty());
+    same(list.next().transpose()?, Some(5))?;
+    same(list.next().transpose()?, Some(7))?;
+    assert!(rt; list.next().is_none() && list.is_empty());
     Ok(())
 }
 
@@ -81,15 +103,16 @@ fn items_left_are_written(rt: HostRuntime) -> Result<(), Fail> {
     let alloc = rt.alloc();
     let mut list = parse_single::<SequenceOf<'_, u64, 2, 3>>(alloc, FIVE_AND_SEVEN)?;
     let whole = list.clone()?;
-    assert!(rt; matches!(list.next(), Some(Ok(5))));
-    assert!(rt; whole != list);
+    assert!(rt; matches!(list.next(), Some(Ok(5))) && whole != list);
     is_written(alloc, &list, &[0x30, 0x03, 0x02, 0x01, 0x07])?;
     is_written(alloc, &whole, FIVE_AND_SEVEN)
 }
 
-/// The remaining items.
-fn items_left(list: &mut List<'_, u64>) -> [Option<ParseResult<u64>>; 3] {
-    [list.next(), list.next(), list.next()]
+/// These items remain: 2 and 3.
+fn two_and_three_are_left(list: &mut List<'_, u64>) -> Result<(), Fail> {
+    same(list.next().transpose()?, Some(2))?;
+    same(list.next().transpose()?, Some(3))?;
+    same(list.next().transpose()?, None)
 }
 
 #[test]
@@ -97,20 +120,17 @@ fn copies_of_lists(rt: HostRuntime) -> Result<(), Fail> {
     let mut list = parse_single::<List<'_, u64>>(rt.alloc(), ONE_TO_THREE)?;
     assert!(rt; matches!(list.next(), Some(Ok(1))));
     let mut copy = list.clone()?;
-    all_same(&[
-        (items_left(&mut list), [Some(Ok(2)), Some(Ok(3)), None]),
-        (items_left(&mut copy), [Some(Ok(2)), Some(Ok(3)), None]),
-    ])
+    two_and_three_are_left(&mut list)?;
+    two_and_three_are_left(&mut copy)
 }
 
 #[test]
 fn copies_keep_their_count(rt: HostRuntime) -> Result<(), Fail> {
     let mut list = parse_single::<List<'_, u64>>(rt.alloc(), ONE_TO_THREE)?;
     let whole = list.clone()?;
-    same(list.len(), 3)?;
-    assert!(rt; matches!(list.next(), Some(Ok(1))));
-    same((list.len(), whole.len()), (2, 3))?;
-    let _left = items_left(&mut list);
+    assert!(rt; list.len() == 3 && matches!(list.next(), Some(Ok(1))));
+    assert!(rt; list.len() == 2 && whole.len() == 3);
+    two_and_three_are_left(&mut list)?;
     assert!(rt; list.len() == 0 && list.is_empty() && list.next().is_none());
     assert!(rt; whole.len() == 3 && !whole.is_empty());
     Ok(())
@@ -118,58 +138,40 @@ fn copies_keep_their_count(rt: HostRuntime) -> Result<(), Fail> {
 
 #[test]
 fn equal_lists(rt: HostRuntime) -> Result<(), Fail> {
-    let [none, no, yes]: [&[u8]; 3] = [&[0x30, 0], &[0x30, 3, 1, 1, 0], &[0x30, 3, 1, 1, 0xff]];
     are_equal_or_not::<List<'_, bool>>(
         rt.alloc(),
         &[
-            (none, &[0x30, 0], true),
-            (none, no, false),
-            (no, yes, false),
+            (&[0x30, 0], &[0x30, 0], true),
+            (&[0x30, 0], &[0x30, 3, 1, 1, 0], false),
+            (&[0x30, 3, 1, 1, 0], &[0x30, 3, 1, 1, 0xff], false),
         ],
     )?;
-    let no = parse_single::<List<'_, bool>>(rt.alloc(), no)?;
+    let no = parse_single::<List<'_, bool>>(rt.alloc(), &[0x30, 3, 1, 1, 0])?;
     assert!(rt; no == no.clone()?);
     Ok(())
 }
 
-/// The bounds of a list, and how many items it has.
-fn wrong_count(min: usize, max: usize, actual: usize) -> ParseErrorKind {
-    ParseErrorKind::InvalidSize { min, max, actual }
+/// The error of a list of so many items, with these bounds.
+fn wrong_count(min: usize, max: usize, actual: usize) -> ParseError {
+    ParseError::new(ParseErrorKind::InvalidSize { min, max, actual })
 }
 
 #[test]
 fn faults_of_lists(rt: HostRuntime) -> Result<(), Fail> {
     let alloc = rt.alloc();
-    are_refused_with::<SequenceOf<'_, u64, 2, 3>>(
+    is_refused::<SequenceOf<'_, u64, 2, 3>>(alloc, &[0x30, 3, 2, 1, 5], wrong_count(2, 3, 1))?;
+    is_refused::<SequenceOf<'_, u64, 2, 3>>(alloc, &[0x30, 3, 2, 1, 7], wrong_count(2, 3, 1))?;
+    is_refused::<SequenceOf<'_, u64, 0, 1>>(alloc, FIVE_AND_SEVEN, wrong_count(0, 1, 2))?;
+    // The error of an item comes before that of a wrong count.
+    is_refused::<SequenceOf<'_, u64, 0, 1>>(
         alloc,
-        &[
-            (
-                &[0x30, 0x03, 0x02, 0x01, 0x05],
-                ParseError::new(wrong_count(2, 3, 1)),
-            ),
-            (
-                &[0x30, 0x03, 0x02, 0x01, 0x07],
-                ParseError::new(wrong_count(2, 3, 1)),
-            ),
-        ],
+        &[0x30, 6, 2, 1, 5, 2, 1, 0xff],
+        at(1, ParseErrorKind::InvalidValue),
     )?;
-    are_refused_with::<SequenceOf<'_, u64, 0, 1>>(
+    is_refused::<List<'_, SequenceOf<'_, u64, 2, 3>>>(
         alloc,
-        &[
-            (FIVE_AND_SEVEN, ParseError::new(wrong_count(0, 1, 2))),
-            // The error of an item comes before that of a wrong count.
-            (
-                &[0x30, 0x06, 0x02, 0x01, 0x05, 0x02, 0x01, 0xff],
-                at(1, ParseErrorKind::InvalidValue),
-            ),
-        ],
-    )?;
-    are_refused_with::<List<'_, SequenceOf<'_, u64, 2, 3>>>(
-        alloc,
-        &[(
-            &[0x30, 0x05, 0x30, 0x03, 0x02, 0x01, 0x05],
-            at(0, wrong_count(2, 3, 1)),
-        )],
+        &[0x30, 5, 0x30, 3, 2, 1, 5],
+        wrong_count(2, 3, 1).add_location(ParseLocation::Index(0)),
     )
 }
 
@@ -177,27 +179,23 @@ fn faults_of_lists(rt: HostRuntime) -> Result<(), Fail> {
 fn lists_of_options(rt: HostRuntime) -> Result<(), Fail> {
     let alloc = rt.alloc();
     let other: &[u8] = &[0x30, 0x03, 0x01, 0x01, 0xff];
-    are_refused_with::<List<'_, Option<u8>>>(alloc, &[(other, at(0, ParseErrorKind::ExtraData))])?;
+    is_refused::<List<'_, Option<u8>>>(alloc, other, at(0, ParseErrorKind::ExtraData))?;
     let octets: &[u8] = &[0x30, 0x03, 0x02, 0x01, 0x05];
     let mut list = parse_single::<List<'_, Option<u8>>>(alloc, octets)?;
     is_written(alloc, &list, octets)?;
-    same(list.len(), 1)?;
-    same(&[list.next(), list.next()], &[Some(Ok(Some(5))), None])
+    assert!(rt; list.len() == 1);
+    same(list.next().transpose()?, Some(Some(5)))?;
+    same(list.next().transpose()?, None)
 }
 
 #[test]
 fn lists_of_choices(rt: HostRuntime) -> Result<(), Fail> {
     let octets: &[u8] = &[0x30, 0x06, 0x01, 0x01, 0xff, 0x02, 0x01, 0x05];
     let mut list = parse_single::<List<'_, Choice2<bool, i64>>>(rt.alloc(), octets)?;
-    same(list.len(), 2)?;
-    same(
-        &[list.next(), list.next(), list.next()],
-        &[
-            Some(Ok(Choice2::ChoiceA(true))),
-            Some(Ok(Choice2::ChoiceB(5))),
-            None,
-        ],
-    )
+    assert!(rt; list.len() == 2);
+    same(list.next().transpose()?, Some(Choice2::ChoiceA(true)))?;
+    same(list.next().transpose()?, Some(Choice2::ChoiceB(5)))?;
+    same(list.next().transpose()?, None)
 }
 
 /// The next item, and how many items then remain.
@@ -214,8 +212,8 @@ fn lists_whose_items_take_memory(rt: HostRuntime) -> Result<(), Fail> {
     is_written(rt.alloc(), &list, ONE_TO_THREE)?;
     let length = list.data_length().ok_or(WriteError::AllocationError)?;
     same(length, 9)?;
-    for left in [(Some(1), 2), (Some(2), 1), (Some(3), 0), (None, 0usize)] {
-        same(next_boxed(&mut list)?, left)?;
+    for left in &[(Some(1), 2), (Some(2), 1), (Some(3), 0), (None, 0)] {
+        same(next_boxed(&mut list)?, *left)?;
     }
     Ok(())
 }
@@ -232,47 +230,57 @@ fn lists_of_a_slice(rt: HostRuntime) -> Result<(), Fail> {
     Ok(())
 }
 
-#[test]
-fn lists_of_closures(rt: HostRuntime) -> Result<(), Fail> {
-    let nothing = |_writer: &mut Writer<'_>| -> WriteResult<()> { Ok(()) };
-    let sequences = [SequenceWriter::new(&nothing)];
-    let none = SequenceOfWriter::new(&sequences[..0]);
-    is_written(rt.alloc(), &none, &[0x30, 0])?;
+/// A list of one sequence that the closure writes is written as these octets, and its length isn't known before. A list
+/// of none is empty.
+fn are_lists_of<F: Fn(&mut Writer<'_>) -> WriteResult<()>>(
+    alloc: Global,
+    closure: &F,
+    octets: &[u8],
+) -> Result<(), Fail>
+    requires { IsWriter F.FnOnce closure.now }
+{
+    let sequences = [SequenceWriter::new(closure)];
+    is_written(alloc, &SequenceOfWriter::new(&sequences[..0]), &[0x30, 0])?;
     let one = SequenceOfWriter::new(&sequences);
-    is_written(rt.alloc(), &one, &[0x30, 2, 0x30, 0])?;
-    same(one.data_length(), None)
+    same(one.data_length(), None)?;
+    is_written(alloc, &one, octets)
 }
 
 #[test]
-fn lists_of_a_closure_with_items(rt: HostRuntime) -> Result<(), Fail> {
+fn lists_of_closures(rt: HostRuntime) -> Result<(), Fail> {
+    let nothing = |_writer: &mut Writer<'_>| -> WriteResult<()> { Ok(()) };
+    are_lists_of(rt.alloc(), &nothing, &[0x30, 2, 0x30, 0])?;
     let number = |writer: &mut Writer<'_>| -> WriteResult<()> { writer.write_element(&1u64) };
-    let sequences = [SequenceWriter::new(&number)];
-    let octets: &[u8] = &[0x30, 5, 0x30, 3, 2, 1, 1];
-    is_written(rt.alloc(), &SequenceOfWriter::new(&sequences), octets)
+    are_lists_of(rt.alloc(), &number, &[0x30, 5, 0x30, 3, 2, 1, 1])
 }
 
 #[test]
 fn sequences_of_a_closure(rt: HostRuntime) -> Result<(), Fail> {
     let alloc = rt.alloc();
-    let null = |writer: &mut Writer<'_>| -> WriteResult<()> { writer.write_element(&()) };
-    is_written(alloc, &SequenceWriter::new(&null), &[0x30, 2, 5, 0])?;
-    let truth = |writer: &mut Writer<'_>| -> WriteResult<()> { writer.write_element(&true) };
-    is_written(alloc, &SequenceWriter::new(&truth), &[0x30, 3, 1, 1, 0xff])
+    same(sequence_around(alloc, &())?.as_slice(), &[0x30, 2, 5, 0])?;
+    same(
+        sequence_around(alloc, &true)?.as_slice(),
+        &[0x30, 3, 1, 1, 0xff],
+    )
 }
 
-/// A sequence of one octet string, by a closure.
-fn sequence_around(alloc: Global, octets: &[u8]) -> WriteResult<Vec<u8>> {
-    let inner = |writer: &mut Writer<'_>| -> WriteResult<()> { writer.write_element(&octets) };
+/// A sequence of this value, by a closure.
+fn sequence_around<T: Asn1Writable<Error = WriteError>>(
+    alloc: Global,
+    value: &T,
+) -> WriteResult<Vec<u8>>
+    requires { T.der.closures (T.der.meaning value.now) }
+{
+    let inner = |writer: &mut Writer<'_>| -> WriteResult<()>
+        requires { T.der.closures (T.der.meaning value.now) }
+    { writer.write_element(value) };
     write_single(alloc, &SequenceWriter::new(&inner))
 }
 
-/// The sequence of `sequence_around` in another, by two closures.
+/// A sequence of one octet string in another, by two closures.
 fn two_sequences_around(alloc: Global, octets: &[u8]) -> WriteResult<Vec<u8>> {
     let inner = |writer: &mut Writer<'_>| -> WriteResult<()> { writer.write_element(&octets) };
-    let outer = |writer: &mut Writer<'_>| -> WriteResult<()> {
-        writer.write_element(&SequenceWriter::new(&inner))
-    };
-    write_single(alloc, &SequenceWriter::new(&outer))
+    sequence_around(alloc, &SequenceWriter::new(&inner))
 }
 
 const LETTERS: [u8; 65532] = [0x61; 65532];
@@ -285,57 +293,61 @@ fn compare_patched(
     header: &[u8],
     inner_header: &[u8],
 ) -> Result<(), Fail> {
-    let patched = sequence_around(alloc, octets)?;
-    same_at(header, patched.as_slice().starts_with(header), true)?;
-    let listed = write_single(alloc, &SequenceOfWriter::new(&[octets]))?;
-    let (tlv, _rest) = strip_tlv(patched.as_slice())?;
-    same_at(header, tlv.data().starts_with(inner_header), true)?;
-    let announced = write_single(alloc, &tlv)?;
-    let inner = parse_single::<&[u8]>(alloc, tlv.data())?;
-    same(patched.as_slice(), listed.as_slice())?;
-    same(patched.as_slice(), announced.as_slice())?;
-    same(inner, octets)
+    let patched = sequence_around(alloc, &octets)?;
+    let text = patched.as_slice();
+    let (tlv, _rest) = strip_tlv(text)?;
+    same(
+        (
+            text.starts_with(header),
+            tlv.data().starts_with(inner_header),
+        ),
+        (true, true),
+    )?;
+    is_written(alloc, &SequenceOfWriter::new(&[octets]), text)?;
+    is_written(alloc, &tlv, text)?;
+    same(parse_single::<&[u8]>(alloc, tlv.data())?, octets)
 }
+
+/// How many letters there are, and the headers of the sequence and of the octet string.
+const PATCHED: &[(usize, &[u8], &[u8])] = &[
+    (125, &[0x30, 0x7f], &[0x04, 0x7d]),
+    (126, &[0x30, 0x81, 0x80], &[0x04, 0x7e]),
+    (129, &[0x30, 0x81, 0x84], &[0x04, 0x81, 0x81]),
+    (252, &[0x30, 0x81, 0xff], &[0x04, 0x81, 0xfc]),
+    (253, &[0x30, 0x82, 0x01, 0x00], &[0x04, 0x81, 0xfd]),
+    (65531, &[0x30, 0x82, 0xff, 0xff], &[0x04, 0x82, 0xff, 0xfb]),
+    (
+        65532,
+        &[0x30, 0x83, 0x01, 0x00, 0x00],
+        &[0x04, 0x82, 0xff, 0xfc],
+    ),
+];
 
 #[test]
 fn patched_lengths(rt: HostRuntime) -> Result<(), Fail> {
-    let cases: [(usize, &[u8], &[u8]); 7] = [
-        (125, &[0x30, 0x7f], &[0x04, 0x7d]),
-        (126, &[0x30, 0x81, 0x80], &[0x04, 0x7e]),
-        (129, &[0x30, 0x81, 0x84], &[0x04, 0x81, 0x81]),
-        (252, &[0x30, 0x81, 0xff], &[0x04, 0x81, 0xfc]),
-        (253, &[0x30, 0x82, 0x01, 0x00], &[0x04, 0x81, 0xfd]),
-        (65531, &[0x30, 0x82, 0xff, 0xff], &[0x04, 0x82, 0xff, 0xfb]),
-        (
-            65532,
-            &[0x30, 0x83, 0x01, 0x00, 0x00],
-            &[0x04, 0x82, 0xff, 0xfc],
-        ),
-    ];
-    for (count, header, inner_header) in cases {
-        let octets = LETTERS.get(..count).ok_or("too few letters")?;
+    for (count, header, inner_header) in PATCHED {
+        let octets = LETTERS.get(..*count).ok_or("too few letters")?;
         compare_patched(rt.alloc(), octets, header, inner_header)?;
     }
     Ok(())
 }
 
+/// The two sequences around an octet string begin with these headers.
+fn compare_patched_twice(alloc: Global, octets: &[u8], headers: &[u8]) -> Result<(), Fail> {
+    let outer = two_sequences_around(alloc, octets)?;
+    let text = outer.as_slice();
+    let (tlv, _rest) = strip_tlv(text)?;
+    same(text.starts_with(headers), true)?;
+    same(tlv.data(), sequence_around(alloc, &octets)?.as_slice())
+}
+
 #[test]
 fn patched_lengths_in_one_another(rt: HostRuntime) -> Result<(), Fail> {
-    let cases: [(&[u8], &[u8]); 2] = [
-        (&LETTERS[..125], &[0x30, 0x81, 0x81, 0x30, 0x7f, 0x04, 0x7d]),
-        (
-            &LETTERS[..126],
-            &[0x30, 0x81, 0x83, 0x30, 0x81, 0x80, 0x04, 0x7e],
-        ),
-    ];
-    for (octets, header) in cases {
-        let outer = two_sequences_around(rt.alloc(), octets)?;
-        same_at(header, outer.as_slice().starts_with(header), true)?;
-        let (tlv, _rest) = strip_tlv(outer.as_slice())?;
-        let inner = sequence_around(rt.alloc(), octets)?;
-        same(tlv.data(), inner.as_slice())?;
-    }
-    Ok(())
+    let alloc = rt.alloc();
+    let header: &[u8] = &[0x30, 0x81, 0x81, 0x30, 0x7f, 0x04, 0x7d];
+    compare_patched_twice(alloc, &LETTERS[..125], header)?;
+    let header: &[u8] = &[0x30, 0x81, 0x83, 0x30, 0x81, 0x80, 0x04, 0x7e];
+    compare_patched_twice(alloc, &LETTERS[..126], header)
 }
 
 /// Why an item was rejected.
@@ -423,17 +435,14 @@ fn lengths_that_pass_the_largest() -> Result<(), Fail> {
         Unwritable(Some(usize::MAX - 10)),
         Unwritable(Some(usize::MAX - 10)),
     ];
-    all_same(&[
-        (items[0].encoded_length(), Some(usize::MAX)),
-        (SequenceOfWriter::new(&items).data_length(), None),
-    ])
+    same(items[0].encoded_length(), Some(usize::MAX))?;
+    same(SequenceOfWriter::new(&items).data_length(), None)
 }
 
 #[test]
 fn lists_and_sets_are_shown(rt: HostRuntime) -> Result<(), Fail> {
     let alloc = rt.alloc();
-    let octets: &[u8] = &[0x30, 6, 2, 1, 5, 2, 1, 7];
-    let list = parse_single::<SequenceOf<'_, i64, 0, { usize::MAX }>>(alloc, octets)?;
+    let list = parse_single::<List<'_, i64>>(alloc, FIVE_AND_SEVEN)?;
     is_shown(alloc, &list, "[5, 7]")?;
     let octets: &[u8] = &[0x31, 6, 2, 1, 5, 2, 1, 7];
     let set = parse_single::<SetOf<'_, i64>>(alloc, octets)?;

@@ -7,15 +7,15 @@ ghost use Rattle.std.specs.Prelude.{◌≡◌};
 ghost use Rattle.asn1.specs.Buffer.{KeepsFront};
 ghost use Rattle.asn1.specs.Writing.{buffer_name, octets_of};
 
-use crate::lists::{List, at};
+use crate::lists::{List, at, invalid, is_refused};
 use asn1::{
-    Choice3, OwnedBigInt, OwnedBigUint, OwnedBitString, ParseError, ParseErrorKind, SequenceWriter,
-    SetOf, WriteError, WriteResult, Writer, parse_single, strip_tlv, write,
+    Choice3, OwnedBigInt, OwnedBigUint, OwnedBitString, ParseError, ParseErrorKind, ParseResult,
+    SequenceWriter, SetOf, WriteError, WriteResult, Writer, parse_single, strip_tlv, write,
 };
 use std::alloc::Global;
 use std::process::Abort;
 use std::test::Fail;
-use testing::{are_refused_with, error_of, same};
+use testing::same;
 
 /// Of these items only reading the integer allocates.
 type Item = Choice3<bool, Box<u8>, ()>;
@@ -74,7 +74,7 @@ fn walks_go_on_behind_an_item_without_memory(rt: HostRuntime) -> Result<(), Fail
 }
 
 /// Lists and sets in which reading one item allocates, and its index.
-const ONE_BOX: [(usize, &[u8]); 6] = [
+const ONE_BOX: &[(usize, &[u8])] = &[
     (0, &[0x30, 7, 2, 1, 5, 5, 0, 5, 0]),
     (1, &[0x30, 8, 1, 1, 0xff, 2, 1, 5, 5, 0]),
     (2, &[0x30, 9, 1, 1, 0, 1, 1, 0xff, 2, 1, 5]),
@@ -84,7 +84,7 @@ const ONE_BOX: [(usize, &[u8]); 6] = [
 ];
 
 /// The same of items that own octets.
-const ONE_OWNED: [(usize, &[u8]); 8] = [
+const ONE_OWNED: &[(usize, &[u8])] = &[
     (0, &[0x30, 6, 2, 1, 5, 1, 1, 0]),
     (1, &[0x30, 6, 1, 1, 0, 2, 1, 5]),
     (0, &[0x30, 7, 3, 2, 4, 0xf0, 1, 1, 0]),
@@ -96,23 +96,24 @@ const ONE_OWNED: [(usize, &[u8]); 8] = [
 ];
 
 /// All was read, or this item was out of memory; then the test ends as out of memory.
-fn is_read_or_named(fault: Option<ParseError>, index: usize) -> Result<(), Fail> {
-    if fault.is_none() {
-        return Ok(());
+fn is_read_or_named<T: Drop>(read: ParseResult<T>, index: usize) -> Result<(), Fail> {
+    match read {
+        Ok(_value) => Ok(()),
+        Err(error) => {
+            same(&error, &at(index, NO_MEMORY))?;
+            Err(WriteError::AllocationError.into())
+        }
     }
-    same(&fault, &Some(at(index, NO_MEMORY)))?;
-    Err(WriteError::AllocationError.into())
 }
 
 #[test]
 fn reading_names_the_item_without_memory(rt: HostRuntime) -> Result<(), Fail> {
     for (index, octets) in ONE_BOX {
-        let fault = if octets[0] == 0x30 {
-            error_of(parse_single::<List<'_, Item>>(rt.alloc(), octets))
+        if octets.starts_with(&[0x30]) {
+            is_read_or_named(parse_single::<List<'_, Item>>(rt.alloc(), octets), *index)?;
         } else {
-            error_of(parse_single::<SetOf<'_, Item>>(rt.alloc(), octets))
-        };
-        is_read_or_named(fault, index)?;
+            is_read_or_named(parse_single::<SetOf<'_, Item>>(rt.alloc(), octets), *index)?;
+        }
     }
     Ok(())
 }
@@ -120,12 +121,17 @@ fn reading_names_the_item_without_memory(rt: HostRuntime) -> Result<(), Fail> {
 #[test]
 fn reading_names_the_owned_item_without_memory(rt: HostRuntime) -> Result<(), Fail> {
     for (index, octets) in ONE_OWNED {
-        let fault = if octets[0] == 0x30 {
-            error_of(parse_single::<List<'_, OwnedItem>>(rt.alloc(), octets))
+        if octets.starts_with(&[0x30]) {
+            is_read_or_named(
+                parse_single::<List<'_, OwnedItem>>(rt.alloc(), octets),
+                *index,
+            )?;
         } else {
-            error_of(parse_single::<SetOf<'_, OwnedItem>>(rt.alloc(), octets))
-        };
-        is_read_or_named(fault, index)?;
+            is_read_or_named(
+                parse_single::<SetOf<'_, OwnedItem>>(rt.alloc(), octets),
+                *index,
+            )?;
+        }
     }
     Ok(())
 }
@@ -168,11 +174,10 @@ fn lists_of_owned_bit_strings(rt: HostRuntime) -> Result<(), Fail> {
 #[test]
 fn faulty_contents_ask_for_no_memory(rt: HostRuntime) -> Result<(), Fail> {
     let alloc = rt.alloc();
-    let invalid = || ParseError::new(ParseErrorKind::InvalidValue);
-    are_refused_with::<OwnedBigInt>(alloc, &[(&[2, 2, 0, 1], invalid())])?;
-    are_refused_with::<OwnedBigUint>(alloc, &[(&[2, 1, 0x80], invalid())])?;
-    are_refused_with::<OwnedBitString>(alloc, &[(&[3, 2, 7, 1], invalid())])?;
-    are_refused_with::<Box<u8>>(alloc, &[(&[2, 1, 0x80], invalid())])
+    is_refused::<OwnedBigInt>(alloc, &[2, 2, 0, 1], invalid())?;
+    is_refused::<OwnedBigUint>(alloc, &[2, 1, 0x80], invalid())?;
+    is_refused::<OwnedBitString>(alloc, &[3, 2, 7, 1], invalid())?;
+    is_refused::<Box<u8>>(alloc, &[2, 1, 0x80], invalid())
 }
 
 /// If a first write was out of memory, and there is memory again, a second write succeeds.

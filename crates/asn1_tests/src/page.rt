@@ -7,11 +7,12 @@ ghost use Rattle.asn1.specs.Example.{bool_text};
 
 use asn1::*;
 use std::test::Fail;
+use testing::same;
 
 #[test]
 fn one_value(rt: HostRuntime) -> Result<(), Fail> {
     let octets = write_single(rt.alloc(), &true)?;
-    assert_eq!(rt; octets.as_slice(), [1u8, 1, 0xff].as_slice());
+    same(octets.as_slice(), &[1, 1, 0xff])?;
     let value = parse_single::<bool>(rt.alloc(), octets.as_slice());
     assert!(rt; matches!(value, Ok(true)));
     Ok(())
@@ -42,6 +43,5 @@ fn several_values(rt: HostRuntime) -> Result<(), Fail> {
             writer.write_element(&false)
         },
     )?;
-    assert_eq!(rt; written.as_slice(), [1u8, 1, 0xff, 1, 1, 0].as_slice());
-    Ok(())
+    same(written.as_slice(), &[1, 1, 0xff, 1, 1, 0])
 }

@@ -2,6 +2,7 @@
 
 use asn1::*;
 use std::test::Fail;
+use testing::same;
 
 #[test]
 fn reading(rt: HostRuntime) -> Result<(), Fail> {
@@ -26,11 +27,8 @@ fn reading(rt: HostRuntime) -> Result<(), Fail> {
     // Any element, and what follows it.
     let (tlv, rest) = strip_tlv(octets)?;
 
-    assert!(rt; value);
-    assert!(rt; pair.0 && !pair.1);
-    assert_eq!(rt; tlv.full_data(), [5u8, 0].as_slice());
-    assert_eq!(rt; rest, [1u8].as_slice());
-    Ok(())
+    same((value, pair), (true, (true, false)))?;
+    same((tlv.full_data(), rest), (&[5, 0], &[1]))
 }
 
 #[test]
@@ -50,10 +48,9 @@ fn writing(rt: HostRuntime) -> Result<(), Fail> {
         writer.write_tlv(Tag::primitive(4), None, |dest| dest.push_slice(b"abc"))
     })?;
 
-    assert_eq!(rt; octets.as_slice(), [1u8, 1, 0xff].as_slice());
-    assert_eq!(rt; tagged.as_slice(), [0xa2u8, 3, 1, 1, 0xff].as_slice());
-    assert_eq!(rt; patched.as_slice(), [4u8, 3, 0x61, 0x62, 0x63].as_slice());
-    Ok(())
+    same(octets.as_slice(), &[1, 1, 0xff])?;
+    same(tagged.as_slice(), &[0xa2, 3, 1, 1, 0xff])?;
+    same(patched.as_slice(), &[4, 3, 0x61, 0x62, 0x63])
 }
 
 #[test]

@@ -2,15 +2,15 @@
 
 ghost use Rattle.std.specs.Prelude.{◌≡◌};
 
-use crate::lists::at;
+use crate::lists::{at, is_refused};
 use asn1::{
-    Explicit, Implicit, ParseError, ParseErrorKind, ParseResult, Parser, Set, SetElementWriter,
-    SetOf, SetOfWriter, SetWriter, Tag, WriteResult, parse_single,
+    Explicit, Implicit, ParseErrorKind, ParseResult, Parser, Set, SetElementWriter, SetOf,
+    SetOfWriter, SetWriter, Tag, WriteResult, parse_single,
 };
 use std::test::Fail;
 use testing::{
-    are_equal_or_not, are_refused_with, are_written_back, hash_of, is_shown, is_written,
-    is_written_back, same,
+    are_equal_or_not, are_written_back, hash_of, is_refusal, is_shown, is_written, is_written_back,
+    same,
 };
 
 const FIVE_TWICE: &[u8] = &[0x31, 0x06, 0x02, 0x01, 0x05, 0x02, 0x01, 0x05];
@@ -21,7 +21,8 @@ fn sets_have_the_items_left(rt: HostRuntime) -> Result<(), Fail> {
     let mut set = parse_single::<SetOf<'_, u64>>(alloc, FIVE_TWICE)?;
     assert!(rt; matches!(set.next(), Some(Ok(5))));
     is_written(alloc, &set, &[0x31, 0x03, 0x02, 0x01, 0x05])?;
-    same(&[set.next(), set.next()], &[Some(Ok(5)), None])
+    same(set.next().transpose()?, Some(5))?;
+    same(set.next().transpose()?, None)
 }
 
 #[test]
@@ -29,74 +30,48 @@ fn copies_of_sets(rt: HostRuntime) -> Result<(), Fail> {
     let alloc = rt.alloc();
     let mut set = parse_single::<SetOf<'_, u64>>(alloc, FIVE_TWICE)?;
     let whole = set.clone()?;
-    assert!(rt; whole == set);
-    assert!(rt; matches!(set.next(), Some(Ok(5))));
-    assert!(rt; whole != set);
+    assert!(rt; whole == set && matches!(set.next(), Some(Ok(5))) && whole != set);
     is_written(alloc, &whole, FIVE_TWICE)?;
     is_written(alloc, &SetOfWriter::new(&[5u64, 5]), FIVE_TWICE)
 }
 
 #[test]
 fn equal_sets(rt: HostRuntime) -> Result<(), Fail> {
-    let [none, no, yes]: [&[u8]; 3] = [&[0x31, 0], &[0x31, 3, 1, 1, 0], &[0x31, 3, 1, 1, 0xff]];
     are_equal_or_not::<SetOf<'_, bool>>(
         rt.alloc(),
         &[
-            (none, &[0x31, 0], true),
-            (none, no, false),
-            (no, yes, false),
+            (&[0x31, 0], &[0x31, 0], true),
+            (&[0x31, 0], &[0x31, 3, 1, 1, 0], false),
+            (&[0x31, 3, 1, 1, 0], &[0x31, 3, 1, 1, 0xff], false),
         ],
     )?;
-    let no = parse_single::<SetOf<'_, bool>>(rt.alloc(), no)?;
+    let no = parse_single::<SetOf<'_, bool>>(rt.alloc(), &[0x31, 3, 1, 1, 0])?;
     assert!(rt; no == no.clone()?);
     Ok(())
 }
 
 #[test]
 fn faults_of_sets(rt: HostRuntime) -> Result<(), Fail> {
+    let alloc = rt.alloc();
+    let order = ParseErrorKind::InvalidSetOrdering;
+    is_refused::<SetOf<'_, u64>>(alloc, &[0x31, 6, 2, 1, 7, 2, 1, 5], at(1, order))?;
+    is_refused::<SetOf<'_, u64>>(alloc, &[0x31, 6, 2, 1, 7, 1, 1, 0xff], at(1, order))?;
     let actual = Tag::primitive(1);
-    are_refused_with::<SetOf<'_, u64>>(
-        rt.alloc(),
-        &[
-            (
-                &[0x31, 0x06, 0x02, 0x01, 0x07, 0x02, 0x01, 0x05],
-                at(1, ParseErrorKind::InvalidSetOrdering),
-            ),
-            (
-                &[0x31, 0x06, 0x02, 0x01, 0x07, 0x01, 0x01, 0xff],
-                at(1, ParseErrorKind::InvalidSetOrdering),
-            ),
-            (
-                &[0x31, 0x03, 0x01, 0x01, 0xff],
-                at(0, ParseErrorKind::UnexpectedTag { actual }),
-            ),
-        ],
-    )?;
-    are_refused_with::<SetOf<'_, Option<u8>>>(
-        rt.alloc(),
-        &[(
-            &[0x31, 0x03, 0x01, 0x01, 0xff],
-            at(0, ParseErrorKind::ExtraData),
-        )],
-    )
+    let other = at(0, ParseErrorKind::UnexpectedTag { actual });
+    is_refused::<SetOf<'_, u64>>(alloc, TRUE, other)?;
+    is_refused::<SetOf<'_, Option<u8>>>(alloc, TRUE, at(0, ParseErrorKind::ExtraData))
 }
 
-/// The next item.
-fn next_boxed(set: &mut SetOf<'_, Box<u8>>) -> Result<Option<u8>, ParseError> {
-    match set.next() {
-        Some(item) => Ok(Some(*item?)),
-        None => Ok(None),
-    }
-}
+const TRUE: &[u8] = &[0x31, 3, 1, 1, 0xff];
 
 #[test]
 fn sets_whose_items_take_memory(rt: HostRuntime) -> Result<(), Fail> {
     let octets: &[u8] = &[0x31, 0x06, 0x02, 0x01, 0x01, 0x02, 0x01, 0x02];
     let mut set = parse_single::<SetOf<'_, Box<u8>>>(rt.alloc(), octets)?;
     is_written(rt.alloc(), &set, octets)?;
-    for number in [Some(1), Some(2), None] {
-        same(next_boxed(&mut set)?, number)?;
-    }
+    same(*set.next().ok_or("no item")??, 1)?;
+    same(*set.next().ok_or("no item")??, 2)?;
+    assert!(rt; set.next().is_none());
     Ok(())
 }
 
@@ -107,10 +82,9 @@ fn sets_in_a_tag(rt: HostRuntime) -> Result<(), Fail> {
     let explicit = parse_single::<Explicit<SetOf<'_, u64>, 0>>(rt.alloc(), octets)?;
     is_written(rt.alloc(), &explicit, octets)?;
     let mut set = explicit.into_inner();
-    same(
-        &[set.next(), set.next(), set.next()],
-        &[Some(Ok(5)), Some(Ok(7)), None],
-    )
+    same(set.next().transpose()?, Some(5))?;
+    same(set.next().transpose()?, Some(7))?;
+    same(set.next().transpose()?, None)
 }
 
 #[test]
@@ -134,28 +108,14 @@ fn sets_of_any_elements(rt: HostRuntime) -> Result<(), Fail> {
 
 #[test]
 fn faults_of_sets_of_any_elements(rt: HostRuntime) -> Result<(), Fail> {
-    are_refused_with::<Set<'_>>(
-        rt.alloc(),
-        &[
-            (
-                &[0x31, 0x04, 0x81, 0x00, 0xa0, 0x00],
-                at(1, ParseErrorKind::InvalidSetOrdering),
-            ),
-            (
-                &[0x31, 0x06, 0x02, 0x01, 0x05, 0x01, 0x01, 0xff],
-                at(1, ParseErrorKind::InvalidSetOrdering),
-            ),
-            // A private tag before one of the universal class.
-            (
-                &[0x31, 0x05, 0xc0, 0x00, 0x01, 0x01, 0xff],
-                at(1, ParseErrorKind::InvalidSetOrdering),
-            ),
-            (
-                &[0x31, 0x03, 0x02, 0x02, 0x05],
-                at(0, ParseErrorKind::ShortData { needed: 1 }),
-            ),
-        ],
-    )
+    let alloc = rt.alloc();
+    let order = ParseErrorKind::InvalidSetOrdering;
+    is_refused::<Set<'_>>(alloc, &[0x31, 4, 0x81, 0, 0xa0, 0], at(1, order))?;
+    is_refused::<Set<'_>>(alloc, &[0x31, 6, 2, 1, 5, 1, 1, 0xff], at(1, order))?;
+    // A private tag before one of the universal class.
+    is_refused::<Set<'_>>(alloc, &[0x31, 5, 0xc0, 0, 1, 1, 0xff], at(1, order))?;
+    let short = at(0, ParseErrorKind::ShortData { needed: 1 });
+    is_refused::<Set<'_>>(alloc, &[0x31, 3, 2, 2, 5], short)
 }
 
 #[test]
@@ -180,7 +140,7 @@ fn a_part_of_a_set_is_left(rt: HostRuntime) -> Result<(), Fail> {
         rt.alloc(),
         |parser: &mut Parser<'_>| parser.read_element::<bool>(),
     );
-    same(&first, &Err(ParseError::new(ParseErrorKind::ExtraData)))
+    is_refusal(first, ParseErrorKind::ExtraData)
 }
 
 #[test]

@@ -1,13 +1,13 @@
 //! Plain, slow readers of sets, written from the definitions alone, beside the real ones.
 
-use crate::lists::at;
+use crate::lists::{at, is_refused};
 use asn1::{
     Asn1Readable, Asn1Writable, ParseError, ParseErrorKind, Set, SetOf, Tag, TagClass, Tlv,
     WriteError, strip_tlv,
 };
 use std::alloc::Global;
 use std::test::Fail;
-use testing::{are_refused_with, is_written_back};
+use testing::is_written_back;
 
 /// The position of the class in the order of classes (X.680 8.6), and the number.
 fn rank(tag: Tag) -> (u8, u32) {
@@ -79,7 +79,7 @@ fn compare_as<'a, T: Asn1Readable<'a> + Asn1Writable<Error = WriteError>>(
     requires { T.der.plain }
 {
     match fault {
-        Some(error) => are_refused_with::<T>(alloc, &[(text, error)]),
+        Some(error) => is_refused::<T>(alloc, text, error),
         None => is_written_back::<T>(alloc, text),
     }
 }

@@ -12,19 +12,20 @@ ghost use Rattle.asn1.specs.Structures.{
   structure,
 };
 
+use crate::lists::is_refused;
 use asn1::fields::{Field, Fields2, Fields3, Fields16, Row};
 use asn1::{
     Asn1Type, Asn1Writable, DefaultValue, Defaulted, Explicit, Implicit, ParseError,
     ParseErrorKind, ParseLocation, ParseResult, SimpleAsn1Readable, SimpleAsn1Writable, Tag,
-    WriteBuf, WriteError, WriteResult, explicit_tag, fields_length, known_fields, parse_single,
-    read_fields, write_fields,
+    WriteBuf, WriteError, WriteResult, explicit_tag, fields_length, known_fields, read_fields,
+    write_fields,
 };
 use std::alloc::Global;
 use std::test::Fail;
-use testing::{both_ways, error_of, is_written, same};
+use testing::{both_ways, is_written, is_written_back, same};
 
 /// A number under an implicit tag, and a Boolean under an explicit one. Neither may be missing.
-#[derive(Debug, Clone, PartialEq, Eq, Hash, Drop)]
+#[derive(PartialEq, Drop)]
 pub struct Tagged {
     pub number: u64,
     pub flag: bool,
@@ -79,40 +80,34 @@ pub fn tagged_fields_are_lawful()
 {}
 
 /// An error at a field.
-fn at(name: &'static str, kind: ParseErrorKind) -> Option<ParseError> {
-    Some(ParseError::new(kind).add_location(ParseLocation::Field(name)))
+fn at(name: &'static str, kind: ParseErrorKind) -> ParseError {
+    ParseError::new(kind).add_location(ParseLocation::Field(name))
 }
 
 #[test]
 fn fields_with_tags(rt: HostRuntime) -> Result<(), Fail> {
-    let alloc = rt.alloc();
-    let octets: &[u8] = &[0x30, 8, 0x80, 1, 5, 0xa1, 3, 1, 1, 0xff];
     let value = Tagged {
         number: 5,
         flag: true,
     };
-    is_written(alloc, &value, octets)?;
-    let read = parse_single::<Tagged>(alloc, octets)?;
-    assert!(rt; read == value);
-    assert!(rt; read.clone()? == read);
-    same(read.number, 5)?;
-    same(read.flag, true)
+    both_ways(
+        rt.alloc(),
+        value,
+        &[0x30, 8, 0x80, 1, 5, 0xa1, 3, 1, 1, 0xff],
+    )
 }
 
 #[test]
 fn fields_with_tags_that_are_missing(rt: HostRuntime) -> Result<(), Fail> {
     let alloc = rt.alloc();
-    let number = error_of(parse_single::<Tagged>(alloc, &[0x30, 5, 0xa1, 3, 1, 1, 0xff]));
     let actual = explicit_tag(1);
-    let kind = ParseErrorKind::UnexpectedTag { actual };
-    same(&number, &at("Tagged::number", kind))?;
-    let untagged = error_of(parse_single::<Tagged>(alloc, &[0x30, 6, 0x80, 1, 5, 1, 1, 0xff]));
+    let number = at("Tagged::number", ParseErrorKind::UnexpectedTag { actual });
+    is_refused::<Tagged>(alloc, &[0x30, 5, 0xa1, 3, 1, 1, 0xff], number)?;
     let actual = Tag::primitive(1);
-    let kind = ParseErrorKind::UnexpectedTag { actual };
-    same(&untagged, &at("Tagged::flag", kind))?;
-    let flag = error_of(parse_single::<Tagged>(alloc, &[0x30, 3, 0x80, 1, 5]));
-    let kind = ParseErrorKind::ShortData { needed: 1 };
-    same(&flag, &at("Tagged::flag", kind))
+    let untagged = at("Tagged::flag", ParseErrorKind::UnexpectedTag { actual });
+    is_refused::<Tagged>(alloc, &[0x30, 6, 0x80, 1, 5, 1, 1, 0xff], untagged)?;
+    let flag = at("Tagged::flag", ParseErrorKind::ShortData { needed: 1 });
+    is_refused::<Tagged>(alloc, &[0x30, 3, 0x80, 1, 5], flag)
 }
 
 /// What each field is if it is left out.
@@ -143,7 +138,7 @@ impl DefaultValue<Implicit<u64, 1>> for Three {
 }
 
 /// Three numbers that are 3 by default: under an explicit tag, under an implicit one, and under none.
-#[derive(Debug, Clone, PartialEq, Eq, Hash, Drop)]
+#[derive(PartialEq, Drop)]
 pub struct Defaults {
     pub explicit: u64,
     pub implicit: u64,
@@ -213,32 +208,30 @@ fn defaults_under_tags(rt: HostRuntime) -> Result<(), Fail> {
         implicit: 2,
         plain: 4,
     };
-    same(others.encoded_length(), Some(13))?;
-    let octets: &[u8] = &[0x30, 11, 0xa0, 3, 2, 1, 1, 0x81, 1, 2, 2, 1, 4];
-    both_ways(alloc, others, octets)?;
+    both_ways(
+        alloc,
+        others,
+        &[0x30, 11, 0xa0, 3, 2, 1, 1, 0x81, 1, 2, 2, 1, 4],
+    )?;
     let all = Defaults {
         explicit: 3,
         implicit: 3,
         plain: 3,
     };
-    same(all.encoded_length(), Some(2))?;
     both_ways(alloc, all, &[0x30, 0])?;
-    for (octets, name) in [
-        (
-            &[0x30u8, 5, 0xa0, 3, 2, 1, 3] as &[u8],
-            "Defaults::explicit",
-        ),
-        (&[0x30, 3, 0x81, 1, 3], "Defaults::implicit"),
-        (&[0x30, 3, 2, 1, 3], "Defaults::plain"),
-    ] {
-        let found = error_of(parse_single::<Defaults>(alloc, octets));
-        same(&found, &at(name, ParseErrorKind::EncodedDefault))?;
-    }
-    Ok(())
+    let kind = ParseErrorKind::EncodedDefault;
+    let explicit: &[u8] = &[0x30, 5, 0xa0, 3, 2, 1, 3];
+    is_refused::<Defaults>(alloc, explicit, at("Defaults::explicit", kind))?;
+    is_refused::<Defaults>(
+        alloc,
+        &[0x30, 3, 0x81, 1, 3],
+        at("Defaults::implicit", kind),
+    )?;
+    is_refused::<Defaults>(alloc, &[0x30, 3, 2, 1, 3], at("Defaults::plain", kind))
 }
 
 /// Eighteen numbers: more fields than any row that has a name.
-#[derive(Debug, Clone, PartialEq, Eq, Drop)]
+#[derive(Drop)]
 pub struct Eighteen {
     pub a: u8,
     pub b: u8,
@@ -343,15 +336,13 @@ fn eighteen_fields(rt: HostRuntime) -> Result<(), Fail> {
         0x30, 54, 2, 1, 0, 2, 1, 1, 2, 1, 2, 2, 1, 3, 2, 1, 4, 2, 1, 5, 2, 1, 6, 2, 1, 7, 2, 1, 8,
         2, 1, 9, 2, 1, 10, 2, 1, 11, 2, 1, 12, 2, 1, 13, 2, 1, 14, 2, 1, 15, 2, 1, 16, 2, 1, 17,
     ];
-    both_ways(alloc, value.clone()?, octets)?;
+    is_written(alloc, &value, octets)?;
     same(value.encoded_length(), Some(56))?;
-    let short = ParseErrorKind::ShortData { needed: 1 };
-    let last = error_of(parse_single::<Eighteen>(
-        alloc,
-        &[
-            0x30, 51, 2, 1, 0, 2, 1, 1, 2, 1, 2, 2, 1, 3, 2, 1, 4, 2, 1, 5, 2, 1, 6, 2, 1, 7, 2, 1,
-            8, 2, 1, 9, 2, 1, 10, 2, 1, 11, 2, 1, 12, 2, 1, 13, 2, 1, 14, 2, 1, 15, 2, 1, 16,
-        ],
-    ));
-    same(&last, &at("Eighteen::r", short))
+    is_written_back::<Eighteen>(alloc, octets)?;
+    let short: &[u8] = &[
+        0x30, 51, 2, 1, 0, 2, 1, 1, 2, 1, 2, 2, 1, 3, 2, 1, 4, 2, 1, 5, 2, 1, 6, 2, 1, 7, 2, 1, 8,
+        2, 1, 9, 2, 1, 10, 2, 1, 11, 2, 1, 12, 2, 1, 13, 2, 1, 14, 2, 1, 15, 2, 1, 16,
+    ];
+    let last = at("Eighteen::r", ParseErrorKind::ShortData { needed: 1 });
+    is_refused::<Eighteen>(alloc, short, last)
 }

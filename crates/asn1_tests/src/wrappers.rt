@@ -2,20 +2,16 @@
 
 ghost use Rattle.std.specs.Prelude.{false};
 
+use crate::lists::{is_refused, other_tag};
 use asn1::{
     Choice1, Choice2, Choice3, DefaultValue, Defaulted, DefinedByMarker, Explicit, Implicit,
-    ObjectIdentifier, OctetStringEncoded, ParseErrorKind, Parser, SequenceWriter, Tag, WriteResult,
-    Writer, from_optional_default, to_optional_default, write,
+    ObjectIdentifier, OctetStringEncoded, ParseError, ParseErrorKind, Parser, SequenceWriter, Tag,
+    TagClass, WriteResult, Writer, from_optional_default, to_optional_default,
 };
 use std::test::Fail;
 use testing::{
-    all_same, are_both_ways, are_refused, are_shown, both_ways, is_shown, kind_of, same,
+    are_both_ways, are_refused, are_shown, both_ways, closure_writes, is_refusal, is_shown, same,
 };
-
-/// The error of an element with another tag.
-fn other_tag(actual: Tag) -> ParseErrorKind {
-    ParseErrorKind::UnexpectedTag { actual }
-}
 
 #[test]
 fn options(rt: HostRuntime) -> Result<(), Fail> {
@@ -47,101 +43,62 @@ fn faults_of_options(rt: HostRuntime) -> Result<(), Fail> {
 }
 
 #[test]
-fn explicit_tags(rt: HostRuntime) -> Result<(), Fail> {
+fn tags_and_octet_strings(rt: HostRuntime) -> Result<(), Fail> {
     let alloc = rt.alloc();
-    are_both_ways::<Explicit<bool, 2>>(
-        alloc,
-        &[
-            (Explicit::new(true), &[0xa2, 3, 1, 1, 0xff]),
-            (Explicit::new(false), &[0xa2, 3, 1, 1, 0]),
-        ],
+    both_ways(alloc, Explicit::<_, 2>::new(true), &[0xa2, 3, 1, 1, 0xff])?;
+    both_ways(alloc, Explicit::<_, 2>::new(false), &[0xa2, 3, 1, 1, 0])?;
+    both_ways(alloc, Explicit::<Option<bool>, 0>::new(None), &[0xa0, 0])?;
+    both_ways(alloc, Implicit::<_, 2>::new(true), &[0x82, 1, 0xff])?;
+    both_ways(alloc, Implicit::<_, 2>::new(false), &[0x82, 1, 0])?;
+    both_ways(alloc, OctetStringEncoded::new(true), &[4, 3, 1, 1, 0xff])?;
+    both_ways(alloc, OctetStringEncoded::new(false), &[4, 3, 1, 1, 0])
+}
+
+#[test]
+fn faults_of_tags_and_octet_strings(rt: HostRuntime) -> Result<(), Fail> {
+    let alloc = rt.alloc();
+    let extra = ParseErrorKind::ExtraData;
+    is_refused::<Explicit<bool, 0>>(alloc, &[0xa0, 4, 1, 1, 0xff, 0], ParseError::new(extra))?;
+    let primitive = other_tag(Tag::new(0, TagClass::ContextSpecific, false));
+    is_refused::<Explicit<bool, 0>>(alloc, &[0x80, 3, 1, 1, 0xff], primitive)?;
+    let bits = other_tag(Tag::primitive(3));
+    is_refused::<OctetStringEncoded<bool>>(alloc, &[3, 0], bits)?;
+    let number = other_tag(Tag::primitive(2));
+    is_refused::<OctetStringEncoded<bool>>(alloc, &[4, 2, 2, 0], number)?;
+    let octets: &[u8] = &[4, 5, 1, 1, 0xff, 5, 0];
+    is_refused::<OctetStringEncoded<bool>>(alloc, octets, ParseError::new(extra))
+}
+
+#[test]
+fn wrapped_values() -> Result<(), Fail> {
+    let explicit = Explicit::<i32, 0>::new(12);
+    let implicit = Implicit::<i32, 0>::new(12);
+    let string = OctetStringEncoded::new(12);
+    same(
+        [*explicit.as_inner(), *implicit.as_inner(), *string.get()],
+        [12; 3],
     )?;
-    both_ways::<Explicit<Option<bool>, 0>>(alloc, Explicit::new(None), &[0xa0, 0])
-}
-
-#[test]
-fn faults_of_explicit_tags(rt: HostRuntime) -> Result<(), Fail> {
-    let primitive = other_tag(Tag::from_bytes(&[0x80])?.0);
-    are_refused::<Explicit<bool, 0>>(
-        rt.alloc(),
-        &[
-            (&[0xa0, 4, 1, 1, 0xff, 0], ParseErrorKind::ExtraData),
-            (&[0x80, 3, 1, 1, 0xff], primitive),
+    same(
+        [
+            explicit.into_inner(),
+            implicit.into_inner(),
+            string.into_inner(),
         ],
-    )
-}
-
-#[test]
-fn values_in_explicit_tags() -> Result<(), Fail> {
-    let value = Explicit::<i32, 0>::new(12);
-    let other: Explicit<i32, 0> = 12.into();
-    all_same(&[
-        (*value.as_inner(), 12),
-        (value.into_inner(), 12),
-        (other.into_inner(), 12),
-    ])
-}
-
-#[test]
-fn implicit_tags(rt: HostRuntime) -> Result<(), Fail> {
-    are_both_ways::<Implicit<bool, 2>>(
-        rt.alloc(),
-        &[
-            (Implicit::new(true), &[0x82, 1, 0xff]),
-            (Implicit::new(false), &[0x82, 1, 0]),
-        ],
-    )
+        [12; 3],
+    )?;
+    let explicit: Explicit<i32, 0> = 12.into();
+    let implicit: Implicit<i32, 0> = 12.into();
+    same([explicit.into_inner(), implicit.into_inner()], [12; 2])
 }
 
 #[test]
 fn implicit_tags_known_at_run_time(rt: HostRuntime) -> Result<(), Fail> {
-    let alloc = rt.alloc();
-    let octets = write(alloc, |writer: &mut Writer<'_>| {
-        writer.write_implicit_element(&true, 2)
-    })?;
-    same(octets.as_slice(), &[0x82, 1, 0xff])?;
-    let octets = write(alloc, |writer: &mut Writer<'_>| {
-        let nothing = |_writer: &mut Writer<'_>| -> WriteResult<()> { Ok(()) };
-        writer.write_implicit_element(&SequenceWriter::new(&nothing), 2)
-    })?;
-    same(octets.as_slice(), &[0xa2, 0])
-}
-
-#[test]
-fn values_in_implicit_tags() -> Result<(), Fail> {
-    let value = Implicit::<i32, 0>::new(12);
-    let other: Implicit<i32, 0> = 12.into();
-    all_same(&[
-        (*value.as_inner(), 12),
-        (value.into_inner(), 12),
-        (other.into_inner(), 12),
-    ])
-}
-
-#[test]
-fn octet_strings_of_values(rt: HostRuntime) -> Result<(), Fail> {
-    are_both_ways(
+    let nothing = |_writer: &mut Writer<'_>| -> WriteResult<()> { Ok(()) };
+    let sequence = SequenceWriter::new(&nothing);
+    closure_writes(
         rt.alloc(),
-        &[
-            (OctetStringEncoded::new(true), &[4, 3, 1, 1, 0xff]),
-            (OctetStringEncoded::new(false), &[4, 3, 1, 1, 0]),
-        ],
-    )?;
-    all_same(&[
-        (*OctetStringEncoded::new(12).get(), 12),
-        (OctetStringEncoded::new(12).into_inner(), 12),
-    ])
-}
-
-#[test]
-fn faults_of_octet_strings_of_values(rt: HostRuntime) -> Result<(), Fail> {
-    are_refused::<OctetStringEncoded<bool>>(
-        rt.alloc(),
-        &[
-            (&[3, 0], other_tag(Tag::primitive(3))),
-            (&[4, 2, 2, 0], other_tag(Tag::primitive(2))),
-            (&[4, 5, 1, 1, 0xff, 5, 0], ParseErrorKind::ExtraData),
-        ],
+        |writer: &mut Writer<'_>| writer.write_implicit_element(&sequence, 2),
+        &[0xa2, 0],
     )
 }
 
@@ -173,10 +130,9 @@ fn choices(rt: HostRuntime) -> Result<(), Fail> {
 #[test]
 fn faults_of_choices(rt: HostRuntime) -> Result<(), Fail> {
     let alloc = rt.alloc();
-    let null = other_tag(Tag::primitive(5));
-    are_refused::<Choice1<bool>>(alloc, &[(&[5, 0], null)])?;
-    are_refused::<Choice2<bool, i64>>(alloc, &[(&[5, 0], null)])?;
-    are_refused::<Three>(alloc, &[(&[4, 0], other_tag(Tag::primitive(4)))])?;
+    is_refused::<Choice1<bool>>(alloc, &[5, 0], other_tag(Tag::primitive(5)))?;
+    is_refused::<Choice2<bool, i64>>(alloc, &[5, 0], other_tag(Tag::primitive(5)))?;
+    is_refused::<Three>(alloc, &[4, 0], other_tag(Tag::primitive(4)))?;
     are_refused::<Choice2<u8, u64>>(alloc, &[(&[2, 2, 1, 0], ParseErrorKind::IntegerOverflow)])
 }
 
@@ -207,13 +163,8 @@ type Critical = Defaulted<bool, False>;
 #[test]
 fn fields_with_a_default(rt: HostRuntime) -> Result<(), Fail> {
     let alloc = rt.alloc();
-    are_both_ways(
-        alloc,
-        &[
-            (Critical::new(true), &[1, 1, 0xff]),
-            (Critical::new(false), &[]),
-        ],
-    )?;
+    both_ways(alloc, Critical::new(true), &[1, 1, 0xff])?;
+    both_ways(alloc, Critical::new(false), &[])?;
     let mut parser = Parser::new(alloc, &[5, 0]);
     let value = parser.read_element::<Critical>()?;
     assert!(rt; !value.into_inner());
@@ -237,13 +188,8 @@ type Version = Defaulted<Explicit<u8, 0>, One>;
 #[test]
 fn tagged_fields_with_a_default(rt: HostRuntime) -> Result<(), Fail> {
     let alloc = rt.alloc();
-    are_both_ways(
-        alloc,
-        &[
-            (Version::new(Explicit::new(2)), &[0xa0, 3, 2, 1, 2]),
-            (Version::new(Explicit::new(1)), &[]),
-        ],
-    )?;
+    both_ways(alloc, Version::new(Explicit::new(2)), &[0xa0, 3, 2, 1, 2])?;
+    both_ways(alloc, Version::new(Explicit::new(1)), &[])?;
     are_refused::<Version>(
         alloc,
         &[(&[0xa0, 3, 2, 1, 1], ParseErrorKind::EncodedDefault)],
@@ -254,14 +200,14 @@ fn tagged_fields_with_a_default(rt: HostRuntime) -> Result<(), Fail> {
 
 #[test]
 fn defaults(rt: HostRuntime) -> Result<(), Fail> {
-    let default = from_optional_default(Some(3u8), 3);
-    same(kind_of(default), Some(ParseErrorKind::EncodedDefault))?;
+    is_refusal(
+        from_optional_default(Some(3u8), 3),
+        ParseErrorKind::EncodedDefault,
+    )?;
     assert!(rt; matches!(from_optional_default(None, 3u8), Ok(3)));
     assert!(rt; matches!(from_optional_default(Some(4u8), 3), Ok(4)));
-    all_same(&[
-        (to_optional_default(&3u8, &3), None),
-        (to_optional_default(&4u8, &3), Some(&4)),
-    ])
+    same(to_optional_default(&3u8, &3), None)?;
+    same(to_optional_default(&4u8, &3), Some(&4))
 }
 
 #[test]
@@ -296,12 +242,10 @@ fn choices_are_shown(rt: HostRuntime) -> Result<(), Fail> {
     is_shown(alloc, &Choice1::ChoiceA(true), "ChoiceA(true)")?;
     let second = Choice2::<bool, i64>::ChoiceB(18);
     is_shown(alloc, &second, "ChoiceB(18)")?;
-    are_shown::<Three>(
-        alloc,
-        &[
-            (Three::ChoiceA(true), "ChoiceA(true)"),
-            (Three::ChoiceB(18), "ChoiceB(18)"),
-            (Three::ChoiceC(()), "ChoiceC(())"),
-        ],
-    )
+    let rows = &[
+        (Three::ChoiceA(true), "ChoiceA(true)"),
+        (Three::ChoiceB(18), "ChoiceB(18)"),
+        (Three::ChoiceC(()), "ChoiceC(())"),
+    ];
+    are_shown(alloc, rows)
 }

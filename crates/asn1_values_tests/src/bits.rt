@@ -1,74 +1,84 @@
 //! Bit strings: the original's cases, encodings from outside, and what is rejected.
 
+use crate::made::is_hashed;
 use asn1_core::parse_single;
 use asn1_values::bit_string::{BitString, OwnedBitString};
+use std::alloc::Global;
 use std::test::Fail;
-use testing::{are_invalid, different, hash_of, is_laid_out, is_shown, is_written, same};
+use testing::{are_equal_or_not, are_invalid, hash_of, is_laid_out, is_shown, same, same_at};
+
+const PADDING: &str = "a wrong padding";
 
 #[test]
 fn other_paddings_are_refused(rt: HostRuntime) -> Result<(), Fail> {
-    let alloc = rt.alloc();
-    let refused: [(&[u8], u8); 4] = [(&[0x61, 0x62, 0x63], 8), (&[], 2), (&[0xff], 1), (&[], 8)];
-    for (octets, padding) in refused {
-        assert!(rt; BitString::new(octets, padding).is_none());
-        assert!(rt; OwnedBitString::new(Vec::from_slice(alloc, octets)?, padding).is_none());
+    const REFUSED: &[(&[u8], u8)] = &[(&[0x61, 0x62, 0x63], 8), (&[], 2), (&[0xff], 1), (&[], 8)];
+    for (octets, padding) in REFUSED {
+        let owned = OwnedBitString::new(Vec::from_slice(rt.alloc(), octets)?, *padding);
+        let found = (BitString::new(octets, *padding).is_some(), owned.is_some());
+        same_at((*octets, *padding), found, (false, false))?;
     }
     Ok(())
 }
 
-#[test]
-fn bit_strings_are_made(rt: HostRuntime) -> Result<(), Fail> {
-    let alloc = rt.alloc();
-    let made: [(&[u8], u8); 4] = [(&[0xff], 0), (&[0xfe], 1), (&[0xe0], 5), (&[], 0)];
-    for (octets, padding) in made {
-        let bits = BitString::new(octets, padding).ok_or(PADDING)?;
-        same((bits.as_bytes(), bits.padding_bits()), (octets, padding))?;
-        let owned = OwnedBitString::new(Vec::from_slice(alloc, octets)?, padding);
-        same(&owned.ok_or(PADDING)?.as_bitstring(), &bits)?;
-    }
-    Ok(())
-}
+/// Octets of bits, how many of the last ones are padding, and the encoding.
+const ROWS: &[(&[u8], u8, &[u8])] = &[
+    (&[0xff], 0, &[0x03, 0x02, 0x00, 0xff]),
+    (&[0xfe], 1, &[0x03, 0x02, 0x01, 0xfe]),
+    (&[0xe0], 5, &[0x03, 0x02, 0x05, 0xe0]),
+    (&[], 0, &[0x03, 0x01, 0x00]),
+    (&[0x00], 7, &[0x03, 0x02, 0x07, 0x00]),
+    (&[0x80], 7, &[0x03, 0x02, 0x07, 0x80]),
+    (&[0x81, 0xf0], 4, &[0x03, 0x03, 0x04, 0x81, 0xf0]),
+    (&[0x7e], 1, &[0x03, 0x02, 0x01, 0x7e]),
+];
 
-#[test]
-fn bits_are_set(rt: HostRuntime) {
-    let bits = BitString::new(&[0x80], 0).expect(&rt, "a right padding");
-    assert!(rt; bits.has_bit_set(0));
-    assert!(rt; !bits.has_bit_set(1) && !bits.has_bit_set(7) && !bits.has_bit_set(50));
-    let bits = BitString::new(&[0xc0], 4).expect(&rt, "a right padding");
-    assert!(rt; bits.has_bit_set(0) && bits.has_bit_set(1));
-    for n in 2..8usize {
-        assert!(rt; !bits.has_bit_set(n));
-    }
-    assert!(rt; !bits.has_bit_set(50));
+/// The bits and the owned ones are equal, as they are made and as they are read.
+fn compare(alloc: Global, octets: &[u8], padding: u8, text: &[u8]) -> Result<(), Fail> {
+    let bits = BitString::new(octets, padding).ok_or(PADDING)?;
+    same((bits.as_bytes(), bits.padding_bits()), (octets, padding))?;
+    let owned = OwnedBitString::new(Vec::from_slice(alloc, octets)?, padding).ok_or(PADDING)?;
+    same(&owned.as_bitstring(), &bits)?;
+    is_hashed(alloc, owned, text)?;
+    is_hashed(alloc, bits, text)
 }
 
 #[test]
 fn bit_strings_are_read_and_written(rt: HostRuntime) -> Result<(), Fail> {
-    let alloc = rt.alloc();
-    let texts: [&[u8]; 5] = [
-        &[0x03, 0x01, 0x00],
-        &[0x03, 0x02, 0x07, 0x00],
-        &[0x03, 0x02, 0x07, 0x80],
-        &[0x03, 0x03, 0x04, 0x81, 0xf0],
-        &[0x03, 0x02, 0x01, 0x7e],
-    ];
-    for text in texts {
-        let bits = parse_single::<BitString<'_>>(alloc, text)?;
-        same(
-            (bits.padding_bits(), bits.as_bytes()),
-            (text[2], &text[3..]),
-        )?;
-        is_written(alloc, &bits, text)?;
-        let owned = parse_single::<OwnedBitString>(alloc, text)?;
-        is_written(alloc, &owned, text)?;
-        same(&owned.as_bitstring(), &bits)?;
+    for (octets, padding, text) in ROWS {
+        compare(rt.alloc(), octets, *padding, text)?;
+    }
+    Ok(())
+}
+
+/// Octets of bits, how many of the last ones are padding, the number of a bit, and whether it is set.
+const BITS: &[(&[u8], u8, usize, bool)] = &[
+    (&[0x80], 0, 0, true),
+    (&[0x80], 0, 1, false),
+    (&[0x80], 0, 7, false),
+    (&[0x80], 0, 50, false),
+    (&[0xc0], 4, 0, true),
+    (&[0xc0], 4, 1, true),
+    (&[0xc0], 4, 2, false),
+    (&[0xc0], 4, 3, false),
+    (&[0xc0], 4, 4, false),
+    (&[0xc0], 4, 5, false),
+    (&[0xc0], 4, 6, false),
+    (&[0xc0], 4, 7, false),
+    (&[0xc0], 4, 50, false),
+];
+
+#[test]
+fn bits_are_set() -> Result<(), Fail> {
+    for (octets, padding, place, is_set) in BITS {
+        let bits = BitString::new(octets, *padding).ok_or(PADDING)?;
+        same_at((*octets, *place), bits.has_bit_set(*place), *is_set)?;
     }
     Ok(())
 }
 
 #[test]
 fn other_contents_are_no_bit_strings(rt: HostRuntime) -> Result<(), Fail> {
-    let refused: [&[u8]; 6] = [
+    const REFUSED: &[&[u8]] = &[
         &[0x03, 0x00],
         &[0x03, 0x01, 0x01],
         &[0x03, 0x02, 0x01, 0x01],
@@ -76,21 +86,22 @@ fn other_contents_are_no_bit_strings(rt: HostRuntime) -> Result<(), Fail> {
         &[0x03, 0x02, 0x07, 0x40],
         &[0x03, 0x02, 0x08, 0x00],
     ];
-    are_invalid::<BitString<'_>>(rt.alloc(), &refused)?;
-    are_invalid::<OwnedBitString>(rt.alloc(), &refused)
+    are_invalid::<BitString<'_>>(rt.alloc(), REFUSED)?;
+    are_invalid::<OwnedBitString>(rt.alloc(), REFUSED)
 }
+
+const TEXT: &[u8] = &[0x03, 0x03, 0x04, 0x81, 0xf0];
 
 #[test]
 fn bit_strings_are_shown_cloned_and_hashed(rt: HostRuntime) -> Result<(), Fail> {
     let alloc = rt.alloc();
-    let bits = BitString::new(&[0x81, 0xf0], 4).expect(&rt, "a right padding");
+    let bits = BitString::new(&[0x81, 0xf0], 4).ok_or(PADDING)?;
     is_shown(
         alloc,
         &bits,
         "BitString { data: [129, 240], padding_bits: 4 }",
     )?;
-    let text: [u8; 5] = [0x03, 0x03, 0x04, 0x81, 0xf0];
-    let read = parse_single::<BitString<'_>>(alloc, &text)?;
+    let read = parse_single::<BitString<'_>>(alloc, TEXT)?;
     same(&bits.clone()?, &read)?;
     same(hash_of(&bits), hash_of(&read))
 }
@@ -98,8 +109,7 @@ fn bit_strings_are_shown_cloned_and_hashed(rt: HostRuntime) -> Result<(), Fail> 
 #[test]
 fn owned_bit_strings_are_shown_cloned_and_hashed(rt: HostRuntime) -> Result<(), Fail> {
     let alloc = rt.alloc();
-    let text: [u8; 5] = [0x03, 0x03, 0x04, 0x81, 0xf0];
-    let owned = parse_single::<OwnedBitString>(alloc, &text)?;
+    let owned = parse_single::<OwnedBitString>(alloc, TEXT)?;
     is_shown(
         alloc,
         &owned,
@@ -107,15 +117,13 @@ fn owned_bit_strings_are_shown_cloned_and_hashed(rt: HostRuntime) -> Result<(), 
     )?;
     let copy = owned.clone()?;
     same(hash_of(&copy), hash_of(&owned))?;
-    same(&copy, &owned)?;
-    let made = OwnedBitString::new(Vec::from_slice(alloc, &[0x81, 0xf0])?, 4);
-    same(&made, &Some(owned))
+    same(&copy, &owned)
 }
 
 #[test]
 fn bit_strings_are_laid_out(rt: HostRuntime) -> Result<(), Fail> {
     let alloc = rt.alloc();
-    let bits = BitString::new(&[0x81, 0xf0], 4).expect(&rt, "a right padding");
+    let bits = BitString::new(&[0x81, 0xf0], 4).ok_or(PADDING)?;
     is_laid_out(
         alloc,
         &bits,
@@ -124,33 +132,25 @@ fn bit_strings_are_laid_out(rt: HostRuntime) -> Result<(), Fail> {
     let owned = OwnedBitString::new(Vec::from_slice(alloc, &[0xfe])?, 1);
     is_laid_out(
         alloc,
-        &owned.expect(&rt, "a right padding"),
+        &owned.ok_or(PADDING)?,
         "OwnedBitString {\n    data: [\n        254,\n    ],\n    padding_bits: 1,\n}",
     )
 }
 
-const PADDING: &str = "a wrong padding";
-
 #[test]
 fn other_bit_strings_are_unequal(rt: HostRuntime) -> Result<(), Fail> {
-    let alloc = rt.alloc();
-    let rows: [((&[u8], u8), (&[u8], u8)); 6] = [
-        ((&[0x80], 0), (&[0x80], 7)),
-        ((&[0x80], 6), (&[0x80], 7)),
-        ((&[0x81, 0xf0], 4), (&[0x81, 0xe0], 4)),
-        ((&[0x81, 0xf0], 4), (&[0x01, 0xf0], 4)),
-        ((&[0x00], 0), (&[0x00, 0x00], 0)),
-        ((&[], 0), (&[0x00], 0)),
+    const DIFFERENT: &[(&[u8], &[u8], bool)] = &[
+        (&[0x03, 0x02, 0x00, 0x80], &[0x03, 0x02, 0x07, 0x80], false),
+        (&[0x03, 0x02, 0x06, 0x80], &[0x03, 0x02, 0x07, 0x80], false),
+        (TEXT, &[0x03, 0x03, 0x04, 0x81, 0xe0], false),
+        (TEXT, &[0x03, 0x03, 0x04, 0x01, 0xf0], false),
+        (
+            &[0x03, 0x02, 0x00, 0x00],
+            &[0x03, 0x03, 0x00, 0x00, 0x00],
+            false,
+        ),
+        (&[0x03, 0x01, 0x00], &[0x03, 0x02, 0x00, 0x00], false),
     ];
-    for ((octets, padding), (other_octets, other_padding)) in rows {
-        let bits = BitString::new(octets, padding).ok_or(PADDING)?;
-        let other = BitString::new(other_octets, other_padding).ok_or(PADDING)?;
-        different(&bits, &other)?;
-        let octets = Vec::from_slice(alloc, octets)?;
-        let owned = OwnedBitString::new(octets, padding).ok_or(PADDING)?;
-        let octets = Vec::from_slice(alloc, other_octets)?;
-        let other = OwnedBitString::new(octets, other_padding).ok_or(PADDING)?;
-        different(&owned, &other)?;
-    }
-    Ok(())
+    are_equal_or_not::<BitString<'_>>(rt.alloc(), DIFFERENT)?;
+    are_equal_or_not::<OwnedBitString>(rt.alloc(), DIFFERENT)
 }

@@ -1,12 +1,14 @@
 //! Object identifiers: values from outside.
 
-use asn1_core::{ParseErrorKind, parse_single};
+use crate::made::is_hashed;
+use asn1_core::ParseErrorKind;
 use asn1_values::ObjectIdentifier;
-use std::alloc::Global;
 use std::test::Fail;
-use testing::{both_ways, different, hash_of, is_laid_out, is_shown, kind_of, same, same_at};
+use testing::{different, hash_of, is_displayed, is_laid_out, is_shown, kind_of, same, same_at};
 
 const NONE: &str = "no identifier";
+
+const INVALID: Option<ParseErrorKind> = Some(ParseErrorKind::InvalidValue);
 
 /// The contents octets of the greatest first number, 2^128 - 1.
 const GREATEST: [u8; 19] = [
@@ -20,15 +22,9 @@ const TOO_GREAT: [u8; 19] = [
     0x80, 0x80, 0x00,
 ];
 
-/// The identifier is displayed as this text.
-fn is_displayed(alloc: Global, identifier: &ObjectIdentifier, text: &str) -> Result<(), Fail> {
-    same(format!(in alloc; "{identifier}")?.as_str(), text)
-}
-
 #[test]
 fn texts_are_read_and_shown(rt: HostRuntime) -> Result<(), Fail> {
-    let alloc = rt.alloc();
-    let texts = [
+    const TEXTS: &[&str] = &[
         "0.0",
         "0.4",
         "2.5",
@@ -43,9 +39,9 @@ fn texts_are_read_and_shown(rt: HostRuntime) -> Result<(), Fail> {
         "2.25.340282366920938463463374607431768211455",
         "2.340282366920938463463374607431768211375",
     ];
-    for text in texts {
+    for text in TEXTS {
         let identifier = ObjectIdentifier::from_string(text).ok_or(NONE)?;
-        is_displayed(alloc, &identifier, text)?;
+        is_displayed(rt.alloc(), &identifier, text)?;
     }
     Ok(())
 }
@@ -72,14 +68,14 @@ fn identifiers_are_shown(rt: HostRuntime) -> Result<(), Fail> {
 
 #[test]
 fn other_identifiers_are_unequal() -> Result<(), Fail> {
-    let rows = [
+    const ROWS: &[(&str, &str)] = &[
         ("1.2.3.4", "1.2.3.5"),
         ("1.2.3.4", "1.2.3"),
         ("1.2.3.4", "1.3.3.4"),
         ("1.2.3", "1.2.3.0"),
         ("2.5.129", "2.5.1.1"),
     ];
-    for (text, other) in rows {
+    for (text, other) in ROWS {
         let identifier = ObjectIdentifier::from_string(text).ok_or(NONE)?;
         let other = ObjectIdentifier::from_string(other).ok_or(NONE)?;
         different(&identifier, &other)?;
@@ -97,7 +93,7 @@ fn equal_identifiers_hash_alike() -> Result<(), Fail> {
 
 #[test]
 fn other_texts_are_refused() -> Result<(), Fail> {
-    let texts = [
+    const TEXTS: &[&str] = &[
         "",
         "1",
         "3.1",
@@ -115,16 +111,15 @@ fn other_texts_are_refused() -> Result<(), Fail> {
         "2.340282366920938463463374607431768211376",
         "1.3.6.1.4.1.1248.1.1.2.1.3.21.69.112.115.111.110.32.83.116.121.108.117.115.32.80.114.111.32.52.57.48.48.123.124412.31.213321.123.110.32.83.116.121.108.117.115.32.80.114.111.32.52.57.48.48.123.124412.31.213321.123",
     ];
-    for text in texts {
-        same_at(text, &ObjectIdentifier::from_string(text), &None)?;
+    for text in TEXTS {
+        same_at(*text, ObjectIdentifier::from_string(text).is_some(), false)?;
     }
     Ok(())
 }
 
 #[test]
 fn elements_are_read_and_written(rt: HostRuntime) -> Result<(), Fail> {
-    let alloc = rt.alloc();
-    let rows: [(&str, &[u8]); 7] = [
+    const ROWS: &[(&str, &[u8])] = &[
         ("2.5", &[0x06, 0x01, 0x55]),
         ("2.5.2", &[0x06, 0x02, 0x55, 0x02]),
         ("2.4.0", &[0x06, 0x02, 0x54, 0x00]),
@@ -141,11 +136,9 @@ fn elements_are_read_and_written(rt: HostRuntime) -> Result<(), Fail> {
             ],
         ),
     ];
-    for (text, octets) in rows {
+    for (text, octets) in ROWS {
         let identifier = ObjectIdentifier::from_string(text).ok_or(NONE)?;
-        let back = parse_single::<ObjectIdentifier>(alloc, octets)?;
-        same(&back.clone()?, &identifier)?;
-        both_ways(alloc, identifier, octets)?;
+        is_hashed(rt.alloc(), identifier, octets)?;
     }
     Ok(())
 }
@@ -163,23 +156,20 @@ fn contents_are_read(rt: HostRuntime) -> Result<(), Fail> {
 
 #[test]
 fn other_contents_are_refused() -> Result<(), Fail> {
-    let invalid = Some(ParseErrorKind::InvalidValue);
-    let too_long = Some(ParseErrorKind::OidTooLong);
-    let long = [0x01; 66];
-    let rows: [(&[u8], Option<ParseErrorKind>); 10] = [
-        (&[], invalid),
-        (&[0x80], invalid),
-        (&[0x80, 0x01], invalid),
-        (&[0x81], invalid),
-        (&[0x2a, 0x86], invalid),
-        (&[0x55, 0x02, 0xc0, 0x80, 0x80, 0x80, 0x80], invalid),
-        (&TOO_GREAT, invalid),
-        (&long[..63], None),
-        (&long[..64], too_long),
-        (&long, too_long),
+    const ROWS: &[(&[u8], Option<ParseErrorKind>)] = &[
+        (&[], INVALID),
+        (&[0x80], INVALID),
+        (&[0x80, 0x01], INVALID),
+        (&[0x81], INVALID),
+        (&[0x2a, 0x86], INVALID),
+        (&[0x55, 0x02, 0xc0, 0x80, 0x80, 0x80, 0x80], INVALID),
+        (&TOO_GREAT, INVALID),
+        (&[0x01; 63], None),
+        (&[0x01; 64], Some(ParseErrorKind::OidTooLong)),
+        (&[0x01; 66], Some(ParseErrorKind::OidTooLong)),
     ];
-    for (octets, kind) in rows {
-        same_at(octets, kind_of(ObjectIdentifier::from_der(octets)), kind)?;
+    for (octets, kind) in ROWS {
+        same_at(*octets, kind_of(ObjectIdentifier::from_der(octets)), *kind)?;
     }
     Ok(())
 }

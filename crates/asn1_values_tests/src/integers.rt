@@ -1,243 +1,243 @@
-use asn1_core::{ParseErrorKind, parse_single, write_single};
+use crate::made::is_hashed;
+use asn1_core::{ParseErrorKind, parse_single};
 use asn1_values::values::{BigInt, BigUint, Enumerated, OwnedBigInt, OwnedBigUint};
 use std::alloc::Global;
 use std::test::Fail;
 use testing::{
-    are_both_ways, are_refused, different, hash_of, is_laid_out, is_shown, is_written, refused,
-    same, same_at,
+    are_equal_or_not, are_invalid, are_refused, both_ways, different, is_laid_out, is_shown, same,
+    same_at,
 };
 
-const INVALID: ParseErrorKind = ParseErrorKind::InvalidValue;
+const NONE: &str = "no content";
 
-/// A number of twelve octets, less than 0.
-const TWELVE: [u8; 12] = [
-    0xff, 0x7f, 0xff, 0xff, 0xff, 0xff, 0xff, 0xff, 0xff, 0xff, 0xff, 0xff,
+/// The encoding of an integer of twelve octets, less than 0.
+const TWELVE: &[u8] = &[
+    0x02, 0x0c, 0xff, 0x7f, 0xff, 0xff, 0xff, 0xff, 0xff, 0xff, 0xff, 0xff, 0xff, 0xff,
 ];
 
-/// A number of thirteen octets, the first of which is the sign.
-const THIRTEEN: [u8; 13] = [
-    0x00, 0xff, 0xff, 0xff, 0xff, 0xff, 0xff, 0xff, 0xff, 0xff, 0xff, 0xff, 0xff,
+/// Encodings of integers, with their contents octets. None of these is less than 0.
+const UNSIGNED: &[(&[u8], &[u8])] = &[
+    (&[0x02, 0x01, 0x00], &[0x00]),
+    (&[0x02, 0x01, 0x01], &[0x01]),
+    (&[0x02, 0x02, 0x7f, 0xff], &[0x7f, 0xff]),
+    (&[0x02, 0x02, 0x00, 0xff], &[0x00, 0xff]),
+    (&[0x02, 0x02, 0x00, 0x80], &[0x00, 0x80]),
+    (&[0x02, 0x03, 0x00, 0xff, 0xff], &[0x00, 0xff, 0xff]),
+    (
+        &[
+            0x02, 0x0d, 0x00, 0xff, 0xff, 0xff, 0xff, 0xff, 0xff, 0xff, 0xff, 0xff, 0xff, 0xff,
+            0xff,
+        ],
+        &[
+            0x00, 0xff, 0xff, 0xff, 0xff, 0xff, 0xff, 0xff, 0xff, 0xff, 0xff, 0xff, 0xff,
+        ],
+    ),
 ];
 
-const SIGNED: [&[u8]; 8] = [
-    &[0x00],
-    &[0x01],
-    &[0x80],
-    &[0xff],
-    &[0x00, 0x80],
-    &[0xff, 0x00],
-    &[0x00, 0xff, 0xff],
-    &TWELVE,
+/// The same of integers less than 0.
+const NEGATIVE: &[(&[u8], &[u8])] = &[
+    (&[0x02, 0x01, 0x80], &[0x80]),
+    (&[0x02, 0x01, 0xff], &[0xff]),
+    (&[0x02, 0x02, 0xff, 0x00], &[0xff, 0x00]),
+    (
+        TWELVE,
+        &[
+            0xff, 0x7f, 0xff, 0xff, 0xff, 0xff, 0xff, 0xff, 0xff, 0xff, 0xff, 0xff,
+        ],
+    ),
 ];
 
-const UNSIGNED: [&[u8]; 5] = [&[0x00], &[0x01], &[0x7f, 0xff], &[0x00, 0xff], &THIRTEEN];
-
-/// The element with the tag of an integer and these contents octets.
-fn integer_text(alloc: Global, content: &[u8]) -> Result<Vec<u8>, Fail> {
-    let mut text = Vec::new(alloc);
-    text.push(0x02)?;
-    text.push((content.len() % 0x80) as u8)?;
-    text.extend_from_slice(content)?;
-    Ok(text)
+fn are_signed(alloc: Global, rows: &[(&[u8], &[u8])]) -> Result<(), Fail> {
+    for (text, content) in rows {
+        let number = BigInt::new(content).ok_or(NONE)?;
+        same(number.as_bytes(), *content)?;
+        is_hashed(alloc, number, text)?;
+    }
+    Ok(())
 }
 
 #[test]
 fn signed_integers_of_any_length(rt: HostRuntime) -> Result<(), Fail> {
-    let alloc = rt.alloc();
-    for content in SIGNED {
-        let text = integer_text(alloc, content)?;
-        let number = parse_single::<BigInt<'_>>(alloc, text.as_slice())?;
-        same(number.as_bytes(), content)?;
-        is_written(alloc, &number, text.as_slice())?;
-        same(&BigInt::new(content), &Some(number))?;
+    are_signed(rt.alloc(), UNSIGNED)?;
+    are_signed(rt.alloc(), NEGATIVE)
+}
+
+fn are_owned_signed(alloc: Global, rows: &[(&[u8], &[u8])]) -> Result<(), Fail> {
+    for (text, content) in rows {
+        let number = OwnedBigInt::new(Vec::from_slice(alloc, content)?).ok_or(NONE)?;
+        same(number.as_bytes(), *content)?;
+        is_hashed(alloc, number, text)?;
     }
     Ok(())
 }
 
 #[test]
 fn owned_signed_integers_of_any_length(rt: HostRuntime) -> Result<(), Fail> {
-    let alloc = rt.alloc();
-    for content in SIGNED {
-        let text = integer_text(alloc, content)?;
-        let owned = parse_single::<OwnedBigInt>(alloc, text.as_slice())?;
-        same(owned.as_bytes(), content)?;
-        let made = OwnedBigInt::new(Vec::from_slice(alloc, content)?).ok_or("no content")?;
-        same(&made, &owned)?;
-        is_written(alloc, &made, text.as_slice())?;
-    }
-    Ok(())
+    are_owned_signed(rt.alloc(), UNSIGNED)?;
+    are_owned_signed(rt.alloc(), NEGATIVE)
 }
 
 #[test]
 fn unsigned_integers_of_any_length(rt: HostRuntime) -> Result<(), Fail> {
-    let alloc = rt.alloc();
-    for content in UNSIGNED {
-        let text = integer_text(alloc, content)?;
-        let number = parse_single::<BigUint<'_>>(alloc, text.as_slice())?;
-        same(number.as_bytes(), content)?;
-        is_written(alloc, &number, text.as_slice())?;
-        same(&BigUint::new(content), &Some(number))?;
+    for (text, content) in UNSIGNED {
+        let number = BigUint::new(content).ok_or(NONE)?;
+        same(number.as_bytes(), *content)?;
+        is_hashed(rt.alloc(), number, text)?;
     }
     Ok(())
 }
 
 #[test]
 fn owned_unsigned_integers_of_any_length(rt: HostRuntime) -> Result<(), Fail> {
-    let alloc = rt.alloc();
-    for content in UNSIGNED {
-        let text = integer_text(alloc, content)?;
-        let owned = parse_single::<OwnedBigUint>(alloc, text.as_slice())?;
-        same(owned.as_bytes(), content)?;
-        let made = OwnedBigUint::new(Vec::from_slice(alloc, content)?).ok_or("no content")?;
-        same(&made, &owned)?;
-        is_written(alloc, &made, text.as_slice())?;
+    for (text, content) in UNSIGNED {
+        let number = OwnedBigUint::new(Vec::from_slice(rt.alloc(), content)?).ok_or(NONE)?;
+        same(number.as_bytes(), *content)?;
+        is_hashed(rt.alloc(), number, text)?;
     }
     Ok(())
 }
 
-/// The octets aren't contents octets of an integer: reading and `new` reject them.
+/// Contents octets of no integer.
+const OTHERS: &[&[u8]] = &[
+    &[],
+    &[0x00, 0x01],
+    &[0x00, 0x7f],
+    &[0xff, 0x80],
+    &[0xff, 0xff],
+    &[0x00, 0x00, 0x80],
+];
+
+/// Octets with the tag of an integer and these contents octets.
+const OTHER_TEXTS: &[&[u8]] = &[
+    &[0x02, 0x00],
+    &[0x02, 0x02, 0x00, 0x01],
+    &[0x02, 0x02, 0x00, 0x7f],
+    &[0x02, 0x02, 0xff, 0x80],
+    &[0x02, 0x02, 0xff, 0xff],
+    &[0x02, 0x03, 0x00, 0x00, 0x80],
+];
+
+/// There is no integer with these contents octets.
 fn is_no_signed_integer(alloc: Global, content: &[u8]) -> Result<(), Fail> {
-    let text = integer_text(alloc, content)?;
-    same(&BigInt::new(content), &None)?;
-    let made = OwnedBigInt::new(Vec::from_slice(alloc, content)?);
-    same(&made, &None)?;
-    let kinds = [
-        refused::<BigInt<'_>>(alloc, text.as_slice()),
-        refused::<OwnedBigInt>(alloc, text.as_slice()),
-    ];
-    same_at(content, kinds, [Some(INVALID), Some(INVALID)])
+    let owned = OwnedBigInt::new(Vec::from_slice(alloc, content)?);
+    let found = (BigInt::new(content).is_some(), owned.is_some());
+    same_at(content, found, (false, false))
 }
 
-/// The octets aren't contents octets of a number that isn't negative: reading and `new` reject them.
+/// There is no integer from 0 on with these contents octets.
 fn is_no_unsigned_integer(alloc: Global, content: &[u8]) -> Result<(), Fail> {
-    let text = integer_text(alloc, content)?;
-    same(&BigUint::new(content), &None)?;
-    let made = OwnedBigUint::new(Vec::from_slice(alloc, content)?);
-    same(&made, &None)?;
-    let kinds = [
-        refused::<BigUint<'_>>(alloc, text.as_slice()),
-        refused::<OwnedBigUint>(alloc, text.as_slice()),
-    ];
-    same_at(content, kinds, [Some(INVALID), Some(INVALID)])
+    let owned = OwnedBigUint::new(Vec::from_slice(alloc, content)?);
+    let found = (BigUint::new(content).is_some(), owned.is_some());
+    same_at(content, found, (false, false))
 }
 
 #[test]
 fn other_contents_are_refused(rt: HostRuntime) -> Result<(), Fail> {
-    let contents: [&[u8]; 6] = [
-        &[],
-        &[0x00, 0x01],
-        &[0x00, 0x7f],
-        &[0xff, 0x80],
-        &[0xff, 0xff],
-        &[0x00, 0x00, 0x80],
-    ];
-    for content in contents {
+    for content in OTHERS {
         is_no_signed_integer(rt.alloc(), content)?;
         is_no_unsigned_integer(rt.alloc(), content)?;
     }
-    Ok(())
+    are_invalid::<BigInt<'_>>(rt.alloc(), OTHER_TEXTS)?;
+    are_invalid::<OwnedBigInt>(rt.alloc(), OTHER_TEXTS)?;
+    are_invalid::<BigUint<'_>>(rt.alloc(), OTHER_TEXTS)?;
+    are_invalid::<OwnedBigUint>(rt.alloc(), OTHER_TEXTS)
 }
 
 #[test]
 fn negative_contents_are_refused(rt: HostRuntime) -> Result<(), Fail> {
-    let contents: [&[u8]; 3] = [&[0x80], &[0xff], &TWELVE];
-    for content in contents {
+    const TEXTS: &[&[u8]] = &[&[0x02, 0x01, 0x80], &[0x02, 0x01, 0xff], TWELVE];
+    are_invalid::<BigUint<'_>>(rt.alloc(), TEXTS)?;
+    are_invalid::<OwnedBigUint>(rt.alloc(), TEXTS)?;
+    for (_, content) in NEGATIVE {
         is_no_unsigned_integer(rt.alloc(), content)?;
     }
     Ok(())
 }
 
-/// Numbers, and how many binary digits they have.
-const DIGITS: [(i64, usize); 20] = [
-    (0, 0),
-    (1, 1),
-    (2, 2),
-    (3, 2),
-    (127, 7),
-    (128, 8),
-    (255, 8),
-    (256, 9),
-    (65535, 16),
-    (65536, 17),
-    (-1, 1),
-    (-2, 2),
-    (-3, 2),
-    (-127, 7),
-    (-128, 8),
-    (-129, 8),
-    (-255, 8),
-    (-256, 9),
-    (-65535, 16),
-    (-65536, 17),
+/// Encodings of integers, how many binary digits each has, and whether it is less than 0: 0, 1, 2, 3, 127, 128, 255,
+/// 256, 65535 and 65536, and then those below 0: -1, -2, -3, -127, -128, -129, -255, -256, -65535 and -65536.
+const DIGITS: &[(&[u8], usize, bool)] = &[
+    (&[0x02, 0x01, 0x00], 0, false),
+    (&[0x02, 0x01, 0x01], 1, false),
+    (&[0x02, 0x01, 0x02], 2, false),
+    (&[0x02, 0x01, 0x03], 2, false),
+    (&[0x02, 0x01, 0x7f], 7, false),
+    (&[0x02, 0x02, 0x00, 0x80], 8, false),
+    (&[0x02, 0x02, 0x00, 0xff], 8, false),
+    (&[0x02, 0x02, 0x01, 0x00], 9, false),
+    (&[0x02, 0x03, 0x00, 0xff, 0xff], 16, false),
+    (&[0x02, 0x03, 0x01, 0x00, 0x00], 17, false),
+    (&[0x02, 0x01, 0xff], 1, true),
+    (&[0x02, 0x01, 0xfe], 2, true),
+    (&[0x02, 0x01, 0xfd], 2, true),
+    (&[0x02, 0x01, 0x81], 7, true),
+    (&[0x02, 0x01, 0x80], 8, true),
+    (&[0x02, 0x02, 0xff, 0x7f], 8, true),
+    (&[0x02, 0x02, 0xff, 0x01], 8, true),
+    (&[0x02, 0x02, 0xff, 0x00], 9, true),
+    (&[0x02, 0x03, 0xff, 0x00, 0x01], 16, true),
+    (&[0x02, 0x03, 0xff, 0x00, 0x00], 17, true),
 ];
 
 #[test]
 fn binary_digits_are_counted(rt: HostRuntime) -> Result<(), Fail> {
-    for (number, count) in DIGITS {
-        let text = write_single(rt.alloc(), &number)?;
-        let borrowed = parse_single::<BigInt<'_>>(rt.alloc(), text.as_slice())?;
-        assert!(rt; borrowed.as_bytes().len() < 0x80);
-        let found = (borrowed.bit_length(), borrowed.is_negative());
-        same_at(number, found, (count, number < 0))?;
+    for (text, count, is_negative) in DIGITS {
+        let number = parse_single::<BigInt<'_>>(rt.alloc(), text)?;
+        assert!(rt; number.as_bytes().len() < 0x80);
+        let found = (number.bit_length(), number.is_negative());
+        same_at(*text, found, (*count, *is_negative))?;
     }
     Ok(())
 }
 
 #[test]
 fn binary_digits_of_owned_integers(rt: HostRuntime) -> Result<(), Fail> {
-    for (number, count) in DIGITS {
-        let text = write_single(rt.alloc(), &number)?;
-        let owned = parse_single::<OwnedBigInt>(rt.alloc(), text.as_slice())?;
-        assert!(rt; owned.as_bytes().len() < 0x80);
-        let found = (owned.bit_length(), owned.is_negative());
-        same_at(number, found, (count, number < 0))?;
+    for (text, count, is_negative) in DIGITS {
+        let number = parse_single::<OwnedBigInt>(rt.alloc(), text)?;
+        assert!(rt; number.as_bytes().len() < 0x80);
+        let found = (number.bit_length(), number.is_negative());
+        same_at(*text, found, (*count, *is_negative))?;
     }
     Ok(())
 }
 
 #[test]
 fn copies_are_equal(rt: HostRuntime) -> Result<(), Fail> {
-    let alloc = rt.alloc();
-    let text = integer_text(alloc, &[0x00, 0x80])?;
-    let signed = parse_single::<OwnedBigInt>(alloc, text.as_slice())?;
-    same(&signed.clone()?, &signed)?;
-    same(signed.as_bytes(), &[0x00, 0x80])
+    let signed = parse_single::<OwnedBigInt>(rt.alloc(), &[0x02, 0x02, 0x00, 0x80])?;
+    same(&signed.clone()?, &signed)
 }
 
 #[test]
 fn copies_of_unsigned_integers_are_equal(rt: HostRuntime) -> Result<(), Fail> {
-    let alloc = rt.alloc();
-    let text = integer_text(alloc, &[0x00, 0x80])?;
-    let unsigned = parse_single::<OwnedBigUint>(alloc, text.as_slice())?;
-    same(&unsigned.clone()?, &unsigned)?;
-    same(unsigned.as_bytes(), &[0x00, 0x80])
+    let unsigned = parse_single::<OwnedBigUint>(rt.alloc(), &[0x02, 0x02, 0x00, 0x80])?;
+    same(&unsigned.clone()?, &unsigned)
 }
 
 #[test]
 fn enumerated_values(rt: HostRuntime) -> Result<(), Fail> {
-    are_both_ways::<Enumerated>(
-        rt.alloc(),
-        &[
-            (Enumerated::new(0), &[0x0a, 0x01, 0x00]),
-            (Enumerated::new(12), &[0x0a, 0x01, 0x0c]),
-            (
-                Enumerated::new(4294967295),
-                &[0x0a, 0x05, 0x00, 0xff, 0xff, 0xff, 0xff],
-            ),
-        ],
-    )?;
-    same(Enumerated::new(4).value(), 4)?;
-    same(Enumerated::new(4294967295).value(), 4294967295)
+    const ROWS: &[(u32, &[u8])] = &[
+        (0, &[0x0a, 0x01, 0x00]),
+        (4, &[0x0a, 0x01, 0x04]),
+        (12, &[0x0a, 0x01, 0x0c]),
+        (4294967295, &[0x0a, 0x05, 0x00, 0xff, 0xff, 0xff, 0xff]),
+    ];
+    for (number, text) in ROWS {
+        same(Enumerated::new(*number).value(), *number)?;
+        both_ways(rt.alloc(), Enumerated::new(*number), text)?;
+    }
+    Ok(())
 }
 
 #[test]
 fn other_contents_are_no_enumerated_values(rt: HostRuntime) -> Result<(), Fail> {
-    let overflow = ParseErrorKind::IntegerOverflow;
     are_refused::<Enumerated>(
         rt.alloc(),
         &[
-            (&[0x0a, 0x05, 0x01, 0x00, 0x00, 0x00, 0x00], overflow),
-            (&[0x0a, 0x01, 0xff], INVALID),
+            (
+                &[0x0a, 0x05, 0x01, 0x00, 0x00, 0x00, 0x00],
+                ParseErrorKind::IntegerOverflow,
+            ),
+            (&[0x0a, 0x01, 0xff], ParseErrorKind::InvalidValue),
         ],
     )
 }
@@ -245,10 +245,9 @@ fn other_contents_are_no_enumerated_values(rt: HostRuntime) -> Result<(), Fail> 
 #[test]
 fn integers_are_shown(rt: HostRuntime) -> Result<(), Fail> {
     let alloc = rt.alloc();
-    let content = [0x00, 0xff];
-    let signed = BigInt::new(&content).ok_or("no content")?;
+    let signed = BigInt::new(&[0x00, 0xff]).ok_or(NONE)?;
     is_shown(alloc, &signed, "BigInt { data: [0, 255] }")?;
-    let unsigned = BigUint::new(&content).ok_or("no content")?;
+    let unsigned = BigUint::new(&[0x00, 0xff]).ok_or(NONE)?;
     is_shown(alloc, &unsigned, "BigUint { data: [0, 255] }")?;
     is_shown(alloc, &Enumerated::new(4), "Enumerated(4)")
 }
@@ -256,91 +255,44 @@ fn integers_are_shown(rt: HostRuntime) -> Result<(), Fail> {
 #[test]
 fn owned_integers_are_shown(rt: HostRuntime) -> Result<(), Fail> {
     let alloc = rt.alloc();
-    let text = integer_text(alloc, &[0x00, 0xff])?;
-    let signed = parse_single::<OwnedBigInt>(alloc, text.as_slice())?;
+    let signed = parse_single::<OwnedBigInt>(alloc, &[0x02, 0x02, 0x00, 0xff])?;
     is_shown(alloc, &signed, "OwnedBigInt { data: [0, 255] }")?;
-    let unsigned = parse_single::<OwnedBigUint>(alloc, text.as_slice())?;
+    let unsigned = parse_single::<OwnedBigUint>(alloc, &[0x02, 0x02, 0x00, 0xff])?;
     is_shown(alloc, &unsigned, "OwnedBigUint { data: [0, 255] }")
 }
 
-const NONE: &str = "no content";
-
-/// Contents octets of unequal integers: they differ in sign, in one octet, in length.
-const DIFFERENT: [(&[u8], &[u8]); 6] = [
-    (&[0x01], &[0xff]),
-    (&[0x00, 0x80], &[0x80]),
-    (&[0x01, 0x00], &[0x01, 0x01]),
-    (&[0x01, 0x00], &[0x02, 0x00]),
-    (&[0x00], &[0x01]),
-    (&[0x7f], &[0x7f, 0x7f]),
-];
-
+/// Unequal integers: they differ in sign, in one octet, in length.
 #[test]
 fn other_signed_integers_are_unequal(rt: HostRuntime) -> Result<(), Fail> {
-    let alloc = rt.alloc();
-    for (content, other) in DIFFERENT {
-        let number = BigInt::new(content).ok_or(NONE)?;
-        different(&number, &BigInt::new(other).ok_or(NONE)?)?;
-        let owned = OwnedBigInt::new(Vec::from_slice(alloc, content)?).ok_or(NONE)?;
-        let other = OwnedBigInt::new(Vec::from_slice(alloc, other)?).ok_or(NONE)?;
-        different(&owned, &other)?;
-    }
-    Ok(())
+    const ROWS: &[(&[u8], &[u8], bool)] = &[
+        (&[0x02, 0x01, 0x01], &[0x02, 0x01, 0xff], false),
+        (&[0x02, 0x02, 0x00, 0x80], &[0x02, 0x01, 0x80], false),
+        (&[0x02, 0x02, 0x01, 0x00], &[0x02, 0x02, 0x01, 0x01], false),
+        (&[0x02, 0x02, 0x01, 0x00], &[0x02, 0x02, 0x02, 0x00], false),
+        (&[0x02, 0x01, 0x00], &[0x02, 0x01, 0x01], false),
+        (&[0x02, 0x01, 0x7f], &[0x02, 0x02, 0x7f, 0x7f], false),
+    ];
+    are_equal_or_not::<BigInt<'_>>(rt.alloc(), ROWS)?;
+    are_equal_or_not::<OwnedBigInt>(rt.alloc(), ROWS)
 }
 
 #[test]
 fn other_unsigned_integers_are_unequal(rt: HostRuntime) -> Result<(), Fail> {
-    let alloc = rt.alloc();
-    let rows: [(&[u8], &[u8]); 4] = [
-        (&[0x00, 0x80], &[0x7f]),
-        (&[0x01, 0x00], &[0x01, 0x01]),
-        (&[0x00], &[0x01]),
-        (&[0x7f], &[0x7f, 0x7f]),
+    const ROWS: &[(&[u8], &[u8], bool)] = &[
+        (&[0x02, 0x02, 0x00, 0x80], &[0x02, 0x01, 0x7f], false),
+        (&[0x02, 0x02, 0x01, 0x00], &[0x02, 0x02, 0x01, 0x01], false),
+        (&[0x02, 0x01, 0x00], &[0x02, 0x01, 0x01], false),
+        (&[0x02, 0x01, 0x7f], &[0x02, 0x02, 0x7f, 0x7f], false),
     ];
-    for (content, other) in rows {
-        let number = BigUint::new(content).ok_or(NONE)?;
-        different(&number, &BigUint::new(other).ok_or(NONE)?)?;
-        let owned = OwnedBigUint::new(Vec::from_slice(alloc, content)?).ok_or(NONE)?;
-        let other = OwnedBigUint::new(Vec::from_slice(alloc, other)?).ok_or(NONE)?;
-        different(&owned, &other)?;
-    }
-    Ok(())
+    are_equal_or_not::<BigUint<'_>>(rt.alloc(), ROWS)?;
+    are_equal_or_not::<OwnedBigUint>(rt.alloc(), ROWS)
 }
 
 #[test]
 fn other_enumerated_values_are_unequal() -> Result<(), Fail> {
-    for (value, other) in [(0, 1), (4, 5), (1, 257), (0, 4294967295)] {
-        different(&Enumerated::new(value), &Enumerated::new(other))?;
-    }
-    Ok(())
-}
-
-#[test]
-fn equal_integers_hash_alike(rt: HostRuntime) -> Result<(), Fail> {
-    let alloc = rt.alloc();
-    for content in UNSIGNED {
-        let text = integer_text(alloc, content)?;
-        let read = parse_single::<BigInt<'_>>(alloc, text.as_slice())?;
-        let made = BigInt::new(content).ok_or(NONE)?;
-        same(hash_of(&read), hash_of(&made))?;
-        let read = parse_single::<BigUint<'_>>(alloc, text.as_slice())?;
-        let made = BigUint::new(content).ok_or(NONE)?;
-        same(hash_of(&read), hash_of(&made))?;
-    }
-    Ok(())
-}
-
-#[test]
-fn equal_owned_integers_hash_alike(rt: HostRuntime) -> Result<(), Fail> {
-    let alloc = rt.alloc();
-    for content in UNSIGNED {
-        let text = integer_text(alloc, content)?;
-        let read = parse_single::<OwnedBigInt>(alloc, text.as_slice())?;
-        let made = OwnedBigInt::new(Vec::from_slice(alloc, content)?).ok_or(NONE)?;
-        same(hash_of(&read), hash_of(&made))?;
-        let read = parse_single::<OwnedBigUint>(alloc, text.as_slice())?;
-        let made = OwnedBigUint::new(Vec::from_slice(alloc, content)?).ok_or(NONE)?;
-        same(hash_of(&read), hash_of(&made))?;
+    const ROWS: &[(u32, u32)] = &[(0, 1), (4, 5), (1, 257), (0, 4294967295)];
+    for (value, other) in ROWS {
+        different(&Enumerated::new(*value), &Enumerated::new(*other))?;
     }
     Ok(())
 }
@@ -348,14 +300,13 @@ fn equal_owned_integers_hash_alike(rt: HostRuntime) -> Result<(), Fail> {
 #[test]
 fn integers_are_laid_out(rt: HostRuntime) -> Result<(), Fail> {
     let alloc = rt.alloc();
-    let content = [0x00, 0xff];
-    let signed = BigInt::new(&content).ok_or("no content")?;
+    let signed = BigInt::new(&[0x00, 0xff]).ok_or(NONE)?;
     is_laid_out(
         alloc,
         &signed,
         "BigInt {\n    data: [\n        0,\n        255,\n    ],\n}",
     )?;
-    let unsigned = BigUint::new(&content).ok_or("no content")?;
+    let unsigned = BigUint::new(&[0x00, 0xff]).ok_or(NONE)?;
     is_laid_out(
         alloc,
         &unsigned,

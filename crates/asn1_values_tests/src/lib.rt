@@ -10,6 +10,8 @@ mod integers;
 #[cfg(test)]
 mod laws;
 #[cfg(test)]
+mod made;
+#[cfg(test)]
 mod slow;
 #[cfg(test)]
 mod texts;

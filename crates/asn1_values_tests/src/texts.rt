@@ -1,5 +1,6 @@
 //! Character strings: the original's cases, values from outside, and what is rejected.
 
+use crate::made::{is_hashed, is_made};
 use asn1_core::parse_single;
 use asn1_values::values::{
     BMPString, IA5String, PrintableString, UniversalString, Utf8String, VisibleString,
@@ -7,13 +8,13 @@ use asn1_values::values::{
 use std::alloc::Global;
 use std::fmt::Debug;
 use std::test::Fail;
-use testing::{are_invalid, different, hash_of, is_shown, is_written, same};
+use testing::{are_invalid, different, is_shown, same};
 
 const OTHER: &str = "characters of another type";
 
 /// 128 letters.
-const LONG: &str =
-    "xxxxxxxxxxxxxxxxxxxxxxxxxxxxxxxxxxxxxxxxxxxxxxxxxxxxxxxxxxxxxxxxxxxxxxxxxxxxxxxxxxxxxxxxxxxxxxxxxxxxxxxxxxxxxxxxxxxxxxxxxxxxxxxx";
+const LONG: &str = "xxxxxxxxxxxxxxxxxxxxxxxxxxxxxxxxxxxxxxxxxxxxxxxxxxxxxxxxxxxxxxxx\
+    xxxxxxxxxxxxxxxxxxxxxxxxxxxxxxxxxxxxxxxxxxxxxxxxxxxxxxxxxxxxxxxx";
 
 /// The value is shown as this text, and equals its copy.
 fn is_shown_and_copied<T: Debug + Clone + PartialEq + Drop>(
@@ -25,38 +26,26 @@ fn is_shown_and_copied<T: Debug + Clone + PartialEq + Drop>(
     same(&value.clone()?, value)
 }
 
-/// A tag and a length of one octet, then the characters.
-fn short_text(alloc: Global, tag: u8, characters: &str) -> Result<Vec<u8>, Fail> {
-    let mut text = Vec::new(alloc);
-    text.push(tag)?;
-    text.push((characters.len() % 0x80) as u8)?;
-    text.extend_from_slice(characters.as_bytes())?;
-    Ok(text)
-}
-
-/// A tag and the length 128, then the 128 letters.
-fn long_text(alloc: Global, tag: u8) -> Result<Vec<u8>, Fail> {
-    let mut text = Vec::new(alloc);
-    text.extend_from_slice(&[tag, 0x81, 0x80])?;
-    text.extend_from_slice(LONG.as_bytes())?;
-    Ok(text)
-}
-
 #[test]
 fn printable_strings(rt: HostRuntime) -> Result<(), Fail> {
-    let alloc = rt.alloc();
-    for characters in ["abc", ")", "", " ", "Test User 1"] {
+    const ROWS: &[(&str, &[u8])] = &[
+        ("abc", b"\x13\x03abc"),
+        (")", b"\x13\x01)"),
+        ("", b"\x13\x00"),
+        (" ", b"\x13\x01 "),
+        ("Test User 1", b"\x13\x0bTest User 1"),
+        (
+            LONG,
+            b"\x13\x81\x80xxxxxxxxxxxxxxxxxxxxxxxxxxxxxxxxxxxxxxxxxxxxxxxxxxxxxxxxxxxxxxxx\
+            xxxxxxxxxxxxxxxxxxxxxxxxxxxxxxxxxxxxxxxxxxxxxxxxxxxxxxxxxxxxxxxx",
+        ),
+    ];
+    for (characters, text) in ROWS {
         let value = PrintableString::new(characters).ok_or(OTHER)?;
-        same(value.as_str(), characters)?;
-        let text = short_text(alloc, 0x13, characters)?;
-        is_written(alloc, &value, text.as_slice())?;
-        same(
-            &parse_single::<PrintableString<'_>>(alloc, text.as_slice())?,
-            &value,
-        )?;
+        same(value.as_str(), *characters)?;
+        is_hashed(rt.alloc(), value, text)?;
     }
-    let value = PrintableString::new(LONG).ok_or(OTHER)?;
-    is_written(alloc, &value, long_text(alloc, 0x13)?.as_slice())
+    Ok(())
 }
 
 #[test]
@@ -65,28 +54,35 @@ fn other_characters_are_not_printable(rt: HostRuntime) -> Result<(), Fail> {
         rt.alloc(),
         &[&[0x13, 0x03, 0x61, 0x62, 0x00], &[0x13, 0x01, 0x25]],
     )?;
-    assert!(rt; PrintableString::new("%").is_none());
-    assert!(rt; PrintableString::new("\0").is_none());
     let all = "ABCDEFGHIJKLMNOPQRSTUVWXYZabcdefghijklmnopqrstuvwxyz0123456789 '()+,-./:=?";
-    assert!(rt; PrintableString::new(all).is_some());
-    Ok(())
+    let found = (
+        PrintableString::new("%").is_some(),
+        PrintableString::new("\0").is_some(),
+        PrintableString::new(all).is_some(),
+    );
+    same(found, (false, false, true))
 }
 
 #[test]
 fn ia5_strings(rt: HostRuntime) -> Result<(), Fail> {
-    let alloc = rt.alloc();
-    for characters in ["abc", ")", "", " ", "Test User 1"] {
+    const ROWS: &[(&str, &[u8])] = &[
+        ("abc", b"\x16\x03abc"),
+        (")", b"\x16\x01)"),
+        ("", b"\x16\x00"),
+        (" ", b"\x16\x01 "),
+        ("Test User 1", b"\x16\x0bTest User 1"),
+        (
+            LONG,
+            b"\x16\x81\x80xxxxxxxxxxxxxxxxxxxxxxxxxxxxxxxxxxxxxxxxxxxxxxxxxxxxxxxxxxxxxxxx\
+            xxxxxxxxxxxxxxxxxxxxxxxxxxxxxxxxxxxxxxxxxxxxxxxxxxxxxxxxxxxxxxxx",
+        ),
+    ];
+    for (characters, text) in ROWS {
         let value = IA5String::new(characters).ok_or(OTHER)?;
-        same(value.as_str(), characters)?;
-        let text = short_text(alloc, 0x16, characters)?;
-        is_written(alloc, &value, text.as_slice())?;
-        same(
-            &parse_single::<IA5String<'_>>(alloc, text.as_slice())?,
-            &value,
-        )?;
+        same(value.as_str(), *characters)?;
+        is_made(rt.alloc(), value, text)?;
     }
-    let value = IA5String::new(LONG).ok_or(OTHER)?;
-    is_written(alloc, &value, long_text(alloc, 0x16)?.as_slice())
+    Ok(())
 }
 
 #[test]
@@ -95,27 +91,32 @@ fn other_characters_are_not_ascii(rt: HostRuntime) -> Result<(), Fail> {
         rt.alloc(),
         &[&[0x16, 0x03, 0x61, 0x62, 0xff], &[0x16, 0x01, 0x80]],
     )?;
-    assert!(rt; IA5String::new("%").is_some());
-    assert!(rt; IA5String::new("😄").is_none());
+    let found = (IA5String::new("%").is_some(), IA5String::new("😄").is_some());
+    same(found, (true, false))?;
     let delete = parse_single::<IA5String<'_>>(rt.alloc(), &[0x16, 0x01, 0x7f])?;
     same(delete.as_str(), "\x7f")
 }
 
 #[test]
 fn visible_strings(rt: HostRuntime) -> Result<(), Fail> {
-    let alloc = rt.alloc();
-    for characters in ["abc", ")", "", " ", "Test User 1"] {
+    const ROWS: &[(&str, &[u8])] = &[
+        ("abc", b"\x1a\x03abc"),
+        (")", b"\x1a\x01)"),
+        ("", b"\x1a\x00"),
+        (" ", b"\x1a\x01 "),
+        ("Test User 1", b"\x1a\x0bTest User 1"),
+        (
+            LONG,
+            b"\x1a\x81\x80xxxxxxxxxxxxxxxxxxxxxxxxxxxxxxxxxxxxxxxxxxxxxxxxxxxxxxxxxxxxxxxx\
+            xxxxxxxxxxxxxxxxxxxxxxxxxxxxxxxxxxxxxxxxxxxxxxxxxxxxxxxxxxxxxxxx",
+        ),
+    ];
+    for (characters, text) in ROWS {
         let value = VisibleString::new(characters).ok_or(OTHER)?;
-        same(value.as_str(), characters)?;
-        let text = short_text(alloc, 0x1a, characters)?;
-        is_written(alloc, &value, text.as_slice())?;
-        same(
-            &parse_single::<VisibleString<'_>>(alloc, text.as_slice())?,
-            &value,
-        )?;
+        same(value.as_str(), *characters)?;
+        is_made(rt.alloc(), value, text)?;
     }
-    let value = VisibleString::new(LONG).ok_or(OTHER)?;
-    is_written(alloc, &value, long_text(alloc, 0x1a)?.as_slice())
+    Ok(())
 }
 
 #[test]
@@ -128,26 +129,33 @@ fn other_characters_are_not_visible(rt: HostRuntime) -> Result<(), Fail> {
             &[0x1a, 0x01, 0x1f],
         ],
     )?;
-    assert!(rt; VisibleString::new("\n").is_none());
-    assert!(rt; VisibleString::new("~").is_some());
-    Ok(())
+    let found = (
+        VisibleString::new("\n").is_some(),
+        VisibleString::new("~").is_some(),
+    );
+    same(found, (false, true))
 }
 
 #[test]
 fn utf8_strings(rt: HostRuntime) -> Result<(), Fail> {
-    let alloc = rt.alloc();
-    for characters in ["abc", ")", "", " ", "Test User 1"] {
+    const ROWS: &[(&str, &[u8])] = &[
+        ("abc", b"\x0c\x03abc"),
+        (")", b"\x0c\x01)"),
+        ("", b"\x0c\x00"),
+        (" ", b"\x0c\x01 "),
+        ("Test User 1", b"\x0c\x0bTest User 1"),
+        (
+            LONG,
+            b"\x0c\x81\x80xxxxxxxxxxxxxxxxxxxxxxxxxxxxxxxxxxxxxxxxxxxxxxxxxxxxxxxxxxxxxxxx\
+            xxxxxxxxxxxxxxxxxxxxxxxxxxxxxxxxxxxxxxxxxxxxxxxxxxxxxxxxxxxxxxxx",
+        ),
+    ];
+    for (characters, text) in ROWS {
         let value = Utf8String::new(characters);
-        same(value.as_str(), characters)?;
-        let text = short_text(alloc, 0x0c, characters)?;
-        is_written(alloc, &value, text.as_slice())?;
-        same(
-            &parse_single::<Utf8String<'_>>(alloc, text.as_slice())?,
-            &value,
-        )?;
+        same(value.as_str(), *characters)?;
+        is_hashed(rt.alloc(), value, text)?;
     }
-    let value = Utf8String::new(LONG);
-    is_written(alloc, &value, long_text(alloc, 0x0c)?.as_slice())
+    Ok(())
 }
 
 #[test]
@@ -162,24 +170,29 @@ fn other_octets_are_not_utf8(rt: HostRuntime) -> Result<(), Fail> {
 
 #[test]
 fn bmp_strings(rt: HostRuntime) -> Result<(), Fail> {
-    let alloc = rt.alloc();
-    let texts: [&[u8]; 3] = [
-        &[0x1e, 0x06, 0x00, 0x61, 0x00, 0x62, 0x00, 0x63],
-        &[0x1e, 0x04, 0xd8, 0x00, 0xdc, 0x00],
-        &[0x1e, 0x00],
+    const ROWS: &[(&[u8], &[u8])] = &[
+        (
+            &[0x1e, 0x06, 0x00, 0x61, 0x00, 0x62, 0x00, 0x63],
+            &[0x00, 0x61, 0x00, 0x62, 0x00, 0x63],
+        ),
+        (
+            &[0x1e, 0x04, 0xd8, 0x00, 0xdc, 0x00],
+            &[0xd8, 0x00, 0xdc, 0x00],
+        ),
+        (&[0x1e, 0x02, 0x00, 0x61], &[0x00, 0x61]),
+        (&[0x1e, 0x00], &[]),
     ];
-    for text in texts {
-        let value = parse_single::<BMPString<'_>>(alloc, text)?;
-        same(value.as_utf16_be_bytes(), &text[2..])?;
-        is_written(alloc, &value, text)?;
-        same(&BMPString::new(&text[2..]), &Some(value))?;
+    for (text, octets) in ROWS {
+        let value = BMPString::new(octets).ok_or(OTHER)?;
+        same(value.as_utf16_be_bytes(), *octets)?;
+        is_hashed(rt.alloc(), value, text)?;
     }
     Ok(())
 }
 
 #[test]
 fn other_octets_are_no_bmp_string(rt: HostRuntime) -> Result<(), Fail> {
-    let refused: [&[u8]; 6] = [
+    const REFUSED: &[&[u8]] = &[
         &[0x1e, 0x01, 0x61],
         &[0x1e, 0x04, 0xde, 0x7c, 0x58, 0x40],
         &[0x1e, 0x02, 0xde, 0x58],
@@ -187,35 +200,44 @@ fn other_octets_are_no_bmp_string(rt: HostRuntime) -> Result<(), Fail> {
         &[0x1e, 0x04, 0xd8, 0x00, 0xd8, 0x00],
         &[0x1e, 0x03, 0xd8, 0x00, 0xdc],
     ];
-    are_invalid::<BMPString<'_>>(rt.alloc(), &refused)?;
-    for text in refused {
-        same(&BMPString::new(&text[2..]), &None)?;
+    for text in REFUSED {
+        same(&BMPString::new(text.get(2..).unwrap_or(&[])), &None)?;
     }
-    Ok(())
+    are_invalid::<BMPString<'_>>(rt.alloc(), REFUSED)
 }
 
 #[test]
 fn universal_strings(rt: HostRuntime) -> Result<(), Fail> {
-    let alloc = rt.alloc();
-    let texts: [&[u8]; 3] = [
-        &[
-            0x1c, 0x0c, 0x00, 0x00, 0x00, 0x61, 0x00, 0x00, 0x00, 0x62, 0x00, 0x00, 0x00, 0x63,
-        ],
-        &[0x1c, 0x04, 0x00, 0x10, 0xff, 0xff],
-        &[0x1c, 0x00],
+    const ROWS: &[(&[u8], &[u8])] = &[
+        (
+            &[
+                0x1c, 0x0c, 0x00, 0x00, 0x00, 0x61, 0x00, 0x00, 0x00, 0x62, 0x00, 0x00, 0x00, 0x63,
+            ],
+            &[
+                0x00, 0x00, 0x00, 0x61, 0x00, 0x00, 0x00, 0x62, 0x00, 0x00, 0x00, 0x63,
+            ],
+        ),
+        (
+            &[0x1c, 0x04, 0x00, 0x10, 0xff, 0xff],
+            &[0x00, 0x10, 0xff, 0xff],
+        ),
+        (
+            &[0x1c, 0x04, 0x00, 0x00, 0x00, 0x61],
+            &[0x00, 0x00, 0x00, 0x61],
+        ),
+        (&[0x1c, 0x00], &[]),
     ];
-    for text in texts {
-        let value = parse_single::<UniversalString<'_>>(alloc, text)?;
-        same(value.as_utf32_be_bytes(), &text[2..])?;
-        is_written(alloc, &value, text)?;
-        same(&UniversalString::new(&text[2..]), &Some(value))?;
+    for (text, octets) in ROWS {
+        let value = UniversalString::new(octets).ok_or(OTHER)?;
+        same(value.as_utf32_be_bytes(), *octets)?;
+        is_hashed(rt.alloc(), value, text)?;
     }
     Ok(())
 }
 
 #[test]
 fn other_octets_are_no_universal_string(rt: HostRuntime) -> Result<(), Fail> {
-    let refused: [&[u8]; 6] = [
+    const REFUSED: &[&[u8]] = &[
         &[0x1c, 0x01, 0x61],
         &[0x1c, 0x02, 0x61, 0x62],
         &[0x1c, 0x03, 0x61, 0x62, 0x63],
@@ -223,11 +245,10 @@ fn other_octets_are_no_universal_string(rt: HostRuntime) -> Result<(), Fail> {
         &[0x1c, 0x04, 0x00, 0x11, 0x00, 0x00],
         &[0x1c, 0x04, 0x00, 0x00, 0xd8, 0x00],
     ];
-    are_invalid::<UniversalString<'_>>(rt.alloc(), &refused)?;
-    for text in refused {
-        same(&UniversalString::new(&text[2..]), &None)?;
+    for text in REFUSED {
+        same(&UniversalString::new(text.get(2..).unwrap_or(&[])), &None)?;
     }
-    Ok(())
+    are_invalid::<UniversalString<'_>>(rt.alloc(), REFUSED)
 }
 
 #[test]
@@ -252,33 +273,8 @@ fn texts_of_several_octets_are_shown_and_copied(rt: HostRuntime) -> Result<(), F
     is_shown_and_copied(alloc, &universal, "UniversalString([0, 0, 0, 97])")
 }
 
-#[test]
-fn equal_texts_hash_alike(rt: HostRuntime) -> Result<(), Fail> {
-    let alloc = rt.alloc();
-    let content = short_text(alloc, 0x0c, "abc")?;
-    let utf8 = parse_single::<Utf8String<'_>>(alloc, content.as_slice())?;
-    same(hash_of(&utf8), hash_of(&Utf8String::new("abc")))?;
-    let content = short_text(alloc, 0x13, "abc")?;
-    let printable = parse_single::<PrintableString<'_>>(alloc, content.as_slice())?;
-    let other = PrintableString::new("abc").ok_or(OTHER)?;
-    same(hash_of(&printable), hash_of(&other))
-}
-
-#[test]
-fn equal_wide_texts_hash_alike(rt: HostRuntime) -> Result<(), Fail> {
-    let alloc = rt.alloc();
-    let text: [u8; 4] = [0x1e, 0x02, 0x00, 0x61];
-    let bmp = parse_single::<BMPString<'_>>(alloc, &text)?;
-    let other = BMPString::new(&[0x00, 0x61]).ok_or(OTHER)?;
-    same(hash_of(&bmp), hash_of(&other))?;
-    let text: [u8; 6] = [0x1c, 0x04, 0x00, 0x00, 0x00, 0x61];
-    let universal = parse_single::<UniversalString<'_>>(alloc, &text)?;
-    let other = UniversalString::new(&[0x00, 0x00, 0x00, 0x61]).ok_or(OTHER)?;
-    same(hash_of(&universal), hash_of(&other))
-}
-
 /// Character strings that differ: in one character, in letters' case, in length, in the order of characters.
-const DIFFERENT: [(&str, &str); 5] = [
+const DIFFERENT: &[(&str, &str)] = &[
     ("abc", "abd"),
     ("abc", "aBc"),
     ("abc", "ab"),
@@ -286,22 +282,17 @@ const DIFFERENT: [(&str, &str); 5] = [
     ("ab", "ba"),
 ];
 
-#[test]
-fn other_texts_are_unequal() -> Result<(), Fail> {
-    for (text, other) in DIFFERENT {
-        let printable = PrintableString::new(text).ok_or(OTHER)?;
-        different(&printable, &PrintableString::new(other).ok_or(OTHER)?)?;
-        let ia5 = IA5String::new(text).ok_or(OTHER)?;
-        different(&ia5, &IA5String::new(other).ok_or(OTHER)?)?;
-    }
-    Ok(())
+/// Both values are there, and they differ.
+fn are_apart<T: PartialEq + Debug + Drop>(left: Option<T>, right: Option<T>) -> Result<(), Fail> {
+    different(&left.ok_or(OTHER)?, &right.ok_or(OTHER)?)
 }
 
 #[test]
-fn other_visible_and_utf8_texts_are_unequal() -> Result<(), Fail> {
+fn other_texts_are_unequal() -> Result<(), Fail> {
     for (text, other) in DIFFERENT {
-        let visible = VisibleString::new(text).ok_or(OTHER)?;
-        different(&visible, &VisibleString::new(other).ok_or(OTHER)?)?;
+        are_apart(PrintableString::new(text), PrintableString::new(other))?;
+        are_apart(IA5String::new(text), IA5String::new(other))?;
+        are_apart(VisibleString::new(text), VisibleString::new(other))?;
         different(&Utf8String::new(text), &Utf8String::new(other))?;
     }
     different(&Utf8String::new("ü"), &Utf8String::new("u"))
@@ -309,7 +300,7 @@ fn other_visible_and_utf8_texts_are_unequal() -> Result<(), Fail> {
 
 #[test]
 fn other_wide_texts_are_unequal() -> Result<(), Fail> {
-    let rows: [(&[u8], &[u8]); 4] = [
+    const ROWS: &[(&[u8], &[u8])] = &[
         (&[0x00, 0x00, 0x00, 0x61], &[0x00, 0x00, 0x00, 0x62]),
         (&[0x00, 0x00, 0x00, 0x61], &[0x00, 0x01, 0x00, 0x61]),
         (&[0x00, 0x00, 0x00, 0x61], &[]),
@@ -318,11 +309,9 @@ fn other_wide_texts_are_unequal() -> Result<(), Fail> {
             &[0x00, 0x00, 0x00, 0x61, 0x00, 0x00, 0x00, 0x61],
         ),
     ];
-    for (octets, other) in rows {
-        let bmp = BMPString::new(octets).ok_or(OTHER)?;
-        different(&bmp, &BMPString::new(other).ok_or(OTHER)?)?;
-        let universal = UniversalString::new(octets).ok_or(OTHER)?;
-        different(&universal, &UniversalString::new(other).ok_or(OTHER)?)?;
+    for (octets, other) in ROWS {
+        are_apart(BMPString::new(octets), BMPString::new(other))?;
+        are_apart(UniversalString::new(octets), UniversalString::new(other))?;
     }
     Ok(())
 }

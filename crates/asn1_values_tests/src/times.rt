@@ -1,13 +1,11 @@
 //! Times: elements from outside, and what is rejected.
 
-use asn1_core::{
-    Asn1Readable, Asn1Writable, ParseErrorKind, ParseResult, WriteError, parse_single,
-};
+use crate::made::is_hashed;
+use asn1_core::{ParseErrorKind, ParseResult};
 use asn1_values::values::{DateTime, GeneralizedTime, UtcTime, X509GeneralizedTime};
 use std::alloc::Global;
-use std::fmt::Debug;
 use std::test::Fail;
-use testing::{are_invalid, different, is_shown, is_written, kind_of, refused, same, same_at};
+use testing::{are_equal_or_not, are_invalid, is_shown, kind_of, refused, same, same_at};
 
 const INVALID: Option<ParseErrorKind> = Some(ParseErrorKind::InvalidValue);
 
@@ -19,22 +17,9 @@ fn date_of(numbers: Numbers) -> ParseResult<DateTime> {
     DateTime::new(year, month, day, hour, minute, second)
 }
 
-/// The time is written as the octets, and equals the time that they are read as, and a copy of that time.
-fn is_read_and_copied<
-    'a,
-    T: Asn1Readable<'a> + Asn1Writable<Error = WriteError> + Clone + PartialEq + Debug,
->(alloc: Global, time: &T, octets: &'a [u8]) -> Result<(), Fail>
-    requires { T.der.closures (T.der.meaning time.now) }
-{
-    is_written(alloc, time, octets)?;
-    let back = parse_single::<T>(alloc, octets)?;
-    same(&back, time)?;
-    same(&back.clone()?, time)
-}
-
 #[test]
 fn other_numbers_are_no_dates() -> Result<(), Fail> {
-    let rows: [(Numbers, Option<ParseErrorKind>); 7] = [
+    const ROWS: &[(Numbers, Option<ParseErrorKind>)] = &[
         ((2038, 13, 1, 12, 0, 0), INVALID),
         ((2000, 1, 1, 12, 60, 0), INVALID),
         ((2000, 1, 1, 12, 0, 60), INVALID),
@@ -43,67 +28,37 @@ fn other_numbers_are_no_dates() -> Result<(), Fail> {
         ((2024, 4, 31, 0, 0, 0), INVALID),
         ((2024, 2, 29, 0, 0, 0), None),
     ];
-    for (numbers, kind) in rows {
-        same_at(numbers, kind_of(date_of(numbers)), kind)?;
+    for (numbers, kind) in ROWS {
+        same_at(*numbers, kind_of(date_of(*numbers)), *kind)?;
     }
     Ok(())
 }
 
-/// Years, and whether each is a leap year.
-const YEARS: [(u16, bool); 6] = [
-    (1900, false),
-    (1999, false),
-    (2000, true),
-    (2004, true),
-    (2100, false),
-    (2400, true),
+/// Years, whether each is a leap year, and whether a `UTCTime` has it.
+const YEARS: &[(u16, bool, bool)] = &[
+    (1900, false, false),
+    (1999, false, true),
+    (2000, true, true),
+    (2004, true, true),
+    (2100, false, false),
+    (2400, true, false),
 ];
 
-/// Each month of a common year, its last day, and the day after that.
-const COMMON: [(u8, u8, u8); 12] = [
-    (1, 31, 32),
-    (2, 28, 29),
-    (3, 31, 32),
-    (4, 30, 31),
-    (5, 31, 32),
-    (6, 30, 31),
-    (7, 31, 32),
-    (8, 31, 32),
-    (9, 30, 31),
-    (10, 31, 32),
-    (11, 30, 31),
-    (12, 31, 32),
+/// Each month, its last day and the day after that in a common year, and the same in a leap year.
+const MONTHS: &[(u8, (u8, u8), (u8, u8))] = &[
+    (1, (31, 32), (31, 32)),
+    (2, (28, 29), (29, 30)),
+    (3, (31, 32), (31, 32)),
+    (4, (30, 31), (30, 31)),
+    (5, (31, 32), (31, 32)),
+    (6, (30, 31), (30, 31)),
+    (7, (31, 32), (31, 32)),
+    (8, (31, 32), (31, 32)),
+    (9, (30, 31), (30, 31)),
+    (10, (31, 32), (31, 32)),
+    (11, (30, 31), (30, 31)),
+    (12, (31, 32), (31, 32)),
 ];
-
-/// The same of a leap year.
-const LEAP: [(u8, u8, u8); 12] = [
-    (1, 31, 32),
-    (2, 29, 30),
-    (3, 31, 32),
-    (4, 30, 31),
-    (5, 31, 32),
-    (6, 30, 31),
-    (7, 31, 32),
-    (8, 31, 32),
-    (9, 30, 31),
-    (10, 31, 32),
-    (11, 30, 31),
-    (12, 31, 32),
-];
-
-#[test]
-fn dates_at_the_end_of_a_month() -> Result<(), Fail> {
-    for (year, is_leap) in YEARS {
-        for (month, last, behind) in if is_leap { LEAP } else { COMMON } {
-            let kinds = [
-                kind_of(DateTime::new(year, month, last, 0, 0, 0)),
-                kind_of(DateTime::new(year, month, behind, 0, 0, 0)),
-            ];
-            same_at((year, month), kinds, [None, INVALID])?;
-        }
-    }
-    Ok(())
-}
 
 /// The element of a time with a year of four digits, at midnight.
 fn general_text(alloc: Global, year: u16, month: u8, day: u8) -> Result<Vec<u8>, Fail> {
@@ -122,37 +77,49 @@ fn utc_text(alloc: Global, year: u16, month: u8, day: u8) -> Result<Vec<u8>, Fai
     Ok(text)
 }
 
-#[test]
-fn times_at_the_end_of_a_month(rt: HostRuntime) -> Result<(), Fail> {
-    let alloc = rt.alloc();
-    for (year, is_leap) in YEARS {
-        for (month, last, behind) in if is_leap { LEAP } else { COMMON } {
-            let text = general_text(alloc, year, month, last)?;
-            let other = general_text(alloc, year, month, behind)?;
-            let kinds = [
-                refused::<X509GeneralizedTime>(alloc, text.as_slice()),
-                refused::<X509GeneralizedTime>(alloc, other.as_slice()),
-                refused::<GeneralizedTime>(alloc, text.as_slice()),
-                refused::<GeneralizedTime>(alloc, other.as_slice()),
-            ];
-            same_at((year, month), kinds, [None, INVALID, None, INVALID])?;
-        }
-    }
-    Ok(())
+/// Why there is no such date, and why no type of times reads it.
+fn kinds(
+    alloc: Global,
+    year: u16,
+    month: u8,
+    day: u8,
+) -> Result<[Option<ParseErrorKind>; 3], Fail> {
+    let text = general_text(alloc, year, month, day)?;
+    Ok([
+        kind_of(DateTime::new(year, month, day, 0, 0, 0)),
+        refused::<X509GeneralizedTime>(alloc, text.as_slice()),
+        refused::<GeneralizedTime>(alloc, text.as_slice()),
+    ])
+}
+
+/// The last day of a month is one, and the day after it isn't.
+fn compare_month(alloc: Global, year: u16, month: u8, days: (u8, u8)) -> Result<(), Fail> {
+    let found = (
+        kinds(alloc, year, month, days.0)?,
+        kinds(alloc, year, month, days.1)?,
+    );
+    same_at((year, month), found, ([None; 3], [INVALID; 3]))
+}
+
+/// The same of a `UTCTime`.
+fn compare_utc_month(alloc: Global, year: u16, month: u8, days: (u8, u8)) -> Result<(), Fail> {
+    let last = utc_text(alloc, year, month, days.0)?;
+    let found = refused::<UtcTime>(alloc, last.as_slice());
+    same_at((year, month), found, None)?;
+    let behind = utc_text(alloc, year, month, days.1)?;
+    let found = refused::<UtcTime>(alloc, behind.as_slice());
+    same_at((year, month), found, INVALID)
 }
 
 #[test]
-fn utc_times_at_the_end_of_a_month(rt: HostRuntime) -> Result<(), Fail> {
-    let alloc = rt.alloc();
-    for (year, is_leap) in [(1999, false), (2000, true), (2004, true)] {
-        for (month, last, behind) in if is_leap { LEAP } else { COMMON } {
-            let text = utc_text(alloc, year, month, last)?;
-            let other = utc_text(alloc, year, month, behind)?;
-            let kinds = [
-                refused::<UtcTime>(alloc, text.as_slice()),
-                refused::<UtcTime>(alloc, other.as_slice()),
-            ];
-            same_at((year, month), kinds, [None, INVALID])?;
+fn times_at_the_end_of_a_month(rt: HostRuntime) -> Result<(), Fail> {
+    for (year, is_leap, is_utc) in YEARS {
+        for (month, common, leap) in MONTHS {
+            let days = if *is_leap { *leap } else { *common };
+            compare_month(rt.alloc(), *year, *month, days)?;
+            if *is_utc {
+                compare_utc_month(rt.alloc(), *year, *month, days)?;
+            }
         }
     }
     Ok(())
@@ -161,69 +128,63 @@ fn utc_times_at_the_end_of_a_month(rt: HostRuntime) -> Result<(), Fail> {
 #[test]
 fn dates() -> Result<(), Fail> {
     let date = DateTime::new(2009, 11, 15, 22, 56, 16)?;
-    same((date.year(), date.month(), date.day()), (2009, 11, 15))?;
-    same((date.hour(), date.minute(), date.second()), (22, 56, 16))?;
+    let day = (date.year(), date.month(), date.day());
+    let time = (date.hour(), date.minute(), date.second());
+    same((day, time), ((2009, 11, 15), (22, 56, 16)))?;
     same(&date.clone()?, &date)
 }
 
-#[test]
-fn dates_in_order(rt: HostRuntime) -> Result<(), Fail> {
-    let point = DateTime::new(2023, 6, 15, 14, 26, 5)?;
-    let later: [Numbers; 6] = [
-        (2023, 6, 15, 14, 26, 6),
-        (2023, 6, 15, 14, 27, 5),
-        (2023, 6, 15, 15, 26, 5),
-        (2023, 6, 16, 14, 26, 5),
-        (2023, 7, 15, 14, 26, 5),
-        (2024, 6, 15, 14, 26, 5),
-    ];
-    for numbers in later {
-        assert!(rt; point < date_of(numbers)?, "{numbers:?}");
-    }
-    Ok(())
-}
+/// Dates that differ from 2023-06-15 14:26:05 in one number, and whether they come after it.
+const OTHERS: &[(Numbers, bool)] = &[
+    ((2023, 6, 15, 14, 26, 6), true),
+    ((2023, 6, 15, 14, 27, 5), true),
+    ((2023, 6, 15, 15, 26, 5), true),
+    ((2023, 6, 16, 14, 26, 5), true),
+    ((2023, 7, 15, 14, 26, 5), true),
+    ((2024, 6, 15, 14, 26, 5), true),
+    ((2023, 6, 15, 14, 26, 4), false),
+    ((2023, 6, 15, 14, 25, 5), false),
+    ((2023, 6, 15, 13, 26, 5), false),
+    ((2023, 6, 14, 14, 26, 5), false),
+    ((2023, 5, 15, 14, 26, 5), false),
+    ((2022, 6, 15, 14, 26, 5), false),
+];
 
 #[test]
-fn dates_in_falling_order(rt: HostRuntime) -> Result<(), Fail> {
+fn dates_in_order() -> Result<(), Fail> {
     let point = DateTime::new(2023, 6, 15, 14, 26, 5)?;
-    let earlier: [Numbers; 6] = [
-        (2023, 6, 15, 14, 26, 4),
-        (2023, 6, 15, 14, 25, 5),
-        (2023, 6, 15, 13, 26, 5),
-        (2023, 6, 14, 14, 26, 5),
-        (2023, 5, 15, 14, 26, 5),
-        (2022, 6, 15, 14, 26, 5),
-    ];
-    for numbers in earlier {
-        assert!(rt; point > date_of(numbers)?, "{numbers:?}");
+    for (numbers, is_later) in OTHERS {
+        let other = date_of(*numbers)?;
+        let found = (point < other, point > other, point == other);
+        same_at(*numbers, found, (*is_later, !*is_later, false))?;
     }
     Ok(())
 }
 
 #[test]
 fn utc_times(rt: HostRuntime) -> Result<(), Fail> {
-    let alloc = rt.alloc();
-    let rows: [(&[u8], Numbers); 5] = [
+    const ROWS: &[(&[u8], Numbers)] = &[
         (b"\x17\x0d910506234540Z", (1991, 5, 6, 23, 45, 40)),
         (b"\x17\x0d700101000000Z", (1970, 1, 1, 0, 0, 0)),
         (b"\x17\x0d091115225616Z", (2009, 11, 15, 22, 56, 16)),
         (b"\x17\x0d500101000000Z", (1950, 1, 1, 0, 0, 0)),
         (b"\x17\x0d491231235959Z", (2049, 12, 31, 23, 59, 59)),
     ];
-    for (octets, numbers) in rows {
-        let time = UtcTime::new(date_of(numbers)?)?;
-        is_read_and_copied(alloc, &time, octets)?;
-        let back = parse_single::<UtcTime>(alloc, octets)?;
-        same(back.as_datetime(), time.as_datetime())?;
+    for (octets, numbers) in ROWS {
+        let date = date_of(*numbers)?;
+        let time = UtcTime::new(date.clone()?)?;
+        same(time.as_datetime(), &date)?;
+        is_hashed(rt.alloc(), time, octets)?;
     }
     Ok(())
 }
 
 #[test]
 fn other_years_have_no_utc_time() -> Result<(), Fail> {
-    for year in [1949, 2050, 2100] {
-        let date = DateTime::new(year, 1, 1, 12, 0, 0)?;
-        same_at(year, kind_of(UtcTime::new(date)), INVALID)?;
+    const YEARS: &[u16] = &[1949, 2050, 2100];
+    for year in YEARS {
+        let date = DateTime::new(*year, 1, 1, 12, 0, 0)?;
+        same_at(*year, kind_of(UtcTime::new(date)), INVALID)?;
     }
     Ok(())
 }
@@ -281,8 +242,7 @@ fn other_numbers_are_no_utc_times(rt: HostRuntime) -> Result<(), Fail> {
 
 #[test]
 fn times_without_a_fraction(rt: HostRuntime) -> Result<(), Fail> {
-    let alloc = rt.alloc();
-    let rows: [(&[u8], Numbers); 7] = [
+    const ROWS: &[(&[u8], Numbers)] = &[
         (b"\x18\x0f19910506234540Z", (1991, 5, 6, 23, 45, 40)),
         (b"\x18\x0f19700101000000Z", (1970, 1, 1, 0, 0, 0)),
         (b"\x18\x0f20091115225616Z", (2009, 11, 15, 22, 56, 16)),
@@ -291,11 +251,11 @@ fn times_without_a_fraction(rt: HostRuntime) -> Result<(), Fail> {
         (b"\x18\x0f20000229000000Z", (2000, 2, 29, 0, 0, 0)),
         (b"\x18\x0f00000101000000Z", (0, 1, 1, 0, 0, 0)),
     ];
-    for (octets, numbers) in rows {
-        let time = X509GeneralizedTime::new(date_of(numbers)?)?;
-        is_read_and_copied(alloc, &time, octets)?;
-        let back = parse_single::<X509GeneralizedTime>(alloc, octets)?;
-        same(back.as_datetime(), time.as_datetime())?;
+    for (octets, numbers) in ROWS {
+        let date = date_of(*numbers)?;
+        let time = X509GeneralizedTime::new(date.clone()?)?;
+        same(time.as_datetime(), &date)?;
+        is_hashed(rt.alloc(), time, octets)?;
     }
     Ok(())
 }
@@ -374,8 +334,7 @@ fn other_numbers_are_no_times(rt: HostRuntime) -> Result<(), Fail> {
 
 #[test]
 fn times_with_a_fraction(rt: HostRuntime) -> Result<(), Fail> {
-    let alloc = rt.alloc();
-    let rows: [(&[u8], Numbers, Option<u32>); 8] = [
+    const ROWS: &[(&[u8], Numbers, Option<u32>)] = &[
         (
             b"\x18\x1919910506234540.000001234Z",
             (1991, 5, 6, 23, 45, 40),
@@ -413,14 +372,14 @@ fn times_with_a_fraction(rt: HostRuntime) -> Result<(), Fail> {
             Some(1),
         ),
     ];
-    for (octets, numbers, nanoseconds) in rows {
-        let time = GeneralizedTime::new(date_of(numbers)?, nanoseconds)?;
-        is_read_and_copied(alloc, &time, octets)?;
-        let back = parse_single::<GeneralizedTime>(alloc, octets)?;
+    for (octets, numbers, nanoseconds) in ROWS {
+        let date = date_of(*numbers)?;
+        let time = GeneralizedTime::new(date.clone()?, *nanoseconds)?;
         same(
-            (back.as_datetime(), back.nanoseconds()),
-            (time.as_datetime(), nanoseconds),
+            (time.as_datetime(), time.nanoseconds()),
+            (&date, *nanoseconds),
         )?;
+        is_hashed(rt.alloc(), time, octets)?;
     }
     Ok(())
 }
@@ -441,7 +400,7 @@ fn other_fractions_are_refused(rt: HostRuntime) -> Result<(), Fail> {
 
 #[test]
 fn nanoseconds_of_a_second() -> Result<(), Fail> {
-    let rows = [
+    const ROWS: &[(Option<u32>, Option<ParseErrorKind>)] = &[
         (None, None),
         (Some(1234), None),
         (Some(999_999_999), None),
@@ -449,58 +408,68 @@ fn nanoseconds_of_a_second() -> Result<(), Fail> {
         (Some(1_000_000_000), INVALID),
         (Some(1_000_000_001), INVALID),
     ];
-    for (nanoseconds, kind) in rows {
+    for (nanoseconds, kind) in ROWS {
         let date = DateTime::new(2015, 6, 30, 23, 59, 59)?;
-        let found = kind_of(GeneralizedTime::new(date, nanoseconds));
-        same_at(nanoseconds, found, kind)?;
+        let found = kind_of(GeneralizedTime::new(date, *nanoseconds));
+        same_at(*nanoseconds, found, *kind)?;
     }
     let late = DateTime::new(10000, 1, 1, 0, 0, 0)?;
     same(kind_of(GeneralizedTime::new(late, None)), INVALID)
 }
 
 #[test]
-fn fractions_in_order(rt: HostRuntime) -> Result<(), Fail> {
+fn fractions_in_order() -> Result<(), Fail> {
     let date = DateTime::new(2015, 6, 30, 23, 59, 59)?;
     let point = GeneralizedTime::new(date.clone()?, Some(1234))?;
     let other_year = DateTime::new(2023, 6, 30, 23, 59, 59)?;
-    assert!(rt; point < GeneralizedTime::new(other_year, Some(1234))?);
-    assert!(rt; point < GeneralizedTime::new(date.clone()?, Some(1235))?);
-    assert!(rt; point > GeneralizedTime::new(date, None)?);
-    Ok(())
+    let other_year = GeneralizedTime::new(other_year, Some(1234))?;
+    let behind = GeneralizedTime::new(date.clone()?, Some(1235))?;
+    let before = GeneralizedTime::new(date, None)?;
+    let found = (point < other_year, point < behind, point > before);
+    same(found, (true, true, true))
 }
 
 #[test]
-fn other_times_are_unequal() -> Result<(), Fail> {
-    let point = DateTime::new(2023, 6, 15, 14, 26, 5)?;
-    let others: [Numbers; 6] = [
-        (2024, 6, 15, 14, 26, 5),
-        (2023, 7, 15, 14, 26, 5),
-        (2023, 6, 16, 14, 26, 5),
-        (2023, 6, 15, 15, 26, 5),
-        (2023, 6, 15, 14, 27, 5),
-        (2023, 6, 15, 14, 26, 6),
-    ];
-    let utc = UtcTime::new(point.clone()?)?;
-    let x509 = X509GeneralizedTime::new(point.clone()?)?;
-    for numbers in others {
-        let other = date_of(numbers)?;
-        different(&other, &point)?;
-        different(&UtcTime::new(other.clone()?)?, &utc)?;
-        different(&X509GeneralizedTime::new(other)?, &x509)?;
-    }
-    Ok(())
+fn other_times_are_unequal(rt: HostRuntime) -> Result<(), Fail> {
+    const UTC: &[u8] = b"\x17\x0d230615142605Z";
+    are_equal_or_not::<UtcTime>(
+        rt.alloc(),
+        &[
+            (UTC, b"\x17\x0d240615142605Z", false),
+            (UTC, b"\x17\x0d230715142605Z", false),
+            (UTC, b"\x17\x0d230616142605Z", false),
+            (UTC, b"\x17\x0d230615152605Z", false),
+            (UTC, b"\x17\x0d230615142705Z", false),
+            (UTC, b"\x17\x0d230615142606Z", false),
+        ],
+    )?;
+    const X509: &[u8] = b"\x18\x0f20230615142605Z";
+    are_equal_or_not::<X509GeneralizedTime>(
+        rt.alloc(),
+        &[
+            (X509, b"\x18\x0f20240615142605Z", false),
+            (X509, b"\x18\x0f20230715142605Z", false),
+            (X509, b"\x18\x0f20230616142605Z", false),
+            (X509, b"\x18\x0f20230615152605Z", false),
+            (X509, b"\x18\x0f20230615142705Z", false),
+            (X509, b"\x18\x0f20230615142606Z", false),
+        ],
+    )
 }
 
 #[test]
-fn other_fractions_are_unequal() -> Result<(), Fail> {
-    let date = DateTime::new(2023, 6, 15, 14, 26, 5)?;
-    let point = GeneralizedTime::new(date.clone()?, Some(1234))?;
-    for nanoseconds in [None, Some(1), Some(1235), Some(123_400_000)] {
-        let other = GeneralizedTime::new(date.clone()?, nanoseconds)?;
-        different(&other, &point)?;
-    }
-    let later = DateTime::new(2023, 6, 15, 14, 26, 6)?;
-    different(&GeneralizedTime::new(later, Some(1234))?, &point)
+fn other_fractions_are_unequal(rt: HostRuntime) -> Result<(), Fail> {
+    const POINT: &[u8] = b"\x18\x1920230615142605.000001234Z";
+    are_equal_or_not::<GeneralizedTime>(
+        rt.alloc(),
+        &[
+            (POINT, b"\x18\x0f20230615142605Z", false),
+            (POINT, b"\x18\x1920230615142605.000000001Z", false),
+            (POINT, b"\x18\x1920230615142605.000001235Z", false),
+            (POINT, b"\x18\x1420230615142605.1234Z", false),
+            (POINT, b"\x18\x1920230615142606.000001234Z", false),
+        ],
+    )
 }
 
 #[test]

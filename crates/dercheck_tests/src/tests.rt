@@ -8,7 +8,6 @@ mod bag;
 mod changed;
 mod frames;
 mod nested;
-mod nothing;
 mod notice;
 mod own_types;
 mod parcel;
@@ -243,7 +242,7 @@ const LISTS: &[(&str, &str)] = &[
 ];
 
 /// The output before, the input, the output after, and whether each reply is `ok`.
-const INPUTS: [(&str, &str, &str, bool); 8] = [
+const INPUTS: &[(&str, &str, &str, bool)] = &[
     ("", "", "", true),
     ("before", "", "before", true),
     ("", "\n", "bad line\n", false),
@@ -372,32 +371,35 @@ fn fronts_of_elements(rt: HostRuntime) -> Result<(), Fail> {
 fn each_input(rt: HostRuntime) -> Result<(), Fail> {
     for (before, input, after, all_ok) in INPUTS {
         let (out, was_ok) = answered(rt.alloc(), before, input)?;
-        same_at(input, out.as_slice(), after.as_bytes())?;
-        same_at(input, was_ok, all_ok)?;
+        same_at(*input, out.as_slice(), after.as_bytes())?;
+        same_at(*input, was_ok, *all_ok)?;
     }
     Ok(())
 }
 
+/// Kinds, and the words of each.
+const KINDS: &[(ParseErrorKind, &str)] = &[
+    (
+        ParseErrorKind::InvalidSize {
+            min: 1,
+            max: 20,
+            actual: 0,
+        },
+        "InvalidSize 1 20 0",
+    ),
+    (ParseErrorKind::IntegerOverflow, "IntegerOverflow"),
+    (ParseErrorKind::InvalidSetOrdering, "InvalidSetOrdering"),
+    (ParseErrorKind::EncodedDefault, "EncodedDefault"),
+    (ParseErrorKind::OidTooLong, "OidTooLong"),
+    (ParseErrorKind::UnknownDefinedBy, "UnknownDefinedBy"),
+    (ParseErrorKind::AllocationError, "AllocationError"),
+];
+
 #[test]
 fn other_kinds(rt: HostRuntime) -> Result<(), Fail> {
-    for (kind, text) in [
-        (
-            ParseErrorKind::InvalidSize {
-                min: 1,
-                max: 20,
-                actual: 0,
-            },
-            "InvalidSize 1 20 0",
-        ),
-        (ParseErrorKind::IntegerOverflow, "IntegerOverflow"),
-        (ParseErrorKind::InvalidSetOrdering, "InvalidSetOrdering"),
-        (ParseErrorKind::EncodedDefault, "EncodedDefault"),
-        (ParseErrorKind::OidTooLong, "OidTooLong"),
-        (ParseErrorKind::UnknownDefinedBy, "UnknownDefinedBy"),
-        (ParseErrorKind::AllocationError, "AllocationError"),
-    ] {
+    for (kind, text) in KINDS {
         let mut out = Vec::new(rt.alloc());
-        kinds::push_kind(&mut out, kind)?;
+        kinds::push_kind(&mut out, *kind)?;
         same(out.as_slice(), text.as_bytes())?;
     }
     Ok(())
@@ -413,20 +415,26 @@ fn modes(rt: HostRuntime) -> Result<(), Fail> {
     all_same(&[(mode(&args), None), (mode(&args[1..]), None)])
 }
 
+/// How a run ended, and its status.
+const STATUSES: &[(Option<Result<bool, Fault>>, u8)] = &[
+    (Some(Ok(true)), 0),
+    (Some(Ok(false)), 1),
+    (Some(Err(Fault::Memory)), 2),
+    (Some(Err(Fault::Read)), 2),
+    (Some(Err(Fault::Write)), 2),
+    (None, 2),
+];
+
 #[test]
 fn statuses() -> Result<(), Fail> {
-    all_same(&[
-        (status(Some(Ok(true))), 0),
-        (status(Some(Ok(false))), 1),
-        (status(Some(Err(Fault::Memory))), 2),
-        (status(Some(Err(Fault::Read))), 2),
-        (status(Some(Err(Fault::Write))), 2),
-        (status(None), 2),
-    ])
+    for (ended, number) in STATUSES {
+        same_at(*ended, status(*ended), *number)?;
+    }
+    Ok(())
 }
 
 /// An enumerated value of one octet.
-#[derive(Clone, Copy, Debug, PartialEq, Eq)]
+#[derive(PartialEq, Drop)]
 struct Code(u8);
 
 impl Asn1Type for Code {

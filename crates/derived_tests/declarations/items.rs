@@ -34,15 +34,15 @@ pub enum Content {
 }
 
 /// What any identifier defines.
-#[derive(asn1::Asn1DefinedByRead, asn1::Asn1DefinedByWrite, Debug, Clone, PartialEq, Eq, Hash)]
+#[derive(asn1::Asn1DefinedByRead, asn1::Asn1DefinedByWrite, Clone, PartialEq)]
 pub enum AnyContent<'a> {
-    /// Octets.
+    /// Fields with tags, whose encoding is in an octet string.
     #[defined_by(SOME_OID)]
-    Octets(&'a [u8]),
-    /// A number under a tag around its own.
+    Tagged(asn1::OctetStringEncoded<Tagged<'a>>),
+    /// Numbers under a tag around the list's own.
     #[defined_by(OTHER_OID)]
     #[explicit(1)]
-    Number(u32),
+    Numbers(asn1::SequenceOf<'a, u64>),
     /// A flag, or none.
     #[defined_by(SHA256_WITH_RSA)]
     Flag(Option<bool>),
@@ -52,7 +52,7 @@ pub enum AnyContent<'a> {
 }
 
 /// An identifier, and what it defines, whatever it is.
-#[derive(asn1::Asn1Read, asn1::Asn1Write, Debug, Clone, PartialEq, Eq, Hash)]
+#[derive(asn1::Asn1Read, asn1::Asn1Write)]
 pub struct AnySequence<'a> {
     /// The identifier, which the content tells.
     pub content_type: asn1::DefinedByMarker<asn1::ObjectIdentifier>,
@@ -61,21 +61,8 @@ pub struct AnySequence<'a> {
     pub content: AnyContent<'a>,
 }
 
-/// An identifier, whether its content has to be known, and the content, as in an extension of a certificate.
-#[derive(asn1::Asn1Read, asn1::Asn1Write, Debug, Clone, PartialEq, Eq, Hash)]
-pub struct Notice {
-    /// The identifier, which the content tells.
-    pub kind: asn1::DefinedByMarker<asn1::ObjectIdentifier>,
-    /// Whether the content has to be known, false by default.
-    #[default(false)]
-    pub critical: bool,
-    /// The content.
-    #[defined_by(kind)]
-    pub content: Content,
-}
-
 /// Two fields between an identifier and what it defines, one before both, and one after.
-#[derive(asn1::Asn1Read, asn1::Asn1Write, Debug, Clone, PartialEq, Eq, Hash)]
+#[derive(asn1::Asn1Read, asn1::Asn1Write, PartialEq)]
 pub struct Letter {
     /// A number.
     pub number: u64,
@@ -94,26 +81,23 @@ pub struct Letter {
     pub is_read: bool,
 }
 
-/// Numbers, or any other content, before a note.
-#[derive(asn1::Asn1DefinedByRead, asn1::Asn1DefinedByWrite, Debug, Clone, PartialEq, Eq)]
+/// A number, or any other content.
+#[derive(asn1::Asn1DefinedByRead, asn1::Asn1DefinedByWrite, PartialEq)]
 pub enum Listed<'a> {
-    /// Fields with tags, whose encoding is in an octet string.
+    /// A number.
     #[defined_by(SOME_OID)]
-    Tagged(asn1::OctetStringEncoded<Tagged<'a>>),
-    /// Numbers.
-    #[defined_by(OTHER_OID)]
-    Numbers(asn1::SequenceOf<'a, u64>),
+    Number(i32),
     /// Every other identifier, and its value.
     #[default]
     Unknown(asn1::ObjectIdentifier, asn1::Tlv<'a>),
 }
 
 /// An identifier, what it defines under a tag, and a note.
-#[derive(asn1::Asn1Read, asn1::Asn1Write, Debug, PartialEq, Eq)]
+#[derive(asn1::Asn1Read, asn1::Asn1Write, PartialEq)]
 pub struct Entry<'a> {
-    /// The identifier, which the list tells.
+    /// The identifier, which the content tells.
     pub kind: asn1::DefinedByMarker<asn1::ObjectIdentifier>,
-    /// The list, or another content.
+    /// The content.
     #[explicit(3, required = true)]
     #[defined_by(kind)]
     pub listed: Listed<'a>,

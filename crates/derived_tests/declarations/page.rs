@@ -3,7 +3,7 @@
 use asn1::{Asn1Read, Asn1Write};
 
 /// Two numbers, by plain names.
-#[derive(Asn1Read, Asn1Write, Debug, Clone, Copy, PartialEq, Eq, Hash)]
+#[derive(Asn1Read, Asn1Write, Clone, Copy, PartialEq)]
 pub struct Signature {
     /// The first.
     pub r: u64,
@@ -12,21 +12,12 @@ pub struct Signature {
 }
 
 /// No fields.
-#[derive(Asn1Read, Asn1Write, Debug, Clone, PartialEq, Eq, Hash)]
+#[derive(Asn1Read, Asn1Write, PartialEq)]
 pub struct Nothing {}
 
 /// Fields with tags and defaults.
-#[derive(asn1::Asn1Read, asn1::Asn1Write, Debug, Clone, PartialEq, Eq, Hash)]
+#[derive(asn1::Asn1Read, asn1::Asn1Write, Clone, PartialEq)]
 pub struct Tagged<'a> {
-    /// Octets under a tag in place of their own.
-    #[implicit(0)]
-    pub octets: Option<&'a [u8]>,
-    /// A number under a tag around its own.
-    #[explicit(1)]
-    pub number: Option<u64>,
-    /// A flag, false by default.
-    #[default(false)]
-    pub critical: bool,
     /// The version, 1 by default.
     #[explicit(2)]
     #[default(1u8)]
@@ -58,14 +49,14 @@ pub enum ResponderId<'a> {
 }
 
 /// A choice in a structure, which may be missing.
-#[derive(asn1::Asn1Read, asn1::Asn1Write, Debug, PartialEq, Eq)]
+#[derive(asn1::Asn1Read, asn1::Asn1Write)]
 pub struct Alternative<'a> {
     /// Who answers, if anyone does.
     pub responder: Option<ResponderId<'a>>,
 }
 
 /// Whether a bag is full, and the numbers in the bag, which is made in code and only written.
-#[derive(asn1::Asn1Write, Debug, Clone, PartialEq, Eq, Hash)]
+#[derive(asn1::Asn1Write)]
 pub struct Bag<'a> {
     /// Whether it is full.
     pub full: bool,

@@ -1,5 +1,5 @@
 //! Values that an item before them defines: each attribute of the original's derives for them, once.
-// Printed by scripts/derive from declarations/items.rs, with the sum 04cf82ef.
+// Printed by scripts/derive from declarations/items.rs, with the sum 24eb6649.
 
 ghost use Rattle.std.specs.Prelude.{◌≡◌, ◌⊎◌, ◌∷◌, [], codes, true, false, ⊤, MatchOption, OnErr};
 ghost use Rattle.std.specs.Str.{bytes_eq};
@@ -194,7 +194,7 @@ impl Asn1DefinedByWritable<ObjectIdentifier> for Content {
 }
 
 /// An identifier that no other variant of `AnyContent` is for, and the value.
-#[derive(Debug, PartialEq, Eq, Hash, Drop)]
+#[derive(PartialEq, Drop)]
 pub struct AnyContentUnknown<'a> {
     item: ObjectIdentifier,
     value: Tlv<'a>,
@@ -250,12 +250,12 @@ impl<'a> Clone for AnyContentUnknown<'a> {
 }
 
 /// What any identifier defines.
-#[derive(Debug, Clone, PartialEq, Eq, Hash, Drop)]
+#[derive(Clone, PartialEq, Drop)]
 pub enum AnyContent<'a> {
-    /// Octets.
-    Octets(&'a [u8]),
-    /// A number under a tag around its own.
-    Number(u32),
+    /// Fields with tags, whose encoding is in an octet string.
+    Tagged(OctetStringEncoded<Tagged<'a>>),
+    /// Numbers under a tag around the list's own.
+    Numbers(SequenceOf<'a, u64, 0, { usize::MAX }>),
     /// A flag, or none.
     Flag(Option<bool>),
     /// Every other identifier, and its value.
@@ -263,17 +263,20 @@ pub enum AnyContent<'a> {
 }
 
 impl<'a> Asn1DefinedBy<ObjectIdentifier> for AnyContent<'a> {
-    ghost use Rattle.derived_tests.specs.declared.items.AnyContent.TheVariants.{Octets, Number, Flag, Unknown};
+    ghost use Rattle.derived_tests.specs.declared.items.AnyContent.TheVariants.{Tagged, Numbers, Flag, Unknown};
 
     ghost by = { by_item (record {
       item = ⟦<ObjectIdentifier as Asn1Type>⟧.der;
-      value = or_variant (identifier_with SOME_OID_NUMBERS) ⟦<&'a [u8] as Asn1Type>⟧.der (or_variant
-          (identifier_with OTHER_OID_NUMBERS) ⟦<Explicit<u32, 1> as Asn1Type>⟧.der (or_variant
+      value = or_variant (identifier_with SOME_OID_NUMBERS)
+          ⟦<OctetStringEncoded<Tagged<'a>> as Asn1Type>⟧.der (or_variant (identifier_with
+          OTHER_OID_NUMBERS)
+          ⟦<Explicit<SequenceOf<'a, u64, 0, 18446744073709551615>, 1> as Asn1Type>⟧.der (or_variant
           (identifier_with SHA256_WITH_RSA_NUMBERS) ⟦<Option<bool> as Asn1Type>⟧.der (any_variant
           ⟦<Tlv<'a> as Asn1Type>⟧.der (λ m. m)) (λ m. m)) (λ m. m)) (elim [
-            | Octets x ↦ inl
-                (⟦<&'a [u8] as Asn1Type>⟧.der.meaning x)
-            | Number x ↦ inr (inl (⟦<u32 as Asn1Type>⟧.der.meaning x))
+            | Tagged x ↦ inl
+                (⟦<OctetStringEncoded<Tagged<'a>> as Asn1Type>⟧.der.meaning x)
+            | Numbers x ↦ inr (inl
+                (⟦<SequenceOf<'a, u64, 0, 18446744073709551615> as Asn1Type>⟧.der.meaning x))
             | Flag x ↦ inr (inr (inl (⟦<Option<bool> as Asn1Type>⟧.der.meaning x)))
             | Unknown x ↦ inr (inr (inr (
               ⟦<ObjectIdentifier as Asn1Type>⟧.der.meaning x.item,
@@ -284,8 +287,8 @@ impl<'a> Asn1DefinedBy<ObjectIdentifier> for AnyContent<'a> {
 
     fn known_by(&self) {
         match self {
-            AnyContent::Octets(x) => x.known(),
-            AnyContent::Number(x) => x.known(),
+            AnyContent::Tagged(x) => x.known(),
+            AnyContent::Numbers(x) => x.known(),
             AnyContent::Flag(x) => x.known(),
             AnyContent::Unknown(x) => x.value.known(),
         }
@@ -300,8 +303,8 @@ impl<'a> DefinedField<ObjectIdentifier> for AnyContent<'a> {
 
     fn known_item(&self) {
         match self {
-            AnyContent::Octets(_) => some_oid().known(),
-            AnyContent::Number(_) => other_oid().known(),
+            AnyContent::Tagged(_) => some_oid().known(),
+            AnyContent::Numbers(_) => other_oid().known(),
             AnyContent::Flag(_) => sha256_with_rsa().known(),
             AnyContent::Unknown(x) => x.item.known(),
         }
@@ -321,10 +324,14 @@ impl<'a> Asn1DefinedByReadable<'a, ObjectIdentifier> for AnyContent<'a> {
             parser.new) }
     {
         if is_identifier(&item, some_oid()) {
-            return Ok(AnyContent::Octets(parser.read_element::<&'a [u8]>()?));
+            return Ok(AnyContent::Tagged(parser.read_element::<OctetStringEncoded<Tagged<'a>>>()?));
         }
         if is_identifier(&item, other_oid()) {
-            return Ok(AnyContent::Number(parser.read_element::<Explicit<u32, 1>>()?.into_inner()));
+            return Ok(AnyContent::Numbers(
+                parser
+                    .read_element::<Explicit<SequenceOf<'a, u64, 0, { usize::MAX }>, 1>>()?
+                    .into_inner(),
+            ));
         }
         if is_identifier(&item, sha256_with_rsa()) {
             return Ok(AnyContent::Flag(parser.read_element::<Option<bool>>()?));
@@ -345,8 +352,8 @@ impl<'a> Asn1DefinedByWritable<ObjectIdentifier> for AnyContent<'a> {
 
     fn item(&self) -> ObjectIdentifier {
         match self {
-            AnyContent::Octets(_) => some_oid(),
-            AnyContent::Number(_) => other_oid(),
+            AnyContent::Tagged(_) => some_oid(),
+            AnyContent::Numbers(_) => other_oid(),
             AnyContent::Flag(_) => sha256_with_rsa(),
             AnyContent::Unknown(x) => x.item.clone().unwrap(),
         }
@@ -354,8 +361,11 @@ impl<'a> Asn1DefinedByWritable<ObjectIdentifier> for AnyContent<'a> {
 
     fn write(&self, dest: &mut Writer<'_>) -> WriteResult<()> {
         match self {
-            AnyContent::Octets(x) => dest.write_element(x),
-            AnyContent::Number(x) => write_plain::<Explicit<u32, 1>, _>(x, dest),
+            AnyContent::Tagged(x) => dest.write_element(x),
+            AnyContent::Numbers(x) => write_plain::<
+                Explicit<SequenceOf<'a, u64, 0, { usize::MAX }>, 1>,
+                _,
+            >(x, dest),
             AnyContent::Flag(x) => dest.write_element(x),
             AnyContent::Unknown(x) => dest.write_element(&x.value),
         }
@@ -363,8 +373,11 @@ impl<'a> Asn1DefinedByWritable<ObjectIdentifier> for AnyContent<'a> {
 
     fn encoded_length(&self) -> Option<usize> {
         match self {
-            AnyContent::Octets(x) => x.encoded_length(),
-            AnyContent::Number(x) => plain_length::<Explicit<u32, 1>, _>(x),
+            AnyContent::Tagged(x) => x.encoded_length(),
+            AnyContent::Numbers(x) => plain_length::<
+                Explicit<SequenceOf<'a, u64, 0, { usize::MAX }>, 1>,
+                _,
+            >(x),
             AnyContent::Flag(x) => x.encoded_length(),
             AnyContent::Unknown(x) => x.value.encoded_length(),
         }
@@ -372,7 +385,7 @@ impl<'a> Asn1DefinedByWritable<ObjectIdentifier> for AnyContent<'a> {
 }
 
 /// An identifier, and what it defines, whatever it is.
-#[derive(Debug, Clone, PartialEq, Eq, Hash, Drop)]
+#[derive(Drop)]
 pub struct AnySequence<'a> {
     /// The identifier, which the content tells.
     pub content_type: DefinedByMarker<ObjectIdentifier>,
@@ -432,85 +445,8 @@ impl<'a> SimpleAsn1Writable for AnySequence<'a> {
     }
 }
 
-/// An identifier, whether its content has to be known, and the content, as in an extension of a certificate.
-#[derive(Debug, Clone, PartialEq, Eq, Hash, Drop)]
-pub struct Notice {
-    /// The identifier, which the content tells.
-    pub kind: DefinedByMarker<ObjectIdentifier>,
-    /// Whether the content has to be known, false by default.
-    pub critical: bool,
-    /// The content.
-    pub content: Content,
-}
-
-/// What `critical` is if it is left out.
-pub struct NoticeCritical;
-
-impl DefaultValue<bool> for NoticeCritical {
-    ghost default = { false };
-
-    fn value() -> bool {
-        false
-    }
-}
-
-type NoticeCriticalField = Defaulted<bool, NoticeCritical>;
-
-type NoticeFields = Item<ObjectIdentifier, Before<NoticeCriticalField, LastValue<Content>>>;
-
-impl Asn1Type for Notice {
-    ghost der = { structure (λ v. record {
-      value = v.kind;
-      rest = record {
-        value = defaulted v.critical;
-        rest = record {
-          value = v.content;
-        };
-      };
-    }) ⟦<NoticeFields as Row>⟧.list (codes "Notice::kind" ∷ codes "Notice::critical" ∷
-        codes "Notice::content" ∷ []) };
-
-    fn known(&self) {
-        known_fields!(self;
-            kind of content: ObjectIdentifier, critical: NoticeCriticalField,
-            content by ObjectIdentifier)
-    }
-}
-
-impl<'a> SimpleAsn1Readable<'a> for Notice {
-    fn tag() -> Tag {
-        Tag::constructed(0x10)
-    }
-
-    fn parse_data(alloc: Global, data: &'a [u8]) -> ParseResult<Notice> {
-        read_fields!(NoticeFields, alloc, data => Notice {
-            kind, critical: NoticeCriticalField, content
-        })
-    }
-}
-
-impl SimpleAsn1Writable for Notice {
-    type Error = WriteError;
-
-    fn tag() -> Tag {
-        Tag::constructed(0x10)
-    }
-
-    fn write_data(&self, dest: &mut WriteBuf) -> WriteResult<()> {
-        write_fields!(self, dest;
-            kind of content: ObjectIdentifier, critical: NoticeCriticalField,
-            content by ObjectIdentifier)
-    }
-
-    fn data_length(&self) -> Option<usize> {
-        fields_length!(self;
-            kind of content: ObjectIdentifier, critical: NoticeCriticalField,
-            content by ObjectIdentifier)
-    }
-}
-
 /// Two fields between an identifier and what it defines, one before both, and one after.
-#[derive(Debug, Clone, PartialEq, Eq, Hash, Drop)]
+#[derive(PartialEq, Drop)]
 pub struct Letter {
     /// A number.
     pub number: u64,
@@ -609,22 +545,20 @@ impl SimpleAsn1Writable for Letter {
 }
 
 /// An identifier that no other variant of `Listed` is for, and the value.
-#[derive(Debug, PartialEq, Eq, Drop)]
+#[derive(PartialEq, Drop)]
 pub struct ListedUnknown<'a> {
     item: ObjectIdentifier,
     value: Tlv<'a>,
     pub ghost is_not_some_oid: { bytes_eq (identifier_of item) SOME_OID_NUMBERS ≡ false },
-    pub ghost is_not_other_oid: { bytes_eq (identifier_of item) OTHER_OID_NUMBERS ≡ false },
 }
 
 impl<'a> ListedUnknown<'a> {
     /// Of this identifier and this value; `None` if another variant is for the identifier.
     pub fn new(item: ObjectIdentifier, value: Tlv<'a>) -> Option<ListedUnknown<'a>>
-        ensures { MatchOption result ((bytes_eq (identifier_of item) SOME_OID_NUMBERS ≡ true) ⊎
-            (bytes_eq (identifier_of item) OTHER_OID_NUMBERS ≡ true)) (λ v. (v.item ≡ item) ×
-            (v.value ≡ value.entry)) }
+        ensures { MatchOption result (bytes_eq (identifier_of item) SOME_OID_NUMBERS ≡ true) (λ v.
+            (v.item ≡ item) × (v.value ≡ value.entry)) }
     {
-        if is_identifier(&item, some_oid()) || is_identifier(&item, other_oid()) {
+        if is_identifier(&item, some_oid()) {
             return None;
         }
         Some(ListedUnknown { item, value })
@@ -645,54 +579,34 @@ impl<'a> ListedUnknown<'a> {
     }
 }
 
-impl<'a> Clone for ListedUnknown<'a> {
-    ghost is_clone = { λ x y. (identifier_of y.item ≡ identifier_of x.item) × (y.value ≡ x.value) };
-
-    ghost is_infallible = { λ _. ⊤ };
-
-    fn clone(&self) -> Result<ListedUnknown<'a>, AllocError> {
-        Ok(ListedUnknown {
-            item: self.item.clone()?,
-            value: self.value,
-        })
-    }
-}
-
-/// Numbers, or any other content, before a note.
-#[derive(Debug, Clone, PartialEq, Eq, Drop)]
+/// A number, or any other content.
+#[derive(PartialEq, Drop)]
 pub enum Listed<'a> {
-    /// Fields with tags, whose encoding is in an octet string.
-    Tagged(OctetStringEncoded<Tagged<'a>>),
-    /// Numbers.
-    Numbers(SequenceOf<'a, u64, 0, { usize::MAX }>),
+    /// A number.
+    Number(i32),
     /// Every other identifier, and its value.
     Unknown(ListedUnknown<'a>),
 }
 
 impl<'a> Asn1DefinedBy<ObjectIdentifier> for Listed<'a> {
-    ghost use Rattle.derived_tests.specs.declared.items.Listed.TheVariants.{Tagged, Numbers, Unknown};
+    ghost use Rattle.derived_tests.specs.declared.items.Listed.TheVariants.{Number, Unknown};
 
     ghost by = { by_item (record {
       item = ⟦<ObjectIdentifier as Asn1Type>⟧.der;
-      value = or_variant (identifier_with SOME_OID_NUMBERS)
-          ⟦<OctetStringEncoded<Tagged<'a>> as Asn1Type>⟧.der (or_variant (identifier_with
-          OTHER_OID_NUMBERS) ⟦<SequenceOf<'a, u64, 0, 18446744073709551615> as Asn1Type>⟧.der
-          (any_variant ⟦<Tlv<'a> as Asn1Type>⟧.der (λ m. m)) (λ m. m)) (elim [
-            | Tagged x ↦ inl
-                (⟦<OctetStringEncoded<Tagged<'a>> as Asn1Type>⟧.der.meaning x)
-            | Numbers x ↦ inr (inl
-                (⟦<SequenceOf<'a, u64, 0, 18446744073709551615> as Asn1Type>⟧.der.meaning x))
-            | Unknown x ↦ inr (inr (
+      value = or_variant (identifier_with SOME_OID_NUMBERS) ⟦<i32 as Asn1Type>⟧.der (any_variant
+          ⟦<Tlv<'a> as Asn1Type>⟧.der (λ m. m)) (elim [
+            | Number x ↦ inl
+                (⟦<i32 as Asn1Type>⟧.der.meaning x)
+            | Unknown x ↦ inr (
               ⟦<ObjectIdentifier as Asn1Type>⟧.der.meaning x.item,
               ⟦<Tlv<'a> as Asn1Type>⟧.der.meaning x.value,
-            ))
+            )
           ]);
     }) };
 
     fn known_by(&self) {
         match self {
-            Listed::Tagged(x) => x.known(),
-            Listed::Numbers(x) => x.known(),
+            Listed::Number(x) => x.known(),
             Listed::Unknown(x) => x.value.known(),
         }
     }
@@ -706,8 +620,7 @@ impl<'a> DefinedField<ObjectIdentifier> for Listed<'a> {
 
     fn known_item(&self) {
         match self {
-            Listed::Tagged(_) => some_oid().known(),
-            Listed::Numbers(_) => other_oid().known(),
+            Listed::Number(_) => some_oid().known(),
             Listed::Unknown(x) => x.item.known(),
         }
     }
@@ -726,12 +639,7 @@ impl<'a> Asn1DefinedByReadable<'a, ObjectIdentifier> for Listed<'a> {
             parser.new) }
     {
         if is_identifier(&item, some_oid()) {
-            return Ok(Listed::Tagged(parser.read_element::<OctetStringEncoded<Tagged<'a>>>()?));
-        }
-        if is_identifier(&item, other_oid()) {
-            return Ok(Listed::Numbers(parser.read_element::<
-                SequenceOf<'a, u64, 0, { usize::MAX }>,
-            >()?));
+            return Ok(Listed::Number(parser.read_element::<i32>()?));
         }
         Ok(Listed::Unknown(ListedUnknown {
             item,
@@ -749,35 +657,32 @@ impl<'a> Asn1DefinedByWritable<ObjectIdentifier> for Listed<'a> {
 
     fn item(&self) -> ObjectIdentifier {
         match self {
-            Listed::Tagged(_) => some_oid(),
-            Listed::Numbers(_) => other_oid(),
+            Listed::Number(_) => some_oid(),
             Listed::Unknown(x) => x.item.clone().unwrap(),
         }
     }
 
     fn write(&self, dest: &mut Writer<'_>) -> WriteResult<()> {
         match self {
-            Listed::Tagged(x) => dest.write_element(x),
-            Listed::Numbers(x) => dest.write_element(x),
+            Listed::Number(x) => dest.write_element(x),
             Listed::Unknown(x) => dest.write_element(&x.value),
         }
     }
 
     fn encoded_length(&self) -> Option<usize> {
         match self {
-            Listed::Tagged(x) => x.encoded_length(),
-            Listed::Numbers(x) => x.encoded_length(),
+            Listed::Number(x) => x.encoded_length(),
             Listed::Unknown(x) => x.value.encoded_length(),
         }
     }
 }
 
 /// An identifier, what it defines under a tag, and a note.
-#[derive(Debug, PartialEq, Eq, Drop)]
+#[derive(PartialEq, Drop)]
 pub struct Entry<'a> {
-    /// The identifier, which the list tells.
+    /// The identifier, which the content tells.
     pub kind: DefinedByMarker<ObjectIdentifier>,
-    /// The list, or another content.
+    /// The content.
     pub listed: Explicit<Listed<'a>, 3>,
     /// A note, which may be missing.
     pub note: Option<bool>,
@@ -844,13 +749,9 @@ pub fn my_sequence_is_lawful()
 /// Each value of `AnySequence` has one encoding, which is read back.
 pub fn any_sequence_is_lawful()
     ensures { HasOneEncoding ⟦<AnySequence<'static> as Asn1Type>⟧.der }
-{}
-
-/// Each value of `Notice` has one encoding, which is read back.
-#[tactic(auto, using(asn1::specs::Lemmas::Fields::tags_differ))]
-pub fn notice_is_lawful()
-    ensures { HasOneEncoding ⟦<Notice as Asn1Type>⟧.der }
-{}
+{
+    tagged_is_lawful();
+}
 
 /// Each value of `Letter` has one encoding, which is read back.
 #[tactic(auto, using(asn1::specs::Lemmas::Fields::tags_differ))]
@@ -861,6 +762,4 @@ pub fn letter_is_lawful()
 /// Each value of `Entry` has one encoding, which is read back.
 pub fn entry_is_lawful()
     ensures { HasOneEncoding ⟦<Entry<'static> as Asn1Type>⟧.der }
-{
-    tagged_is_lawful();
-}
+{}

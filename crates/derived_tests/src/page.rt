@@ -1,15 +1,14 @@
 //! Structures and choices: each attribute of the original's derives for them, once.
-// Printed by scripts/derive from declarations/page.rs, with the sum a29574a0.
+// Printed by scripts/derive from declarations/page.rs, with the sum 67269240.
 
-ghost use Rattle.std.specs.Prelude.{◌≡◌, ◌∷◌, [], codes, negsuc, false, OnErr};
+ghost use Rattle.std.specs.Prelude.{◌≡◌, ◌∷◌, [], codes, negsuc, OnErr};
 ghost use Rattle.std.proofs.Common.{inl, inr};
 ghost use Rattle.asn1.specs.Choices.{choice_der, only, or};
-ghost use Rattle.asn1.specs.Options.{option_meaning};
 ghost use Rattle.asn1.specs.Reading.{EndsWith};
 ghost use Rattle.asn1.specs.Reads.{HasOneEncoding, ReadsContents, ReadsPrefix};
-ghost use Rattle.asn1.specs.Structures.{defaulted, explicit, implicit, structure, fields0, fields1, fields2, fields7};
+ghost use Rattle.asn1.specs.Structures.{defaulted, explicit, implicit, structure, fields0, fields1, fields2, fields4};
 
-use asn1::fields::{Fields2, Fields7, Last, NoFields, Row, plain_length, write_plain};
+use asn1::fields::{Fields2, Fields4, Last, NoFields, Row, plain_length, write_plain};
 use asn1::{
     Asn1Readable, Asn1Type, Asn1Writable, Choice2, DefaultValue, Defaulted, Explicit, Implicit,
     ParseResult, Parser, PrintableString, SequenceOf, SetOf, SetOfWriter, SimpleAsn1Readable,
@@ -19,7 +18,7 @@ use asn1::{
 use std::alloc::Global;
 
 /// Two numbers, by plain names.
-#[derive(Debug, Clone, Copy, PartialEq, Eq, Hash)]
+#[derive(Clone, Copy, PartialEq)]
 pub struct Signature {
     /// The first.
     pub r: u64,
@@ -65,7 +64,7 @@ impl SimpleAsn1Writable for Signature {
 }
 
 /// No fields.
-#[derive(Debug, Clone, PartialEq, Eq, Hash, Drop)]
+#[derive(PartialEq, Drop)]
 pub struct Nothing {}
 
 type NothingFields = NoFields;
@@ -105,14 +104,8 @@ impl SimpleAsn1Writable for Nothing {
 }
 
 /// Fields with tags and defaults.
-#[derive(Debug, Clone, PartialEq, Eq, Hash, Drop)]
+#[derive(Clone, PartialEq, Drop)]
 pub struct Tagged<'a> {
-    /// Octets under a tag in place of their own.
-    pub octets: Option<&'a [u8]>,
-    /// A number under a tag around its own.
-    pub number: Option<u64>,
-    /// A flag, false by default.
-    pub critical: bool,
     /// The version, 1 by default.
     pub version: u8,
     /// Numbers under a tag in place of the list's own.
@@ -121,17 +114,6 @@ pub struct Tagged<'a> {
     pub signature: Signature,
     /// A number under a tag in place of its own, -1 by default.
     pub level: i8,
-}
-
-/// What `critical` is if it is left out.
-pub struct TaggedCritical;
-
-impl DefaultValue<bool> for TaggedCritical {
-    ghost default = { false };
-
-    fn value() -> bool {
-        false
-    }
 }
 
 /// What `version` is if it is left out.
@@ -156,12 +138,6 @@ impl DefaultValue<Implicit<i8, 5>> for TaggedLevel {
     }
 }
 
-type TaggedOctetsField<'a> = Option<Implicit<&'a [u8], 0>>;
-
-type TaggedNumberField = Option<Explicit<u64, 1>>;
-
-type TaggedCriticalField = Defaulted<bool, TaggedCritical>;
-
 type TaggedVersionField = Defaulted<Explicit<u8, 2>, TaggedVersion>;
 
 type TaggedNumbersField<'a> = Implicit<SequenceOf<'a, i32, 1, 4>, 3>;
@@ -170,10 +146,7 @@ type TaggedSignatureField = Explicit<Signature, 4>;
 
 type TaggedLevelField = Defaulted<Implicit<i8, 5>, TaggedLevel>;
 
-type TaggedFields<'a> = Fields7<
-    TaggedOctetsField<'a>,
-    TaggedNumberField,
-    TaggedCriticalField,
+type TaggedFields<'a> = Fields4<
     TaggedVersionField,
     TaggedNumbersField<'a>,
     TaggedSignatureField,
@@ -181,16 +154,13 @@ type TaggedFields<'a> = Fields7<
 >;
 
 impl<'a> Asn1Type for Tagged<'a> {
-    ghost der = { structure (λ v. fields7 (option_meaning implicit v.octets) (option_meaning
-        explicit v.number) (defaulted v.critical) (defaulted (explicit v.version)) (implicit
-        v.numbers) (explicit v.signature) (defaulted (implicit v.level)))
-        ⟦<TaggedFields<'a> as Row>⟧.list (codes "Tagged::octets" ∷ codes "Tagged::number" ∷
-        codes "Tagged::critical" ∷ codes "Tagged::version" ∷ codes "Tagged::numbers" ∷
-        codes "Tagged::signature" ∷ codes "Tagged::level" ∷ []) };
+    ghost der = { structure (λ v. fields4 (defaulted (explicit v.version)) (implicit v.numbers)
+        (explicit v.signature) (defaulted (implicit v.level))) ⟦<TaggedFields<'a> as Row>⟧.list
+        (codes "Tagged::version" ∷ codes "Tagged::numbers" ∷ codes "Tagged::signature" ∷
+        codes "Tagged::level" ∷ []) };
 
     fn known(&self) {
         known_fields!(self;
-            octets: TaggedOctetsField<'a>, number: TaggedNumberField, critical: TaggedCriticalField,
             version: TaggedVersionField, numbers: TaggedNumbersField<'a>,
             signature: TaggedSignatureField, level: TaggedLevelField)
     }
@@ -209,7 +179,6 @@ impl<'a> SimpleAsn1Readable<'a> for Tagged<'a> {
         ensures { ReadsContents ⟦<Tagged<'a> as Asn1Type>⟧.der «data».entry.now result }
     {
         read_fields!(TaggedFields<'a>, alloc, data => Tagged {
-            octets: TaggedOctetsField<'a>, number: TaggedNumberField, critical: TaggedCriticalField,
             version: TaggedVersionField, numbers: TaggedNumbersField<'a>,
             signature: TaggedSignatureField, level: TaggedLevelField
         })
@@ -228,14 +197,12 @@ impl<'a> SimpleAsn1Writable for Tagged<'a> {
 
     fn write_data(&self, dest: &mut WriteBuf) -> WriteResult<()> {
         write_fields!(self, dest;
-            octets: TaggedOctetsField<'a>, number: TaggedNumberField, critical: TaggedCriticalField,
             version: TaggedVersionField, numbers: TaggedNumbersField<'a>,
             signature: TaggedSignatureField, level: TaggedLevelField)
     }
 
     fn data_length(&self) -> Option<usize> {
         fields_length!(self;
-            octets: TaggedOctetsField<'a>, number: TaggedNumberField, critical: TaggedCriticalField,
             version: TaggedVersionField, numbers: TaggedNumbersField<'a>,
             signature: TaggedSignatureField, level: TaggedLevelField)
     }
@@ -314,7 +281,7 @@ impl<'a> Asn1Writable for ResponderId<'a> {
 }
 
 /// A choice in a structure, which may be missing.
-#[derive(Debug, PartialEq, Eq, Drop)]
+#[derive(Drop)]
 pub struct Alternative<'a> {
     /// Who answers, if anyone does.
     pub responder: Option<ResponderId<'a>>,
@@ -367,7 +334,7 @@ impl<'a> SimpleAsn1Writable for Alternative<'a> {
 }
 
 /// Whether a bag is full, and the numbers in the bag, which is made in code and only written.
-#[derive(Debug, Clone, PartialEq, Eq, Hash, Drop)]
+#[derive(Drop)]
 pub struct Bag<'a> {
     /// Whether it is full.
     pub full: bool,

@@ -28,15 +28,15 @@ fn changes_of(alloc: Global, text: &[u8]) -> Result<Vec<u8>, Fail> {
     Ok(changed)
 }
 
-/// These encodings and their changed copies. They are in a list of their own, since what is read borrows from them.
-pub fn texts_of(alloc: Global, wholes: &[&[u8]]) -> Result<Vec<Text>, Fail> {
+/// These encodings and their changed copies, which are never freed: what is read borrows from them.
+pub fn texts_of<'a>(alloc: Global, wholes: &[&[u8]]) -> Result<&'a [Text], Fail> {
     let mut texts = Vec::new(alloc);
     for text in wholes {
         let whole = Vec::from_slice(alloc, text)?;
         let changed = changes_of(alloc, text)?;
         texts.push(Text { whole, changed })?;
     }
-    Ok(texts)
+    Ok(texts.leak())
 }
 
 /// The prefix of `end` octets is too short, and lacks `needed` octets.
@@ -106,7 +106,17 @@ pub fn check<'a, T: Asn1Readable<'a> + Asn1Writable<Error = WriteError>>(
     Ok(())
 }
 
-/// The same for a type that has an empty encoding, so that the empty prefix isn't too short.
+/// The same for encodings with a header of two octets.
+pub fn check_all<'a, T: Asn1Readable<'a> + Asn1Writable<Error = WriteError>>(
+    alloc: Global,
+    wholes: &[&[u8]],
+) -> Result<(), Fail>
+    requires { T.der.plain }
+{
+    check::<T>(alloc, TWO_OCTETS, texts_of(alloc, wholes)?)
+}
+
+/// The same as `check` for a type that has an empty encoding, so that the empty prefix isn't too short.
 pub fn check_optional<'a, T: Asn1Readable<'a> + Asn1Writable<Error = WriteError>>(
     alloc: Global,
     header: &[usize],

@@ -6,13 +6,13 @@ ghost use Rattle.asn1.specs.Structures.{fields2, structure};
 use asn1::fields::{Fields2, Row};
 use asn1::{
     Asn1Type, SetOfWriter, SimpleAsn1Writable, Tag, WriteBuf, WriteError, WriteResult,
-    fields_length, known_fields, write_fields, write_single,
+    fields_length, known_fields, write_fields,
 };
 use std::test::Fail;
-use testing::same;
+use testing::is_written;
 
 /// Whether a bag is full, and the numbers in it.
-#[derive(Debug, Clone, PartialEq, Eq, Hash, Drop)]
+#[derive(Drop)]
 pub struct Bag<'a> {
     pub full: bool,
     pub numbers: SetOfWriter<'a, u64>,
@@ -53,12 +53,10 @@ impl<'a> SimpleAsn1Writable for Bag<'a> {
 
 #[test]
 fn bags(rt: HostRuntime) -> Result<(), Fail> {
-    let alloc = rt.alloc();
-    let octets: &[u8] = &[0x30, 11, 1, 1, 0xff, 0x31, 6, 2, 1, 1, 2, 1, 2];
     let bag = Bag {
         full: true,
         numbers: SetOfWriter::new(&[2, 1]),
     };
-    let written = write_single(alloc, &bag)?;
-    same(written.as_slice(), octets)
+    let octets = &[0x30, 11, 1, 1, 0xff, 0x31, 6, 2, 1, 1, 2, 1, 2];
+    is_written(rt.alloc(), &bag, octets)
 }

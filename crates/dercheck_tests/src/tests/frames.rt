@@ -82,63 +82,55 @@ fn check_each(
     Ok(())
 }
 
+/// The same for each row, from a source that doesn't fail: whether it ends behind an element is the answer.
+fn check_rows(rows: &[(&[u8], &[u8], bool)]) -> Result<(), Fail> {
+    for (text, lines, is_whole) in rows {
+        check_each(text, false, lines, Ok(*is_whole))?;
+    }
+    Ok(())
+}
+
 #[test]
 fn writes_a_line_for_each_element() -> Result<(), Fail> {
-    check_each(
-        &[0x04, 0x03, 0x61, 0x62, 0x63, 0x30, 0x00, 0x04, 0x82, 0x00],
-        false,
-        b"04 3\n30 0\nshort 1\n",
-        Ok(false),
-    )?;
-    check_each(&[], false, b"", Ok(true))?;
-    check_each(&[0x05, 0x00, 0x30, 0x00], false, b"05 0\n30 0\n", Ok(true))?;
-    check_each(
-        &[0xbf, 0x81, 0x00, 0x01, 0xff],
-        false,
-        b"bf8100 1\n",
-        Ok(true),
-    )
+    check_rows(&[
+        (
+            b"\x04\x03abc\x30\x00\x04\x82\x00",
+            b"04 3\n30 0\nshort 1\n",
+            false,
+        ),
+        (b"", b"", true),
+        (b"\x05\x00\x30\x00", b"05 0\n30 0\n", true),
+        (b"\xbf\x81\x00\x01\xff", b"bf8100 1\n", true),
+    ])
 }
 
 #[test]
 fn says_what_is_missing() -> Result<(), Fail> {
-    check_each(
-        &[0x04, 0x84, 0xff, 0xff, 0xff, 0xff, 0x61],
-        false,
-        b"short 4294967294\n",
-        Ok(false),
-    )?;
-    check_each(&[0x04, 0x84, 0x00], false, b"short 3\n", Ok(false))?;
     let mut octets = [0xffu8; 19];
     octets[0] = 0x1f;
-    check_each(&octets, false, b"short 1\n", Ok(false))
+    check_rows(&[
+        (b"\x04\x84\xff\xff\xff\xffa", b"short 4294967294\n", false),
+        (b"\x04\x84\x00", b"short 3\n", false),
+        (&octets, b"short 1\n", false),
+    ])
 }
 
 #[test]
 fn stops_at_a_fault() -> Result<(), Fail> {
-    check_each(
-        &[0x05, 0x00, 0x05, 0x80, 0x05, 0x00],
-        false,
-        b"05 0\nerr InvalidLength\n",
-        Ok(false),
-    )?;
+    let lines = b"05 0\nerr InvalidLength\n";
+    check_each(b"\x05\x00\x05\x80\x05\x00", false, lines, Ok(false))?;
     let mut octets = [0xffu8; 20];
     octets[0] = 0x1f;
     check_each(&octets, false, b"err InvalidTag\n", Ok(false))?;
     // The source would fail if it were read further.
-    let mut source = Pieces::new(&[0x05, 0x00, 0x05, 0x80], &[], 1, true);
-    check(&mut source, b"05 0\nerr InvalidLength\n", Ok(false))
+    let mut source = Pieces::new(b"\x05\x00\x05\x80", &[], 1, true);
+    check(&mut source, lines, Ok(false))
 }
 
 #[test]
 fn tells_elements_before_the_source_fails() -> Result<(), Fail> {
-    check_each(
-        &[0x05, 0x00, 0x04, 0x03, 0x61],
-        true,
-        b"05 0\n",
-        Err(Fault::Read),
-    )?;
-    check_each(&[], true, b"", Err(Fault::Read))?;
+    check_each(b"\x05\x00\x04\x03a", true, b"05 0\n", Err(Fault::Read))?;
+    check_each(b"", true, b"", Err(Fault::Read))?;
     let mut source = Input::new(Interrupted { was_read: false });
     let mut sink = Held::new(256);
     same(frames(&mut source, &mut sink), Err(Fault::Read))?;
@@ -186,9 +178,9 @@ fn reads_more_than_a_pull() -> Result<(), Fail> {
 
 #[test]
 fn puts_the_lines_of_a_pull_at_once() -> Result<(), Fail> {
-    let octets = [0x05u8, 0x00, 0x9f, 0x81, 0x00, 0x01, 0x61, 0x04, 0x82];
+    let octets = &[0x05, 0x00, 0x9f, 0x81, 0x00, 0x01, 0x61, 0x04, 0x82];
     for (piece, puts) in [(1, 3), (2, 3), (256, 2)] {
-        let mut source = Pieces::new(&octets, &[], piece, false);
+        let mut source = Pieces::new(octets, &[], piece, false);
         let mut sink = Counted { puts: 0 };
         same(frames(&mut source, &mut sink), Ok(false))?;
         same_at(piece, sink.puts, puts)?;

@@ -4,17 +4,17 @@ ghost use Rattle.std.specs.Prelude.{◌∷◌, [], codes, false};
 ghost use Rattle.asn1.specs.Reads.{HasOneEncoding};
 ghost use Rattle.asn1.specs.Structures.{defaulted, structure};
 
-use crate::tests::own_types::{at, of, other_tag};
+use crate::tests::own_types::{EXTRA, INVALID, IS_DEFAULT, UNKNOWN, is_at, other_tag, refusal};
 use asn1::fields::{Before, Item, Last, LastValue, Row, Value};
 use asn1::{
-    Asn1Type, DefaultValue, Defaulted, DefinedByMarker, Explicit, ObjectIdentifier, ParseErrorKind,
-    ParseResult, SimpleAsn1Readable, SimpleAsn1Writable, Tag, WriteBuf, WriteError, WriteResult,
-    fields_length, known_fields, read_fields, write_fields,
+    Asn1Type, DefaultValue, Defaulted, DefinedByMarker, Explicit, ObjectIdentifier, ParseResult,
+    SimpleAsn1Readable, SimpleAsn1Writable, Tag, WriteBuf, WriteError, WriteResult, fields_length,
+    known_fields, read_fields, write_fields,
 };
 use dercheck::own_types::my_sequence::Content;
 use std::alloc::Global;
 use std::test::Fail;
-use testing::{are_both_ways, are_refused_with, both_ways};
+use testing::both_ways;
 
 /// False, by default.
 struct No;
@@ -28,7 +28,7 @@ impl DefaultValue<bool> for No {
 }
 
 /// An OBJECT IDENTIFIER, a Boolean that is false by default, and the content that the first defines.
-#[derive(Debug, Clone, PartialEq, Eq, Hash, Drop)]
+#[derive(PartialEq, Drop)]
 pub struct Notice {
     pub kind: DefinedByMarker<ObjectIdentifier>,
     pub critical: bool,
@@ -85,7 +85,7 @@ impl SimpleAsn1Writable for Notice {
 }
 
 /// The same fields before a number.
-#[derive(Debug, Clone, PartialEq, Eq, Hash, Drop)]
+#[derive(PartialEq, Drop)]
 pub struct Letter {
     pub kind: DefinedByMarker<ObjectIdentifier>,
     pub critical: bool,
@@ -168,43 +168,36 @@ fn notice_of_seven(critical: bool) -> Notice {
 #[test]
 fn notices(rt: HostRuntime) -> Result<(), Fail> {
     let alloc = rt.alloc();
-    are_both_ways(
-        alloc,
-        &[
-            (
-                notice_of_seven(true),
-                &[0x30, 12, 6, 2, 0x2a, 3, 1, 1, 0xff, 0xa0, 3, 2, 1, 7],
-            ),
-            (
-                notice_of_seven(false),
-                &[0x30, 9, 6, 2, 0x2a, 3, 0xa0, 3, 2, 1, 7],
-            ),
-        ],
+    let octets = &[0x30, 12, 6, 2, 0x2a, 3, 1, 1, 0xff, 0xa0, 3, 2, 1, 7];
+    both_ways(alloc, notice_of_seven(true), octets)?;
+    let octets = &[0x30, 9, 6, 2, 0x2a, 3, 0xa0, 3, 2, 1, 7];
+    both_ways(alloc, notice_of_seven(false), octets)?;
+    is_at(
+        refusal::<Notice>(alloc, &[0x30, 3, 1, 1, 0xff]),
+        "Notice::kind",
+        other_tag(1),
     )?;
-    are_refused_with::<Notice>(
-        alloc,
-        &[
-            (&[0x30, 3, 1, 1, 0xff], at("Notice::kind", other_tag(1))),
-            (
-                &[0x30, 12, 6, 2, 0x2a, 3, 1, 1, 0, 0xa0, 3, 2, 1, 7],
-                at("Notice::critical", ParseErrorKind::EncodedDefault),
-            ),
-            (
-                &[0x30, 9, 6, 2, 0x2a, 4, 0xa0, 3, 2, 1, 7],
-                at("Notice::content", ParseErrorKind::UnknownDefinedBy),
-            ),
-            (
-                &[0x30, 11, 6, 2, 0x2a, 3, 0xa0, 3, 2, 1, 7, 5, 0],
-                of(ParseErrorKind::ExtraData),
-            ),
-        ],
+    is_at(
+        refusal::<Notice>(alloc, &[0x30, 12, 6, 2, 0x2a, 3, 1, 1, 0, 0xa0, 3, 2, 1, 7]),
+        "Notice::critical",
+        IS_DEFAULT,
+    )?;
+    is_at(
+        refusal::<Notice>(alloc, &[0x30, 9, 6, 2, 0x2a, 4, 0xa0, 3, 2, 1, 7]),
+        "Notice::content",
+        UNKNOWN,
+    )?;
+    is_at(
+        refusal::<Notice>(alloc, &[0x30, 11, 6, 2, 0x2a, 3, 0xa0, 3, 2, 1, 7, 5, 0]),
+        "",
+        EXTRA,
     )
 }
 
 #[test]
 fn letters(rt: HostRuntime) -> Result<(), Fail> {
     let alloc = rt.alloc();
-    let octets: &[u8] = &[
+    let octets = &[
         0x30, 15, 6, 2, 0x2a, 3, 1, 1, 0xff, 0xa0, 3, 2, 1, 7, 2, 1, 9,
     ];
     let letter = Letter {
@@ -214,17 +207,16 @@ fn letters(rt: HostRuntime) -> Result<(), Fail> {
         number: 9,
     };
     both_ways(alloc, letter, octets)?;
-    are_refused_with::<Letter>(
-        alloc,
-        &[
-            (
-                &[0x30, 12, 6, 2, 0x2a, 3, 1, 1, 1, 0xa0, 3, 2, 1, 7],
-                at("Letter::critical", ParseErrorKind::InvalidValue),
-            ),
-            (
-                &[0x30, 12, 6, 2, 0x2a, 3, 0xa0, 3, 2, 1, 7, 1, 1, 0xff],
-                at("Letter::number", other_tag(1)),
-            ),
-        ],
+    let no_flag = &[0x30, 12, 6, 2, 0x2a, 3, 1, 1, 1, 0xa0, 3, 2, 1, 7];
+    is_at(
+        refusal::<Letter>(alloc, no_flag),
+        "Letter::critical",
+        INVALID,
+    )?;
+    let flag = &[0x30, 12, 6, 2, 0x2a, 3, 0xa0, 3, 2, 1, 7, 1, 1, 0xff];
+    is_at(
+        refusal::<Letter>(alloc, flag),
+        "Letter::number",
+        other_tag(1),
     )
 }

@@ -3,7 +3,7 @@
 use asn1::{
     Asn1DefinedByReadable, Asn1DefinedByWritable, Asn1Readable, Asn1Writable, DefinedByMarker,
     Explicit, ObjectIdentifier, ParseError, ParseErrorKind, ParseLocation, ParseResult, Parser,
-    Tag, WriteError, Writer, parse_single, read_and_write_back, write, write_single,
+    Tag, WriteError, Writer, parse_single, read_and_write_back, write_single,
 };
 use dercheck::own_types::entry::Entry;
 use dercheck::own_types::my_sequence::{Content, MySequence, some_oid};
@@ -15,30 +15,42 @@ use dercheck::own_types::time::Time;
 use std::alloc::Global;
 use std::test::Fail;
 use testing::{
-    are_both_ways, are_refused_with, both_ways, error_of, is_shown, is_written, same, same_at,
+    all_same, are_both_ways, both_ways, closure_writes, error_of, is_refusal, is_shown, is_written,
+    same, same_owned,
 };
 
 /// Why the octets aren't the encoding of a value of the type.
-pub fn refused<'a, T: Asn1Readable<'a>>(alloc: Global, octets: &'a [u8]) -> Option<ParseError> {
+pub fn refusal<'a, T: Asn1Readable<'a>>(alloc: Global, octets: &'a [u8]) -> Option<ParseError> {
     error_of(parse_single::<T>(alloc, octets))
 }
 
-/// An error without a location.
-pub fn of(kind: ParseErrorKind) -> ParseError {
-    ParseError::new(kind)
+/// The error is of this kind, in the field with this name; an empty name is of none.
+pub fn is_at(
+    found: Option<ParseError>,
+    name: &'static str,
+    kind: ParseErrorKind,
+) -> Result<(), Fail> {
+    let mut error = ParseError::new(kind);
+    if !name.is_empty() {
+        error = error.add_location(ParseLocation::Field(name));
+    }
+    same_owned(found, Some(error))
 }
 
-/// An error in the field with this name.
-pub fn at(name: &'static str, kind: ParseErrorKind) -> ParseError {
-    ParseError::new(kind).add_location(ParseLocation::Field(name))
-}
-
-/// The error for an element with this primitive universal tag.
+/// The kind of the error for an element with this primitive universal tag.
 pub fn other_tag(number: u32) -> ParseErrorKind {
     ParseErrorKind::UnexpectedTag {
         actual: Tag::primitive(number),
     }
 }
+
+pub const INVALID: ParseErrorKind = ParseErrorKind::InvalidValue;
+
+pub const EXTRA: ParseErrorKind = ParseErrorKind::ExtraData;
+
+pub const IS_DEFAULT: ParseErrorKind = ParseErrorKind::EncodedDefault;
+
+pub const UNKNOWN: ParseErrorKind = ParseErrorKind::UnknownDefinedBy;
 
 #[test]
 fn reasons(rt: HostRuntime) -> Result<(), Fail> {
@@ -49,76 +61,77 @@ fn reasons(rt: HostRuntime) -> Result<(), Fail> {
             (Reason::Superseded, &[0x0a, 1, 4]),
         ],
     )?;
-    are_refused_with::<Reason>(
-        rt.alloc(),
-        &[(&[0x0a, 1, 1], of(ParseErrorKind::InvalidValue))],
-    )
+    is_at(refusal::<Reason>(rt.alloc(), &[0x0a, 1, 1]), "", INVALID)
 }
+
+/// A signature.
+const SIGNATURE: &[u8] = &[0x30, 6, 2, 1, 1, 2, 1, 2];
 
 #[test]
 fn signatures(rt: HostRuntime) -> Result<(), Fail> {
     let alloc = rt.alloc();
-    let octets: &[u8] = &[0x30, 6, 2, 1, 1, 2, 1, 2];
-    both_ways(alloc, Signature { r: 1, s: 2 }, octets)?;
-    let read = parse_single::<Signature>(alloc, octets)?;
-    same((read.r, read.s), (1, 2))?;
-    are_refused_with::<Signature>(
-        alloc,
-        &[
-            (
-                &[0x30, 6, 2, 1, 1, 1, 1, 0xff],
-                at("Signature::s", other_tag(1)),
-            ),
-            (&[0x30, 3, 1, 1, 0xff], at("Signature::r", other_tag(1))),
-            (
-                &[0x30, 8, 2, 1, 1, 2, 1, 2, 5, 0],
-                of(ParseErrorKind::ExtraData),
-            ),
-        ],
+    both_ways(alloc, Signature { r: 1, s: 2 }, SIGNATURE)?;
+    let no_s = &[0x30, 6, 2, 1, 1, 1, 1, 0xff];
+    is_at(
+        refusal::<Signature>(alloc, no_s),
+        "Signature::s",
+        other_tag(1),
     )?;
-    let again = read_and_write_back::<Signature>(alloc, octets)??;
-    same(again.as_slice(), octets)
+    is_at(
+        refusal::<Signature>(alloc, &[0x30, 3, 1, 1, 0xff]),
+        "Signature::r",
+        other_tag(1),
+    )?;
+    let long = &[0x30, 8, 2, 1, 1, 2, 1, 2, 5, 0];
+    is_at(refusal::<Signature>(alloc, long), "", EXTRA)?;
+    let again = read_and_write_back::<Signature>(alloc, SIGNATURE)??;
+    same(again.as_slice(), SIGNATURE)
 }
+
+/// A sequence with both fields.
+const BOTH: SomeSequence<'static> = SomeSequence {
+    a: Some(b"ab"),
+    b: Some(5),
+};
+
+/// A sequence with neither.
+const NEITHER: SomeSequence<'static> = SomeSequence { a: None, b: None };
 
 #[test]
 fn some_sequences(rt: HostRuntime) -> Result<(), Fail> {
     let alloc = rt.alloc();
-    are_both_ways(
-        alloc,
-        &[
-            (
-                SomeSequence {
-                    a: Some(b"ab"),
-                    b: Some(5),
-                },
-                &[0x30, 9, 0x80, 2, 0x61, 0x62, 0xa1, 3, 2, 1, 5],
-            ),
-            (SomeSequence { a: None, b: None }, &[0x30, 0]),
-        ],
-    )?;
+    let octets = &[0x30, 9, 0x80, 2, 0x61, 0x62, 0xa1, 3, 2, 1, 5];
+    both_ways(alloc, BOTH, octets)?;
+    both_ways(alloc, NEITHER, &[0x30, 0])?;
     let short = ParseErrorKind::ShortData { needed: 1 };
-    are_refused_with::<SomeSequence<'_>>(
-        alloc,
-        &[
-            (&[0x30, 3, 0x82, 1, 0], of(ParseErrorKind::ExtraData)),
-            (&[0x30, 3, 0xa1, 1, 0xff], at("SomeSequence::b", short)),
-        ],
+    is_at(
+        refusal::<SomeSequence<'_>>(alloc, &[0x30, 3, 0x82, 1, 0]),
+        "",
+        EXTRA,
+    )?;
+    is_at(
+        refusal::<SomeSequence<'_>>(alloc, &[0x30, 3, 0xa1, 1, 0xff]),
+        "SomeSequence::b",
+        short,
     )
 }
+
+/// Times, and whether each is in the form of two digits.
+const TIMES: &[(&[u8], bool)] = &[
+    (b"\x17\x0d910506234540Z", true),
+    (b"\x18\x0f20500506234540Z", false),
+];
 
 #[test]
 fn times(rt: HostRuntime) -> Result<(), Fail> {
     let alloc = rt.alloc();
-    for octets in [
-        b"\x17\x0d910506234540Z".as_slice(),
-        b"\x18\x0f20500506234540Z".as_slice(),
-    ] {
+    for (octets, is_short) in TIMES {
         let time = parse_single::<Time>(alloc, octets)?;
-        same_at(octets, matches!(time, Time::UTCTime(_)), octets[0] == 0x17)?;
+        same(matches!(time, Time::UTCTime(_)), *is_short)?;
         same(time.encoded_length(), Some(octets.len()))?;
         is_written(alloc, &time, octets)?;
     }
-    same(&refused::<Time>(alloc, &[5, 0]), &Some(of(other_tag(5))))
+    is_at(refusal::<Time>(alloc, &[5, 0]), "", other_tag(5))
 }
 
 /// A sequence with the one variant.
@@ -132,24 +145,23 @@ fn sequence_of_seven() -> MySequence {
 #[test]
 fn my_sequences(rt: HostRuntime) -> Result<(), Fail> {
     let alloc = rt.alloc();
-    let octets: &[u8] = &[0x30, 7, 6, 2, 0x2a, 3, 2, 1, 7];
+    let octets = &[0x30, 7, 6, 2, 0x2a, 3, 2, 1, 7];
     both_ways(alloc, sequence_of_seven(), octets)?;
-    are_refused_with::<MySequence>(
-        alloc,
-        &[
-            (
-                &[0x30, 7, 6, 2, 0x2a, 4, 2, 1, 7],
-                at("MySequence::content", ParseErrorKind::UnknownDefinedBy),
-            ),
-            (
-                &[0x30, 3, 1, 1, 0xff],
-                at("MySequence::content_type", other_tag(1)),
-            ),
-            (
-                &[0x30, 9, 6, 2, 0x2a, 3, 2, 1, 7, 5, 0],
-                of(ParseErrorKind::ExtraData),
-            ),
-        ],
+    is_at(
+        refusal::<MySequence>(alloc, &[0x30, 7, 6, 2, 0x2a, 4, 2, 1, 7]),
+        "MySequence::content",
+        UNKNOWN,
+    )?;
+    is_at(
+        refusal::<MySequence>(alloc, &[0x30, 9, 6, 2, 0x2a, 3, 2, 1, 7, 5, 0]),
+        "",
+        EXTRA,
+    )?;
+    let flag = &[0x30, 3, 1, 1, 0xff];
+    is_at(
+        refusal::<MySequence>(alloc, flag),
+        "MySequence::content_type",
+        other_tag(1),
     )
 }
 
@@ -169,56 +181,50 @@ fn entries(rt: HostRuntime) -> Result<(), Fail> {
     let octets: &[u8] = &[
         0x30, 15, 6, 2, 0x2a, 3, 2, 1, 7, 1, 1, 0xff, 0xa0, 3, 2, 1, 2,
     ];
-    are_both_ways(
-        alloc,
-        &[
-            (entry(Some(true), 2), octets),
-            (entry(None, 1), &[0x30, 7, 6, 2, 0x2a, 3, 2, 1, 7]),
-        ],
-    )?;
+    both_ways(alloc, entry(Some(true), 2), octets)?;
+    both_ways(alloc, entry(None, 1), &[0x30, 7, 6, 2, 0x2a, 3, 2, 1, 7])?;
     let again = read_and_write_back::<Entry>(alloc, octets)??;
     same(again.as_slice(), octets)
 }
 
 #[test]
 fn entries_with_faults(rt: HostRuntime) -> Result<(), Fail> {
-    are_refused_with::<Entry>(
-        rt.alloc(),
-        &[
-            (
-                &[0x30, 3, 1, 1, 0xff],
-                at("Entry::content_type", other_tag(1)),
-            ),
-            (
-                &[0x30, 7, 6, 2, 0x2a, 4, 2, 1, 7],
-                at("Entry::content", ParseErrorKind::UnknownDefinedBy),
-            ),
-            (
-                &[0x30, 7, 6, 2, 0x2a, 3, 1, 1, 0xff],
-                at("Entry::content", other_tag(1)),
-            ),
-        ],
+    let alloc = rt.alloc();
+    let flag = &[0x30, 3, 1, 1, 0xff];
+    is_at(
+        refusal::<Entry>(alloc, flag),
+        "Entry::content_type",
+        other_tag(1),
+    )?;
+    let unknown = &[0x30, 7, 6, 2, 0x2a, 4, 2, 1, 7];
+    is_at(refusal::<Entry>(alloc, unknown), "Entry::content", UNKNOWN)?;
+    let flag = &[0x30, 7, 6, 2, 0x2a, 3, 1, 1, 0xff];
+    is_at(
+        refusal::<Entry>(alloc, flag),
+        "Entry::content",
+        other_tag(1),
     )
 }
 
 #[test]
 fn entries_with_faults_behind(rt: HostRuntime) -> Result<(), Fail> {
-    are_refused_with::<Entry>(
-        rt.alloc(),
-        &[
-            (
-                &[0x30, 10, 6, 2, 0x2a, 3, 2, 1, 7, 1, 1, 1],
-                at("Entry::note", ParseErrorKind::InvalidValue),
-            ),
-            (
-                &[0x30, 12, 6, 2, 0x2a, 3, 2, 1, 7, 0xa0, 3, 2, 1, 1],
-                at("Entry::version", ParseErrorKind::EncodedDefault),
-            ),
-            (
-                &[0x30, 9, 6, 2, 0x2a, 3, 2, 1, 7, 5, 0],
-                of(ParseErrorKind::ExtraData),
-            ),
-        ],
+    is_at(
+        refusal::<Entry>(rt.alloc(), &[0x30, 10, 6, 2, 0x2a, 3, 2, 1, 7, 1, 1, 1]),
+        "Entry::note",
+        INVALID,
+    )?;
+    is_at(
+        refusal::<Entry>(
+            rt.alloc(),
+            &[0x30, 12, 6, 2, 0x2a, 3, 2, 1, 7, 0xa0, 3, 2, 1, 1],
+        ),
+        "Entry::version",
+        IS_DEFAULT,
+    )?;
+    is_at(
+        refusal::<Entry>(rt.alloc(), &[0x30, 9, 6, 2, 0x2a, 3, 2, 1, 7, 5, 0]),
+        "",
+        EXTRA,
     )
 }
 
@@ -232,50 +238,59 @@ fn read_defined(
     <Explicit<Content, 3> as Asn1DefinedByReadable<'_, ObjectIdentifier>>::parse(item, &mut parser)
 }
 
+/// A content under the explicit tag 3.
+const UNDER_A_TAG: &[u8] = &[0xa3, 3, 2, 1, 7];
+
 #[test]
 fn contents(rt: HostRuntime) -> Result<(), Fail> {
-    let alloc = rt.alloc();
-    let other = ObjectIdentifier::from_der(&[0x2a, 4])?;
-    let mut parser = Parser::new(alloc, &[2, 1, 7]);
-    let unknown = error_of(Content::parse(other.clone()?, &mut parser));
-    same(&unknown, &Some(of(ParseErrorKind::UnknownDefinedBy)))?;
-
-    let octets: &[u8] = &[0xa3, 3, 2, 1, 7];
-    let value = read_defined(alloc, some_oid(), octets)?;
+    let value = read_defined(rt.alloc(), some_oid(), UNDER_A_TAG)?;
     same(value.as_inner(), &Content::SomeVariant(7))?;
     assert!(rt; Asn1DefinedByWritable::<ObjectIdentifier>::item(&value) == some_oid());
     let length = Asn1DefinedByWritable::<ObjectIdentifier>::encoded_length(&value);
     same(length, Some(5))?;
-    let written = write(alloc, |writer: &mut Writer<'_>| {
-        Asn1DefinedByWritable::<ObjectIdentifier>::write(&value, writer)
-    })?;
-    same(written.as_slice(), octets)?;
-    let two = read_defined(alloc, some_oid(), &[0xa3, 6, 2, 1, 7, 2, 1, 7]);
-    same(&error_of(two), &Some(of(ParseErrorKind::ExtraData)))?;
-    let unknown = error_of(read_defined(alloc, other, octets));
-    same(&unknown, &Some(of(ParseErrorKind::UnknownDefinedBy)))
+    closure_writes(
+        rt.alloc(),
+        |writer: &mut Writer<'_>| {
+            Asn1DefinedByWritable::<ObjectIdentifier>::write(&value, writer)
+        },
+        UNDER_A_TAG,
+    )
 }
 
 #[test]
-fn known_lengths(rt: HostRuntime) -> Result<(), Fail> {
-    same(Signature { r: 1, s: 2 }.encoded_length(), Some(8))?;
-    same(sequence_of_seven().encoded_length(), Some(9))?;
-    same(entry(Some(true), 2).encoded_length(), Some(17))?;
-    same(entry(None, 1).encoded_length(), Some(9))?;
-    let both = SomeSequence {
-        a: Some(b"ab"),
-        b: Some(5),
-    };
-    same(both.encoded_length(), Some(11))?;
-    let none = SomeSequence { a: None, b: None };
-    same(none.encoded_length(), Some(2))
+fn contents_that_are_rejected(rt: HostRuntime) -> Result<(), Fail> {
+    let alloc = rt.alloc();
+    let two = read_defined(alloc, some_oid(), &[0xa3, 6, 2, 1, 7, 2, 1, 7]);
+    is_refusal(two, EXTRA)?;
+    let other = ObjectIdentifier::from_der(&[0x2a, 4])?;
+    is_refusal(read_defined(alloc, other.clone()?, UNDER_A_TAG), UNKNOWN)?;
+    let mut parser = Parser::new(alloc, &[2, 1, 7]);
+    is_refusal(Content::parse(other, &mut parser), UNKNOWN)
 }
 
-/// Writes the value. Out of memory is passed on, and any other error is in the result.
-fn sealed(alloc: Global, value: &Sealable) -> Result<Result<Vec<u8>, SealError>, Fail> {
+#[test]
+fn known_lengths() -> Result<(), Fail> {
+    all_same(&[
+        (Signature { r: 1, s: 2 }.encoded_length(), Some(8)),
+        (sequence_of_seven().encoded_length(), Some(9)),
+        (entry(Some(true), 2).encoded_length(), Some(17)),
+        (entry(None, 1).encoded_length(), Some(9)),
+        (BOTH.encoded_length(), Some(11)),
+        (NEITHER.encoded_length(), Some(2)),
+    ])
+}
+
+/// The value is written as these octets; `None` says that it is sealed. Out of memory is passed on.
+pub fn is_written_or_sealed<T: Asn1Writable<Error = SealError>>(
+    alloc: Global,
+    value: &T,
+    octets: Option<&[u8]>,
+) -> Result<(), Fail>
+    requires { T.der.closures (T.der.meaning value.now) }
+{
     match write_single(alloc, value) {
-        Ok(octets) => Ok(Ok(octets)),
-        Err(SealError::Sealed) => Ok(Err(SealError::Sealed)),
+        Ok(written) => same(Some(written.as_slice()), octets),
+        Err(SealError::Sealed) => same(None, octets),
         Err(SealError::Write(error)) => Err(error.into()),
     }
 }
@@ -287,14 +302,11 @@ fn errors_of_its_own(rt: HostRuntime) -> Result<(), Fail> {
         number: 7,
         sealed: true,
     };
-    assert!(rt; matches!(sealed(alloc, &closed)?, Err(SealError::Sealed)));
+    is_written_or_sealed(alloc, &closed, None)?;
     let octets: &[u8] = &[2, 1, 7];
     let open = parse_single::<Sealable>(alloc, octets)?;
     assert!(rt; !open.sealed);
-    match sealed(alloc, &open)? {
-        Ok(written) => same(written.as_slice(), octets)?,
-        Err(error) => return Err(Fail::new(format_args!("{error:?}"))),
-    }
+    is_written_or_sealed(alloc, &open, Some(octets))?;
     let error = SealError::from(WriteError::AllocationError);
     same(&error, &SealError::Write(WriteError::AllocationError))
 }

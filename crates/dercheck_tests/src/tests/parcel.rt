@@ -5,10 +5,11 @@ ghost use Rattle.asn1.specs.Reads.{HasOneEncoding};
 ghost use Rattle.asn1.specs.Structures.{fields3, structure};
 ghost use Rattle.dercheck.specs.declared.own_types.sealable.SealError.TheVariants.{Sealed};
 
+use crate::tests::own_types::is_written_or_sealed;
 use asn1::fields::{Fields3, Row};
 use asn1::{
     Asn1Type, ErrorInto, ParseResult, SimpleAsn1Readable, SimpleAsn1Writable, Tag, WriteBuf,
-    fields_length, known_fields, parse_single, read_fields, write_fields, write_single,
+    fields_length, known_fields, parse_single, read_fields, write_fields,
 };
 use dercheck::own_types::sealable::{SealError, Sealable};
 use std::alloc::Global;
@@ -16,7 +17,7 @@ use std::test::Fail;
 
 /// A number that may be sealed, a Boolean, and a weight that may be missing: the write of the first fails with a
 /// `SealError`, and those of the others with a `WriteError`.
-#[derive(Debug, PartialEq, Eq, Drop)]
+#[derive(Drop)]
 pub struct Parcel {
     pub number: Sealable,
     pub fragile: ErrorInto<bool, SealError>,
@@ -67,23 +68,13 @@ pub fn parcels_are_lawful()
     ensures { HasOneEncoding ⟦<Parcel as Asn1Type>⟧.der }
 {}
 
-/// Writes the parcel: `None` if its number is sealed. Out of memory is passed on.
-fn written(alloc: Global, parcel: &Parcel) -> Result<Option<Vec<u8>>, Fail> {
-    match write_single(alloc, parcel) {
-        Ok(octets) => Ok(Some(octets)),
-        Err(SealError::Sealed) => Ok(None),
-        Err(SealError::Write(error)) => Err(error.into()),
-    }
-}
-
 #[test]
 fn parcels(rt: HostRuntime) -> Result<(), Fail> {
     let alloc = rt.alloc();
     let octets: &[u8] = &[0x30, 9, 2, 1, 7, 1, 1, 0xff, 2, 1, 5];
     let parcel = parse_single::<Parcel>(alloc, octets)?;
     assert!(rt; *parcel.fragile.as_inner());
-    let found = written(alloc, &parcel)?;
-    assert!(rt; found.is_some_and(|found| found.as_slice() == octets));
+    is_written_or_sealed(alloc, &parcel, Some(octets))?;
     let number = Sealable {
         number: 7,
         sealed: true,
@@ -93,6 +84,5 @@ fn parcels(rt: HostRuntime) -> Result<(), Fail> {
         fragile: ErrorInto::new(true),
         weight: ErrorInto::new(None),
     };
-    assert!(rt; written(alloc, &closed)?.is_none());
-    Ok(())
+    is_written_or_sealed(alloc, &closed, None)
 }

@@ -4,7 +4,7 @@ ghost use Rattle.std.specs.Prelude.{◌∷◌, [], codes};
 ghost use Rattle.asn1.specs.Items.{set_tag};
 ghost use Rattle.asn1.specs.Structures.{fields2, structure_with_tag};
 
-use crate::tests::own_types::{at, other_tag};
+use crate::tests::own_types::{is_at, other_tag, refusal};
 use asn1::fields::{Fields2, Row};
 use asn1::{
     Asn1Type, ParseResult, SimpleAsn1Readable, SimpleAsn1Writable, Tag, WriteBuf, WriteError,
@@ -12,10 +12,10 @@ use asn1::{
 };
 use std::alloc::Global;
 use std::test::Fail;
-use testing::{are_refused_with, both_ways};
+use testing::both_ways;
 
 /// A Boolean and a number in a set.
-#[derive(Debug, Clone, PartialEq, Eq, Hash, Drop)]
+#[derive(PartialEq, Drop)]
 pub struct Pair {
     pub r: bool,
     pub s: u64,
@@ -66,8 +66,8 @@ pub fn pairs_are_lawful()
 #[test]
 fn pairs(rt: HostRuntime) -> Result<(), Fail> {
     let alloc = rt.alloc();
-    let octets: &[u8] = &[0x31, 6, 1, 1, 0xff, 2, 1, 2];
+    let octets = &[0x31, 6, 1, 1, 0xff, 2, 1, 2];
     both_ways(alloc, Pair { r: true, s: 2 }, octets)?;
-    let turned: &[u8] = &[0x31, 6, 2, 1, 2, 1, 1, 0xff];
-    are_refused_with::<Pair>(alloc, &[(turned, at("Pair::r", other_tag(2)))])
+    let turned = &[0x31, 6, 2, 1, 2, 1, 1, 0xff];
+    is_at(refusal::<Pair>(alloc, turned), "Pair::r", other_tag(2))
 }

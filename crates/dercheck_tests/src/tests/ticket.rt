@@ -7,14 +7,14 @@ ghost use Rattle.asn1.specs.Structures.{fields3, structure};
 use asn1::fields::{Fields3, Row};
 use asn1::{
     Asn1Type, ParseResult, SimpleAsn1Readable, SimpleAsn1Writable, Tag, Utf8String, WriteBuf,
-    WriteError, WriteResult, fields_length, known_fields, parse_single, read_fields, write_fields,
-    write_single,
+    WriteError, WriteResult, fields_length, known_fields, read_fields, write_fields,
 };
 use std::alloc::Global;
 use std::test::Fail;
+use testing::both_ways;
 
 /// A number, whether it is paid, which may be missing, and whose it is.
-#[derive(Debug, Clone, PartialEq, Eq, Hash, Drop)]
+#[derive(PartialEq, Drop)]
 pub struct Ticket<'a> {
     pub number: u64,
     pub paid: Option<bool>,
@@ -74,8 +74,7 @@ pub fn tickets_are_lawful()
 
 #[test]
 fn tickets(rt: HostRuntime) -> Result<(), Fail> {
-    let alloc = rt.alloc();
-    let octets: &[u8] = &[
+    let octets = &[
         0x30, 12, 2, 1, 7, 1, 1, 0xff, 0x0c, 4, b'A', b'n', b'n', b'a',
     ];
     let ticket = Ticket {
@@ -83,11 +82,5 @@ fn tickets(rt: HostRuntime) -> Result<(), Fail> {
         paid: Some(true),
         holder: Utf8String::new("Anna"),
     };
-    let written = write_single(alloc, &ticket)?;
-    assert_eq!(rt; written.as_slice(), octets);
-    let read = parse_single::<Ticket<'_>>(alloc, octets)?;
-    assert!(rt; read == ticket);
-    assert_eq!(rt; read.number, 7);
-    assert_eq!(rt; read.holder.as_str(), "Anna");
-    Ok(())
+    both_ways(rt.alloc(), ticket, octets)
 }
