@@ -20,10 +20,6 @@ ATTRIBUTES = ("derive", "implicit", "explicit", "default", "defined_by")
 ORIGINAL = ("asn1", "std", "core", "alloc")
 
 
-def angle(life):
-    return f"<{life}>" if life else ""
-
-
 class Rejected(Exception):
     """Why a declaration has no form, and the line."""
 
@@ -43,22 +39,16 @@ class Type:
 
     def __str__(self):
         args = [*map(str, self.args)]
-        if self.name == "&":
-            return "&" + " ".join(args)
-        if self.name == "[u8; N]":
-            return f"[u8; {args[0]}]"
+        if self.name in ("&", "[u8; N]"):
+            return f"&{' '.join(args)}" if self.name == "&" else f"[u8; {args[0]}]"
         if self.name == "SequenceOf":
             args += ["0", "{ usize::MAX }"][len(args) - 2 :]
-        return self.name + angle(", ".join(args))
+        return f"{self.name}<{', '.join(args)}>" if args else self.name
 
-    @property
-    def inner(self):
-        return [arg for arg in self.args if isinstance(arg, Type)]
-
-    @property
-    def lives(self):
-        """The lifetimes that the type names."""
-        return re.findall(LIFE, str(self))
+    def __post_init__(self):
+        """The types in the brackets, and all lifetimes that the type names."""
+        self.inner = [arg for arg in self.args if isinstance(arg, Type)]
+        self.lives = re.findall(LIFE, str(self))
 
 
 @dataclass
@@ -73,10 +63,6 @@ class Item:
     doc: list = field(default_factory=list)
     attributes: dict = field(default_factory=dict)
     parts: list = field(default_factory=list)
-    arcs: list = field(default_factory=list)
-    # Of a marker the value that its item defines, and of this value the item's type.
-    value: "Item" = None
-    item: Type = None
     # What is said of the derives that are left out.
     note: str = ""
 
@@ -84,24 +70,9 @@ class Item:
         """Rejects what is wrong with the item, by a reason that begins with its name."""
         reject(wrong, self.line, f"`{self.name}` {reason}")
 
-    @property
-    def own(self):
-        """The item's type."""
-        return self.named("")
-
-    def named(self, suffix):
-        """A type with the item's name in front, and its lifetime."""
-        return self.name + suffix + angle(self.life)
-
-    @property
-    def wanted(self):
-        """The derives that the declaration asks for."""
-        return re.findall(r"([^\s,]+) ,", " ".join(self.attributes.get("derive", [])))
-
-    @property
-    def is_defined(self):
-        """Whether an item defines the type's values."""
-        return self.kind == "enum" and any(name.startswith("Asn1DefinedBy") for name in self.wanted)
+    def own(self, suffix=""):
+        """The item's type, or one with more behind the item's name."""
+        return f"{self.name}{suffix}<{self.life}>" if self.life else self.name + suffix
 
 
 class Reader:
@@ -142,7 +113,7 @@ class Reader:
     def item(self, what, is_part=True):
         """A declaration, or a field or a variant, up to its name. Its visibility isn't kept."""
         found = Item()
-        while word := self.takes("///.*") or self.takes("#"):
+        while word := self.takes("///.*|#"):
             found.doc += self.attribute(found.attributes) if word == "#" else [word]
         if self.takes("pub") and self.takes(r"\("):
             self.until(r"\)")
@@ -218,6 +189,9 @@ class Reader:
     def declaration(self):
         """A declaration, with one lifetime at most."""
         found = self.item("a name", is_part=False)
+        # The derives that are asked for, and whether an item defines the type's values.
+        found.wanted = re.findall(r"([^\s,]+) ,", " ".join(found.attributes.get("derive", [])))
+        found.is_defined = found.kind == "enum" and any(name.startswith("Asn1DefinedBy") for name in found.wanted)
         if found.kind == "const":
             return self.constant(found)
         if self.takes("<"):
@@ -242,8 +216,8 @@ class Reader:
         self.expect("=")
         found.reject(self.path() != "oid" or not self.takes("!", r"\("), "isn't made by `oid!`")
         found.arcs = [word for word in self.until(r"\)") if word != ","]
-        are_numbers = all(re.fullmatch(r"\d[\d_]*", arc) for arc in found.arcs)
-        found.reject(not are_numbers or len(found.arcs) < 2, "isn't written as two or more numbers")
+        are_numbers = re.fullmatch(r"\d[\d_]*( \d[\d_]*)+", " ".join(found.arcs))
+        found.reject(not are_numbers, "isn't written as two or more numbers")
         self.expect(";")
         return found
 

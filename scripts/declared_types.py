@@ -88,8 +88,7 @@ class Module:
 
     def check_item(self, item):
         """A declaration is none of a type of the library, of a size that has a form, and of one lifetime."""
-        is_other = item.name in SHAPES or item.name in self.imported
-        item.reject(is_other, "is imported, or a type of the library: name it otherwise")
+        item.reject(item.name in (*SHAPES, *self.imported), "is imported, or a type of the library: name it otherwise")
         item.reject(item.kind == "struct" and len(item.parts) > MOST_FIELDS, f"has more than {MOST_FIELDS} fields")
         has_no_form = item.kind == "enum" and not 0 < len(item.parts) <= MOST_VARIANTS
         item.reject(has_no_form, f"has no variant, or more than {MOST_VARIANTS}")
@@ -102,14 +101,13 @@ class Module:
     def known(self, type):
         """What is known of a type; nothing if it is declared elsewhere."""
         name, item = type.name, self.items.get(type.name)
-        found, shape = LIBRARY.get(name, (None, SHAPES.get(name)))
-        if item:
-            shape = "'" if item.life else ""
-        is_known = shape is not None or name in ("&", "Defaulted", *self.imported) or "::" in name
-        reject(not is_known, type.line, f"`{name}` is no type of the library, and neither declared nor imported here")
+        is_other = name in ("&", "Defaulted", *self.imported) or "::" in name
+        found, shape = LIBRARY.get(name, (None, SHAPES.get(name, ".*" if is_other else None)))
+        shape = shape if not item else "'" if item.life else ""
+        reject(shape is None, type.line, f"`{name}` is no type of the library, and neither declared nor imported here")
         kinds = "".join("T" if isinstance(arg, Type) else "'" if arg.startswith("'") else "n" for arg in type.args)
-        is_wrong = shape is not None and not re.fullmatch(shape, kinds)
-        reject(is_wrong, type.line, f"`{name}` lacks its lifetime, its type or its number, or has another")
+        is_well = re.fullmatch(shape, kinds)
+        reject(not is_well, type.line, f"`{name}` lacks its lifetime, its type or its number, or has another")
         if not item:
             return found or self.known_around(type, *map(self.known, type.inner))
         item.reject(self.seen.get(name, item) is None, "is recursive: it has no form")
@@ -203,12 +201,13 @@ def set_derives(item, parts):
             left.setdefault(why, []).append(f"`{name}`")
     said = "; ".join(f"{', '.join(names)}, {why}" for why, names in left.items())
     item.note = f"`{item.name}` is printed without {said}" if left else ""
+    item.derives += [] if "Copy" in item.derives else ["Drop"]
 
 
 def set_form(item, part):
     """Gives a field or a variant its type in the row, and what is said of it by its attributes."""
     in_struct, attributes, is_option = item.kind == "struct", part.attributes, part.type.name == "Option"
-    tags = [name for name in ("implicit", "explicit") if name in attributes]
+    tags = {"implicit", "explicit"} & set(attributes)
     part.reject(len(tags) > 1, "is both implicit and explicit")
     part.tag = "".join(tags)
     others = set(attributes) - {part.tag}
@@ -225,6 +224,8 @@ def set_form(item, part):
     part.base = part.type.inner[0] if is_around else part.type
     part.form = Type(part.tag.capitalize(), [part.base, number], part.line) if part.tag else part.base
     part.form = Type("Option", [part.form], part.line) if is_around else part.form
+    # Of a marker the value that its item defines, and of this value the item's type.
+    part.value = part.item = None
     # The struct's name and the field's, as that of a type.
     part.title = item.name + "".join(word.capitalize() for word in part.name.split("_"))
     part.default = literal(part) if has_default else None

@@ -6,33 +6,27 @@ from declarations import reject
 from derived_forms import Alternatives, comment, der, quoted, side
 
 ITEM = "ObjectIdentifier"
-ANSWER = "\npub {0} : goal.{0}\n{0} c = {1}\n"
+ANSWER = "\npub {0} : goal.{0}\n{2}{0} c = {1}\n"
 # What the proofs of an identifier's function use, and the proofs: the numbers that its octets are read as are computed.
-IDENTIFIER_ANSWERS = """use Rattle.std.proofs.Common.{refl, sym}
+IDENTIFIER_USES = """use Rattle.std.proofs.Common.{refl, sym}
 use Rattle.asn1.specs.Base128.{number_front}
 use Rattle.asn1.specs.Identifier.{numbers_in, read_identifier}
 use Rattle.asn1.specs.Lemmas.Results.{ok_is}
-""", """
-pub known_identifier-requires : goal.known_identifier-requires
-unfolding read_identifier numbers_in number_front
-known_identifier-requires c = refl
-
-pub returns : goal.returns
-unfolding read_identifier numbers_in number_front
-returns c = sym (ok_is _ _ c.known_identifier.ensures)
 """
+COMPUTED = "unfolding read_identifier numbers_in number_front\n"
+IDENTIFIER_ANSWERS = ANSWER.format("known_identifier-requires", "refl", COMPUTED)
+IDENTIFIER_ANSWERS += ANSWER.format("returns", "sym (ok_is _ _ c.known_identifier.ensures)", COMPUTED)
 
 
 def octets_of(item):
     """The encoded numbers of an identifier (X.690 8.19.4), and its contents octets."""
     first, second, *others = [int(arc.replace("_", "")) for arc in item.arcs]
-    is_wrong = first > 2 or first < 2 and second > 39
-    item.reject(is_wrong, "is no identifier: its second number is below 40 after 0 and 1")
+    item.reject(first > 2 or first < 2 and second > 39, "is no identifier: its second number is below 40 after 0 and 1")
     numbers = [40 * first + second, *others]
-    shifts = {number: range((max(number.bit_length(), 1) - 1) // 7 * 7, -1, -7) for number in numbers}
-    octets = [number >> at & 127 | (128 if at else 0) for number in numbers for at in shifts[number]]
-    is_large = len(octets) > 63 or max(numbers) >= 2**128
-    item.reject(is_large, "has more than 63 octets, or a number from 2^128 on")
+    # Seven bits an octet, from the first that aren't 0: a number below 2^128 has none from bit 133 on.
+    at_octets = [(number, at) for number in numbers for at in range(126, -1, -7) if number >> at or not at]
+    octets = [number >> at & 127 | (128 if at else 0) for number, at in at_octets]
+    item.reject(len(octets) > 63 or max(numbers) >= 2**128, "has more than 63 octets, or a number from 2^128 on")
     return numbers, octets
 
 
@@ -47,9 +41,7 @@ pub const {item.name}_NUMBERS: [{"u64" if max(numbers) < 2**64 else "u128"}; {le
 {comment(item, f"The identifier {'.'.join(item.arcs)}.")}
 pub fn {item.name.lower()}() -> ObjectIdentifier
     ensures {{ identifier_of result ≡ {item.name}_NUMBERS }}
-{{
-    known_identifier(b"{contents}")
-}}
+{{ known_identifier(b"{contents}") }}
 """
 
 
@@ -58,15 +50,12 @@ class Defined(Alternatives):
 
     def __init__(self, item, module):
         super().__init__(item, module)
-        self.by = quoted(item.own, f"Asn1DefinedBy<{ITEM}>") + ".by"
+        self.by = quoted(item.own(), f"Asn1DefinedBy<{ITEM}>") + ".by"
         self.known = [part for part in item.parts if "defined_by" in part.attributes]
         self.other = next((part for part in item.parts if "default" in part.attributes), None)
-        self.check()
         # What the default keeps.
         self.kept = self.name + self.other.name if self.other else ""
-
-    def check(self):
-        """Each identifier is declared, and told from the others; what serves every other is last, and keeps it."""
+        # Each identifier is declared, and told from the others; what serves every other is last, and keeps it.
         numbers, other = {}, self.other
         for part in self.known:
             name = "".join(part.attributes["defined_by"][:-1])
@@ -83,10 +72,8 @@ class Defined(Alternatives):
             other.reject(not is_tlv, f"is the default, and not of an `{ITEM}` and a `Tlv`")
 
     def printed(self):
-        types = [*(part.base for part in self.known), f"{self.kept}<{self.life}>"]
         text = self.other_struct() if self.other else ""
-        text += self.clone() if self.other and "Clone" in self.item.derives else ""
-        text += self.stated("This alternative.", [f"{part.name}({type})" for part, type in zip(self.parts, types)])
+        text += self.stated([*(part.base for part in self.known), f"{self.kept}<{self.life}>"])
         text += self.impl(f"Asn1DefinedBy<{ITEM}>", self.variants(), f"""
             ghost by = {{ by_item (record {{
             item = {der(ITEM)};
@@ -107,50 +94,37 @@ class Defined(Alternatives):
         return text
 
     def other_struct(self):
-        """What the default keeps: an identifier that no other variant is for, and the value."""
-        of, derives = f"{self.kept}<{self.life}>", [name for name in self.item.derives if name != "Clone"]
+        """What the default keeps: an identifier that no other variant is for, and the value. `Clone` isn't derived for
+        it, because of the ghost fields."""
+        kept, life = self.kept, self.life
+        of, derives = f"{kept}<{life}>", ", ".join(name for name in self.item.derives if name != "Clone")
         facts = {part.call: f"bytes_eq (identifier_of item) {part.numbers} ≡" for part in self.known}
+        fields = "".join(f"pub ghost is_not_{call[:-2]}: {{ {fact} false }}, " for call, fact in facts.items())
+        tests = " || ".join(f"is_identifier(&item, {call})" for call in facts)
         last, *others = [f"({fact} true)" for fact in reversed([*facts.values()])]
         served = reduce(lambda rest, first: f"({first} ⊎ {rest})", others, last)
-        return f"""
+        text = f"""
 /// An identifier that no other variant of `{self.name}` is for, and the value.
-#[derive({', '.join([*derives, 'Drop'])})]
-pub struct {of} {{
-    item: {ITEM},
-    value: Tlv<{self.life}>,
-    {''.join(f"pub ghost is_not_{call[:-2]}: {{ {fact} false }}," for call, fact in facts.items())}
-}}
-
-impl<{self.life}> {of} {{
+#[derive({derives})]
+pub struct {of} {{ item: {ITEM}, value: Tlv<{life}>, {fields} }}
+impl<{life}> {of} {{
     /// Of this identifier and this value; `None` if another variant is for the identifier.
-    pub fn new(item: {ITEM}, value: Tlv<{self.life}>) -> Option<{of}>
+    pub fn new(item: {ITEM}, value: Tlv<{life}>) -> Option<{of}>
         ensures {{ MatchOption result {served} (λ v. (v.item ≡ item) × (v.value ≡ value.entry)) }}
-    {{
-        if {" || ".join(f"is_identifier(&item, {call})" for call in facts)} {{ return None; }}
-        Some({self.kept} {{ item, value }})
-    }}
+    {{ if {tests} {{ return None; }} Some({kept} {{ item, value }}) }}
 
     /// The identifier.
-    pub fn item(&self) -> &{ITEM}
-        ensures {{ result.now ≡ self.now.item }}
-    {{ &self.item }}
+    pub fn item(&self) -> &{ITEM} ensures {{ result.now ≡ self.now.item }} {{ &self.item }}
 
     /// The value.
-    pub fn value(&self) -> Tlv<{self.life}>
-        ensures {{ result ≡ self.now.value }}
-    {{ self.value }}
+    pub fn value(&self) -> Tlv<{life}> ensures {{ result ≡ self.now.value }} {{ self.value }}
 }}
 """
-
-    def clone(self):
-        """The impl of `Clone` for what the default keeps: it isn't derived, because of the ghost field."""
-        return f"""
-impl<{self.life}> Clone for {self.kept}<{self.life}> {{
+        return text if "Clone" not in self.item.derives else text + f"""
+impl<{life}> Clone for {of} {{
     ghost is_clone = {{ λ x y. (identifier_of y.item ≡ identifier_of x.item) × (y.value ≡ x.value) }};
     ghost is_infallible = {{ λ _. ⊤ }};
-    fn clone(&self) -> Result<{self.kept}<{self.life}>, AllocError> {{
-        Ok({self.kept} {{ item: self.item.clone()?, value: self.value }})
-    }}
+    fn clone(&self) -> Result<{of}, AllocError> {{ Ok({kept} {{ item: self.item.clone()?, value: self.value }}) }}
 }}
 """
 
@@ -159,11 +133,9 @@ impl<{self.life}> Clone for {self.kept}<{self.life}> {{
         values = [f"({der(part.base)}.meaning x)" for part in self.known]
         values += [f"({der(ITEM)}.meaning x.item, {der(self.other.base)}.meaning x.value)"] if self.other else []
         places = [side(at, len(values)).format(value)[1:-1] for at, value in enumerate(values)]
-        cases = " | ".join(f"{part.name} x ↦ {place}" for part, place in zip(self.parts, places))
         text = f"(any_variant {der(self.other.base)} (λ m. m)) " if self.other else ""
         for part in reversed(self.known):
-            word, view = "or_variant" if text else "variant", "(λ m. m)"
-            view = f"(elim [ {cases} ])" if part is self.known[0] else view
+            word, view = "or_variant" if text else "variant", self.elim(places) if part is self.known[0] else "(λ m. m)"
             text = f"({word} (identifier_with {part.numbers}) {der(part.form)} {text}{view}) "
         return text[1:-2]
 
@@ -171,12 +143,12 @@ impl<{self.life}> Clone for {self.kept}<{self.life}> {{
         """The impl of reading: one identifier after another is tested."""
         tests = ""
         for part in self.known:
-            value = f"parser.read_element::<{part.form}>()?{'.into_inner()' if part.tag else ''}"
-            tests += f"if is_identifier(&item, {part.call}) {{ return Ok({self.name}::{part.name}({value})); }} "
+            made = self.made(part, f"parser.read_element::<{part.form}>()?")
+            tests += f"if is_identifier(&item, {part.call}) {{ return Ok({made}); }} "
         last = "Err(ParseError::new(ParseErrorKind::UnknownDefinedBy))"
         if self.other:
             value = f"{self.kept} {{ item, value: parser.read_element::<Tlv<{self.life}>>()? }}"
-            last = f"Ok({self.name}::{self.other.name}({value}))"
+            last = f"Ok({self.made(self.other, value)})"
         stops = f"{self.by}.means.stops ({self.by}.seen item)"
         parse = self.parse(f"item: {ITEM}, ", tests + last, f"ReadsDefined {self.by} item", stops)
         return self.impl(f"Asn1DefinedByReadable<{self.life}, {ITEM}>", parse, f"""
@@ -185,10 +157,15 @@ impl<{self.life}> Clone for {self.kept}<{self.life}> {{
             {{}}""")
 
 
-def write_answers(item, module):
-    """The function and the proofs that the write of large variants owes, in which the search would end at its limit:
-    their types have one encoding, so nothing more is asked; and of what an item defines, that an error leaves the
-    buffer as it was. Large is an enum of the file; of what an item defines, each type that is declared or imported."""
+def answers(item, module):
+    """The proofs that are owed for an item: their function, what they use, and the proofs, if any.
+
+    The write of large variants owes some, in which the search would end at its limit: their types have one encoding, so
+    nothing more is asked; and of what an item defines, that an error leaves the buffer as it was. Large is an enum of
+    the file; of what an item defines, each type that is declared or imported.
+    """
+    if item.kind != "enum" or not item.writes:
+        return (item.name.lower(), IDENTIFIER_USES, IDENTIFIER_ANSWERS) if item.kind == "const" else ("", "", "")
     enums = [name for name, other in module.items.items() if other.kind == "enum"]
     names = {*module.items, *module.imported} if item.is_defined else enums
     plain, large, kept = [part for part in item.parts if not part.tag], "", ""
@@ -196,9 +173,9 @@ def write_answers(item, module):
         # The first call's goals and results have no more than its name, and those of each further one tell where it is.
         at = "" if part is plain[0] else f"-in-{part.name}"
         is_large = any(type.name in names for type in module.within(part.base))
-        large += ANSWER.format(f"write_element-requires{at}", "inl (search rules)") if is_large else ""
+        large += ANSWER.format(f"write_element-requires{at}", "inl (search rules)", "") if is_large else ""
         term = f"unmoved_keeps_front _ _ c.write_element{at}.result c.write_element{at}.ensures.err"
-        kept += ANSWER.format(f"returns-in-{part.name}-clause-err", term)
+        kept += ANSWER.format(f"returns-in-{part.name}-clause-err", term, "")
     uses = "use Rattle.std.proofs.Common.{inl, rules}\n"
     if not item.is_defined:
         return f"{item.name}Asn1Writable/write", uses, large
