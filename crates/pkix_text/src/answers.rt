@@ -6,8 +6,8 @@ ghost use Rattle.pkix_text.specs.declared.kinds.Kind.TheVariants as kinds;
 
 use crate::errors::in_words;
 use crate::kinds::Kind;
-use crate::pem::{Object, PemError, is_pem, objects};
-use crate::show::{Show, push_escaped};
+use crate::pem::{Object, PemError, objects};
+use crate::show::{Show, lines_of, push_escaped};
 use asn1::{
     Asn1Readable, Asn1Type, Asn1Writable, ParseError, ParseErrorKind, Tag, WriteError,
     parse_single, strip_tlv, write_readable,
@@ -106,25 +106,24 @@ fn shown<'a, T: Asn1Readable<'a> + Asn1Writable<Error = WriteError> + Show>(
         Ok(value) => value,
         Err(error) => return Ok(Answer::Rejected(Refusal::Der(error))),
     };
-    let mut text = String::new(alloc);
-    value.show(alloc, "", &mut text)?;
     let Ok(written) = write_readable(alloc, &value) else {
         return Err(Fault::Memory);
     };
     let digest = hex::encode(alloc, &Sha256::digest(written.as_slice()))?;
+    let mut text = lines_of(alloc, &value)?;
     writeln!(text, "sha256: {digest}")?;
     text.push_str("same\n")?;
     Ok(Answer::Shown(text))
 }
 
 /// What tells one form from another.
-#[derive(Clone, Copy)]
+#[derive(Clone, Copy, Default)]
 struct Start {
     /// The tag of the first element within an element, if there is one.
     first: Option<Tag>,
     /// The tag of the second.
     second: Option<Tag>,
-    /// Whether octets follow the second.
+    /// Whether octets follow these.
     has_more: bool,
     /// Whether the first is the algorithm of an encrypted key.
     is_encrypted: bool,
@@ -136,27 +135,20 @@ const ENCRYPTIONS: [&[u8]; 2] = [
     b"\x06\x0a\x2a\x86\x48\x86\xf7\x0d\x01\x0c\x01",
 ];
 
-/// How the contents octets of an element begin.
-fn start_of(octets: &[u8]) -> Start {
-    let mut start = Start {
-        first: None,
-        second: None,
-        has_more: false,
-        is_encrypted: false,
+/// How the contents octets of an element begin. `None` if there is no element in them.
+fn start_of(octets: &[u8]) -> Option<Start> {
+    let (whole, _) = strip_tlv(octets).ok()?;
+    let (first, after) = strip_tlv(whole.data()).ok()?;
+    let (second, after) = match strip_tlv(after) {
+        Ok((second, after)) => (Some(second.tag()), after),
+        Err(_) => (None, after),
     };
-    let Ok((whole, _)) = strip_tlv(octets) else {
-        return start;
-    };
-    let Ok((first, after)) = strip_tlv(whole.data()) else {
-        return start;
-    };
-    start.first = Some(first.tag());
-    start.is_encrypted = ENCRYPTIONS.iter().any(|it| first.data().starts_with(it));
-    if let Ok((second, after)) = strip_tlv(after) {
-        start.second = Some(second.tag());
-        start.has_more = !after.is_empty();
-    }
-    start
+    Some(Start {
+        first: Some(first.tag()),
+        second,
+        has_more: !after.is_empty(),
+        is_encrypted: ENCRYPTIONS.iter().any(|it| first.data().starts_with(it)),
+    })
 }
 
 /// The lines of a key, whose first elements tell its form: a OneAsymmetricKey has a version and an algorithm, an
@@ -171,19 +163,16 @@ fn key<'a>(alloc: Global, start: Start, octets: &'a [u8]) -> Result<Answer, Faul
         ⊎ IsRead ⟦<OneAsymmetricKey<'a> as Asn1Type>⟧.der octets.entry.now)) }
 {
     if start.first == Some(Tag::constructed(0x10)) {
-        return shown::<SubjectPublicKeyInfo<'_>>(alloc, octets);
+        shown::<SubjectPublicKeyInfo<'_>>(alloc, octets)
+    } else if start.second == Some(Tag::primitive(0x04)) {
+        shown::<EcPrivateKey<'_>>(alloc, octets)
+    } else if start.second != Some(Tag::primitive(0x02)) {
+        shown::<OneAsymmetricKey<'_>>(alloc, octets)
+    } else if start.has_more {
+        shown::<RsaPrivateKey<'_>>(alloc, octets)
+    } else {
+        shown::<RsaPublicKey<'_>>(alloc, octets)
     }
-    if start.second == Some(Tag::primitive(0x04)) {
-        return shown::<EcPrivateKey<'_>>(alloc, octets);
-    }
-    if start.second == Some(Tag::primitive(0x02)) {
-        return if start.has_more {
-            shown::<RsaPrivateKey<'_>>(alloc, octets)
-        } else {
-            shown::<RsaPublicKey<'_>>(alloc, octets)
-        };
-    }
-    shown::<OneAsymmetricKey<'_>>(alloc, octets)
 }
 
 /// The lines of a signature, whose first element tells its form: an ECDSA-Sig-Value begins with an integer, a
@@ -195,12 +184,12 @@ fn signature<'a>(alloc: Global, start: Start, octets: &'a [u8]) -> Result<Answer
         ⊎ IsRead ⟦<ContentInfo<'a> as Asn1Type>⟧.der octets.entry.now)) }
 {
     if start.first == Some(Tag::primitive(0x02)) {
-        return shown::<EcdsaSigValue<'_>>(alloc, octets);
+        shown::<EcdsaSigValue<'_>>(alloc, octets)
+    } else if start.first == Some(Tag::constructed(0x10)) {
+        shown::<DigestInfo<'_>>(alloc, octets)
+    } else {
+        shown::<ContentInfo<'_>>(alloc, octets)
     }
-    if start.first == Some(Tag::constructed(0x10)) {
-        return shown::<DigestInfo<'_>>(alloc, octets);
-    }
-    shown::<ContentInfo<'_>>(alloc, octets)
 }
 
 /// The lines of the value of this kind whose encoding the octets are. An encrypted key is rejected as an encrypted key
@@ -222,7 +211,7 @@ pub fn answer_to<'a>(alloc: Global, kind: Kind, octets: &'a [u8]) -> Result<Answ
       | kinds.TimestampResponse ↦ IsRead ⟦<TimeStampResp<'a> as Asn1Type>⟧.der octets.entry.now
     ])) }
 {
-    let start = start_of(octets);
+    let start = start_of(octets).unwrap_or_default();
     if start.is_encrypted {
         return Ok(Answer::Rejected(Refusal::Encrypted));
     }
@@ -237,14 +226,6 @@ pub fn answer_to<'a>(alloc: Global, kind: Kind, octets: &'a [u8]) -> Result<Answ
     }
 }
 
-/// Whether an object is rejected with this error of DER.
-fn is_rejected_with(answer: &Answer, error: &ParseError) -> bool {
-    match answer {
-        Answer::Rejected(Refusal::Der(other)) => other == error,
-        _ => false,
-    }
-}
-
 /// How many octets at the start decide this error: with any others after them, here 0xff, the error is the same.
 fn octets_of(alloc: Global, kind: Kind, octets: &[u8], error: &ParseError) -> Result<usize, Fault> {
     let (mut low, mut high) = (0usize, octets.len());
@@ -255,7 +236,7 @@ fn octets_of(alloc: Global, kind: Kind, octets: &[u8], error: &ParseError) -> Re
         changed.extend_from_slice(octets.get(..middle).unwrap_or(octets))?;
         changed.resize(octets.len(), 0xff)?;
         let answer = answer_to(alloc, kind, changed.as_slice())?;
-        if is_rejected_with(&answer, error) {
+        if matches!(&answer, Answer::Rejected(Refusal::Der(other)) if other == error) {
             high = middle;
         } else {
             low = middle.saturating_add(1);
@@ -287,27 +268,17 @@ fn octet_of(
     }
 }
 
-/// An error of DER in words, with its octet.
-fn words_of(alloc: Global, kind: Kind, octets: &[u8], error: &ParseError) -> Result<String, Fault> {
+/// The result for an object in DER if this kind is asked for, with an error in words and its octet.
+fn told(alloc: Global, kind: Kind, octets: &[u8]) -> Result<Answer, Fault> {
+    let answer = answer_to(alloc, kind, octets)?;
+    let Answer::Rejected(Refusal::Der(error)) = &answer else {
+        return Ok(answer);
+    };
     let mut words = in_words(alloc, error)?;
     if let Some(octet) = octet_of(alloc, kind, octets, error)? {
         write!(words, " (octet {octet})")?;
     }
-    Ok(words)
-}
-
-/// The result for an object in DER if this kind is asked for, with an error in words.
-fn told(alloc: Global, kind: Kind, octets: &[u8]) -> Result<Answer, Fault> {
-    match answer_to(alloc, kind, octets)? {
-        Answer::Shown(lines) => Ok(Answer::Shown(lines)),
-        Answer::Rejected(refusal) => match refusal {
-            Refusal::Der(error) => {
-                let words = words_of(alloc, kind, octets, &error)?;
-                Ok(Answer::Rejected(Refusal::Told(words)))
-            }
-            other => Ok(Answer::Rejected(other)),
-        },
-    }
+    Ok(Answer::Rejected(Refusal::Told(words)))
 }
 
 /// The result for an object in DER if no kind is named: the lines of the only kind that reads it.
@@ -316,10 +287,9 @@ fn answer_to_any(alloc: Global, octets: &[u8]) -> Result<Answer, Fault> {
     for kind in Kind::ALL.iter().copied() {
         match answer_to(alloc, kind, octets)? {
             Answer::Shown(lines) => {
-                if found.is_some() {
+                if found.replace(lines).is_some() {
                     return Ok(Answer::Rejected(Refusal::SeveralKinds));
                 }
-                found = Some(lines);
             }
             Answer::Rejected(refusal) => {
                 if matches!(refusal, Refusal::Encrypted) {
@@ -329,11 +299,6 @@ fn answer_to_any(alloc: Global, octets: &[u8]) -> Result<Answer, Fault> {
         }
     }
     Ok(found.map_or(Answer::Rejected(Refusal::NoKind), Answer::Shown))
-}
-
-/// Whether objects with this label are of no kind, though they may have the form of one: parameters may look like keys.
-fn is_of_no_kind(label: &[u8]) -> bool {
-    label.ends_with(b"PARAMETERS") || label.starts_with(b"DSA")
 }
 
 /// The label as characters, with those escaped that can't be printed.
@@ -353,17 +318,18 @@ fn answer_to_object(
     if object.is_encrypted || object.label.starts_with(b"ENCRYPTED") {
         return Ok(Answer::Rejected(Refusal::Encrypted));
     }
-    let octets = match &object.octets {
-        Ok(octets) => octets.as_slice(),
-        Err(error) => return Ok(Answer::Rejected(Refusal::Pem(*error))),
+    let octets = match object.octets(alloc)? {
+        Ok(octets) => octets,
+        Err(error) => return Ok(Answer::Rejected(Refusal::Pem(error))),
     };
     let kind = match (Kind::labelled(object.label), asked) {
         (Some(told), Some(asked)) if told != asked => None,
-        (None, _) if is_of_no_kind(object.label) => None,
+        // Parameters and keys of DSA may have the form of a kind.
+        _ if object.label.ends_with(b"PARAMETERS") || object.label.starts_with(b"DSA") => None,
         (told, asked) => told.or(asked),
     };
     match kind {
-        Some(kind) => told(alloc, kind, octets),
+        Some(kind) => told(alloc, kind, octets.as_slice()),
         None => {
             let label = text_of(alloc, object.label)?;
             Ok(Answer::Rejected(Refusal::Label(label)))
@@ -399,7 +365,8 @@ pub fn report_on(alloc: Global, kind: Option<Kind>, input: &[u8]) -> Result<Repo
         lines: String::new(alloc),
         reasons: String::new(alloc),
     };
-    if !is_pem(input) {
+    let objects = objects(alloc, input)?;
+    if objects.is_empty() {
         let answer = match kind {
             _ if input.is_empty() => Answer::Rejected(Refusal::Empty),
             Some(kind) => told(alloc, kind, input)?,
@@ -408,7 +375,6 @@ pub fn report_on(alloc: Global, kind: Option<Kind>, input: &[u8]) -> Result<Repo
         report.add("", answer)?;
         return Ok(report);
     }
-    let objects = objects(alloc, input)?;
     for (number, object) in objects.iter().enumerate() {
         let mut name = String::new(alloc);
         if objects.len() > 1 {

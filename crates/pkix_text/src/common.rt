@@ -1,10 +1,8 @@
 //! What certificates, revocation lists, requests and keys have in common.
 
-use crate::answers::Fault;
-use crate::errors::in_words;
 use crate::identifiers::name_of;
-use crate::show::{Show, empty, inner, item, line, part, read_again, within};
-use asn1::{BigInt, ObjectIdentifier, SetOf, Tlv, parse_single};
+use crate::show::{Lines, Numbered, Show, read_again};
+use asn1::{BigInt, ObjectIdentifier, SetOf, parse_single};
 use pkix::algorithm_parameters::{AlgorithmParameters, KnownAlgorithm};
 use pkix::common::{
     AlgorithmIdentifier, Attribute, AttributeTypeAndValue, Attributes, Extensions,
@@ -25,85 +23,61 @@ pub(crate) fn short_name(
     }
 }
 
-/// Appends the line of the parameters as an element, if there is one: an identifier, as of a curve, or the octets.
-fn element(
-    alloc: Global,
-    place: &str,
-    algorithm: &AlgorithmIdentifier<'_>,
-    out: &mut String,
-) -> Result<(), Fault> {
-    let Some(parameters) = algorithm.parameters else {
-        return Ok(());
-    };
-    match parse_single::<ObjectIdentifier>(alloc, parameters.full_data()) {
-        Ok(identifier) => part(alloc, place, "parameters", &identifier, out),
-        Err(_) => part(alloc, place, "parameters", &parameters.full_data(), out),
-    }
-}
-
-/// Appends the lines of an algorithm within the parameters of another, if there is one. Its own parameters are shown as
-/// an element, since they could have algorithms again.
-fn inner_algorithm(
-    alloc: Global,
-    place: &str,
-    name: &str,
-    algorithm: Option<&AlgorithmIdentifier<'_>>,
-    out: &mut String,
-) -> Result<(), Fault> {
-    let Some(algorithm) = algorithm else {
-        return Ok(());
-    };
-    let place = within(alloc, place, name)?;
-    algorithm.algorithm.show(alloc, place.as_str(), out)?;
-    element(alloc, place.as_str(), algorithm, out)
-}
-
 impl Show for DssParms<'_> {
-    fn show(&self, alloc: Global, place: &str, out: &mut String) -> Result<(), Fault> {
-        part(alloc, place, "p", &self.p, out)?;
-        part(alloc, place, "q", &self.q, out)?;
-        part(alloc, place, "g", &self.g, out)
+    fn show(&self, lines: &mut Lines) -> Result<(), AllocError> {
+        lines.part("p", &self.p)?;
+        lines.part("q", &self.q)?;
+        lines.part("g", &self.g)
     }
 }
 
+/// An algorithm within the parameters of another has parameters that could have algorithms again.
 impl Show for RsassaPssParams<'_> {
-    fn show(&self, alloc: Global, place: &str, out: &mut String) -> Result<(), Fault> {
-        inner_algorithm(
-            alloc,
-            place,
-            "hashAlgorithm",
-            self.hash_algorithm.as_ref(),
-            out,
-        )?;
-        inner_algorithm(
-            alloc,
-            place,
+    fn show(&self, lines: &mut Lines) -> Result<(), AllocError> {
+        lines.part("hashAlgorithm", &self.hash_algorithm.as_ref().map(Plain))?;
+        lines.part(
             "maskGenAlgorithm",
-            self.mask_gen_algorithm.as_ref(),
-            out,
+            &self.mask_gen_algorithm.as_ref().map(Plain),
         )?;
-        part(alloc, place, "saltLength", &self.salt_length, out)?;
-        part(alloc, place, "trailerField", &self.trailer_field, out)
+        lines.part("saltLength", &self.salt_length)?;
+        lines.part("trailerField", &self.trailer_field)
+    }
+}
+
+/// An algorithm whose parameters are shown as an element: an identifier, as of a curve, or the octets.
+#[derive(Drop)]
+struct Plain<'a>(&'a AlgorithmIdentifier<'a>);
+
+impl Show for Plain<'_> {
+    fn show(&self, lines: &mut Lines) -> Result<(), AllocError> {
+        self.0.algorithm.show(lines)?;
+        let Some(parameters) = self.0.parameters else {
+            return Ok(());
+        };
+        match parse_single::<ObjectIdentifier>(lines.alloc, parameters.full_data()) {
+            Ok(identifier) => lines.part("parameters", &identifier),
+            Err(_) => lines.part("parameters", &parameters.full_data()),
+        }
     }
 }
 
 /// The algorithm, and its parameters: by their fields if they are read as a structure, and else as an element, with the
 /// reason if they aren't those of a known algorithm.
 impl Show for AlgorithmIdentifier<'_> {
-    fn show(&self, alloc: Global, place: &str, out: &mut String) -> Result<(), Fault> {
-        self.algorithm.show(alloc, place, out)?;
-        match self.read_parameters(alloc) {
+    fn show(&self, lines: &mut Lines) -> Result<(), AllocError> {
+        match self.read_parameters(lines.alloc) {
             Ok(AlgorithmParameters::Dss(parameters)) => {
-                part(alloc, place, "parameters", &parameters, out)
+                self.algorithm.show(lines)?;
+                lines.part("parameters", &parameters)
             }
             Ok(AlgorithmParameters::RsassaPss(parameters)) => {
-                part(alloc, place, "parameters", &parameters, out)
+                self.algorithm.show(lines)?;
+                lines.part("parameters", &parameters)
             }
-            Ok(_) => element(alloc, place, self, out),
+            Ok(_) => Plain(self).show(lines),
             Err(error) => {
-                element(alloc, place, self, out)?;
-                let reason = in_words(alloc, &error)?;
-                line(alloc, place, "parameters.rejected", reason.as_str(), out)
+                Plain(self).show(lines)?;
+                lines.part("parameters.rejected", &error)
             }
         }
     }
@@ -120,15 +94,15 @@ fn modulus_bits(alloc: Global, octets: &[u8]) -> Option<usize> {
 
 /// The fields, and the size of an RSA key.
 impl Show for SubjectPublicKeyInfo<'_> {
-    fn show(&self, alloc: Global, place: &str, out: &mut String) -> Result<(), Fault> {
-        part(alloc, place, "algorithm", &self.algorithm, out)?;
+    fn show(&self, lines: &mut Lines) -> Result<(), AllocError> {
+        lines.part("algorithm", &self.algorithm)?;
         let key = &self.subject_public_key;
-        part(alloc, place, "subjectPublicKey", key, out)?;
+        lines.part("subjectPublicKey", key)?;
         let algorithm = KnownAlgorithm::with_identifier(&self.algorithm.algorithm);
         if algorithm == Some(KnownAlgorithm::RsaEncryption) {
-            if let Some(bits) = modulus_bits(alloc, key.as_bytes()) {
-                let place = within(alloc, place, "keySize")?;
-                writeln!(out, "{place}: {bits} bits")?;
+            if let Some(bits) = modulus_bits(lines.alloc, key.as_bytes()) {
+                let size = format!(in lines.alloc; "{bits} bits")?;
+                return lines.part("keySize", &size);
             }
         }
         Ok(())
@@ -137,63 +111,47 @@ impl Show for SubjectPublicKeyInfo<'_> {
 
 /// The value, with the attribute's type as its location.
 impl Show for AttributeTypeAndValue<'_> {
-    fn show(&self, alloc: Global, place: &str, out: &mut String) -> Result<(), Fault> {
-        let name = short_name(alloc, &self.type_id)?;
-        part(alloc, place, name.as_str(), &self.value, out)
+    fn show(&self, lines: &mut Lines) -> Result<(), AllocError> {
+        let name = short_name(lines.alloc, &self.type_id)?;
+        lines.part(name.as_str(), &self.value)
     }
 }
 
 /// The attributes of a set, which is a part of a name: each at the set's own location.
 impl<'a> Show for SetOf<'a, AttributeTypeAndValue<'a>> {
-    fn show(&self, alloc: Global, place: &str, out: &mut String) -> Result<(), Fault> {
-        let mut count = 0usize;
+    fn show(&self, lines: &mut Lines) -> Result<(), AllocError> {
+        let mut is_empty = true;
         for attribute in self.clone()? {
-            read_again(attribute)?.show(alloc, place, out)?;
-            count = count.saturating_add(1);
+            read_again(attribute)?.show(lines)?;
+            is_empty = false;
         }
-        empty(place, count, out)
+        lines.empty(is_empty)
     }
 }
 
-/// Appends the lines of a value of an attribute with this name: of extensions if the attribute asks for them, and else
-/// of an element of any type.
-fn value(
-    alloc: Global,
-    place: &str,
-    name: &str,
-    value: &Tlv<'_>,
-    out: &mut String,
-) -> Result<(), Fault> {
-    if name != "extensionRequest" {
-        return part(alloc, place, name, value, out);
-    }
-    inner::<Extensions<'_>>(alloc, place, name, value.full_data(), out)
-}
-
-/// Each value, with the attribute's type as its location.
+/// Each value, with the attribute's type as its location. Extensions that are asked for are read.
 impl Show for Attribute<'_> {
-    fn show(&self, alloc: Global, place: &str, out: &mut String) -> Result<(), Fault> {
-        let name = short_name(alloc, &self.type_id)?;
-        let mut count = 0usize;
-        for element in self.values.clone()? {
-            value(alloc, place, name.as_str(), &read_again(element)?, out)?;
-            count = count.saturating_add(1);
+    fn show(&self, lines: &mut Lines) -> Result<(), AllocError> {
+        let name = short_name(lines.alloc, &self.type_id)?;
+        let mut is_empty = true;
+        for value in self.values.clone()? {
+            let value = read_again(value)?;
+            if name.as_str() == "extensionRequest" {
+                lines.inner::<Extensions<'_>>(name.as_str(), value.full_data())?;
+            } else {
+                lines.part(name.as_str(), &value)?;
+            }
+            is_empty = false;
         }
-        if count == 0 {
-            line(alloc, place, name.as_str(), "(empty)", out)?;
+        if is_empty {
+            lines.part(name.as_str(), &Numbered(&self.values))?;
         }
         Ok(())
     }
 }
 
 impl Show for Attributes<'_> {
-    fn show(&self, alloc: Global, place: &str, out: &mut String) -> Result<(), Fault> {
-        let mut count = 0usize;
-        for attribute in self.clone()? {
-            let place = item(alloc, place, count)?;
-            read_again(attribute)?.show(alloc, place.as_str(), out)?;
-            count = count.saturating_add(1);
-        }
-        empty(place, count, out)
+    fn show(&self, lines: &mut Lines) -> Result<(), AllocError> {
+        Numbered(self).show(lines)
     }
 }

@@ -4,7 +4,7 @@ use asn1::{ParseError, ParseErrorKind, Tag, TagClass};
 use std::alloc::{AllocError, Global};
 
 /// Universal tags by number, in the words of X.680.
-const UNIVERSAL: [(u32, &str); 20] = [
+const UNIVERSAL: &[(u32, &str)] = &[
     (1, "BOOLEAN"),
     (2, "INTEGER"),
     (3, "BIT STRING"),
@@ -28,7 +28,7 @@ const UNIVERSAL: [(u32, &str); 20] = [
 ];
 
 /// Fields whose names in the documents have other capitals than their words have here.
-const NAMES: [(&str, &str); 7] = [
+const NAMES: &[(&str, &str)] = &[
     ("ca", "cA"),
     ("crl_issuer", "cRLIssuer"),
     ("extn_id", "extnID"),
@@ -47,14 +47,12 @@ fn push_tag(out: &mut String, tag: Tag) -> Result<(), AllocError> {
         TagClass::ContextSpecific => "",
         TagClass::Private => "PRIVATE ",
     };
-    let known = UNIVERSAL.iter().find(|row| row.0 == number);
-    match known {
+    match UNIVERSAL.iter().find(|row| row.0 == number) {
         Some((_, name)) if tag.class() == TagClass::Universal => {
-            let has_parts = number == 16 || number == 17;
-            let form = match tag.is_constructed() {
-                true if !has_parts => "constructed ",
-                false if has_parts => "primitive ",
-                _ => "",
+            let form = match (tag.is_constructed(), number) {
+                (false, 16 | 17) => "primitive ",
+                (false, _) | (true, 16 | 17) => "",
+                (true, _) => "constructed ",
             };
             write!(out, "{form}{name}")
         }
@@ -69,16 +67,12 @@ fn push_field(out: &mut String, field: &str) -> Result<(), AllocError> {
     }
     let mut is_next = false;
     for letter in field.chars() {
-        if letter == '_' {
-            is_next = true;
-        } else {
-            out.push(if is_next {
-                letter.to_ascii_uppercase()
-            } else {
-                letter
-            })?;
-            is_next = false;
+        match letter {
+            '_' => {}
+            _ if is_next => out.push(letter.to_ascii_uppercase())?,
+            _ => out.push(letter)?,
         }
+        is_next = letter == '_';
     }
     Ok(())
 }
@@ -95,8 +89,8 @@ fn push_location(alloc: Global, out: &mut String, error: &ParseError) -> Result<
         if number > 0 {
             out.push('.')?;
         }
-        let name = location.trim_matches('"');
-        push_field(out, name.rsplit_once("::").map_or(name, |parts| parts.1))?;
+        let field = location.trim_matches('"').rsplit("::").next();
+        push_field(out, field.unwrap_or(location))?;
     }
     out.push_str(": ")
 }
@@ -105,32 +99,34 @@ fn push_location(alloc: Global, out: &mut String, error: &ParseError) -> Result<
 pub(crate) fn in_words(alloc: Global, error: &ParseError) -> Result<String, AllocError> {
     let mut out = String::new(alloc);
     push_location(alloc, &mut out, error)?;
-    match error.kind() {
-        ParseErrorKind::InvalidValue => out.push_str("the contents octets encode no value")?,
-        ParseErrorKind::InvalidTag => out.push_str("the identifier octets are malformed")?,
+    let words = match error.kind() {
+        ParseErrorKind::InvalidValue => "the contents octets encode no value",
+        ParseErrorKind::InvalidTag => "the identifier octets are malformed",
         ParseErrorKind::InvalidLength => {
-            out.push_str("the length is indefinite, too large, or not in its fewest octets")?
-        }
-        ParseErrorKind::InvalidSize { min, max, actual } if actual < min => {
-            write!(out, "{actual} items are fewer than {min}")?
+            "the length is indefinite, too large, or not in its fewest octets"
         }
         ParseErrorKind::InvalidSize { min, max, actual } => {
-            write!(out, "{actual} items are more than {max}")?
+            let than = if actual < min { "fewer" } else { "more" };
+            let bound = if actual < min { min } else { max };
+            write!(out, "{actual} items are {than} than {bound}")?;
+            ""
         }
         ParseErrorKind::UnexpectedTag { actual } => {
             push_tag(&mut out, actual)?;
-            out.push_str(" isn't expected")?
+            " isn't expected"
         }
         ParseErrorKind::ShortData { needed } => {
-            write!(out, "octets are missing: at least {needed}")?
+            write!(out, "octets are missing: at least {needed}")?;
+            ""
         }
-        ParseErrorKind::IntegerOverflow => out.push_str("the number is out of range")?,
-        ParseErrorKind::ExtraData => out.push_str("octets follow the value")?,
-        ParseErrorKind::InvalidSetOrdering => out.push_str("the elements are out of order")?,
-        ParseErrorKind::EncodedDefault => out.push_str("the default is encoded")?,
-        ParseErrorKind::OidTooLong => out.push_str("the identifier has more than 63 octets")?,
-        ParseErrorKind::UnknownDefinedBy => out.push_str("the identifier is unknown")?,
-        ParseErrorKind::AllocationError => out.push_str("out of memory")?,
-    }
+        ParseErrorKind::IntegerOverflow => "the number is out of range",
+        ParseErrorKind::ExtraData => "octets follow the value",
+        ParseErrorKind::InvalidSetOrdering => "the elements are out of order",
+        ParseErrorKind::EncodedDefault => "the default is encoded",
+        ParseErrorKind::OidTooLong => "the identifier has more than 63 octets",
+        ParseErrorKind::UnknownDefinedBy => "the identifier is unknown",
+        ParseErrorKind::AllocationError => "out of memory",
+    };
+    out.push_str(words)?;
     Ok(out)
 }

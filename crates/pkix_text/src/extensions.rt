@@ -1,136 +1,89 @@
-//! Extensions, the known ones with their values.
+//! Extensions (RFC 5280, 4.2 and 5.2), the known ones with their values.
 
-use crate::answers::Fault;
 use crate::common::short_name;
-use crate::show::{Show, line, optional, part, read_again, rejected, whole_octets, within};
+use crate::show::{Lines, Show, read_again, with_name};
 use pkix::certificate::access::AccessDescription;
 use pkix::certificate::distribution::{
     DistributionPoint, DistributionPointName, IssuingDistributionPoint,
 };
 use pkix::certificate::extensions::{AuthorityKeyIdentifier, BasicConstraints};
+use pkix::certificate::policies::{
+    GeneralSubtree, NameConstraints, PolicyConstraints, PolicyInformation, PolicyMapping,
+    PolicyQualifierInfo,
+};
 use pkix::common::{Extension, NamedBits};
 use pkix::extension_values::ExtensionValue;
 use pkix::revocation::extensions::CrlReason;
-use std::alloc::Global;
+use std::alloc::AllocError;
 
 impl Show for BasicConstraints<'_> {
-    fn show(&self, alloc: Global, place: &str, out: &mut String) -> Result<(), Fault> {
-        part(alloc, place, "cA", &self.ca, out)?;
-        optional(
-            alloc,
-            place,
-            "pathLenConstraint",
-            self.path_len_constraint.as_ref(),
-            out,
-        )
+    fn show(&self, lines: &mut Lines) -> Result<(), AllocError> {
+        lines.part("cA", &self.ca)?;
+        lines.part("pathLenConstraint", &self.path_len_constraint)
     }
 }
 
 impl Show for AuthorityKeyIdentifier<'_> {
-    fn show(&self, alloc: Global, place: &str, out: &mut String) -> Result<(), Fault> {
-        optional(
-            alloc,
-            place,
-            "keyIdentifier",
-            self.key_identifier.as_ref(),
-            out,
-        )?;
-        optional(
-            alloc,
-            place,
-            "authorityCertIssuer",
-            self.authority_cert_issuer.as_ref(),
-            out,
-        )?;
-        optional(
-            alloc,
-            place,
+    fn show(&self, lines: &mut Lines) -> Result<(), AllocError> {
+        lines.part("keyIdentifier", &self.key_identifier)?;
+        lines.part("authorityCertIssuer", &self.authority_cert_issuer)?;
+        lines.part(
             "authorityCertSerialNumber",
-            self.authority_cert_serial_number.as_ref(),
-            out,
+            &self.authority_cert_serial_number,
         )
     }
 }
 
 /// The usages' names, in the order of their bits (RFC 5280, 4.2.1.3).
-const USAGES: [&str; 9] = [
-    "digitalSignature",
-    "nonRepudiation",
-    "keyEncipherment",
-    "dataEncipherment",
-    "keyAgreement",
-    "keyCertSign",
-    "cRLSign",
-    "encipherOnly",
-    "decipherOnly",
-];
+const USAGES: &str = "digitalSignature nonRepudiation keyEncipherment dataEncipherment \
+    keyAgreement keyCertSign cRLSign encipherOnly decipherOnly";
 
-/// Appends the lines of bits: the bits, and the name of each that is set.
-fn bits(
-    alloc: Global,
-    place: &str,
-    value: &NamedBits<'_>,
-    names: &[&str],
-    out: &mut String,
-) -> Result<(), Fault> {
-    value.show(alloc, place, out)?;
-    for (bit, name) in names.iter().enumerate() {
-        if value.has_bit_set(bit) {
-            line(alloc, place, name, "true", out)?;
+/// The reasons' names, in the order of their bits (RFC 5280, 4.2.1.13).
+const REASONS: &str = "unused keyCompromise cACompromise affiliationChanged superseded \
+    cessationOfOperation certificateHold privilegeWithdrawn aACompromise";
+
+/// Bits, and the names of all in their order.
+#[derive(Drop)]
+struct Named<'a>(&'a NamedBits<'a>, &'a str);
+
+/// The bits, and the name of each that is set.
+impl Show for Named<'_> {
+    fn show(&self, lines: &mut Lines) -> Result<(), AllocError> {
+        let Named(bits, names) = self;
+        bits.show(lines)?;
+        for (bit, name) in names.split(' ').enumerate() {
+            if bits.has_bit_set(bit) {
+                lines.part(name, &true)?;
+            }
         }
+        Ok(())
     }
-    Ok(())
 }
 
 impl Show for AccessDescription<'_> {
-    fn show(&self, alloc: Global, place: &str, out: &mut String) -> Result<(), Fault> {
-        part(alloc, place, "accessMethod", &self.access_method, out)?;
-        part(alloc, place, "accessLocation", &self.access_location, out)
+    fn show(&self, lines: &mut Lines) -> Result<(), AllocError> {
+        lines.part("accessMethod", &self.access_method)?;
+        lines.part("accessLocation", &self.access_location)
     }
 }
 
-/// Appends the line of a reason, with its name (RFC 5280, 5.3.1).
-fn reason(alloc: Global, place: &str, value: &CrlReason, out: &mut String) -> Result<(), Fault> {
-    let number = value.value();
-    let name = match number {
-        0 => "unspecified",
-        1 => "keyCompromise",
-        2 => "cACompromise",
-        3 => "affiliationChanged",
-        4 => "superseded",
-        5 => "cessationOfOperation",
-        6 => "certificateHold",
-        8 => "removeFromCRL",
-        9 => "privilegeWithdrawn",
-        10 => "aACompromise",
-        _ => "unknown",
-    };
-    let digits = whole_octets(alloc, number)?;
-    writeln!(out, "{place}: {digits} ({name})")?;
-    Ok(())
+/// The names of each reason of an entry, from 0 (RFC 5280, 5.3.1). 7 isn't used.
+const ENTRY_REASONS: &str = "unspecified keyCompromise cACompromise affiliationChanged superseded \
+    cessationOfOperation certificateHold unknown removeFromCRL privilegeWithdrawn aACompromise";
+
+impl Show for CrlReason {
+    fn show(&self, lines: &mut Lines) -> Result<(), AllocError> {
+        with_name(lines.alloc, self.value(), ENTRY_REASONS)?.show(lines)
+    }
 }
 
-/// The reasons' names, in the order of their bits (RFC 5280, 4.2.1.13).
-const REASONS: [&str; 9] = [
-    "unused",
-    "keyCompromise",
-    "cACompromise",
-    "affiliationChanged",
-    "superseded",
-    "cessationOfOperation",
-    "certificateHold",
-    "privilegeWithdrawn",
-    "aACompromise",
-];
-
 impl Show for DistributionPointName<'_> {
-    fn show(&self, alloc: Global, place: &str, out: &mut String) -> Result<(), Fault> {
+    fn show(&self, lines: &mut Lines) -> Result<(), AllocError> {
         match self {
-            DistributionPointName::FullName(names) => { part(alloc, place, "fullName", names, out) }
+            DistributionPointName::FullName(names) => lines.part("fullName", names),
             DistributionPointName::NameRelativeToCrlIssuer(set) => {
-                let place = within(alloc, place, "nameRelativeToCRLIssuer")?;
                 for attribute in set.clone()? {
-                    read_again(attribute)?.show(alloc, place.as_str(), out)?;
+                    lines.part("nameRelativeToCRLIssuer", &read_again(attribute)?)?;
                 }
                 Ok(())
             }
@@ -139,87 +92,57 @@ impl Show for DistributionPointName<'_> {
 }
 
 impl Show for DistributionPoint<'_> {
-    fn show(&self, alloc: Global, place: &str, out: &mut String) -> Result<(), Fault> {
-        optional(
-            alloc,
-            place,
-            "distributionPoint",
-            self.distribution_point.as_ref(),
-            out,
-        )?;
+    fn show(&self, lines: &mut Lines) -> Result<(), AllocError> {
+        lines.part("distributionPoint", &self.distribution_point)?;
         if let Some(reasons) = &self.reasons {
-            let place = within(alloc, place, "reasons")?;
-            bits(alloc, place.as_str(), reasons, &REASONS, out)?;
+            lines.part("reasons", &Named(reasons, REASONS))?;
         }
-        optional(alloc, place, "cRLIssuer", self.crl_issuer.as_ref(), out)
+        lines.part("cRLIssuer", &self.crl_issuer)
     }
 }
 
 impl Show for IssuingDistributionPoint<'_> {
-    fn show(&self, alloc: Global, place: &str, out: &mut String) -> Result<(), Fault> {
-        optional(
-            alloc,
-            place,
-            "distributionPoint",
-            self.distribution_point.as_ref(),
-            out,
-        )?;
-        part(
-            alloc,
-            place,
-            "onlyContainsUserCerts",
-            &self.only_contains_user_certs,
-            out,
-        )?;
-        part(
-            alloc,
-            place,
-            "onlyContainsCACerts",
-            &self.only_contains_ca_certs,
-            out,
-        )?;
+    fn show(&self, lines: &mut Lines) -> Result<(), AllocError> {
+        lines.part("distributionPoint", &self.distribution_point)?;
+        lines.part("onlyContainsUserCerts", &self.only_contains_user_certs)?;
+        lines.part("onlyContainsCACerts", &self.only_contains_ca_certs)?;
         if let Some(reasons) = &self.only_some_reasons {
-            let place = within(alloc, place, "onlySomeReasons")?;
-            bits(alloc, place.as_str(), reasons, &REASONS, out)?;
+            lines.part("onlySomeReasons", &Named(reasons, REASONS))?;
         }
-        part(alloc, place, "indirectCRL", &self.indirect_crl, out)?;
-        part(
-            alloc,
-            place,
+        lines.part("indirectCRL", &self.indirect_crl)?;
+        lines.part(
             "onlyContainsAttributeCerts",
             &self.only_contains_attribute_certs,
-            out,
         )
     }
 }
 
-/// The lines of the value, of any type: of key usage the bits, and the name of each that is set.
 impl Show for ExtensionValue<'_> {
-    fn show(&self, alloc: Global, place: &str, out: &mut String) -> Result<(), Fault> {
+    fn show(&self, lines: &mut Lines) -> Result<(), AllocError> {
         match self {
-            ExtensionValue::AuthorityInfoAccess(value) => value.show(alloc, place, out),
-            ExtensionValue::AuthorityKeyIdentifier(value) => value.show(alloc, place, out),
-            ExtensionValue::BasicConstraints(value) => value.show(alloc, place, out),
-            ExtensionValue::CertificateIssuer(value) => value.show(alloc, place, out),
-            ExtensionValue::CertificatePolicies(value) => value.show(alloc, place, out),
-            ExtensionValue::CrlDistributionPoints(value) => value.show(alloc, place, out),
-            ExtensionValue::CrlNumber(value) => value.show(alloc, place, out),
-            ExtensionValue::CrlReason(value) => reason(alloc, place, value, out),
-            ExtensionValue::DeltaCrlIndicator(value) => value.show(alloc, place, out),
-            ExtensionValue::ExtendedKeyUsage(value) => value.show(alloc, place, out),
-            ExtensionValue::FreshestCrl(value) => value.show(alloc, place, out),
-            ExtensionValue::InhibitAnyPolicy(value) => value.show(alloc, place, out),
-            ExtensionValue::InvalidityDate(value) => value.show(alloc, place, out),
-            ExtensionValue::IssuerAltName(value) => value.show(alloc, place, out),
-            ExtensionValue::IssuingDistributionPoint(value) => value.show(alloc, place, out),
-            ExtensionValue::KeyUsage(value) => bits(alloc, place, value, &USAGES, out),
-            ExtensionValue::NameConstraints(value) => value.show(alloc, place, out),
-            ExtensionValue::PolicyConstraints(value) => value.show(alloc, place, out),
-            ExtensionValue::PolicyMappings(value) => value.show(alloc, place, out),
-            ExtensionValue::SubjectAltName(value) => value.show(alloc, place, out),
-            ExtensionValue::SubjectInfoAccess(value) => value.show(alloc, place, out),
-            ExtensionValue::SubjectKeyIdentifier(value) => value.show(alloc, place, out),
-            ExtensionValue::Other(value) => value.show(alloc, place, out),
+            ExtensionValue::AuthorityInfoAccess(value) => value.show(lines),
+            ExtensionValue::AuthorityKeyIdentifier(value) => value.show(lines),
+            ExtensionValue::BasicConstraints(value) => value.show(lines),
+            ExtensionValue::CertificateIssuer(value) => value.show(lines),
+            ExtensionValue::CertificatePolicies(value) => value.show(lines),
+            ExtensionValue::CrlDistributionPoints(value) => value.show(lines),
+            ExtensionValue::CrlNumber(value) => value.show(lines),
+            ExtensionValue::CrlReason(value) => value.show(lines),
+            ExtensionValue::DeltaCrlIndicator(value) => value.show(lines),
+            ExtensionValue::ExtendedKeyUsage(value) => value.show(lines),
+            ExtensionValue::FreshestCrl(value) => value.show(lines),
+            ExtensionValue::InhibitAnyPolicy(value) => value.show(lines),
+            ExtensionValue::InvalidityDate(value) => value.show(lines),
+            ExtensionValue::IssuerAltName(value) => value.show(lines),
+            ExtensionValue::IssuingDistributionPoint(value) => value.show(lines),
+            ExtensionValue::KeyUsage(value) => Named(value, USAGES).show(lines),
+            ExtensionValue::NameConstraints(value) => value.show(lines),
+            ExtensionValue::PolicyConstraints(value) => value.show(lines),
+            ExtensionValue::PolicyMappings(value) => value.show(lines),
+            ExtensionValue::SubjectAltName(value) => value.show(lines),
+            ExtensionValue::SubjectInfoAccess(value) => value.show(lines),
+            ExtensionValue::SubjectKeyIdentifier(value) => value.show(lines),
+            ExtensionValue::Other(value) => value.show(lines),
         }
     }
 }
@@ -227,16 +150,58 @@ impl Show for ExtensionValue<'_> {
 /// The value of a known extension is shown under the extension's name. Other values are shown as octets, with the
 /// reason if they aren't the encoding of a value that the identifier names.
 impl Show for Extension<'_> {
-    fn show(&self, alloc: Global, place: &str, out: &mut String) -> Result<(), Fault> {
-        part(alloc, place, "extnID", &self.extn_id, out)?;
-        part(alloc, place, "critical", &self.critical, out)?;
-        match self.value(alloc) {
-            Ok(ExtensionValue::Other(octets)) => part(alloc, place, "extnValue", &octets, out),
-            Ok(value) => {
-                let name = short_name(alloc, &self.extn_id)?;
-                part(alloc, place, name.as_str(), &value, out)
+    fn show(&self, lines: &mut Lines) -> Result<(), AllocError> {
+        lines.part("extnID", &self.extn_id)?;
+        lines.part("critical", &self.critical)?;
+        match self.value(lines.alloc) {
+            Ok(value) if !matches!(value, ExtensionValue::Other(_)) => {
+                let name = short_name(lines.alloc, &self.extn_id)?;
+                lines.part(name.as_str(), &value)
             }
-            Err(error) => rejected(alloc, place, "extnValue", self.extn_value, &error, out),
+            value => lines.read("extnValue", self.extn_value, value),
         }
+    }
+}
+
+impl Show for PolicyQualifierInfo<'_> {
+    fn show(&self, lines: &mut Lines) -> Result<(), AllocError> {
+        lines.part("policyQualifierId", &self.policy_qualifier_id)?;
+        lines.part("qualifier", &self.qualifier)
+    }
+}
+
+impl Show for PolicyInformation<'_> {
+    fn show(&self, lines: &mut Lines) -> Result<(), AllocError> {
+        lines.part("policyIdentifier", &self.policy_identifier)?;
+        lines.part("policyQualifiers", &self.policy_qualifiers)
+    }
+}
+
+impl Show for PolicyMapping {
+    fn show(&self, lines: &mut Lines) -> Result<(), AllocError> {
+        lines.part("issuerDomainPolicy", &self.issuer_domain_policy)?;
+        lines.part("subjectDomainPolicy", &self.subject_domain_policy)
+    }
+}
+
+impl Show for GeneralSubtree<'_> {
+    fn show(&self, lines: &mut Lines) -> Result<(), AllocError> {
+        lines.part("base", &self.base)?;
+        lines.part("minimum", &self.minimum)?;
+        lines.part("maximum", &self.maximum)
+    }
+}
+
+impl Show for NameConstraints<'_> {
+    fn show(&self, lines: &mut Lines) -> Result<(), AllocError> {
+        lines.part("permittedSubtrees", &self.permitted_subtrees)?;
+        lines.part("excludedSubtrees", &self.excluded_subtrees)
+    }
+}
+
+impl Show for PolicyConstraints<'_> {
+    fn show(&self, lines: &mut Lines) -> Result<(), AllocError> {
+        lines.part("requireExplicitPolicy", &self.require_explicit_policy)?;
+        lines.part("inhibitPolicyMapping", &self.inhibit_policy_mapping)
     }
 }

@@ -44,44 +44,23 @@ pub(crate) struct Object<'a> {
     pub(crate) label: &'a [u8],
     /// Whether a header says that it is encrypted, as in OpenSSL's older form of private keys.
     pub(crate) is_encrypted: bool,
-    /// The octets that should be its encoding.
-    pub(crate) octets: Result<Vec<u8>, PemError>,
-}
-
-/// An object that no line has ended yet.
-#[derive(Drop)]
-struct Open<'a> {
-    label: &'a [u8],
+    /// The base64 between its lines.
     symbols: Vec<u8>,
-    is_encrypted: bool,
+    /// Whether a line with its label ends it.
+    is_ended: bool,
 }
 
-impl<'a> Open<'a> {
-    /// The object, if no line ends it.
-    fn not_ended(self) -> Object<'a> {
-        Object {
-            label: self.label,
-            is_encrypted: self.is_encrypted,
-            octets: Err(PemError::NoEnd),
+impl Object<'_> {
+    /// The octets that should be its encoding.
+    pub(crate) fn octets(&self, alloc: Global) -> Result<Result<Vec<u8>, PemError>, AllocError> {
+        if !self.is_ended {
+            return Ok(Err(PemError::NoEnd));
         }
-    }
-
-    /// The object that a line with this label ends.
-    fn ended_by(self, alloc: Global, label: &[u8]) -> Result<Object<'a>, AllocError> {
-        let octets = if label != self.label {
-            Err(PemError::NoEnd)
-        } else {
-            match STANDARD.decode(alloc, self.symbols.as_slice()) {
-                Ok(octets) => Ok(octets),
-                Err(DecodeAllocError::DecodeError(error)) => Err(PemError::Base64(error)),
-                Err(DecodeAllocError::OutOfMemory) => return Err(AllocError),
-            }
-        };
-        Ok(Object {
-            label: self.label,
-            is_encrypted: self.is_encrypted,
-            octets,
-        })
+        match STANDARD.decode(alloc, self.symbols.as_slice()) {
+            Ok(octets) => Ok(Ok(octets)),
+            Err(DecodeAllocError::DecodeError(error)) => Ok(Err(PemError::Base64(error))),
+            Err(DecodeAllocError::OutOfMemory) => Err(AllocError),
+        }
     }
 
     /// Takes a line between the first and the last one. A header has a colon, which base64 doesn't have.
@@ -94,56 +73,46 @@ impl<'a> Open<'a> {
     }
 }
 
+/// Whether there is no control character but tabs.
+fn is_text(line: &[u8]) -> bool {
+    let mut controls = line.iter().filter(|octet| octet.is_ascii_control());
+    controls.all(|octet| *octet == b'\t')
+}
+
 /// The label of a line that starts like this.
 fn label_in<'a>(line: &'a [u8], start: &[u8]) -> Option<&'a [u8]> {
     let label = line.strip_prefix(start)?;
     Some(label.strip_suffix(DASHES).unwrap_or(label))
 }
 
-/// Whether a line begins an object, with nothing but text before it. An encoding in DER has a control character among
-/// its first octets.
-pub(crate) fn is_pem(input: &[u8]) -> bool {
-    let text = input.strip_prefix(MARK).unwrap_or(input);
-    for line in text.split(|octet| matches!(*octet, b'\n' | b'\r')) {
-        if line.trim_ascii().starts_with(BEGIN) {
-            return true;
-        }
-        if line
-            .iter()
-            .any(|octet| octet.is_ascii_control() && *octet != b'\t')
-        {
-            return false;
-        }
-    }
-    false
-}
-
-/// The objects of a text, in order.
+/// The objects of a text, in order. There are none in an encoding in DER, whose first octets have a control character.
 pub(crate) fn objects<'a>(alloc: Global, input: &'a [u8]) -> Result<Vec<Object<'a>>, AllocError> {
     let text = input.strip_prefix(MARK).unwrap_or(input);
-    let mut objects = Vec::new(alloc);
-    let mut open: Option<Open<'a>> = None;
-    for line in text.split(|octet| matches!(*octet, b'\n' | b'\r')) {
-        let line = line.trim_ascii();
-        if let Some(label) = label_in(line, END) {
-            if let Some(object) = open.take() {
-                objects.push(object.ended_by(alloc, label)?)?;
-            }
-        } else if let Some(label) = label_in(line, BEGIN) {
-            if let Some(object) = open.take() {
-                objects.push(object.not_ended())?;
-            }
-            open = Some(Open {
+    let mut objects: Vec<Object<'a>> = Vec::new(alloc);
+    // Whether lines are those of the last object.
+    let mut is_open = false;
+    for whole in text.split(|octet| matches!(*octet, b'\n' | b'\r')) {
+        let line = whole.trim_ascii();
+        if let Some(label) = label_in(line, BEGIN) {
+            is_open = true;
+            objects.push(Object {
                 label,
-                symbols: Vec::new(alloc),
                 is_encrypted: false,
-            });
-        } else if let Some(object) = &mut open {
-            object.take(line)?;
+                symbols: Vec::new(alloc),
+                is_ended: false,
+            })?;
+        } else if let Some(object) = objects.last_mut() {
+            match label_in(line, END) {
+                _ if !is_open => {}
+                None => object.take(line)?,
+                Some(label) => {
+                    object.is_ended = label == object.label;
+                    is_open = false;
+                }
+            }
+        } else if !is_text(whole) {
+            break;
         }
-    }
-    if let Some(object) = open {
-        objects.push(object.not_ended())?;
     }
     Ok(objects)
 }

@@ -1,143 +1,175 @@
 //! Lines of text, and how values of the simple types are shown.
 
-use crate::answers::Fault;
 use crate::errors::in_words;
 use crate::identifiers::name_of;
 use asn1::{
-    Asn1Readable, BMPString, BigInt, BigUint, BitString, DateTime, GeneralizedTime, IA5String,
-    ObjectIdentifier, ParseError, ParseResult, PrintableString, SequenceOf, Tlv, Utf8String,
-    VisibleString, X509GeneralizedTime, parse_single,
+    Asn1Readable, Asn1Type, BMPString, BigInt, BigUint, BitString, DateTime, GeneralizedTime,
+    IA5String, ObjectIdentifier, ParseError, ParseResult, PrintableString, SequenceOf, SetOf, Tlv,
+    Utf8String, VisibleString, X509GeneralizedTime, parse_single,
 };
 use pkix::common::{NamedBits, Time};
 use std::alloc::{AllocError, Global};
 use std::char::decode_utf16;
+use std::mem;
 
 /// What is shown as lines of text.
 pub(crate) trait Show {
-    /// Appends the lines of the value, whose location is `place`. `Memory` if out of memory.
-    fn show(&self, alloc: Global, place: &str, out: &mut String) -> Result<(), Fault>;
+    /// Appends the lines of the value. Fails if out of memory.
+    fn show(&self, lines: &mut Lines) -> Result<(), AllocError>;
 }
 
-/// The location of a part within a location. The empty location is the whole.
-pub(crate) fn within(alloc: Global, place: &str, part: &str) -> Result<String, AllocError> {
-    if place.is_empty() {
-        return format!(in alloc; "{part}");
-    }
-    format!(in alloc; "{place}.{part}")
+/// The lines of an object, as they grow, and the location of the value that is shown next. The empty location is the
+/// whole.
+#[derive(Drop)]
+pub(crate) struct Lines {
+    pub(crate) alloc: Global,
+    place: String,
+    text: String,
 }
 
-/// The location of the item with this number within a location.
-pub(crate) fn item(alloc: Global, place: &str, number: usize) -> Result<String, AllocError> {
-    format!(in alloc; "{place}.{number}")
-}
-
-/// Appends the line of a value that is text already, at this part of the location.
-pub(crate) fn line(
-    alloc: Global,
-    place: &str,
-    part: &str,
-    text: &str,
-    out: &mut String,
-) -> Result<(), Fault> {
-    let place = within(alloc, place, part)?;
-    writeln!(out, "{place}: {text}")?;
-    Ok(())
-}
-
-/// Appends the lines of the value at this part of the location.
-pub(crate) fn part<T: Show>(
-    alloc: Global,
-    place: &str,
-    name: &str,
-    value: &T,
-    out: &mut String,
-) -> Result<(), Fault> {
-    let place = within(alloc, place, name)?;
-    value.show(alloc, place.as_str(), out)
-}
-
-/// Appends the lines of the value at this part of the location, if there is one.
-pub(crate) fn optional<T: Show>(
-    alloc: Global,
-    place: &str,
-    name: &str,
-    value: Option<&T>,
-    out: &mut String,
-) -> Result<(), Fault> {
-    match value {
-        Some(value) => part(alloc, place, name, value, out),
-        None => Ok(()),
-    }
-}
-
-/// Appends the line of octets that should be the encoding of a value at this part of the location, and the reason why
-/// they aren't.
-pub(crate) fn rejected(
-    alloc: Global,
-    place: &str,
-    name: &str,
-    octets: &[u8],
-    error: &ParseError,
-    out: &mut String,
-) -> Result<(), Fault> {
-    let place = within(alloc, place, name)?;
-    octets.show(alloc, place.as_str(), out)?;
-    line(
+/// The lines of the value, which is the whole.
+pub(crate) fn lines_of<T: Show>(alloc: Global, value: &T) -> Result<String, AllocError> {
+    let mut lines = Lines {
         alloc,
-        place.as_str(),
-        "rejected",
-        in_words(alloc, error)?.as_str(),
-        out,
-    )
+        place: String::new(alloc),
+        text: String::new(alloc),
+    };
+    value.show(&mut lines)?;
+    Ok(lines.text)
 }
 
-/// Appends the lines of the value whose encoding the octets are, at this part of the location. If the octets aren't an
-/// encoding, appends them, and why.
-pub(crate) fn inner<'a, T: Asn1Readable<'a> + Show>(
-    alloc: Global,
-    place: &str,
-    name: &str,
-    octets: &'a [u8],
-    out: &mut String,
-) -> Result<(), Fault> {
-    match parse_single::<T>(alloc, octets) {
-        Ok(value) => part(alloc, place, name, &value, out),
-        Err(error) => rejected(alloc, place, name, octets, &error, out),
+impl Lines {
+    /// Appends the lines of the value at this part of the location.
+    pub(crate) fn part<T: Show>(&mut self, name: &str, value: &T) -> Result<(), AllocError> {
+        let inner = if self.place.is_empty() {
+            format!(in self.alloc; "{name}")?
+        } else {
+            format!(in self.alloc; "{}.{name}", self.place)?
+        };
+        let outer = mem::replace(&mut self.place, inner);
+        value.show(self)?;
+        self.place = outer;
+        Ok(())
+    }
+
+    /// Appends the lines of the item of a list at its number.
+    fn item<T: Show>(&mut self, number: usize, value: &T) -> Result<(), AllocError> {
+        let name = format!(in self.alloc; "{number}")?;
+        self.part(name.as_str(), value)
+    }
+
+    /// Appends the lines of the value that was read from the octets, at this part of the location; if they were
+    /// rejected, the octets and the reason.
+    pub(crate) fn read<T: Show + Drop>(
+        &mut self,
+        name: &str,
+        octets: &[u8],
+        value: ParseResult<T>,
+    ) -> Result<(), AllocError> {
+        match value {
+            Ok(value) => self.part(name, &value),
+            Err(error) => {
+                self.part(name, &octets)?;
+                let name = format!(in self.alloc; "{name}.rejected")?;
+                self.part(name.as_str(), &error)
+            }
+        }
+    }
+
+    /// Appends the lines of the value whose encoding the octets should be, at this part of the location.
+    pub(crate) fn inner<'a, T: Asn1Readable<'a> + Show>(
+        &mut self,
+        name: &str,
+        octets: &'a [u8],
+    ) -> Result<(), AllocError> {
+        self.read(name, octets, parse_single::<T>(self.alloc, octets))
+    }
+
+    /// Appends the line of a list, if it is empty: it has no items whose lines would show it.
+    pub(crate) fn empty(&mut self, is_empty: bool) -> Result<(), AllocError> {
+        if is_empty {
+            writeln!(self.text, "{}: (empty)", self.place)?;
+        }
+        Ok(())
+    }
+
+    /// Appends the line of a character string after its type. A `#` or `(` at the start of the characters is escaped,
+    /// since these begin octets in hex and a type.
+    fn characters(&mut self, string_type: &str, text: &str) -> Result<(), AllocError> {
+        write!(self.text, "{}: {string_type}", self.place)?;
+        if text.starts_with('#') || text.starts_with('(') {
+            self.text.push('\\')?;
+        }
+        push_escaped(&mut self.text, text)?;
+        self.text.push('\n')
     }
 }
 
 /// An item of a list. All items were read when the list was, so an error means out of memory.
-pub(crate) fn read_again<T>(item: ParseResult<T>) -> Result<T, Fault> {
-    match item {
-        Ok(item) => Ok(item),
-        Err(_) => Err(Fault::Memory),
-    }
+pub(crate) fn read_again<T: Drop>(item: ParseResult<T>) -> Result<T, AllocError> {
+    item.or(Err(AllocError))
 }
 
-/// Appends the line of an empty list, which has no items whose lines would show it.
-pub(crate) fn empty(place: &str, count: usize, out: &mut String) -> Result<(), Fault> {
-    if count == 0 {
-        writeln!(out, "{place}: (empty)")?;
+/// The value, if there is one.
+impl<T: Show> Show for Option<T> {
+    fn show(&self, lines: &mut Lines) -> Result<(), AllocError> {
+        match self {
+            Some(value) => value.show(lines),
+            None => Ok(()),
+        }
     }
-    Ok(())
 }
 
 /// Each item, with its number in its location.
 impl<'a, T: Asn1Readable<'a> + Show, const MINIMUM_LEN: usize, const MAXIMUM_LEN: usize> Show
     for SequenceOf<'a, T, MINIMUM_LEN, MAXIMUM_LEN> {
-    fn show(&self, alloc: Global, place: &str, out: &mut String) -> Result<(), Fault> {
+    fn show(&self, lines: &mut Lines) -> Result<(), AllocError> {
         let mut count = 0usize;
-        for value in self.clone()? {
-            let place = item(alloc, place, count)?;
-            read_again(value)?.show(alloc, place.as_str(), out)?;
+        for item in self.clone()? {
+            lines.item(count, &read_again(item)?)?;
             count = count.saturating_add(1);
         }
-        empty(place, count, out)
+        lines.empty(count == 0)
+    }
+}
+
+/// A set whose items are shown like those of a list.
+#[derive(Drop)]
+pub(crate) struct Numbered<'s, 'a, T: Asn1Type>(pub(crate) &'s SetOf<'a, T>);
+
+impl<'a, T: Asn1Readable<'a> + Show> Show for Numbered<'_, 'a, T> {
+    fn show(&self, lines: &mut Lines) -> Result<(), AllocError> {
+        let mut count = 0usize;
+        for item in self.0.clone()? {
+            lines.item(count, &read_again(item)?)?;
+            count = count.saturating_add(1);
+        }
+        lines.empty(count == 0)
+    }
+}
+
+/// Text as it is.
+impl Show for String {
+    fn show(&self, lines: &mut Lines) -> Result<(), AllocError> {
+        writeln!(lines.text, "{}: {self}", lines.place)
+    }
+}
+
+impl Show for bool {
+    fn show(&self, lines: &mut Lines) -> Result<(), AllocError> {
+        writeln!(lines.text, "{}: {self}", lines.place)
+    }
+}
+
+/// In words.
+impl Show for ParseError {
+    fn show(&self, lines: &mut Lines) -> Result<(), AllocError> {
+        in_words(lines.alloc, self)?.show(lines)
     }
 }
 
 /// A number in hex, by whole octets.
-pub(crate) fn whole_octets(alloc: Global, number: u32) -> Result<String, AllocError> {
+fn whole_octets(alloc: Global, number: u32) -> Result<String, AllocError> {
     let digits = format!(in alloc; "{number:02x}")?;
     if digits.len() % 2 == 0 {
         return Ok(digits);
@@ -145,129 +177,113 @@ pub(crate) fn whole_octets(alloc: Global, number: u32) -> Result<String, AllocEr
     format!(in alloc; "0{digits}")
 }
 
-impl Show for bool {
-    fn show(&self, _alloc: Global, place: &str, out: &mut String) -> Result<(), Fault> {
-        writeln!(out, "{place}: {self}")?;
-        Ok(())
-    }
+/// A number in hex, and its name among these, of which the first is that of 0.
+pub(crate) fn with_name(alloc: Global, number: u32, names: &str) -> Result<String, AllocError> {
+    let digits = whole_octets(alloc, number)?;
+    let name = names.split(' ').nth(number as usize).unwrap_or("unknown");
+    format!(in alloc; "{digits} ({name})")
 }
 
-/// In hex.
 impl Show for u8 {
-    fn show(&self, _alloc: Global, place: &str, out: &mut String) -> Result<(), Fault> {
-        writeln!(out, "{place}: {self:02x}")?;
-        Ok(())
+    fn show(&self, lines: &mut Lines) -> Result<(), AllocError> {
+        u32::from(*self).show(lines)
     }
 }
 
-/// In hex, by whole octets.
 impl Show for u16 {
-    fn show(&self, _alloc: Global, place: &str, out: &mut String) -> Result<(), Fault> {
-        if *self < 0x100 {
-            writeln!(out, "{place}: {self:02x}")?;
-        } else {
-            writeln!(out, "{place}: {self:04x}")?;
-        }
-        Ok(())
+    fn show(&self, lines: &mut Lines) -> Result<(), AllocError> {
+        u32::from(*self).show(lines)
     }
 }
 
 /// In hex, by whole octets.
 impl Show for u32 {
-    fn show(&self, alloc: Global, place: &str, out: &mut String) -> Result<(), Fault> {
-        let digits = whole_octets(alloc, *self)?;
-        writeln!(out, "{place}: {digits}")?;
-        Ok(())
+    fn show(&self, lines: &mut Lines) -> Result<(), AllocError> {
+        whole_octets(lines.alloc, *self)?.show(lines)
     }
 }
 
 /// Octets in hex.
 impl Show for &[u8] {
-    fn show(&self, alloc: Global, place: &str, out: &mut String) -> Result<(), Fault> {
-        let octets = hex::encode(alloc, *self)?;
-        writeln!(out, "{place}: {octets}")?;
-        Ok(())
+    fn show(&self, lines: &mut Lines) -> Result<(), AllocError> {
+        hex::encode(lines.alloc, *self)?.show(lines)
     }
 }
 
 impl Show for BigInt<'_> {
-    fn show(&self, alloc: Global, place: &str, out: &mut String) -> Result<(), Fault> {
-        self.as_bytes().show(alloc, place, out)
+    fn show(&self, lines: &mut Lines) -> Result<(), AllocError> {
+        self.as_bytes().show(lines)
     }
 }
 
 impl Show for BigUint<'_> {
-    fn show(&self, alloc: Global, place: &str, out: &mut String) -> Result<(), Fault> {
-        self.as_bytes().show(alloc, place, out)
+    fn show(&self, lines: &mut Lines) -> Result<(), AllocError> {
+        self.as_bytes().show(lines)
     }
 }
 
 /// The octets in hex, and how many bits at their end are unused, if any.
 impl Show for BitString<'_> {
-    fn show(&self, alloc: Global, place: &str, out: &mut String) -> Result<(), Fault> {
-        self.as_bytes().show(alloc, place, out)?;
-        if self.padding_bits() == 0 {
-            return Ok(());
+    fn show(&self, lines: &mut Lines) -> Result<(), AllocError> {
+        self.as_bytes().show(lines)?;
+        match self.padding_bits() {
+            0 => Ok(()),
+            unused => lines.part("unusedBits", &unused),
         }
-        part(alloc, place, "unusedBits", &self.padding_bits(), out)
     }
 }
 
 impl Show for NamedBits<'_> {
-    fn show(&self, alloc: Global, place: &str, out: &mut String) -> Result<(), Fault> {
-        self.as_bitstring().show(alloc, place, out)
+    fn show(&self, lines: &mut Lines) -> Result<(), AllocError> {
+        self.as_bitstring().show(lines)
     }
 }
 
 /// Dotted, and with its name if it is a known one.
 impl Show for ObjectIdentifier {
-    fn show(&self, alloc: Global, place: &str, out: &mut String) -> Result<(), Fault> {
-        let dotted = format!(in alloc; "{self}")?;
+    fn show(&self, lines: &mut Lines) -> Result<(), AllocError> {
+        let dotted = format!(in lines.alloc; "{self}")?;
         match name_of(dotted.as_str()) {
-            Some(name) => writeln!(out, "{place}: {dotted} ({name})")?,
-            None => writeln!(out, "{place}: {dotted}")?,
+            Some(name) => writeln!(lines.text, "{}: {dotted} ({name})", lines.place),
+            None => dotted.show(lines),
         }
-        Ok(())
     }
 }
 
-/// A date and time, without a fraction and without `Z`.
-fn date(alloc: Global, time: &DateTime) -> Result<String, AllocError> {
+/// Appends the line of a date and time with this fraction of a second.
+fn date(lines: &mut Lines, time: &DateTime, fraction: &str) -> Result<(), AllocError> {
     let (year, month, day) = (time.year(), time.month(), time.day());
     let (hour, minute, second) = (time.hour(), time.minute(), time.second());
-    format!(in alloc; "{year:04}-{month:02}-{day:02}T{hour:02}:{minute:02}:{second:02}")
+    write!(
+        lines.text,
+        "{}: {year:04}-{month:02}-{day:02}T",
+        lines.place
+    )?;
+    writeln!(lines.text, "{hour:02}:{minute:02}:{second:02}{fraction}Z")
 }
 
 impl Show for Time {
-    fn show(&self, alloc: Global, place: &str, out: &mut String) -> Result<(), Fault> {
-        let text = match self {
-            Time::UtcTime(time) => date(alloc, time.as_datetime())?,
-            Time::GeneralTime(time) => date(alloc, time.as_datetime())?,
-        };
-        writeln!(out, "{place}: {text}Z")?;
-        Ok(())
+    fn show(&self, lines: &mut Lines) -> Result<(), AllocError> {
+        match self {
+            Time::UtcTime(time) => date(lines, time.as_datetime(), ""),
+            Time::GeneralTime(time) => time.show(lines),
+        }
     }
 }
 
 impl Show for X509GeneralizedTime {
-    fn show(&self, alloc: Global, place: &str, out: &mut String) -> Result<(), Fault> {
-        let text = date(alloc, self.as_datetime())?;
-        writeln!(out, "{place}: {text}Z")?;
-        Ok(())
+    fn show(&self, lines: &mut Lines) -> Result<(), AllocError> {
+        date(lines, self.as_datetime(), "")
     }
 }
 
 impl Show for GeneralizedTime {
-    fn show(&self, alloc: Global, place: &str, out: &mut String) -> Result<(), Fault> {
-        let text = date(alloc, self.as_datetime())?;
-        match self.nanoseconds() {
-            Some(fraction) => {
-                let digits = format!(in alloc; "{fraction:09}")?;
-                writeln!(out, "{place}: {text}.{}Z", digits.trim_end_matches('0'))?
-            }
-            None => writeln!(out, "{place}: {text}Z")?,
-        }
-        Ok(())
+    fn show(&self, lines: &mut Lines) -> Result<(), AllocError> {
+        let Some(fraction) = self.nanoseconds() else {
+            return date(lines, self.as_datetime(), "");
+        };
+        let fraction = format!(in lines.alloc; ".{fraction:09}")?;
+        date(lines, self.as_datetime(), fraction.trim_end_matches('0'))
     }
 }
 
@@ -282,48 +298,15 @@ pub(crate) fn push_escaped(out: &mut String, text: &str) -> Result<(), AllocErro
     Ok(())
 }
 
-/// Appends the line of a character string, with its type if that isn't empty. A `#` or `(` at the start of the
-/// characters is escaped, since these begin octets in hex and a type.
-pub(crate) fn string_line(
-    place: &str,
-    string_type: &str,
-    text: &str,
-    out: &mut String,
-) -> Result<(), Fault> {
-    write!(out, "{place}: ")?;
-    if !string_type.is_empty() {
-        write!(out, "({string_type}) ")?;
-    }
-    if text.starts_with('#') || text.starts_with('(') {
-        out.push('\\')?;
-    }
-    push_escaped(out, text)?;
-    out.push('\n')?;
-    Ok(())
-}
-
 impl Show for Utf8String<'_> {
-    fn show(&self, _alloc: Global, place: &str, out: &mut String) -> Result<(), Fault> {
-        string_line(place, "", self.as_str(), out)
+    fn show(&self, lines: &mut Lines) -> Result<(), AllocError> {
+        lines.characters("", self.as_str())
     }
 }
 
-/// The characters of an element that is a character string of ASCII or in UTF-8, and its type if that is neither
-/// PrintableString nor UTF8String.
-fn characters<'a>(alloc: Global, element: &Tlv<'a>) -> Option<(&'static str, &'a str)> {
-    let octets = element.full_data();
-    if let Ok(text) = parse_single::<Utf8String<'a>>(alloc, octets) {
-        return Some(("", text.as_str()));
-    }
-    if let Ok(text) = parse_single::<PrintableString<'a>>(alloc, octets) {
-        return Some(("", text.as_str()));
-    }
-    if let Ok(text) = parse_single::<IA5String<'a>>(alloc, octets) {
-        return Some(("IA5String", text.as_str()));
-    }
-    match parse_single::<VisibleString<'a>>(alloc, octets) {
-        Ok(text) => Some(("VisibleString", text.as_str())),
-        Err(_) => None,
+impl Show for IA5String<'_> {
+    fn show(&self, lines: &mut Lines) -> Result<(), AllocError> {
+        lines.characters("", self.as_str())
     }
 }
 
@@ -342,18 +325,32 @@ fn bmp_characters(alloc: Global, text: &BMPString<'_>) -> Result<String, AllocEr
     Ok(characters)
 }
 
-/// A character string as its characters, another element as its octets in hex after `#`.
+/// Octets in hex after `#`, which tells them from characters.
+pub(crate) fn marked(alloc: Global, octets: &[u8]) -> Result<String, AllocError> {
+    let digits = hex::encode(alloc, octets)?;
+    format!(in alloc; "#{digits}")
+}
+
+/// A character string as its characters, with its type if that is neither PrintableString nor UTF8String; another
+/// element as its octets.
 impl Show for Tlv<'_> {
-    fn show(&self, alloc: Global, place: &str, out: &mut String) -> Result<(), Fault> {
-        if let Some((string_type, text)) = characters(alloc, self) {
-            return string_line(place, string_type, text, out);
+    fn show(&self, lines: &mut Lines) -> Result<(), AllocError> {
+        let (alloc, octets) = (lines.alloc, self.full_data());
+        if let Ok(text) = parse_single::<Utf8String<'_>>(alloc, octets) {
+            return lines.characters("", text.as_str());
         }
-        if let Ok(text) = parse_single::<BMPString<'_>>(alloc, self.full_data()) {
-            let text = bmp_characters(alloc, &text)?;
-            return string_line(place, "BMPString", text.as_str(), out);
+        if let Ok(text) = parse_single::<PrintableString<'_>>(alloc, octets) {
+            return lines.characters("", text.as_str());
         }
-        let octets = hex::encode(alloc, self.full_data())?;
-        writeln!(out, "{place}: #{octets}")?;
-        Ok(())
+        if let Ok(text) = parse_single::<IA5String<'_>>(alloc, octets) {
+            return lines.characters("(IA5String) ", text.as_str());
+        }
+        if let Ok(text) = parse_single::<VisibleString<'_>>(alloc, octets) {
+            return lines.characters("(VisibleString) ", text.as_str());
+        }
+        if let Ok(text) = parse_single::<BMPString<'_>>(alloc, octets) {
+            return lines.characters("(BMPString) ", bmp_characters(alloc, &text)?.as_str());
+        }
+        marked(alloc, octets)?.show(lines)
     }
 }

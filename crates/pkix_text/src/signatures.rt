@@ -1,144 +1,94 @@
 //! Signatures (RFC 3279, 2.2; RFC 8017, 9.2) and signed data (RFC 5652, 3 and 5).
 
-use crate::answers::Fault;
 use crate::common::short_name;
-use crate::show::{Show, empty, inner, item, optional, part, read_again, within};
-use asn1::{Asn1Readable, Asn1Writable, SetOf};
+use crate::show::{Lines, Numbered, Show};
 use pkix::signatures::{
     ContentInfo, DigestInfo, EcdsaSigValue, EncapsulatedContentInfo, IssuerAndSerialNumber,
     SignedData, SignerIdentifier, SignerInfo,
 };
 use pkix::timestamps::TstInfo;
-use std::alloc::Global;
+use std::alloc::AllocError;
 
 impl Show for EcdsaSigValue<'_> {
-    fn show(&self, alloc: Global, place: &str, out: &mut String) -> Result<(), Fault> {
-        part(alloc, place, "r", &self.r, out)?;
-        part(alloc, place, "s", &self.s, out)
+    fn show(&self, lines: &mut Lines) -> Result<(), AllocError> {
+        lines.part("r", &self.r)?;
+        lines.part("s", &self.s)
     }
 }
 
 impl Show for DigestInfo<'_> {
-    fn show(&self, alloc: Global, place: &str, out: &mut String) -> Result<(), Fault> {
-        part(alloc, place, "digestAlgorithm", &self.digest_algorithm, out)?;
-        part(alloc, place, "digest", &self.digest, out)
+    fn show(&self, lines: &mut Lines) -> Result<(), AllocError> {
+        lines.part("digestAlgorithm", &self.digest_algorithm)?;
+        lines.part("digest", &self.digest)
     }
 }
 
 impl Show for IssuerAndSerialNumber<'_> {
-    fn show(&self, alloc: Global, place: &str, out: &mut String) -> Result<(), Fault> {
-        part(alloc, place, "issuer", &self.issuer, out)?;
-        part(alloc, place, "serialNumber", &self.serial_number, out)
+    fn show(&self, lines: &mut Lines) -> Result<(), AllocError> {
+        lines.part("issuer", &self.issuer)?;
+        lines.part("serialNumber", &self.serial_number)
     }
 }
 
 /// The identifier, with its alternative as its location.
 impl Show for SignerIdentifier<'_> {
-    fn show(&self, alloc: Global, place: &str, out: &mut String) -> Result<(), Fault> {
+    fn show(&self, lines: &mut Lines) -> Result<(), AllocError> {
         match self {
-            SignerIdentifier::IssuerAndSerialNumber(signer) => {
-                part(alloc, place, "issuerAndSerialNumber", signer, out)
-            }
-            SignerIdentifier::SubjectKeyIdentifier(signer) => {
-                part(alloc, place, "subjectKeyIdentifier", signer, out)
-            }
+            SignerIdentifier::IssuerAndSerialNumber(id) => lines.part("issuerAndSerialNumber", id),
+            SignerIdentifier::SubjectKeyIdentifier(id) => lines.part("subjectKeyIdentifier", id),
         }
     }
 }
 
 impl Show for SignerInfo<'_> {
-    fn show(&self, alloc: Global, place: &str, out: &mut String) -> Result<(), Fault> {
-        part(alloc, place, "version", &self.version, out)?;
-        part(alloc, place, "sid", &self.sid, out)?;
-        part(alloc, place, "digestAlgorithm", &self.digest_algorithm, out)?;
-        optional(alloc, place, "signedAttrs", self.signed_attrs.as_ref(), out)?;
-        part(
-            alloc,
-            place,
-            "signatureAlgorithm",
-            &self.signature_algorithm,
-            out,
-        )?;
-        part(alloc, place, "signature", &self.signature, out)?;
-        optional(
-            alloc,
-            place,
-            "unsignedAttrs",
-            self.unsigned_attrs.as_ref(),
-            out,
-        )
+    fn show(&self, lines: &mut Lines) -> Result<(), AllocError> {
+        lines.part("version", &self.version)?;
+        lines.part("sid", &self.sid)?;
+        lines.part("digestAlgorithm", &self.digest_algorithm)?;
+        lines.part("signedAttrs", &self.signed_attrs)?;
+        lines.part("signatureAlgorithm", &self.signature_algorithm)?;
+        lines.part("signature", &self.signature)?;
+        lines.part("unsignedAttrs", &self.unsigned_attrs)
     }
 }
 
 /// The content is shown as a TSTInfo if its type is that, and else as octets.
 impl Show for EncapsulatedContentInfo<'_> {
-    fn show(&self, alloc: Global, place: &str, out: &mut String) -> Result<(), Fault> {
-        part(alloc, place, "eContentType", &self.e_content_type, out)?;
-        let Some(octets) = self.e_content else {
-            return Ok(());
-        };
-        let name = short_name(alloc, &self.e_content_type)?;
-        if name.as_str() != "tSTInfo" {
-            return part(alloc, place, "eContent", &octets, out);
+    fn show(&self, lines: &mut Lines) -> Result<(), AllocError> {
+        lines.part("eContentType", &self.e_content_type)?;
+        let name = short_name(lines.alloc, &self.e_content_type)?;
+        match self.e_content {
+            Some(octets) if name.as_str() == "tSTInfo" => {
+                lines.inner::<TstInfo<'_>>("eContent", octets)
+            }
+            octets => lines.part("eContent", &octets),
         }
-        inner::<TstInfo<'_>>(alloc, place, "eContent", octets, out)
     }
-}
-
-/// Appends the lines of each item of a set.
-fn set<'a, T: Asn1Readable<'a> + Asn1Writable + Show>(
-    alloc: Global,
-    place: &str,
-    name: &str,
-    items: &SetOf<'a, T>,
-    out: &mut String,
-) -> Result<(), Fault> {
-    let place = within(alloc, place, name)?;
-    let mut count = 0usize;
-    for value in items.clone()? {
-        let place = item(alloc, place.as_str(), count)?;
-        read_again(value)?.show(alloc, place.as_str(), out)?;
-        count = count.saturating_add(1);
-    }
-    empty(place.as_str(), count, out)
 }
 
 impl Show for SignedData<'_> {
-    fn show(&self, alloc: Global, place: &str, out: &mut String) -> Result<(), Fault> {
-        part(alloc, place, "version", &self.version, out)?;
-        set(
-            alloc,
-            place,
-            "digestAlgorithms",
-            &self.digest_algorithms,
-            out,
-        )?;
-        part(
-            alloc,
-            place,
-            "encapContentInfo",
-            &self.encap_content_info,
-            out,
-        )?;
+    fn show(&self, lines: &mut Lines) -> Result<(), AllocError> {
+        lines.part("version", &self.version)?;
+        lines.part("digestAlgorithms", &Numbered(&self.digest_algorithms))?;
+        lines.part("encapContentInfo", &self.encap_content_info)?;
         if let Some(certificates) = &self.certificates {
-            set(alloc, place, "certificates", certificates, out)?;
+            lines.part("certificates", &Numbered(certificates))?;
         }
         if let Some(lists) = &self.crls {
-            set(alloc, place, "crls", lists, out)?;
+            lines.part("crls", &Numbered(lists))?;
         }
-        set(alloc, place, "signerInfos", &self.signer_infos, out)
+        lines.part("signerInfos", &Numbered(&self.signer_infos))
     }
 }
 
 /// The content is shown as SignedData if its type is that, and else as octets.
 impl Show for ContentInfo<'_> {
-    fn show(&self, alloc: Global, place: &str, out: &mut String) -> Result<(), Fault> {
-        part(alloc, place, "contentType", &self.content_type, out)?;
+    fn show(&self, lines: &mut Lines) -> Result<(), AllocError> {
+        lines.part("contentType", &self.content_type)?;
         let octets = self.content.full_data();
-        let name = short_name(alloc, &self.content_type)?;
-        if name.as_str() != "signedData" {
-            return part(alloc, place, "content", &octets, out);
+        match short_name(lines.alloc, &self.content_type)?.as_str() {
+            "signedData" => lines.inner::<SignedData<'_>>("content", octets),
+            _ => lines.part("content", &octets),
         }
-        inner::<SignedData<'_>>(alloc, place, "content", octets, out)
     }
 }

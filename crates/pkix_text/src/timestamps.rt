@@ -1,89 +1,68 @@
 //! Requests for time stamps, responses, and what is stamped (RFC 3161, 2.4).
 
-use crate::answers::Fault;
-use crate::show::{Show, optional, part, whole_octets, within};
+use crate::show::{Lines, Show, with_name};
 use pkix::timestamps::{
     Accuracy, MessageImprint, PkiStatusInfo, TimeStampReq, TimeStampResp, TstInfo,
 };
-use std::alloc::Global;
+use std::alloc::AllocError;
 
 impl Show for MessageImprint<'_> {
-    fn show(&self, alloc: Global, place: &str, out: &mut String) -> Result<(), Fault> {
-        part(alloc, place, "hashAlgorithm", &self.hash_algorithm, out)?;
-        part(alloc, place, "hashedMessage", &self.hashed_message, out)
+    fn show(&self, lines: &mut Lines) -> Result<(), AllocError> {
+        lines.part("hashAlgorithm", &self.hash_algorithm)?;
+        lines.part("hashedMessage", &self.hashed_message)
     }
 }
 
 impl Show for TimeStampReq<'_> {
-    fn show(&self, alloc: Global, place: &str, out: &mut String) -> Result<(), Fault> {
-        part(alloc, place, "version", &self.version, out)?;
-        part(alloc, place, "messageImprint", &self.message_imprint, out)?;
-        optional(alloc, place, "reqPolicy", self.req_policy.as_ref(), out)?;
-        optional(alloc, place, "nonce", self.nonce.as_ref(), out)?;
-        part(alloc, place, "certReq", &self.cert_req, out)?;
-        optional(alloc, place, "extensions", self.extensions.as_ref(), out)
+    fn show(&self, lines: &mut Lines) -> Result<(), AllocError> {
+        lines.part("version", &self.version)?;
+        lines.part("messageImprint", &self.message_imprint)?;
+        lines.part("reqPolicy", &self.req_policy)?;
+        lines.part("nonce", &self.nonce)?;
+        lines.part("certReq", &self.cert_req)?;
+        lines.part("extensions", &self.extensions)
     }
 }
 
-/// The status, and its name (RFC 3161, 2.4.2).
+/// The names of each status, from 0 (RFC 3161, 2.4.2).
+const STATUSES: &str = "granted grantedWithMods rejection waiting revocationWarning \
+    revocationNotification";
+
 impl Show for PkiStatusInfo<'_> {
-    fn show(&self, alloc: Global, place: &str, out: &mut String) -> Result<(), Fault> {
-        let status = self.status;
-        let name = match status {
-            0 => "granted",
-            1 => "grantedWithMods",
-            2 => "rejection",
-            3 => "waiting",
-            4 => "revocationWarning",
-            5 => "revocationNotification",
-            _ => "unknown",
-        };
-        let here = within(alloc, place, "status")?;
-        let digits = whole_octets(alloc, status)?;
-        writeln!(out, "{here}: {digits} ({name})")?;
-        optional(
-            alloc,
-            place,
-            "statusString",
-            self.status_string.as_ref(),
-            out,
-        )?;
-        optional(alloc, place, "failInfo", self.fail_info.as_ref(), out)
+    fn show(&self, lines: &mut Lines) -> Result<(), AllocError> {
+        let status = with_name(lines.alloc, self.status, STATUSES)?;
+        lines.part("status", &status)?;
+        lines.part("statusString", &self.status_string)?;
+        lines.part("failInfo", &self.fail_info)
     }
 }
 
 impl Show for TimeStampResp<'_> {
-    fn show(&self, alloc: Global, place: &str, out: &mut String) -> Result<(), Fault> {
-        part(alloc, place, "status", &self.status, out)?;
-        optional(
-            alloc,
-            place,
-            "timeStampToken",
-            self.time_stamp_token.as_ref(),
-            out,
-        )
+    fn show(&self, lines: &mut Lines) -> Result<(), AllocError> {
+        lines.part("status", &self.status)?;
+        lines.part("timeStampToken", &self.time_stamp_token)
     }
 }
 
 impl Show for Accuracy<'_> {
-    fn show(&self, alloc: Global, place: &str, out: &mut String) -> Result<(), Fault> {
-        optional(alloc, place, "seconds", self.seconds.as_ref(), out)?;
-        optional(alloc, place, "millis", self.millis.as_ref(), out)?;
-        optional(alloc, place, "micros", self.micros.as_ref(), out)
+    fn show(&self, lines: &mut Lines) -> Result<(), AllocError> {
+        lines.part("seconds", &self.seconds)?;
+        lines.part("millis", &self.millis)?;
+        lines.part("micros", &self.micros)
     }
 }
 
 impl Show for TstInfo<'_> {
-    fn show(&self, alloc: Global, place: &str, out: &mut String) -> Result<(), Fault> {
-        part(alloc, place, "version", &self.version, out)?;
-        part(alloc, place, "policy", &self.policy, out)?;
-        part(alloc, place, "messageImprint", &self.message_imprint, out)?;
-        part(alloc, place, "serialNumber", &self.serial_number, out)?;
-        part(alloc, place, "genTime", &self.gen_time, out)?;
-        optional(alloc, place, "accuracy", self.accuracy.as_ref(), out)?;
-        part(alloc, place, "ordering", &self.ordering, out)?;
-        optional(alloc, place, "nonce", self.nonce.as_ref(), out)?;
-        optional(alloc, place, "tsa", self.tsa.as_ref(), out)?;
-        optional(alloc, place, "extensions", self.extensions.as_ref(), out)
+    fn show(&self, lines: &mut Lines) -> Result<(), AllocError> {
+        lines.part("version", &self.version)?;
+        lines.part("policy", &self.policy)?;
+        lines.part("messageImprint", &self.message_imprint)?;
+        lines.part("serialNumber", &self.serial_number)?;
+        lines.part("genTime", &self.gen_time)?;
+        lines.part("accuracy", &self.accuracy)?;
+        lines.part("ordering", &self.ordering)?;
+        lines.part("nonce", &self.nonce)?;
+        lines.part("tsa", &self.tsa)?;
+        lines.part("extensions", &self.extensions)
     }
 }
