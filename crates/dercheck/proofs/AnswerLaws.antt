@@ -11,10 +11,8 @@ use Rattle.asn1.specs.Lemmas.Texts.{IsText-from_reads}
 use Rattle.asn1.specs.Lemmas.Wholes.{stands-nil, whole_is, whole_again}
 use Rattle.dercheck.specs.declared.words.Word.{Word}
 use Rattle.dercheck.specs.declared.words.Word.TheVariants as words
-use Rattle.dercheck.specs.Kinds.{kind_text}
-use Rattle.dercheck.specs.Words.{type_of}
-use Rattle.dercheck.specs.Requests.{IsRequest, request_of}
-use Rattle.dercheck.specs.Answers.{is_ok_line, is_ok_to, answer, answer_to, answer_read, reading}
+use Rattle.dercheck.specs.Replies.{kind_text, is_ok_line, is_ok_to, answer, answer_to, answer_read, reading}
+use Rattle.dercheck.specs.Requests.{type_of, IsRequest, request_of}
 use Rattle.dercheck.specs.Laws.{IsOkLine, OkLinesAreOk, BadLinesAreBad, IsValueText, ValuesAreOk, FaultsAreErr}
 use Rattle.dercheck.proofs.RequestLaws.{request_of-is, requests_are_right}
 

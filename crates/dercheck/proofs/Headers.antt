@@ -15,7 +15,7 @@ use Rattle.asn1.specs.Lemmas.Tags.{TagFront, tag_is, short_text, long_text}
 use Rattle.asn1.specs.Lemmas.Lengths.{LengthFront, length_is, length_text_low, length_text_high}
 use Rattle.asn1.specs.Lemmas.Texts.{IsText-rest}
 use Rattle.asn1.specs.Lemmas.Elements.{front_tag, front_length, front_short, front_found}
-use Rattle.dercheck.specs.Pending.{further, HoldsLength, IsSplit, Needs, IsOpen, IsWhole}
+use Rattle.dercheck.specs.Frames.{further, HoldsLength, IsSplit, Needs, IsOpen, IsWhole}
 
 -- the first length octet says how many there are
 pub further_of : (n : ℕ) (behind : List ℕ) → further (length_text n ++ behind) + 1 ≡ length (length_text n)

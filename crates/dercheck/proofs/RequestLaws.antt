@@ -10,8 +10,7 @@ use Rattle.dercheck.specs.declared.words.Word.{Word}
 use Rattle.dercheck.specs.declared.words.Word.TheVariants as words
 use Rattle.dercheck.specs.declared.words.TheConstants.Word.{ALL}
 use Rattle.dercheck.specs.Lines.{split_once}
-use Rattle.dercheck.specs.Words.{word_text, word_of}
-use Rattle.dercheck.specs.Requests.{IsRequest, asked, asked_by, request_of}
+use Rattle.dercheck.specs.Requests.{word_text, word_of, IsRequest, asked, asked_by, request_of}
 use Rattle.dercheck.specs.Laws.{RequestsAreRight}
 use Rattle.dercheck.proofs.Cuts.{split_once-behind, split_once-is, HasNone-missing, some_is}
 

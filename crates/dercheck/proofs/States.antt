@@ -10,7 +10,7 @@ use Rattle.asn1.specs.Element.{Element, element_text, IsReadable, front}
 use Rattle.asn1.specs.Lemmas.Tags.{tag_ok}
 use Rattle.asn1.specs.Lemmas.Lengths.{length_ok}
 use Rattle.asn1.specs.Lemmas.Elements.{element_ok, front_short, regroup}
-use Rattle.dercheck.specs.Pending.{IsBegun}
+use Rattle.dercheck.specs.Frames.{IsBegun}
 
 -- the last of a list
 last_of : (x : ℕ) (xs : List ℕ) → (start : List ℕ) × (y : ℕ) × (x ∷ xs ≡ start ++ y ∷ [])

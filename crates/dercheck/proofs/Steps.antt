@@ -19,11 +19,10 @@ use Rattle.asn1.specs.Element.{Element, element_text, front}
 use Rattle.asn1.specs.Laws.{IsShort}
 use Rattle.asn1.specs.Lemmas.Elements.{ElementFront}
 use Rattle.dercheck.specs.Streams.{AppendsInPart}
-use Rattle.dercheck.specs.Frames.{IsFraming, IsUnfinished, line_of, element_line, fault_line, answer_line, end_line, lines, Framed, FramedSoFar, FramedInPart}
+use Rattle.dercheck.specs.Frames.{IsFraming, IsUnfinished, line_of, element_line, fault_line, answer_line, end_line, lines, Framed, FramedSoFar, FramedInPart, Stands, IsComplete, IsFault, Advances, Taken, TakenToFault, FramedTo}
 use Rattle.dercheck.specs.declared.answers.Fault.{Fault}
 use Rattle.dercheck.specs.declared.pending.Pending.{Pending}
 use Rattle.dercheck.specs.declared.pending.Progress.TheVariants.{GoesOn, Completes, Fails}
-use Rattle.dercheck.specs.Pending.{Stands, IsComplete, IsFault, Advances, Taken, TakenToFault, FramedTo}
 use Rattle.dercheck.proofs.Parts.{in_part_of_more, in_part_behind}
 use Rattle.dercheck.proofs.Framings.{err_at, framing_short, framing_one, framing_join, lines_join, front_nothing}
 use Rattle.dercheck.proofs.States.{begun_short}

@@ -5,10 +5,8 @@ use Rattle.asn1.specs.Fault.{Fault}
 use Rattle.asn1.specs.Reading.{Fits}
 use Rattle.dercheck.specs.declared.words.Word.{Word}
 use Rattle.dercheck.specs.Lines.{lines_of, AreLines}
-use Rattle.dercheck.specs.Kinds.{kind_text}
-use Rattle.dercheck.specs.Words.{type_of}
-use Rattle.dercheck.specs.Requests.{IsRequest, request_of}
-use Rattle.dercheck.specs.Answers.{answer, is_ok_line, reading}
+use Rattle.dercheck.specs.Replies.{kind_text, answer, is_ok_line, reading}
+use Rattle.dercheck.specs.Requests.{type_of, IsRequest, request_of}
 
 -- An input has its lines, and no others.
 abbrev pub LinesAreRight : Type 0

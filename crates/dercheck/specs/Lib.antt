@@ -1,16 +1,8 @@
 pub mod Lines
-pub mod Kinds
-pub mod Words
 pub mod Requests
 pub mod Replies
-pub mod Answers
 pub mod Program
 pub mod Streams
-pub mod InMemory
-pub mod System
 pub mod Frames
-pub mod FrameLines
-pub mod Pending
 pub mod Laws
-pub mod Reason
-pub mod MySequence
+pub mod OwnTypes

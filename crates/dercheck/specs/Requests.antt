@@ -1,11 +1,120 @@
--- What a line asks.
-use Rattle.std.specs.Prelude.{ℕ, ◌≡◌, List, ◌∷◌, ◌++◌, Option, Some, None, Result, Ok, Err}
+-- What a line asks: a word, which names a type, and octets in hex.
+use Rattle.std.specs.Prelude.{ℕ, ◌-◌, ◌^◌, ℤ, pos, ◌-ℤ◌, List, codes, Option, ◌≡◌, ◌∷◌, ◌++◌, Some, None, Result, Ok, Err}
+use Rattle.std.specs.List.{find}
+use Rattle.std.specs.Str.{bytes_eq}
 use Rattle.std.specs.Global.{Vec}
 use Rattle.hex.specs.Hex.{decode_of}
 use Rattle.hex.specs.declared.error.FromHexError.{FromHexError}
+use Rattle.asn1.specs.Tag.{universal}
+use Rattle.asn1.specs.BooleanContent.{bool_content}
+use Rattle.asn1.specs.Der.{Der, Content, simple_der, tlv_der}
+use Rattle.asn1.specs.Element.{Element}
+use Rattle.asn1.specs.Sized.{sized_content, signed_der, unsigned_der}
+use Rattle.asn1.specs.OctetContents.{null_content, octets_content}
+use Rattle.asn1.specs.Values.{signed_content, unsigned_content}
+use Rattle.asn1.specs.BitStrings.{bits_content}
+use Rattle.asn1.specs.TextValues.{utf8_content, printable_content, ia5_content, visible_content, utf16_content, utf32_content}
+use Rattle.asn1.specs.IdentifierValues.{identifier_basic}
+use Rattle.asn1.specs.TimeValues.{utc_content, x509_content, instant_content}
+use Rattle.asn1.specs.InHand.{sequence_content}
+use Rattle.asn1.specs.ListTypes.{items_inside}
+use Rattle.asn1.specs.SetTypes.{set_content, set_inside}
 use Rattle.dercheck.specs.declared.words.Word.{Word}
+use Rattle.dercheck.specs.declared.words.Word.TheVariants as words
+use Rattle.dercheck.specs.declared.words.TheConstants.Word.{ALL}
 use Rattle.dercheck.specs.Lines.{split_once}
-use Rattle.dercheck.specs.Words.{word_text, word_of}
+
+-- ---- the words, and the types that they name
+
+abbrev pub word_text : Word → List ℕ
+word_text words.Bool = codes "bool"
+word_text words.Tlv = codes "tlv"
+word_text words.I8 = codes "i8"
+word_text words.U8 = codes "u8"
+word_text words.I16 = codes "i16"
+word_text words.U16 = codes "u16"
+word_text words.I32 = codes "i32"
+word_text words.U32 = codes "u32"
+word_text words.I64 = codes "i64"
+word_text words.U64 = codes "u64"
+word_text words.Int = codes "int"
+word_text words.Uint = codes "uint"
+word_text words.Enum = codes "enum"
+word_text words.Null = codes "null"
+word_text words.Octets = codes "octets"
+word_text words.Bits = codes "bits"
+word_text words.Utf8 = codes "utf8"
+word_text words.Printable = codes "printable"
+word_text words.Ia5 = codes "ia5"
+word_text words.Visible = codes "visible"
+word_text words.Bmp = codes "bmp"
+word_text words.Universal = codes "universal"
+word_text words.Oid = codes "oid"
+word_text words.UtcTime = codes "utctime"
+word_text words.X509Time = codes "x509time"
+word_text words.GenTime = codes "gentime"
+word_text words.Seq = codes "seq"
+word_text words.Set = codes "set"
+word_text words.SeqOfInt = codes "seqof-int"
+word_text words.SetOfInt = codes "setof-int"
+
+-- the word with that spelling
+abbrev pub word_of : List ℕ → Option Word
+word_of text = find (λ word. bytes_eq (word_text word) text) ALL.now
+
+-- a type, by what its values mean
+pub record Asn1 : Type 1 where
+  pub Value : Type 0
+  pub der : Der Value
+
+-- a type whose values are elements with one tag
+abbrev pub simple_type : {M : Type 0} → Content M → Asn1
+simple_type {M = M} content = record { Value = M; der = simple_der (λ value. value) content }
+
+abbrev pub signed_type : ℕ → Asn1
+signed_type bits = record { Value = ℤ; der = signed_der bits (λ value. value) }
+
+abbrev pub unsigned_type : ℕ → Asn1
+unsigned_type bits = record { Value = ℕ; der = unsigned_der bits (λ value. value) }
+
+-- an integer of any length
+abbrev pub int_der : Der ℤ
+int_der = simple_der (λ value. value) signed_content
+
+-- the type that a word names
+abbrev pub type_of : Word → Asn1
+type_of words.Bool = simple_type bool_content
+type_of words.Tlv = record { Value = Element; der = tlv_der (λ value. value) }
+type_of words.I8 = signed_type 8
+type_of words.U8 = unsigned_type 8
+type_of words.I16 = signed_type 16
+type_of words.U16 = unsigned_type 16
+type_of words.I32 = signed_type 32
+type_of words.U32 = unsigned_type 32
+type_of words.I64 = signed_type 64
+type_of words.U64 = unsigned_type 64
+type_of words.Int = simple_type signed_content
+type_of words.Uint = simple_type unsigned_content
+type_of words.Enum = simple_type (sized_content (universal 10) (pos 0) (pos (2 ^ 32) -ℤ pos 1))
+type_of words.Null = simple_type null_content
+type_of words.Octets = simple_type octets_content
+type_of words.Bits = simple_type bits_content
+type_of words.Utf8 = simple_type utf8_content
+type_of words.Printable = simple_type printable_content
+type_of words.Ia5 = simple_type ia5_content
+type_of words.Visible = simple_type visible_content
+type_of words.Bmp = simple_type utf16_content
+type_of words.Universal = simple_type utf32_content
+type_of words.Oid = simple_type identifier_basic
+type_of words.UtcTime = simple_type utc_content
+type_of words.X509Time = simple_type x509_content
+type_of words.GenTime = simple_type instant_content
+type_of words.Seq = simple_type sequence_content
+type_of words.Set = simple_type set_content
+type_of words.SeqOfInt = simple_type (items_inside 0 (2 ^ 64 - 1) int_der)
+type_of words.SetOfInt = simple_type (set_inside int_der)
+
+-- ---- the requests
 
 -- A request: a word, a space, and octets in hex.
 pub record IsRequest (line : List ℕ) (word : Word) (octets : List ℕ) : Type 0 where

@@ -1,7 +1,10 @@
 -- What a pull takes from a source and what a put leaves in a sink, if these state their octets.
-use Rattle.std.specs.Prelude.{◌≡◌, ℕ, ◌<◌, Bool, true, false, List, length, take, MatchOption}
-use Rattle.std.specs.Prelude.{Option}
+use Rattle.std.specs.Prelude.{◌≡◌, ℕ, ◌<◌, Bool, true, false, List, length, take, MatchOption, Option, ◌-◌, ◌++◌}
 use Rattle.std.specs.Io.KnownBytes.{Keeps, Appends, Consumes, IsAtEnd}
+use Rattle.dercheck.specs.declared.memory.Pieces.{Pieces}
+use Rattle.dercheck.specs.declared.memory.Held.{Held}
+use Rattle.dercheck.specs.declared.system.Input.{Input}
+use Rattle.dercheck.specs.declared.system.Output.{Output}
 
 -- a pull into `buf` returned `r`: at `Some n` the first n octets of `buf` are the next ones of the source, and n is 0
 -- only at the end or without room; at `None` nothing was taken
@@ -25,3 +28,48 @@ AppendsInPart old new octets = (n : ℕ) × Appends old new (take n octets)
 abbrev pub Puts : Bool → Option (List ℕ) → Option (List ℕ) → Bool → Bool → List ℕ → Type 0
 Puts true old new had_failed has_failed octets = Appends old new octets × (has_failed ≡ had_failed)
 Puts false old new had_failed has_failed octets = AppendsInPart old new octets × (has_failed ≡ true)
+
+-- ---- what the streams over memory state
+
+-- the octets that the pieces have left, how many a pull gives at most, whether a pull fails after them, and whether one
+-- has failed
+abbrev pub pieces_left : Pieces → List ℕ
+pieces_left s = s.first.now ++ s.second.now
+
+abbrev pub piece_of : Pieces → ℕ
+piece_of s = s.piece
+
+abbrev pub fails_at_end : Pieces → Bool
+fails_at_end s = s.fails
+
+abbrev pub pieces_failed : Pieces → Bool
+pieces_failed s = s.has_failed
+
+-- the octets that the sink holds, how many more it can hold, and whether a put has failed
+abbrev pub held_octets : Held → List ℕ
+held_octets s = take s.count s.octets
+
+abbrev pub room_left : Held → ℕ
+room_left s = s.room - s.count
+
+abbrev pub held_failed : Held → Bool
+held_failed s = s.has_failed
+
+-- ---- what the streams over a reader and a writer state
+
+-- the reader, how many octets the source still gives at most, and whether a pull has failed
+abbrev pub input_reader : {R : Type 0} → Input R → R
+input_reader s = s.reader
+
+abbrev pub input_bound : {R : Type 0} → Input R → ℕ
+input_bound s = s.count
+
+abbrev pub input_failed : {R : Type 0} → Input R → Bool
+input_failed s = s.has_failed
+
+-- the writer, and whether a put has failed
+abbrev pub output_writer : {W : Type 0} → Output W → W
+output_writer s = s.writer
+
+abbrev pub output_failed : {W : Type 0} → Output W → Bool
+output_failed s = s.has_failed

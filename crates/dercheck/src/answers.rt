@@ -3,7 +3,7 @@
 ghost use Rattle.std.specs.Prelude.{◌≡◌, ◌++◌, IfOk, OnOk, OnErr, IsOkUnless};
 ghost use Rattle.std.specs.List.{list_all};
 ghost use Rattle.dercheck.specs.Lines.{lines_of};
-ghost use Rattle.dercheck.specs.Answers.{answers, is_ok_line};
+ghost use Rattle.dercheck.specs.Replies.{answers, is_ok_line};
 ghost use Rattle.dercheck.specs.declared.answers.Fault.TheVariants.{Memory};
 
 use crate::lines::next_line;

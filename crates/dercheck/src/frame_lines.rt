@@ -4,7 +4,6 @@ ghost use Rattle.std.specs.Prelude.{◌≡◌, ◌+◌, ◌≤◌, ◌*◌, ◌+
 ghost use Rattle.hex.specs.Hex.{encode_lower};
 ghost use Rattle.dercheck.specs.declared.frame_lines.TheConstants.{MAX_LINES};
 ghost use Rattle.dercheck.specs.Streams.{Puts};
-ghost use Rattle.dercheck.specs.Frames.{line_of, fault_line};
 
 use crate::header::MAX_HEADER;
 use crate::stream::{MAX_PULL, Sink};
@@ -29,7 +28,7 @@ pub struct Lines {
 }
 
 impl Lines {
-    ghost use Rattle.dercheck.specs.FrameLines.{line_octets};
+    ghost use Rattle.dercheck.specs.Frames.{line_of, fault_line, line_octets};
 
     /// No lines.
     pub fn new() -> Self

@@ -3,7 +3,7 @@
 ghost use Rattle.std.specs.Prelude.{◌≡◌, ◌≤◌, List, ℕ, length, MatchOption, MatchResult};
 ghost use Rattle.asn1.specs.declared.Tag.{Tag};
 ghost use Rattle.asn1.specs.Tag.{tag_front};
-ghost use Rattle.dercheck.specs.Pending.{HoldsLength, IsSplit, Needs, IsFault, Says};
+ghost use Rattle.dercheck.specs.Frames.{HoldsLength, IsSplit, Needs, IsFault, Says};
 
 use asn1::{ParseErrorKind, Tag, strip_tlv};
 

@@ -1,7 +1,7 @@
 //! The kinds of errors, as words in a line.
 
 ghost use Rattle.std.specs.Prelude.{◌≡◌, ◌++◌, ◌∷◌, codes, decimal, OnOk};
-ghost use Rattle.dercheck.specs.Kinds.{kind_name, kind_text, class_text, form_text};
+ghost use Rattle.dercheck.specs.Replies.{kind_name, kind_text, class_text, form_text};
 
 use asn1::{ParseErrorKind, TagClass};
 use itoa::Buffer;

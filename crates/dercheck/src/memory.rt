@@ -1,7 +1,6 @@
 //! Streams over memory.
 
 ghost use Rattle.std.specs.Prelude.{◌≡◌, ◌+◌, ◌<◌, ◌≤◌, ◌++◌, ◌↔◌, min, IsTrue, false, List, ℕ, [], length, Some, IfSome, IsNone, MatchOption};
-ghost use Rattle.dercheck.specs.Streams.{FlagFollows, PullTakes, PutAppends};
 
 use crate::stream::{Sink, Source};
 
@@ -17,7 +16,7 @@ pub struct Pieces<'a> {
 }
 
 impl<'a> Pieces<'a> {
-    ghost use Rattle.dercheck.specs.InMemory.{pieces_left, piece_of, fails_at_end, pieces_failed};
+    ghost use Rattle.dercheck.specs.Streams.{pieces_left, piece_of, fails_at_end, pieces_failed};
 
     /// The octets of `first`, then of `second`, at most `piece` a call. At their end a call fails if `fails` is true,
     /// and else gives none. The caller has to prove that `piece` isn't 0 (`requires`).
@@ -39,7 +38,7 @@ impl<'a> Pieces<'a> {
 }
 
 impl Source for Pieces<'_> {
-    ghost use Rattle.dercheck.specs.InMemory.{pieces_left, piece_of, fails_at_end, pieces_failed};
+    ghost use Rattle.dercheck.specs.Streams.{FlagFollows, PullTakes, pieces_left, piece_of, fails_at_end, pieces_failed};
 
     ghost left = { λ s. Some (pieces_left s) };
 
@@ -99,7 +98,7 @@ pub struct Held {
 }
 
 impl Held {
-    ghost use Rattle.dercheck.specs.InMemory.{held_octets, room_left, held_failed};
+    ghost use Rattle.dercheck.specs.Streams.{held_octets, room_left, held_failed};
 
     /// An empty sink that keeps at most `room` octets. The caller has to prove that `room` is at most 256 (`requires`).
     pub fn new(room: usize) -> Self
@@ -125,7 +124,7 @@ impl Held {
 }
 
 impl Sink for Held {
-    ghost use Rattle.dercheck.specs.InMemory.{held_octets, room_left, held_failed};
+    ghost use Rattle.dercheck.specs.Streams.{FlagFollows, PutAppends, held_octets, room_left, held_failed};
 
     ghost held = { λ s. Some (held_octets s) };
 

@@ -36,9 +36,7 @@ pub struct Pending {
 impl Pending {
     ghost use Rattle.std.specs.Io.KnownBytes.{Appends};
     ghost use Rattle.dercheck.specs.Streams.{AppendsInPart};
-    ghost use Rattle.dercheck.specs.Frames.{end_line};
-    ghost use Rattle.dercheck.specs.FrameLines.{line_octets};
-    ghost use Rattle.dercheck.specs.Pending.{Stands, Advances, Taken, TakenToFault};
+    ghost use Rattle.dercheck.specs.Frames.{end_line, line_octets, Stands, Advances, Taken, TakenToFault};
 
     /// An element of which there are no octets yet.
     pub fn new() -> Self

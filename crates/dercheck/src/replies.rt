@@ -2,8 +2,7 @@
 
 ghost use Rattle.std.specs.Prelude.{◌≡◌, ◌++◌, ◌∷◌, [], OnOk, IfOk, IsOkUnless};
 ghost use Rattle.asn1.specs.Reading.{whole};
-ghost use Rattle.dercheck.specs.Replies.{IsReply, reply_text, is_written};
-ghost use Rattle.dercheck.specs.Answers.{answer, is_ok_line, reading};
+ghost use Rattle.dercheck.specs.Replies.{IsReply, reply_text, is_written, answer, is_ok_line, reading};
 
 use crate::answers::Fault;
 use crate::kinds::push_kind;

@@ -14,7 +14,7 @@ pub struct Input<R: Read> {
 }
 
 impl<R: Read> Input<R> {
-    ghost use Rattle.dercheck.specs.System.{input_reader, input_bound, input_failed};
+    ghost use Rattle.dercheck.specs.Streams.{input_reader, input_bound, input_failed};
 
     /// A source over `reader`, of at most 2^64 - 1 octets.
     pub fn new(reader: R) -> Self
@@ -31,7 +31,7 @@ impl<R: Read> Input<R> {
 }
 
 impl<R: Read> Source for Input<R> {
-    ghost use Rattle.dercheck.specs.System.{input_reader, input_bound, input_failed};
+    ghost use Rattle.dercheck.specs.Streams.{input_reader, input_bound, input_failed};
 
     ghost left = { λ s. R.remaining (input_reader s) };
 
@@ -71,7 +71,7 @@ pub struct Output<W: Write> {
 }
 
 impl<W: Write> Output<W> {
-    ghost use Rattle.dercheck.specs.System.{output_writer, output_failed};
+    ghost use Rattle.dercheck.specs.Streams.{output_writer, output_failed};
 
     /// A sink over `writer`.
     pub fn new(writer: W) -> Self
@@ -86,7 +86,7 @@ impl<W: Write> Output<W> {
 }
 
 impl<W: Write> Sink for Output<W> {
-    ghost use Rattle.dercheck.specs.System.{output_writer, output_failed};
+    ghost use Rattle.dercheck.specs.Streams.{output_writer, output_failed};
 
     ghost held = { λ s. W.contents (output_writer s) };
 

@@ -1,8 +1,7 @@
 //! The type names of a line, and a line as a request.
 
 ghost use Rattle.std.specs.Prelude.{◌≡◌, IfOk, IsOkUnless};
-ghost use Rattle.dercheck.specs.Words.{word_text, word_of};
-ghost use Rattle.dercheck.specs.Requests.{request_of, shown};
+ghost use Rattle.dercheck.specs.Requests.{word_text, word_of, request_of, shown};
 
 use crate::answers::Fault;
 use crate::lines::split_once;

@@ -4,7 +4,7 @@ ghost use Rattle.std.specs.Prelude.{◌≡◌, ◌∷◌, [], codes};
 ghost use Rattle.asn1.specs.IdentifierValues.{identifier_of};
 ghost use Rattle.asn1.specs.ItemsAndValues.{by_item, word_for_word};
 ghost use Rattle.asn1.specs.Structures.{structure};
-ghost use Rattle.dercheck.specs.MySequence.{some_numbers, content_both};
+ghost use Rattle.dercheck.specs.OwnTypes.{some_numbers, content_both};
 
 use asn1::fields::{DefinedField, Item, LastValue, Row, is_identifier, known_identifier};
 use asn1::{

@@ -2,7 +2,7 @@
 
 ghost use Rattle.std.specs.Prelude.{◌≡◌, Some};
 ghost use Rattle.asn1.specs.Der.{simple_der};
-ghost use Rattle.dercheck.specs.Reason.{reason_content};
+ghost use Rattle.dercheck.specs.OwnTypes.{reason_content};
 
 use asn1::{
     Asn1Type, ParseError, ParseErrorKind, ParseResult, SimpleAsn1Readable, SimpleAsn1Writable, Tag,

@@ -2,7 +2,7 @@ use Rattle.std.proofs.Common.{◌≡◌, ◌&&◌, ℕ, Bool, true, false, List,
 use Rattle.std.specs.List.{list_all}
 use Rattle.std.proofs.lemmas.List.{append-nil}
 use Rattle.dercheck.specs.Lines.{lines_of}
-use Rattle.dercheck.specs.Answers.{answers, is_ok_line}
+use Rattle.dercheck.specs.Replies.{answers, is_ok_line}
 use Rattle.dercheck.proofs.Cuts.{lines_of-none}
 use Rattle.dercheck.proofs.answers.answered.Goals as goal
 

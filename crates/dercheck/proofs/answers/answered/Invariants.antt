@@ -1,7 +1,7 @@
 use Rattle.std.proofs.Common.{◌≡◌, ◌++◌, ◌&&◌, length}
 use Rattle.std.specs.List.{list_all}
 use Rattle.dercheck.specs.Lines.{lines_of}
-use Rattle.dercheck.specs.Answers.{answers, is_ok_line}
+use Rattle.dercheck.specs.Replies.{answers, is_ok_line}
 use Rattle.dercheck.proofs.answers.answered.Given as goal
 
 abbrev pub invariant-loop-line : goal.invariant-loop-line

@@ -4,7 +4,7 @@ use Rattle.dercheck.specs.declared.answers.Fault.TheVariants.{Write}
 use Rattle.dercheck.proofs.Steps.{framed_none, framed_more, framed_so_far, framed_fault, framed_in_part, finish_ok, finish_cut}
 use Rattle.std.specs.Io.KnownBytes.{Appends}
 use Rattle.dercheck.specs.Streams.{AppendsInPart}
-use Rattle.dercheck.specs.FrameLines.{line_octets}
+use Rattle.dercheck.specs.Frames.{line_octets}
 use Rattle.dercheck.proofs.framing.frames.Goals as goal
 
 pub pulls-init : goal.pulls-init

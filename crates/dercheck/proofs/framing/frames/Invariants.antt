@@ -1,5 +1,5 @@
 use Rattle.std.proofs.Common.{◌≡◌}
-use Rattle.dercheck.specs.Pending.{FramedTo}
+use Rattle.dercheck.specs.Frames.{FramedTo}
 use Rattle.dercheck.proofs.framing.frames.Given as goal
 
 -- the octets read so far were taken

@@ -1,6 +1,6 @@
 use Rattle.std.proofs.Common.{◌≡◌, ℕ, ◌+◌, ◌-◌, ◌^◌, ◌<◌, ◌≤◌, length, Fits, w64, arith}
 use Rattle.asn1.specs.Lemmas.Texts.{IsText-from_reads}
-use Rattle.dercheck.specs.Pending.{IsWhole, IsSplit}
+use Rattle.dercheck.specs.Frames.{IsWhole, IsSplit}
 use Rattle.dercheck.proofs.Headers.{header_open, header_whole}
 use Rattle.dercheck.proofs.header.read_header.Goals as goal
 

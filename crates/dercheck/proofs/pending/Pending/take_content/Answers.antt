@@ -1,6 +1,6 @@
 use Rattle.std.proofs.Common.{◌≡◌, ◌++◌, length, ⊎_elim, inr, arith}
 use Rattle.std.proofs.lemmas.List.{length-append}
-use Rattle.dercheck.specs.Pending.{StandsInHeader, StandsInContent}
+use Rattle.dercheck.specs.Frames.{StandsInHeader, StandsInContent}
 use Rattle.dercheck.proofs.States.{begun_more, begun_whole, element_with}
 use Rattle.dercheck.proofs.pending.Pending.take_content.Goals as goal
 

@@ -1,7 +1,7 @@
 use Rattle.std.proofs.Common.{◌≡◌, ◌+◌, List, ℕ, [], ◌∷◌, ◌++◌, length, take, set, refl, sym, ap, subst, ◌∙◌, ⊎_elim, inl, inr, arith}
 use Rattle.std.proofs.lemmas.List.{length-set, length-take, length-take-le, take-take}
 use Rattle.asn1.specs.Element.{front}
-use Rattle.dercheck.specs.Pending.{StandsInHeader, StandsInContent, IsBegun, IsOpen, IsWhole, IsFault}
+use Rattle.dercheck.specs.Frames.{StandsInHeader, StandsInContent, IsBegun, IsOpen, IsWhole, IsFault}
 use Rattle.dercheck.proofs.States.{begun_whole, whole_within, kept_more, element_with}
 use Rattle.dercheck.proofs.pending.Pending.take_header.Goals as goal
 

@@ -4,8 +4,7 @@ use Rattle.asn1.specs.Text.{IsText}
 use Rattle.asn1.specs.Lemmas.Texts.{IsText-from_reads}
 use Rattle.dercheck.specs.declared.pending.Progress.{Progress}
 use Rattle.dercheck.specs.declared.pending.Progress.TheVariants.{GoesOn, Completes, Fails}
-use Rattle.dercheck.specs.FrameLines.{line_octets}
-use Rattle.dercheck.specs.Pending.{Advances, Taken, TakenToFault}
+use Rattle.dercheck.specs.Frames.{line_octets, Advances, Taken, TakenToFault}
 use Rattle.dercheck.proofs.Parts.{moves_front}
 use Rattle.dercheck.proofs.Steps.{taken_none, goes_on, completes, fails, around, text_left}
 use Rattle.dercheck.proofs.pending.Pending.take_octets.Goals as goal

@@ -1,6 +1,5 @@
 use Rattle.std.proofs.Common.{◌≡◌, ◌≤◌, ◌+◌, ◌*◌, ◌++◌, List, ℕ, length}
-use Rattle.dercheck.specs.FrameLines.{line_octets}
-use Rattle.dercheck.specs.Pending.{Stands, Taken}
+use Rattle.dercheck.specs.Frames.{line_octets, Stands, Taken}
 use Rattle.dercheck.proofs.pending.Pending.take_octets.Given as goal
 
 -- the octets before `rest` were taken, and the lines of `rest` fit

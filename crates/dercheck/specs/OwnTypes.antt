@@ -1,14 +1,25 @@
--- A reason: an enumerated value (X.690 8.4) of one of two numbers.
+-- What the types of `own_types` mean.
 use Rattle.std.proofs.Common.{ℕ, ◌≡◌, List, [], ◌∷◌, nat_eq, if◌then◌else◌, Result, Ok, Err, IfErr, refl, subst, inl, inr}
 use Rattle.std.proofs.lemmas.Bool.{eqb-true}
+use Rattle.std.specs.Prelude.{ℤ}
 use Rattle.asn1.specs.declared.ParseErrorKind.TheVariants.{InvalidValue}
 use Rattle.asn1.specs.Tag.{universal}
 use Rattle.asn1.specs.Fault.{Fault, fault, IsOfText}
-use Rattle.asn1.specs.Der.{Content, basic}
+use Rattle.asn1.specs.Der.{Content, basic, simple_der}
 use Rattle.asn1.specs.Lemmas.Results.{ok_is, chosen, passed}
 use Rattle.asn1.specs.Lemmas.Faults.{if_faults, passed_faults}
+use Rattle.asn1.specs.declared.ObjectIdentifier.{ObjectIdentifier}
+use Rattle.asn1.specs.DefinedBy.{DefinedBy}
+use Rattle.asn1.specs.IdentifierValues.{identifier_basic, identifier_of}
+use Rattle.asn1.specs.Sized.{signed_der}
+use Rattle.asn1.specs.Variants.{identifier_with, variant}
+use Rattle.asn1.specs.ItemsAndValues.{ItemAndValue}
 use Rattle.dercheck.specs.declared.own_types.reason.Reason.{Reason}
 use Rattle.dercheck.specs.declared.own_types.reason.Reason.TheVariants.{Unspecified, Superseded}
+use Rattle.dercheck.specs.declared.own_types.my_sequence.Content as my_sequence
+use Rattle.dercheck.specs.declared.own_types.my_sequence.Content.TheVariants.{SomeVariant}
+
+-- ---- a reason: an enumerated value (X.690 8.4) of one of two numbers
 
 -- The contents octets.
 abbrev pub reason_text : Reason → List ℕ
@@ -55,3 +66,19 @@ reason_content = basic (record {
   again = λ m v. reason_again m;
   faults = reason_faults;
 })
+
+-- ---- a structure whose content is defined by the object identifier before it
+
+-- The object identifier of the one variant, 1.2.3. Its first number encodes the first two arcs.
+abbrev pub some_numbers : List ℕ
+some_numbers = 42 ∷ 3 ∷ []
+
+abbrev pub content_meaning : my_sequence.Content → ℤ
+content_meaning (SomeVariant number) = number
+
+abbrev pub content_by : DefinedBy (List ℕ) my_sequence.Content
+content_by = variant (identifier_with some_numbers) (signed_der 32 (λ n. n)) content_meaning
+
+-- what the object identifier and the content mean, together
+abbrev pub content_both : ItemAndValue ObjectIdentifier my_sequence.Content
+content_both = record { item = simple_der identifier_of identifier_basic; value = content_by }
