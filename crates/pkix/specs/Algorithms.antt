@@ -9,8 +9,7 @@ use Rattle.asn1.specs.IdentifierValues.{identifier_basic, identifier_of}
 use Rattle.asn1.specs.OctetContents.{null_content}
 use Rattle.asn1.specs.Reading.{all_taken}
 use Rattle.asn1.specs.Tlv.{full_octets}
-use Rattle.pkix.specs.Identifiers.{of_arcs}
-use Rattle.pkix.specs.ValueTypes.{typed, ReadsTyped}
+use Rattle.pkix.specs.Identifiers.{of_arcs, typed, ReadsTyped}
 use Rattle.pkix.specs.declared.algorithm_parameters.AlgorithmParameters.{AlgorithmParameters}
 use Rattle.pkix.specs.declared.algorithm_parameters.AlgorithmParameters.TheVariants as parameters
 use Rattle.pkix.specs.declared.algorithm_parameters.KnownAlgorithm.{KnownAlgorithm}

@@ -4,8 +4,7 @@ use Rattle.std.specs.List.{find}
 use Rattle.std.specs.Str.{bytes_eq}
 use Rattle.std.specs.Borrow.{Bor}
 use Rattle.asn1.specs.Fault.{Fault}
-use Rattle.pkix.specs.Identifiers.{of_arcs}
-use Rattle.pkix.specs.ValueTypes.{ValueType, ReadsTyped}
+use Rattle.pkix.specs.Identifiers.{of_arcs, ValueType, ReadsTyped}
 use Rattle.pkix.specs.declared.extension_values.KnownExtension.{KnownExtension}
 use Rattle.pkix.specs.declared.extension_values.KnownExtension.TheVariants as known
 use Rattle.pkix.specs.declared.extension_values.TheConstants.KnownExtension.{ALL}

@@ -4,7 +4,7 @@ ghost use Rattle.std.specs.Prelude.{◌≡◌, Ok, Some};
 ghost use Rattle.asn1.specs.Identifier.{read_identifier};
 ghost use Rattle.asn1.specs.IdentifierValues.{identifier_of};
 ghost use Rattle.pkix.specs.Extensions.{extension_numbers, extension_with, ReadsExtension};
-ghost use Rattle.pkix.specs.ValueTypes.{typed};
+ghost use Rattle.pkix.specs.Identifiers.{typed};
 ghost use Rattle.pkix.specs.declared.extension_values.ExtensionValue.TheVariants as value;
 ghost use Rattle.pkix.specs.declared.extension_values.KnownExtension.TheVariants as known;
 
