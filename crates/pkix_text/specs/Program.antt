@@ -1,7 +1,11 @@
--- What the program does with its arguments, and how it ends.
-use Rattle.std.specs.Prelude.{ℕ, if◌then◌else◌, List, [], ◌∷◌, codes, String, string_bytes, Option, Some, None, Result, Ok, Err}
+-- What the program does with its arguments, what it shows of an object, and how it ends.
+use Rattle.std.specs.Prelude.{ℕ, if◌then◌else◌, List, [], ◌∷◌, codes, String, string_bytes, Option, Some, None, Result, Ok, Err, ◌≡◌, ◌++◌, IsOk, ⊤}
 use Rattle.std.specs.List.{find}
 use Rattle.std.specs.Str.{bytes_eq}
+use Rattle.asn1.specs.Der.{Der}
+use Rattle.asn1.specs.Reading.{whole}
+use Rattle.pkix_text.specs.declared.answers.Answer.{Answer}
+use Rattle.pkix_text.specs.declared.answers.Answer.TheVariants.{Shown, Rejected}
 use Rattle.pkix_text.specs.declared.answers.Fault.{Fault}
 use Rattle.pkix_text.specs.declared.answers.Report.{Report}
 use Rattle.pkix_text.specs.declared.kinds.Kind.{Kind}
@@ -47,3 +51,19 @@ abbrev pub status_of : Option (Result Report Fault) → ℕ
 status_of (Some (Ok report)) = status_by (string_bytes report.reasons)
 status_of (Some (Err fault)) = 2
 status_of None = 2
+
+-- ---- the result for an object, by the type that reads it
+
+-- The octets are the encoding of a value of the type.
+abbrev pub IsRead : {V : Type 0} → Der V → List ℕ → Type 0
+IsRead der octets = IsOk (whole (der.read octets))
+
+-- The last line is `same`.
+abbrev pub EndsInSame : List ℕ → Type 0
+EndsInSame text = (front : List ℕ) × (text ≡ front ++ codes "same\n")
+
+-- What is shown has the form, and its last line is `same`. What has the form may be rejected: an encrypted key may have
+-- the form of another object.
+abbrev pub IsShownOnlyIf : Type 0 → Answer → Type 0
+IsShownOnlyIf Form (Shown text) = Form × EndsInSame (string_bytes text)
+IsShownOnlyIf Form (Rejected refusal) = ⊤

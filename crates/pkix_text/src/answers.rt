@@ -1,7 +1,7 @@
 //! The result for an input.
 
 ghost use Rattle.std.specs.Prelude.{◌⊎◌, IfOk};
-ghost use Rattle.pkix_text.specs.Answers.{IsRead, IsShownOnlyIf};
+ghost use Rattle.pkix_text.specs.Program.{IsRead, IsShownOnlyIf};
 ghost use Rattle.pkix_text.specs.declared.kinds.Kind.TheVariants as kinds;
 
 use crate::errors::in_words;
