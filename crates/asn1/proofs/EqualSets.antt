@@ -2,13 +2,12 @@
 use Rattle.std.proofs.Common.{ℕ, List, [], ◌∷◌, map, ap, subst}
 use Rattle.asn1_core.specs.Element.{element, element_text}
 use Rattle.asn1_core.specs.Reading.{Fits}
-use Rattle.asn1_core.specs.Items.{Each, set_tag}
-use Rattle.asn1_core.specs.Listing.{join, listing, ListingsAreOne, ListingsTellMultisets, IsElementText}
+use Rattle.asn1_core.specs.Listing.{Each, set_tag, join, listing, ListingsAreOne, ListingsTellMultisets, IsElementText}
 use Rattle.asn1_core.specs.Lemmas.Contents.{fits_is_readable}
 use Rattle.asn1_core.specs.Lemmas.Options.{element_in}
 use Rattle.asn1_core.specs.Der.{Der}
-use Rattle.asn1.specs.Equalities.{content_alone}
-use Rattle.asn1.specs.ListLaws.{SetsTellMultisets, ValuesAreElements}
+use Rattle.asn1.specs.Lemmas.Equalities.{content_alone}
+use Rattle.asn1.specs.TypeLaws.{SetsTellMultisets, ValuesAreElements}
 
 each_map : {M : Type 0} (text : M → List ℕ) (ms : List M) → Each (λ m. IsElementText (text m)) ms → Each IsElementText (map text ms)
 each_map text [] h = tt

@@ -7,11 +7,11 @@ use Rattle.asn1_core.specs.declared.tag.Tag.{Tag}
 use Rattle.asn1_core.specs.Tag.{tag_text, IsTagBefore, before_tag}
 use Rattle.asn1_core.specs.Length.{length_text}
 use Rattle.asn1_core.specs.Element.{Element, element_text, IsReadable}
-use Rattle.asn1_core.specs.Items.{Each, joined}
+use Rattle.asn1_core.specs.Listing.{Each, joined}
 use Rattle.asn1_core.specs.SetWriting.{SetState, OrderedElements, no_element, one_more}
 use Rattle.asn1_core.specs.Lemmas.TagOrder.{tag_order_is_answered}
 use Rattle.asn1.specs.Sets.{TagsInOrder, IsSetContent}
-use Rattle.asn1.specs.ListLaws.{WritesSets}
+use Rattle.asn1.specs.TypeLaws.{WritesSets}
 
 -- the tag of the last element
 abbrev last_tag : List Element → Option Tag

@@ -1,5 +1,5 @@
 -- What the Rust values of wrappers, choices, lists and sets hold, for their callers.
-use Rattle.std.specs.Prelude.{ℕ, List, ◌⊎◌}
+use Rattle.std.specs.Prelude.{ℕ, List, ◌⊎◌, [], Result}
 use Rattle.asn1.specs.declared.wrappers.tagged.Explicit.{Explicit}
 use Rattle.asn1.specs.declared.wrappers.tagged.Implicit.{Implicit}
 use Rattle.asn1.specs.declared.wrappers.tagged.OctetStringEncoded.{OctetStringEncoded}
@@ -8,7 +8,7 @@ use Rattle.asn1.specs.declared.wrappers.errors.ErrorInto.{ErrorInto}
 use Rattle.asn1.specs.declared.lists.sets.Set.{Set}
 use Rattle.asn1.specs.declared.lists.writers.SequenceOfWriter.{SequenceOfWriter}
 use Rattle.asn1.specs.declared.lists.writers.SequenceWriter.{SequenceWriter}
-use Rattle.asn1_core.specs.Items.{sequence_tag}
+use Rattle.asn1_core.specs.Listing.{sequence_tag}
 use Rattle.asn1_core.specs.OctetContents.{octets_content}
 use Rattle.asn1_core.specs.Der.{Content}
 use Rattle.asn1.specs.declared.lists.sequence.Sequence.{Sequence}
@@ -19,6 +19,11 @@ use Rattle.asn1.specs.declared.wrappers.choices.Choice3.{Choice3}
 use Rattle.asn1.specs.declared.wrappers.choices.Choice1.TheVariants as one
 use Rattle.asn1.specs.declared.wrappers.choices.Choice2.TheVariants as two
 use Rattle.asn1.specs.declared.wrappers.choices.Choice3.TheVariants as three
+use Rattle.std.specs.Fn.{Once}
+use Rattle.std.specs.Borrow.{MutBor}
+use Rattle.asn1_core.specs.declared.writer.Writer.{Writer}
+use Rattle.asn1_core.specs.Writing.{IsWriter, MayWrite}
+use Rattle.asn1_core.specs.SetWriting.{written}
 
 -- What a wrapper holds.
 abbrev pub explicit_inner : {T : Type 0} {tag : ℕ} → Explicit T tag → T
@@ -83,3 +88,19 @@ OfChoice3 f g h (three.ChoiceC v) = h v
 -- An error that is made from one of these errors.
 abbrev pub MadeFrom : {A E : Type 0} → (A → E → Type 0) → (A → Type 0) → E → Type 0
 MadeFrom {A} gives one e = (a : A) × one a × gives a e
+
+-- ---- what a closure writes as a sequence
+
+-- The abstract value is the closure itself.
+abbrev pub closure_written : {F E : Type 0} → Once F (MutBor Writer × Unit {0}) (Result (Unit {0}) E × (MutBor Writer × Unit {0})) → Content F
+closure_written calls = written (record {
+  tag = sequence_tag;
+  text = λ f. [];
+  texts = MayWrite calls;
+  closures = IsWriter calls;
+  valid = λ f. Unit {0};
+  plain = ⊥;
+  lawful = ⊥;
+  one_text = λ p. absurd p;
+  no_closures = λ p. absurd p;
+})

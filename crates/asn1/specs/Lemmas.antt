@@ -32,3 +32,4 @@ pub mod Fields
 pub mod FieldSteps
 pub mod ListItems
 pub mod SetItems
+pub mod Equalities

@@ -1,9 +1,10 @@
 -- Structures (X.690 8.9), seen as rows of fields.
-use Rattle.std.specs.Prelude.{ℕ, List}
-use Rattle.asn1_core.specs.declared.tag.Tag.{Tag}
+use Rattle.std.specs.Prelude.{◌≡◌, ℕ, List, map}
 use Rattle.asn1_core.specs.Der.{Der, simple_der}
-use Rattle.asn1.specs.Fields.{sequence}
-use Rattle.asn1.specs.FieldLists.{FieldList}
+use Rattle.asn1.specs.declared.fields.Names.{Names}
+use Rattle.asn1.specs.ItemsAndValues.{ItemAndValue}
+use Rattle.asn1.specs.Fields.{Fields, FieldsBy, field, last, no_fields, value_last, value_field, between, with_item, sequence}
+use Rattle.asn1_core.specs.declared.tag.Tag.{Tag}
 use Rattle.asn1.specs.Tagged.{retagged}
 use Rattle.asn1.specs.declared.fields.NoFields.{NoFields}
 use Rattle.asn1.specs.declared.fields.Field.{Field}
@@ -11,6 +12,84 @@ use Rattle.asn1.specs.declared.fields.Last.{Last}
 use Rattle.asn1.specs.declared.wrappers.tagged.Explicit.{Explicit}
 use Rattle.asn1.specs.declared.wrappers.tagged.Implicit.{Implicit}
 use Rattle.asn1.specs.declared.wrappers.defaulted.Defaulted.{Defaulted}
+
+-- ---- lists of fields as types, and their names
+
+-- The names, in order.
+abbrev pub texts_of : Names → List (List ℕ)
+texts_of names = map (λ s. s.now) names.list.now
+
+-- What a list of fields means.
+pub record FieldList (V : Type 0) : Type 1 where
+  pub Meaning : Type 0
+  pub meaning : V → Meaning
+  pub fields : Fields Meaning
+
+abbrev pub empty_list : {W : Type 0} → FieldList W
+empty_list = record {
+  Meaning = Unit {0};
+  meaning = λ w. tt;
+  fields = no_fields;
+}
+
+abbrev pub last_field : {V W : Type 0} → (W → V) → Der V → FieldList W
+last_field view d = record {
+  Meaning = d.Meaning;
+  meaning = λ w. d.meaning (view w);
+  fields = last d;
+}
+
+abbrev pub first_field : {V U W : Type 0} → (W → V) → Der V → (W → U) → FieldList U → FieldList W
+first_field view d rest others = record {
+  Meaning = d.Meaning × others.Meaning;
+  meaning = λ w. (d.meaning (view w), others.meaning (rest w));
+  fields = field d others.fields;
+}
+
+-- one of these errors, for an item that defines this value
+abbrev pub ItemErrors : {T V E : Type 0} → ItemAndValue T V → V → (T → E → Type 0) → E → Type 0
+ItemErrors {T} both v errors e = (item : T) × (both.item.meaning item ≡ both.value.item (both.value.meaning v)) × errors item e
+
+-- What the fields after an item mean, one of which the item defines, together with the item.
+pub record BehindItem (T V : Type 0) : Type 1 where
+  pub item : Der T
+  pub Meaning : Type 0
+  pub meaning : V → Meaning
+  pub fields : FieldsBy item.Meaning Meaning
+
+abbrev pub value_last_behind : {T V W : Type 0} → (W → V) → ItemAndValue T V → BehindItem T W
+value_last_behind view both = record {
+  item = both.item;
+  Meaning = both.value.Meaning;
+  meaning = λ w. both.value.meaning (view w);
+  fields = value_last both.value;
+}
+
+abbrev pub value_behind : {T V U W : Type 0} → (W → V) → ItemAndValue T V → (W → U) → FieldList U → BehindItem T W
+value_behind view both rest others = record {
+  item = both.item;
+  Meaning = both.value.Meaning × others.Meaning;
+  meaning = λ w. (both.value.meaning (view w), others.meaning (rest w));
+  fields = value_field both.value others.fields;
+}
+
+abbrev pub before_behind : {T A U W : Type 0} → (W → A) → Der A → (W → U) → BehindItem T U → BehindItem T W
+before_behind view d rest behind = record {
+  item = behind.item;
+  Meaning = d.Meaning × behind.Meaning;
+  meaning = λ w. (d.meaning (view w), behind.meaning (rest w));
+  fields = between d behind.fields;
+}
+
+-- An item, and the fields after it.
+abbrev pub item_list : {T U W : Type 0} → (W → U) → BehindItem T U → FieldList W
+item_list rest behind = record {
+  Meaning = behind.Meaning;
+  meaning = λ w. behind.meaning (rest w);
+  fields = with_item behind.item behind.fields;
+}
+
+-- ---- structures
 
 -- A sequence of a row's fields with these names. Each value is seen as this row.
 abbrev pub structure : {V W : Type 0} → (W → V) → FieldList V → List (List ℕ) → Der W

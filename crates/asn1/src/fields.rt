@@ -6,7 +6,7 @@ ghost use Rattle.std.specs.Prelude.{◌≡◌, List, ℕ};
 ghost use Rattle.asn1_core.specs.Reading.{Answers, rest_refused};
 ghost use Rattle.asn1.specs.Fields.{first_name, other_names};
 ghost use Rattle.asn1.specs.FieldReads.{in_field, IsSum};
-ghost use Rattle.asn1.specs.FieldLists.{FieldList, empty_list, last_field, first_field, texts_of};
+ghost use Rattle.asn1.specs.Structures.{FieldList, empty_list, last_field, first_field, texts_of};
 
 use asn1_core::{
     Asn1Readable, Asn1Type, ParseError, ParseErrorKind, ParseLocation, ParseResult, Parser,

@@ -5,7 +5,7 @@ use Rattle.std.proofs.lemmas.List.{length-take-le, length-append, length-replica
 use Rattle.std.proofs.lemmas.Grind.{common_steps}
 use Rattle.std.proofs.lemmas.Nat.{mul-add-lt}
 use Rattle.asn1_core.specs.Text.{IsText, number}
-use Rattle.asn1_core.specs.Order.{text_less}
+use Rattle.asn1_core.specs.Listing.{text_less}
 use Rattle.std.specs.List.{All}
 use Rattle.std.specs.List.Sorted.{IsSortedBy}
 use Rattle.std.specs.Ordering.{is_lt, nat_cmp, ordering_then}
@@ -13,7 +13,7 @@ use Rattle.std.specs.declared.cmp.Ordering.{Ordering}
 use Rattle.std.specs.Cmp.Lexicographic.{slice_cmp}
 use Rattle.asn1_core.specs.declared.writer.sets.Span.{Span}
 use Rattle.asn1_core.specs.Lemmas.Listing.{less_once}
-use Rattle.asn1_core.specs.Spans.{part_of, first_number, span_cmp, IsBefore, NotesFirst}
+use Rattle.asn1_core.specs.SetWriting.{part_of, first_number, span_cmp, IsBefore, NotesFirst}
 use Rattle.asn1_core.specs.Lemmas.Lengths.{number_lt}
 use Rattle.asn1_core.specs.Lemmas.Texts.{IsText-both}
 use Rattle.asn1_core.proofs.Ordered.{less_below, less_same}

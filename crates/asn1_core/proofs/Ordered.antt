@@ -1,7 +1,7 @@
 -- The test of the order decides the relation.
 use Rattle.std.proofs.Common.{◌≡◌, ℕ, ◌<◌, ◌≤◌, Bool, true, false, List, [], ◌∷◌, ◌++◌, length, refl, sym, ap, ◌∙◌, inl, inr, ⊎_elim, arith}
 use Rattle.std.proofs.lemmas.Bool.{lt-ltb, le-ltb, eq-eqb, ne_eqb, cases_lt, cases_eq}
-use Rattle.asn1_core.specs.Order.{IsLess, text_less, OrderIsAnswered}
+use Rattle.asn1_core.specs.Listing.{IsLess, text_less, OrderIsAnswered}
 
 -- a step of the test
 pub less_below : (x y : ℕ) (xs ys : List ℕ) → x < y → text_less (x ∷ xs) (y ∷ ys) ≡ true

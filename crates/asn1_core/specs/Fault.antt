@@ -1,12 +1,16 @@
--- An error of reading: its kind, and its locations, the innermost first.
-use Rattle.std.specs.Prelude.{◌≡◌, List, [], ◌∷◌, ◌++◌, take, Result, Ok, Err}
+-- An error of reading: its kind, and its locations, the innermost first; when two are the same; and what errors display.
+use Rattle.std.specs.Prelude.{◌≡◌, List, [], ◌∷◌, ◌++◌, take, Result, Ok, Err, Bool, true, false, ◌==◌, ◌&&◌, bytes_eq, ℕ, Option, Some, None, codes, decimal, option_map}
 use Rattle.asn1_core.specs.declared.parser.ParseErrorKind.{ParseErrorKind}
-use Rattle.asn1_core.specs.declared.parser.ParseErrorKind.TheVariants.{AllocationError}
+use Rattle.asn1_core.specs.declared.parser.ParseErrorKind.TheVariants.{AllocationError, InvalidValue, InvalidTag, InvalidLength, InvalidSize, UnexpectedTag, ShortData, IntegerOverflow, ExtraData, InvalidSetOrdering, EncodedDefault, OidTooLong, UnknownDefinedBy}
 use Rattle.asn1_core.specs.declared.parser.Place.{Place}
 use Rattle.asn1_core.specs.declared.parser.TheConstants.{MAX_PLACES}
 use Rattle.asn1_core.specs.declared.parser.ParseLocation.{ParseLocation}
 use Rattle.asn1_core.specs.declared.parser.Place.TheVariants.{Field, Index}
 use Rattle.asn1_core.specs.declared.parser.ParseLocation.TheVariants as locations
+use Rattle.std.specs.Cmp.Lexicographic.{pointwise}
+use Rattle.asn1_core.specs.Tag.{tag_eq}
+use Rattle.asn1_core.specs.declared.writer.WriteError.{WriteError}
+use Rattle.asn1_core.specs.declared.writer.WriteError.TheVariants as writing
 
 pub record Fault : Type 0 where
   pub kind : ParseErrorKind
@@ -47,3 +51,54 @@ IsOfText f = f.kind ≡ AllocationError → ⊥
 abbrev pub place_of : ParseLocation → Place
 place_of (locations.Field name) = Field name.now
 place_of (locations.Index i) = Index i
+
+-- ---- when two errors are the same: their kinds are, and the locations that are kept
+
+abbrev pub kind_eq : ParseErrorKind → ParseErrorKind → Bool
+kind_eq InvalidValue InvalidValue = true
+kind_eq InvalidTag InvalidTag = true
+kind_eq InvalidLength InvalidLength = true
+kind_eq (InvalidSize low high n) (InvalidSize low' high' n') = (low == low') && (high == high') && (n == n')
+kind_eq (UnexpectedTag tag) (UnexpectedTag tag') = tag_eq tag tag'
+kind_eq (ShortData n) (ShortData n') = n == n'
+kind_eq IntegerOverflow IntegerOverflow = true
+kind_eq ExtraData ExtraData = true
+kind_eq InvalidSetOrdering InvalidSetOrdering = true
+kind_eq EncodedDefault EncodedDefault = true
+kind_eq OidTooLong OidTooLong = true
+kind_eq UnknownDefinedBy UnknownDefinedBy = true
+kind_eq AllocationError AllocationError = true
+kind_eq _ _ = false
+
+abbrev pub place_eq : Place → Place → Bool
+place_eq (Field name) (Field name') = bytes_eq name name'
+place_eq (Index i) (Index i') = i == i'
+place_eq _ _ = false
+
+abbrev pub fault_eq : Fault → Fault → Bool
+fault_eq e f = kind_eq e.kind f.kind && pointwise place_eq e.places f.places
+
+-- ---- what errors display
+
+-- The text of a kind. The text of an unexpected tag holds the tag's debug text, of which nothing is stated.
+abbrev pub kind_text : ParseErrorKind → Option (List ℕ)
+kind_text InvalidValue = Some (codes "invalid value")
+kind_text InvalidTag = Some (codes "invalid tag")
+kind_text InvalidLength = Some (codes "invalid length")
+kind_text (InvalidSize low high n) = Some (codes "invalid container size (expected between " ++ decimal low ++ codes " and " ++ decimal high ++ codes ", got " ++ decimal n ++ codes ")")
+kind_text (UnexpectedTag tag) = None
+kind_text (ShortData n) = Some (codes "short data (needed at least " ++ decimal n ++ codes " additional bytes)")
+kind_text IntegerOverflow = Some (codes "integer overflow")
+kind_text ExtraData = Some (codes "extra data")
+kind_text InvalidSetOrdering = Some (codes "SET value was ordered incorrectly")
+kind_text EncodedDefault = Some (codes "DEFAULT value was explicitly encoded")
+kind_text OidTooLong = Some (codes "OBJECT IDENTIFIER was too large to be stored in rust-asn1's buffer")
+kind_text UnknownDefinedBy = Some (codes "DEFINED BY with unknown value")
+kind_text AllocationError = Some (codes "allocation error")
+
+abbrev pub error_text : ParseErrorKind → Option (List ℕ)
+error_text kind = option_map (λ text. codes "ASN.1 parsing error: " ++ text) (kind_text kind)
+
+abbrev pub write_error_text : WriteError → List ℕ
+write_error_text writing.AllocationError = codes "allocation error"
+write_error_text writing.InvalidSetOrdering = codes "SET elements are not in DER order"

@@ -1,16 +1,79 @@
--- Writers as their callers see them, and the laws of writing.
-use Rattle.std.specs.Prelude.{◌≡◌, ℕ, ◌+◌, ◌<◌, ◌^◌, List, length, ◌⊎◌, Option, Some, IfSome}
+-- Writers as their callers see them, what is stated of closures that write, and the laws of writing.
+use Rattle.std.specs.Prelude.{◌≡◌, ℕ, List, ◌++◌, length, ◌⊎◌, IfSome, Option, Result, Ok, Err, ◌+◌, ◌<◌, ◌^◌, Some}
+use Rattle.std.specs.Fn.{FnOnceReturnsAtMut, Once}
+use Rattle.std.specs.Borrow.{MutBor, GName}
+use Rattle.asn1_core.specs.Buffer.{Buffer, KeepsFront}
 use Rattle.asn1_core.specs.declared.tag.Tag.{Tag}
+use Rattle.asn1_core.specs.Element.{element, element_text}
 use Rattle.asn1_core.specs.declared.writer.WriteError.{WriteError}
 use Rattle.asn1_core.specs.declared.writer.WriteError.TheVariants.{AllocationError}
+use Rattle.asn1_core.specs.declared.writer.Writer.{Writer}
 use Rattle.asn1_core.specs.Tag.{tag_text}
 use Rattle.asn1_core.specs.Length.{length_text}
-use Rattle.asn1_core.specs.Element.{element, element_text}
-use Rattle.std.specs.Borrow.{GName}
-use Rattle.asn1_core.specs.declared.writer.Writer.{Writer}
 use Rattle.asn1_core.specs.declared.writer.sets.SetOfWriter.{SetOfWriter}
 use Rattle.asn1_core.specs.declared.writer.sets.SetWriter.{SetWriter}
-use Rattle.asn1_core.specs.Buffer.{Buffer}
+
+-- ---- a body that writes into a buffer, and a closure that writes through a writer
+
+module _ {F E : Type 0} (calls : Once F (MutBor Buffer × Unit {0}) (Result (Unit {0}) E × (MutBor Buffer × Unit {0}))) (body : F) where
+  -- the body leaves the octets that were there as a prefix, at Ok and at Err
+  abbrev pub LeavesFront : Type 0
+  LeavesFront = (old : Buffer) (r : Result (Unit {0}) E) (new : Buffer) → FnOnceReturnsAtMut calls body old r new → KeepsFront old.bytes new.bytes
+
+  -- the body may append these octets at Ok, after some prefix
+  pub record MayAppend (text : List ℕ) : Type 0 where
+    pub old : Buffer
+    pub new : Buffer
+    pub called : FnOnceReturnsAtMut calls body old (Ok tt) new
+    pub joined : new.bytes ≡ old.bytes ++ text
+
+  -- if a length is announced, whatever octets the body may append have that length
+  abbrev pub Announces : Option ℕ → Type 0
+  Announces announced = IfSome announced (λ n. (t : List ℕ) → MayAppend t → length t ≡ n)
+
+  -- an element was appended whose contents octets the body may append
+  pub record Appended (tag : Tag) (old new : List ℕ) : Type 0 where
+    pub content : List ℕ
+    pub allowed : MayAppend content
+    pub joined : new ≡ old ++ element_text (element tag content)
+
+  -- the body may return that error
+  pub record MayRefuse (e : E) : Type 0 where
+    pub old : Buffer
+    pub new : Buffer
+    pub called : FnOnceReturnsAtMut calls body old (Err e) new
+
+  -- out of memory, or an error that the body may return
+  abbrev pub Refused : (WriteError → E → Type 0) → E → Type 0
+  Refused gives e = gives AllocationError e ⊎ MayRefuse e
+
+module _ {F E : Type 0} (calls : Once F (MutBor Writer × Unit {0}) (Result (Unit {0}) E × (MutBor Writer × Unit {0}))) (f : F) where
+  -- a call with the octets `old` in the buffer may return `r` and leave the octets `new`
+  pub record WriterCall (old : List ℕ) (r : Result (Unit {0}) E) (new : List ℕ) : Type 0 where
+    pub shown : MutBor Writer
+    pub shows : shown.now.buf.now.bytes ≡ old
+    pub left : MutBor Writer
+    pub met : calls.post f (shown, tt) (r, (left, tt))
+    pub leaves : left.now.buf.now.bytes ≡ new
+
+  -- the closure may be called; at Ok and at Err it keeps the buffer, with the octets that were there as a prefix
+  pub record IsWriter : Type 0 where
+    pub callable : (shown : MutBor Writer) → calls.pre f (shown, tt)
+    pub same_buffer : (shown left : MutBor Writer) (r : Result (Unit {0}) E) → calls.post f (shown, tt) (r, (left, tt)) → left.now.buf.ghost_name ≡ shown.now.buf.ghost_name
+    pub front : (shown left : MutBor Writer) (r : Result (Unit {0}) E) → calls.post f (shown, tt) (r, (left, tt)) → KeepsFront shown.now.buf.now.bytes left.now.buf.now.bytes
+
+  -- the closure may append these octets at Ok, after some prefix
+  pub record MayWrite (text : List ℕ) : Type 0 where
+    pub front : List ℕ
+    pub called : WriterCall front (Ok tt) (front ++ text)
+
+  -- the closure may return that error
+  pub record MayAnswer (e : E) : Type 0 where
+    pub old : List ℕ
+    pub new : List ℕ
+    pub called : WriterCall old (Err e) new
+
+-- ---- writers, and the laws of writing
 
 -- if a length is known, each encoding has it
 abbrev pub KnowsLength : (List ℕ → Type 0) → Option ℕ → Type 0

@@ -9,13 +9,11 @@ ghost use Rattle.asn1_core.specs.Tag.{tag_front, found_tag};
 ghost use Rattle.asn1_core.specs.Length.{length_front};
 ghost use Rattle.asn1_core.specs.Element.{Element, IsFront, content_front, front, element_text};
 ghost use Rattle.asn1_core.specs.Tlv.{element_of, full_octets, stripped};
-ghost use Rattle.asn1_core.specs.Fault.{fault, within, framed, AnswersError, AnswersKind, IsOfText, place_of};
+ghost use Rattle.asn1_core.specs.Fault.{fault, within, framed, AnswersError, AnswersKind, IsOfText, place_of, error_text, kind_eq, place_eq, fault_eq};
 ghost use Rattle.asn1_core.specs.Reading.{Answers, EndsWith, IsHandedOn, Fits, rest_refused, expected_front, simple_stops};
 ghost use Rattle.asn1_core.specs.Reads.{IsEncodingOf, ReadsExplicit, ReadsImplicit, ReadsPrefix, ReadsWhole};
 ghost use Rattle.asn1_core.specs.Laws.{IsShort, with_more};
 ghost use Rattle.std.specs.Cmp.{decided, partial_equiv_from_equiv};
-ghost use Rattle.asn1_core.specs.Display.{error_text};
-ghost use Rattle.asn1_core.specs.Same.{kind_eq, place_eq, fault_eq};
 ghost use Rattle.asn1_core.specs.Lemmas.Same.{place_eq-decides, fault_eq-decides};
 
 mod name;

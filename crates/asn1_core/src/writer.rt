@@ -3,10 +3,9 @@
 ghost use Rattle.std.specs.Prelude.{◌≡◌, ◌+◌, ◌-◌, ◌^◌, ◌<◌, ◌≤◌, ◌++◌, [], ◌∷◌, length, take, drop, Some, IfOk, SomeIff, IfErr, OnOk, OnErr, IsOk, IsOkUnless};
 ghost use Rattle.asn1_core.specs.Tag.{explicit_tag_of, implicit_tag_of};
 ghost use Rattle.asn1_core.specs.Length.{length_text};
-ghost use Rattle.asn1_core.specs.Display.{write_error_text};
-ghost use Rattle.asn1_core.specs.Closures.{IsWriter, WriterCall, MayAnswer};
+ghost use Rattle.asn1_core.specs.Fault.{write_error_text};
+ghost use Rattle.asn1_core.specs.Writing.{IsWriter, WriterCall, MayAnswer, buffer_name, buffer_of, octets_of, Refuses, IsElementOf, full_count};
 ghost use Rattle.asn1_core.specs.Der.{IsWritable, IsWritableContent};
-ghost use Rattle.asn1_core.specs.Writing.{buffer_name, buffer_of, octets_of, Refuses, IsElementOf, full_count};
 ghost use Rattle.asn1_core.specs.declared.writer.WriteError.TheVariants.{AllocationError};
 
 mod sets;
@@ -358,9 +357,8 @@ pub struct Writer<'a> {
 }
 
 impl<'a> Writer<'a> {
-    ghost use Rattle.asn1_core.specs.Writing.{Refuses, IsElementOf};
+    ghost use Rattle.asn1_core.specs.Writing.{Refuses, IsElementOf, LeavesFront, Announces, Appended, Refused};
     ghost use Rattle.asn1_core.specs.Buffer.{Appends, KeepsFront};
-    ghost use Rattle.asn1_core.specs.Closures.{LeavesFront, Announces, Appended, Refused};
 
     /// A writer that appends to the buffer.
     #[inline]

@@ -3,7 +3,7 @@
 ghost use Rattle.std.specs.Prelude.{◌≡◌, ◌∷◌, []};
 ghost use Rattle.asn1_core.specs.Tag.{universal};
 ghost use Rattle.asn1_core.specs.Der.{simple_der};
-ghost use Rattle.asn1_core.specs.Written.{written};
+ghost use Rattle.asn1_core.specs.SetWriting.{written};
 ghost use Rattle.asn1_core_tests.specs.declared.sets.Custom.TheVariants.{Memory, Refused};
 
 use crate::writing::compare_parts;

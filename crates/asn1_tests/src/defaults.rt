@@ -2,7 +2,7 @@
 
 ghost use Rattle.std.specs.Prelude.{◌≡◌, ◌∷◌, [], negsuc, pos};
 ghost use Rattle.asn1.specs.Der.{seen};
-ghost use Rattle.asn1.specs.Equalities.{naturals_tell, number_text, seen_tells};
+ghost use Rattle.asn1.specs.Lemmas.Equalities.{naturals_tell, number_text, seen_tells};
 ghost use Rattle.asn1.specs.IdentifierValues.{identifier_of};
 ghost use Rattle.asn1.specs.Tag.{universal};
 ghost use Rattle.asn1_tests.specs.Identifiers.{some_identifier};

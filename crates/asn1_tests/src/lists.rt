@@ -3,10 +3,9 @@
 ghost use Rattle.std.specs.Prelude.{◌≡◌, []};
 ghost use Rattle.asn1.specs.Tag.{universal};
 ghost use Rattle.asn1.specs.Buffer.{KeepsFront};
-ghost use Rattle.asn1.specs.Closures.{IsWriter};
-ghost use Rattle.asn1.specs.Writing.{buffer_name, octets_of};
+ghost use Rattle.asn1.specs.Writing.{IsWriter, buffer_name, octets_of};
 ghost use Rattle.asn1.specs.Der.{simple_der};
-ghost use Rattle.asn1.specs.Written.{written};
+ghost use Rattle.asn1.specs.SetWriting.{written};
 ghost use Rattle.asn1_tests.specs.declared.lists.Custom.TheVariants.{Memory, Refused};
 
 use asn1::{

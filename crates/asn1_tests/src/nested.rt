@@ -2,7 +2,7 @@
 
 ghost use Rattle.std.specs.Prelude.{◌≡◌};
 ghost use Rattle.asn1.specs.Der.{seen};
-ghost use Rattle.asn1.specs.Items.{sequence_tag};
+ghost use Rattle.asn1.specs.Listing.{sequence_tag};
 ghost use Rattle.asn1.specs.Reading.{Answers};
 
 use crate::lists::{List, is_refused};

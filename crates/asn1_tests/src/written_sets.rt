@@ -1,7 +1,7 @@
 //! Sets whose elements a closure writes: it writes the contents octets of a `Set`, which are read as one.
 
 ghost use Rattle.std.specs.Prelude.{◌≡◌, ◌<◌, ◌^◌, length, OnOk, IfOk};
-ghost use Rattle.asn1.specs.Items.{set_tag};
+ghost use Rattle.asn1.specs.Listing.{set_tag};
 ghost use Rattle.asn1.specs.Sets.{IsSetContent};
 ghost use Rattle.asn1.specs.SetWriting.{KeepsElements};
 ghost use Rattle.asn1.specs.Writing.{IsElementOf};

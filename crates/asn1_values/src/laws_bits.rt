@@ -1,19 +1,8 @@
 //! Laws of bit strings, each the contract of a function that does nothing.
 
-ghost use Rattle.asn1_values.specs.BitLists.{
-  BitsAreAList,
-  EachListHasBits,
-  FilledOctetsAreBits,
-  OneBitString,
-  SetBits,
-};
+ghost use Rattle.asn1_values.specs.Bits.{BitsAreAList, EachListHasBits, FilledOctetsAreBits, OneBitString, SetBits};
 ghost use Rattle.asn1_values.specs.BitStrings.{bits_of, owned_bits_of};
-ghost use Rattle.asn1_values.specs.Comparisons.{
-  ClonesAreEqual,
-  HashesAlike,
-  IsEqualityOf,
-  NeverFails,
-};
+ghost use Rattle.asn1_values.specs.Comparisons.{ClonesAreEqual, HashesAlike, IsEqualityOf, NeverFails};
 
 use crate::bit_string::{BitString, OwnedBitString};
 use std::hash::Hash;

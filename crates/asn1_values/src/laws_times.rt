@@ -1,15 +1,8 @@
 //! Laws of times: how they compare, and what clones are. Each is the contract of a function that does nothing.
 
-ghost use Rattle.asn1_values.specs.Comparisons.{
-  ClonesAreEqual,
-  HashesAlike,
-  IsEqualityOf,
-  IsOrderOf,
-  IsTieOf,
-  NeverFails,
-};
+ghost use Rattle.asn1_values.specs.Comparisons.{ClonesAreEqual, HashesAlike, IsEqualityOf, IsOrderOf, IsTieOf, NeverFails};
 ghost use Rattle.asn1_values.specs.TimeValues.{moment, instant_of, utc_moment, x509_moment};
-ghost use Rattle.asn1_values.specs.TimeOrders.{instant_order, moment_order};
+ghost use Rattle.asn1_values.specs.Times.{instant_order, moment_order};
 
 use crate::values::{DateTime, GeneralizedTime, UtcTime, X509GeneralizedTime};
 use std::hash::Hash;

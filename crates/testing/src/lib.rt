@@ -4,7 +4,7 @@
 //! by `?`.
 #![tactic(auto)]
 
-ghost use Rattle.asn1_core.specs.Closures.{IsWriter};
+ghost use Rattle.asn1_core.specs.Writing.{IsWriter};
 ghost use Rattle.asn1_core.specs.SetWriting.{IsSetWriter};
 
 pub mod changed;

@@ -7,14 +7,7 @@ ghost use Rattle.asn1_core.specs.Reading.{Answers};
 ghost use Rattle.asn1_core.specs.Writing.{buffer_name, octets_of, KnowsLength, Refuses};
 ghost use Rattle.asn1_values.specs.Identifier.{read_identifier};
 ghost use Rattle.asn1_values.specs.IdentifierValues.{identifier_of};
-ghost use Rattle.asn1.specs.FieldLists.{
-  BehindItem,
-  ItemErrors,
-  before_behind,
-  item_list,
-  value_behind,
-  value_last_behind,
-};
+ghost use Rattle.asn1.specs.Structures.{BehindItem, ItemErrors, before_behind, item_list, value_behind, value_last_behind};
 ghost use Rattle.asn1.specs.ItemsAndValues.{item_der, written_value, Agrees, ItemAgrees, ItemAndValue};
 
 use super::{NameSource, Row, RowReadable, finish, placed};

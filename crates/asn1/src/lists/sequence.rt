@@ -4,7 +4,7 @@ ghost use Rattle.std.specs.Prelude.{◌≡◌, List, ℕ, length, Ok, Result, So
 ghost use Rattle.std.specs.Fn.{FnOnceReturnsAtMut};
 ghost use Rattle.asn1_core.specs.Reading.{Answers, IsHandedOn};
 ghost use Rattle.asn1_core.specs.Der.{simple_der};
-ghost use Rattle.asn1_core.specs.Items.{sequence_tag};
+ghost use Rattle.asn1_core.specs.Listing.{sequence_tag};
 ghost use Rattle.asn1_core.specs.Writing.{GivesLength};
 ghost use Rattle.asn1.specs.InHand.{sequence_octets, sequence_content};
 

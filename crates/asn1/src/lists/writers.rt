@@ -1,12 +1,11 @@
 //! SEQUENCE and SEQUENCE OF that are only written (X.690 8.9, 8.10).
 
 ghost use Rattle.std.specs.Prelude.{◌≡◌, map};
-ghost use Rattle.asn1_core.specs.Closures.{MayAnswer};
+ghost use Rattle.asn1_core.specs.Writing.{MayAnswer};
 ghost use Rattle.asn1_core.specs.Der.{simple_der};
-ghost use Rattle.asn1_core.specs.Items.{AnyNames, Each, sequence_tag};
-ghost use Rattle.asn1_core.specs.Written.{items_written};
-ghost use Rattle.asn1.specs.ClosureWritten.{closure_written};
-ghost use Rattle.asn1.specs.InHand.{sequence_closure, sequence_items};
+ghost use Rattle.asn1_core.specs.Listing.{AnyNames, Each, sequence_tag};
+ghost use Rattle.asn1_core.specs.SetWriting.{items_written};
+ghost use Rattle.asn1.specs.InHand.{closure_written, sequence_closure, sequence_items};
 
 use asn1_core::{Asn1Type, Asn1Writable, SimpleAsn1Writable, Tag, WriteBuf, WriteError, Writer};
 use std::marker::PhantomData;

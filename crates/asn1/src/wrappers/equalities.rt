@@ -2,38 +2,13 @@
 
 ghost use Rattle.std.specs.Prelude.{refl, pos};
 ghost use Rattle.std.proofs.lemmas.Slice.Eq.{bytes_eq-Decides};
-ghost use Rattle.asn1_core.specs.Items.{sequence_tag, set_tag};
+ghost use Rattle.asn1_core.specs.Listing.{sequence_tag, set_tag};
 ghost use Rattle.asn1_core.specs.Tag.{explicit_tag_of, implicit_tag_of, universal};
 ghost use Rattle.asn1_values.specs.BitStrings.{bits_of, owned_bits_of};
 ghost use Rattle.asn1_values.specs.Values.{enumerated_value, big_int_octets, big_uint_octets, owned_big_int_octets, owned_big_uint_octets};
 ghost use Rattle.asn1_values.specs.TextValues.{ia5_octets, printable_octets, utf8_octets, visible_octets, bmp_octets, universal_octets};
 ghost use Rattle.asn1.specs.InHand.{explicit_inner, implicit_inner, octet_string_inner, octets_of_set, sequence_octets};
-ghost use Rattle.asn1.specs.Equalities.{
-  big_content_tells,
-  big_tells,
-  bits_content_tells,
-  bits_decide,
-  bits_tell,
-  bools_content_tells,
-  bools_tell,
-  generalized_times_content_tells,
-  generalized_times_tell,
-  identifiers_content_tells,
-  identifiers_tell,
-  inside_tells,
-  integers_content_tells,
-  integers_tell,
-  naturals_content_tells,
-  naturals_tell,
-  number_text,
-  octets_tell,
-  retagged_tells,
-  seen_tells,
-  utc_times_content_tells,
-  utc_times_tell,
-  x509_times_content_tells,
-  x509_times_tell,
-};
+ghost use Rattle.asn1.specs.Lemmas.Equalities.{big_content_tells, big_tells, bits_content_tells, bits_decide, bits_tell, bools_content_tells, bools_tell, generalized_times_content_tells, generalized_times_tell, identifiers_content_tells, identifiers_tell, inside_tells, integers_content_tells, integers_tell, naturals_content_tells, naturals_tell, number_text, octets_tell, retagged_tells, seen_tells, utc_times_content_tells, utc_times_tell, x509_times_content_tells, x509_times_tell};
 
 use crate::lists::{Sequence, Set};
 use crate::wrappers::{Explicit, Implicit, MeaningEq, OctetStringEncoded, SimpleMeaningEq};

@@ -2,7 +2,7 @@
 use Rattle.std.proofs.Common.{◌≡◌, ◌+◌, ◌-◌, ◌++◌, [], ◌∷◌, length, take, drop, ℕ, ◌<◌, ◌^◌, List, refl, sym, ◌∙◌, ap, append_assoc, arith, length-append, Result, Ok, Err, OnOk, OnErr, IfErr, IsErrAnd, inr, subst, Option, Some, None}
 use Rattle.std.specs.Prelude.{SomeIff}
 use Rattle.std.proofs.lemmas.Result.{on_ok_weaker}
-use Rattle.asn1_core.specs.Writing.{KnowsLength, GivesLength, IsElementOf, full_count}
+use Rattle.asn1_core.specs.Writing.{KnowsLength, GivesLength, IsElementOf, full_count, LeavesFront, MayAppend, Announces, Appended, Refused}
 use Rattle.std.proofs.lemmas.Grind.{common_steps}
 use Rattle.std.specs.Fn.{FnOnceReturnsAtMut, Once}
 use Rattle.std.specs.Borrow.{MutBor}
@@ -11,7 +11,6 @@ use Rattle.asn1_core.specs.declared.tag.Tag.{Tag}
 use Rattle.asn1_core.specs.Tag.{tag_text}
 use Rattle.asn1_core.specs.Length.{length_text}
 use Rattle.asn1_core.specs.Element.{element, element_text}
-use Rattle.asn1_core.specs.Closures.{LeavesFront, MayAppend, Announces, Appended, Refused}
 use Rattle.asn1_core.specs.declared.writer.WriteError.{WriteError}
 
 pub keeps_front_by : {a b : List ℕ} (t : List ℕ) → b ≡ a ++ t → KeepsFront a b

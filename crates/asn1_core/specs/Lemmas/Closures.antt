@@ -4,8 +4,7 @@ use Rattle.std.proofs.Common.{inr}
 use Rattle.std.specs.Fn.{Once}
 use Rattle.std.specs.Borrow.{MutBor}
 use Rattle.asn1_core.specs.Buffer.{KeepsFront, Appends}
-use Rattle.asn1_core.specs.Closures.{IsWriter, MayWrite, MayAnswer}
-use Rattle.asn1_core.specs.Writing.{Refuses}
+use Rattle.asn1_core.specs.Writing.{IsWriter, MayWrite, MayAnswer, Refuses}
 use Rattle.asn1_core.specs.declared.writer.Writer.{Writer}
 use Rattle.asn1_core.specs.declared.writer.WriteError.{WriteError}
 

@@ -10,8 +10,7 @@ use Rattle.asn1_core.specs.declared.parser.Place.{Place}
 use Rattle.asn1_core.specs.declared.parser.Place.TheVariants.{Field, Index}
 use Rattle.asn1_core.specs.declared.tag.Tag.{Tag}
 use Rattle.asn1_core.specs.Tag.{tag_eq}
-use Rattle.asn1_core.specs.Fault.{Fault}
-use Rattle.asn1_core.specs.Same.{kind_eq, place_eq, fault_eq}
+use Rattle.asn1_core.specs.Fault.{Fault, kind_eq, place_eq, fault_eq}
 use Rattle.asn1_core.specs.Lemmas.Tags.{and_parts, tag_eq-is, tag_eq-refl}
 
 both_true : (a b : Bool) → a ≡ true → b ≡ true → (a && b) ≡ true

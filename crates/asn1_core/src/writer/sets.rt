@@ -5,12 +5,9 @@ ghost use Rattle.std.specs.List.Sorted.{IsSortedBy};
 ghost use Rattle.asn1_core.specs.Buffer.{Appends, KeepsFront};
 ghost use Rattle.asn1_core.specs.Writing.{Refuses, set_closure, set_items};
 ghost use Rattle.asn1_core.specs.Der.{IsWritable, simple_der};
-ghost use Rattle.asn1_core.specs.Items.{Each, AnyNames, set_tag};
-ghost use Rattle.asn1_core.specs.Listing.{join, ListingOf};
-ghost use Rattle.asn1_core.specs.SetWriting.{StandsBehind, AddsTo, IsElementWritten, IsOutOfOrder, KeepsElements, SetContent, MayRefuseSet, set_closure_written};
+ghost use Rattle.asn1_core.specs.Listing.{Each, AnyNames, set_tag, join, ListingOf};
+ghost use Rattle.asn1_core.specs.SetWriting.{StandsBehind, AddsTo, IsElementWritten, IsOutOfOrder, KeepsElements, SetContent, MayRefuseSet, set_closure_written, part_of, first_number, span_cmp, IsBefore, IsWithin, NotesFirst, NotesTexts, listing_written};
 ghost use Rattle.asn1_core.specs.Tag.{tag_in_front, before_tag};
-ghost use Rattle.asn1_core.specs.Spans.{part_of, first_number, span_cmp, IsBefore, IsWithin, NotesFirst, NotesTexts};
-ghost use Rattle.asn1_core.specs.Written.{listing_written};
 ghost use Rattle.asn1_core.specs.declared.writer.WriteError.TheVariants.{AllocationError, InvalidSetOrdering};
 
 use crate::parser::number_in;

@@ -1,7 +1,7 @@
 //! A set of two fields, in the order of their tags.
 
 ghost use Rattle.std.specs.Prelude.{◌∷◌, [], codes};
-ghost use Rattle.asn1.specs.Items.{set_tag};
+ghost use Rattle.asn1.specs.Listing.{set_tag};
 ghost use Rattle.asn1.specs.Structures.{fields2, structure_with_tag};
 
 use crate::tests::own_types::{is_at, other_tag, refusal};

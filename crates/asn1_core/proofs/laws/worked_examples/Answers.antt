@@ -5,7 +5,7 @@ use Rattle.asn1_core.specs.Base128.{IsNumberText, number_front}
 use Rattle.asn1_core.specs.Tag.{tag_front}
 use Rattle.asn1_core.specs.Length.{length_text, length_front}
 use Rattle.asn1_core.specs.Element.{element_text, front}
-use Rattle.asn1_core.specs.Examples.{Fronts, Tags, Lengths, Booleans, Places}
+use Rattle.asn1_core.specs.Laws.{Fronts, Tags, Lengths, Booleans, Places}
 use Rattle.asn1_core.specs.Lemmas.Digits.{Leads, digits_back, number_by_digits}
 use Rattle.asn1_core.specs.Lemmas.NumberTexts.{text_only}
 use Rattle.asn1_core.specs.Lemmas.Lengths.{length_text_low, length_text_high}

@@ -1,6 +1,6 @@
 use Rattle.std.proofs.Common.{◌≡◌, ◌<◌, [], List, ℕ, Ok, length, ap, subst, arith}
 use Rattle.asn1_core.specs.Text.{IsText}
-use Rattle.asn1_core.specs.Order.{text_less}
+use Rattle.asn1_core.specs.Listing.{text_less}
 use Rattle.asn1_core.specs.Element.{front}
 use Rattle.asn1_core.specs.Tlv.{element_of}
 use Rattle.asn1_core.specs.Lemmas.Results.{framed_ok}

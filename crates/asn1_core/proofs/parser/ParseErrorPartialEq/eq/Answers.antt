@@ -1,5 +1,5 @@
 use Rattle.std.proofs.Common.{◌≡◌, Bool, ◌&&◌, true, sym, ◌∙◌}
-use Rattle.asn1_core.specs.Same.{fault_eq}
+use Rattle.asn1_core.specs.Fault.{fault_eq}
 use Rattle.asn1_core.specs.Lemmas.Same.{fault_eq-decides}
 use Rattle.asn1_core.proofs.parser.ParseErrorPartialEq.eq.Goals as goal
 

@@ -1,5 +1,5 @@
 use Rattle.std.proofs.Common.{◌≡◌, ℕ, List, length, Some, sym, ap, ◌∙◌}
-use Rattle.asn1_core.specs.Items.{Joins}
+use Rattle.asn1_core.specs.Listing.{Joins}
 use Rattle.asn1_core.specs.Lemmas.Items.{joins_one}
 use Rattle.asn1.specs.Lists.{left}
 use Rattle.asn1.specs.Lemmas.ListItems.{left_is}

@@ -1,6 +1,5 @@
 use Rattle.std.proofs.Common.{◌≡◌, ℕ, List, length, Some, sym, ap, ◌∙◌}
-use Rattle.asn1_core.specs.Items.{Joins}
-use Rattle.asn1_core.specs.Order.{text_less}
+use Rattle.asn1_core.specs.Listing.{Joins, text_less}
 use Rattle.asn1_core.specs.Lemmas.Items.{joins_one}
 use Rattle.asn1.specs.Sets.{set_left}
 use Rattle.asn1.specs.Lemmas.SetItems.{set_left_is}

@@ -1,7 +1,7 @@
 use Rattle.std.proofs.Common.{rules, ◌∙◌, arith, subst, map, inr}
 use Rattle.std.proofs.lemmas.List.{take_all}
 use Rattle.asn1_core.specs.Buffer.{Appends}
-use Rattle.asn1_core.specs.Items.{Joins, AnyNames}
+use Rattle.asn1_core.specs.Listing.{Joins, AnyNames}
 use Rattle.asn1_core.specs.Lemmas.Items.{joined_more, names_at, exit_names, refuses_more, each_at, appends_map}
 use Rattle.asn1.proofs.lists.writers.SequenceOfWriterSimpleAsn1Writable.write_data.Goals as goal
 

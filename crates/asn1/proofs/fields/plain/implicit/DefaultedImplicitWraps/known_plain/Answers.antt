@@ -1,5 +1,5 @@
 use Rattle.asn1_core.specs.Tag.{implicit_tag_of}
-use Rattle.asn1.specs.Equalities.{retagged_tells}
+use Rattle.asn1.specs.Lemmas.Equalities.{retagged_tells}
 use Rattle.asn1.specs.Lemmas.DefaultSteps.{known_is}
 use Rattle.asn1.proofs.fields.plain.implicit.DefaultedImplicitWraps.known_plain.Goals as goal
 
