@@ -1,11 +1,13 @@
 //! Bit strings: the original's cases, encodings from outside, and what is rejected.
 
 use crate::made::is_hashed;
-use asn1_core::parse_single;
+use asn1_core::{ParseErrorKind, Tag, parse_single};
 use asn1_values::bit_string::{BitString, OwnedBitString};
 use std::alloc::Global;
 use std::test::Fail;
-use testing::{are_equal_or_not, are_invalid, hash_of, is_laid_out, is_shown, same, same_at};
+use testing::{
+    are_equal_or_not, are_invalid, are_refused, hash_of, is_laid_out, is_shown, same, same_at,
+};
 
 const PADDING: &str = "a wrong padding";
 
@@ -30,6 +32,12 @@ const ROWS: &[(&[u8], u8, &[u8])] = &[
     (&[0x80], 7, &[0x03, 0x02, 0x07, 0x80]),
     (&[0x81, 0xf0], 4, &[0x03, 0x03, 0x04, 0x81, 0xf0]),
     (&[0x7e], 1, &[0x03, 0x02, 0x01, 0x7e]),
+    // The example of X.690 8.6.4.2.
+    (
+        b"\x0a\x3b\x5f\x29\x1c\xd0",
+        4,
+        b"\x03\x07\x04\x0a\x3b\x5f\x29\x1c\xd0",
+    ),
 ];
 
 /// The bits and the owned ones are equal, as they are made and as they are read.
@@ -88,6 +96,25 @@ fn other_contents_are_no_bit_strings(rt: HostRuntime) -> Result<(), Fail> {
     ];
     are_invalid::<BitString<'_>>(rt.alloc(), REFUSED)?;
     are_invalid::<OwnedBitString>(rt.alloc(), REFUSED)
+}
+
+/// The constructed encodings of X.690 8.6.4.2, which DER forbids (10.2): a length that is indefinite, and one that isn't.
+#[test]
+fn bit_strings_in_parts_are_refused(rt: HostRuntime) -> Result<(), Fail> {
+    const INDEFINITE: &[u8] = b"\x23\x80\x03\x03\x00\x0a\x3b\x03\x05\x04\x5f\x29\x1c\xd0\x00\x00";
+    const DEFINITE: &[u8] = b"\x23\x0c\x03\x03\x00\x0a\x3b\x03\x05\x04\x5f\x29\x1c\xd0";
+    are_refused::<BitString<'_>>(
+        rt.alloc(),
+        &[
+            (INDEFINITE, ParseErrorKind::InvalidLength),
+            (
+                DEFINITE,
+                ParseErrorKind::UnexpectedTag {
+                    actual: Tag::constructed(0x03),
+                },
+            ),
+        ],
+    )
 }
 
 const TEXT: &[u8] = &[0x03, 0x03, 0x04, 0x81, 0xf0];

@@ -1,14 +1,14 @@
 //! Character strings: the original's cases, values from outside, and what is rejected.
 
 use crate::made::{is_hashed, is_made};
-use asn1_core::parse_single;
+use asn1_core::{ParseErrorKind, Tag, parse_single};
 use asn1_values::values::{
     BMPString, IA5String, PrintableString, UniversalString, Utf8String, VisibleString,
 };
 use std::alloc::Global;
 use std::fmt::Debug;
 use std::test::Fail;
-use testing::{are_invalid, different, is_shown, same};
+use testing::{are_invalid, are_refused, different, is_shown, same};
 
 const OTHER: &str = "characters of another type";
 
@@ -100,6 +100,8 @@ fn other_characters_are_not_ascii(rt: HostRuntime) -> Result<(), Fail> {
 #[test]
 fn visible_strings(rt: HostRuntime) -> Result<(), Fail> {
     const ROWS: &[(&str, &[u8])] = &[
+        // The example of X.690 8.23.
+        ("Jones", b"\x1a\x05Jones"),
         ("abc", b"\x1a\x03abc"),
         (")", b"\x1a\x01)"),
         ("", b"\x1a\x00"),
@@ -134,6 +136,27 @@ fn other_characters_are_not_visible(rt: HostRuntime) -> Result<(), Fail> {
         VisibleString::new("~").is_some(),
     );
     same(found, (false, true))
+}
+
+/// The encodings of "Jones" in X.690 8.23 that DER forbids: in parts (10.2), and with a long length (10.1).
+#[test]
+fn visible_strings_have_one_form(rt: HostRuntime) -> Result<(), Fail> {
+    are_refused::<VisibleString<'_>>(
+        rt.alloc(),
+        &[
+            (
+                b"\x3a\x80\x04\x03Jon\x04\x02es\x00\x00",
+                ParseErrorKind::InvalidLength,
+            ),
+            (
+                b"\x3a\x09\x04\x03Jon\x04\x02es",
+                ParseErrorKind::UnexpectedTag {
+                    actual: Tag::constructed(0x1a),
+                },
+            ),
+            (b"\x1a\x81\x05Jones", ParseErrorKind::InvalidLength),
+        ],
+    )
 }
 
 #[test]

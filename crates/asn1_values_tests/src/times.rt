@@ -168,7 +168,12 @@ fn utc_times(rt: HostRuntime) -> Result<(), Fail> {
         (b"\x17\x0d700101000000Z", (1970, 1, 1, 0, 0, 0)),
         (b"\x17\x0d091115225616Z", (2009, 11, 15, 22, 56, 16)),
         (b"\x17\x0d500101000000Z", (1950, 1, 1, 0, 0, 0)),
+        (b"\x17\x0d500101120000Z", (1950, 1, 1, 12, 0, 0)),
         (b"\x17\x0d491231235959Z", (2049, 12, 31, 23, 59, 59)),
+        // The examples of X.690 11.8.3.
+        (b"\x17\x0d920521000000Z", (1992, 5, 21, 0, 0, 0)),
+        (b"\x17\x0d920622123421Z", (1992, 6, 22, 12, 34, 21)),
+        (b"\x17\x0d920722132100Z", (1992, 7, 22, 13, 21, 0)),
     ];
     for (octets, numbers) in ROWS {
         let date = date_of(*numbers)?;
@@ -236,6 +241,9 @@ fn other_numbers_are_no_utc_times(rt: HostRuntime) -> Result<(), Fail> {
             b"\x17\x0d100102036005Z",
             b"\x17\x0d100102030460Z",
             b"\x17\x0d230229000000Z",
+            // The examples of X.690 11.8.3 that aren't DER: midnight as 24, and no seconds.
+            b"\x17\x0d920520240000Z",
+            b"\x17\x0b9207221321Z",
         ],
     )
 }
@@ -371,6 +379,14 @@ fn times_with_a_fraction(rt: HostRuntime) -> Result<(), Fail> {
             (2009, 1, 1, 0, 0, 0),
             Some(1),
         ),
+        // The examples of X.690 11.7.5.
+        (b"\x18\x0f19920521000000Z", (1992, 5, 21, 0, 0, 0), None),
+        (b"\x18\x0f19920622123421Z", (1992, 6, 22, 12, 34, 21), None),
+        (
+            b"\x18\x1119920722132100.3Z",
+            (1992, 7, 22, 13, 21, 0),
+            Some(300_000_000),
+        ),
     ];
     for (octets, numbers, nanoseconds) in ROWS {
         let date = date_of(*numbers)?;
@@ -394,6 +410,10 @@ fn other_fractions_are_refused(rt: HostRuntime) -> Result<(), Fail> {
             b"\x18\x1a19910506234540.1234567891Z",
             b"\x18\x1120090101000000.0Z",
             b"\x18\x0f20090101240000Z",
+            // The examples of X.690 11.7.5 that aren't DER: midnight as 24, and zeros at the end of a fraction.
+            b"\x18\x0f19920520240000Z",
+            b"\x18\x1119920622123421.0Z",
+            b"\x18\x1219920722132100.30Z",
         ],
     )
 }
