@@ -4,6 +4,7 @@
 //! by `?`.
 #![tactic(auto)]
 
+ghost use Rattle.std.specs.Prelude.{◌≡◌, true, false, IfOk};
 ghost use Rattle.asn1_core.specs.Writing.{IsWriter};
 ghost use Rattle.asn1_core.specs.SetWriting.{IsSetWriter};
 
@@ -20,7 +21,9 @@ use std::hash::{DefaultHasher, Hash, Hasher};
 use std::test::Fail;
 
 /// Both values are equal, or the failure shows both.
-pub fn same<T: PartialEq + Debug + Copy>(left: T, right: T) -> Result<(), Fail> {
+pub fn same<T: PartialEq + Debug + Copy>(left: T, right: T) -> Result<(), Fail>
+    ensures { IfOk result (λ _. T.eq left right ≡ true) }
+{
     if left == right {
         return Ok(());
     }
@@ -28,7 +31,9 @@ pub fn same<T: PartialEq + Debug + Copy>(left: T, right: T) -> Result<(), Fail> 
 }
 
 /// The same for values that own something, such as results that may hold an error.
-pub fn same_owned<T: PartialEq + Debug + Drop>(left: T, right: T) -> Result<(), Fail> {
+pub fn same_owned<T: PartialEq + Debug + Drop>(left: T, right: T) -> Result<(), Fail>
+    ensures { IfOk result (λ _. T.eq left right ≡ true) }
+{
     if left == right {
         return Ok(());
     }
@@ -40,7 +45,9 @@ pub fn same_at<R: Debug + Copy, T: PartialEq + Debug + Copy>(
     row: R,
     left: T,
     right: T,
-) -> Result<(), Fail> {
+) -> Result<(), Fail>
+    ensures { IfOk result (λ _. T.eq left right ≡ true) }
+{
     if left == right {
         return Ok(());
     }
@@ -58,7 +65,9 @@ pub fn all_same<T: PartialEq + Debug>(rows: &[(T, T)]) -> Result<(), Fail> {
 }
 
 /// The values differ, or the failure shows both.
-pub fn different<T: PartialEq + Debug + Copy>(left: T, right: T) -> Result<(), Fail> {
+pub fn different<T: PartialEq + Debug + Copy>(left: T, right: T) -> Result<(), Fail>
+    ensures { IfOk result (λ _. T.eq left right ≡ false) }
+{
     if left != right {
         return Ok(());
     }
