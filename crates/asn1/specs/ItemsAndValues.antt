@@ -1,14 +1,14 @@
 -- An item and a value whose type it defines. Fields need what both mean, but each of the two types states only its own
 -- part.
 use Rattle.std.specs.Prelude.{ℕ, ◌≡◌, ◌↔◌, List, [], ◌∷◌, Result, Ok, Err, Bool, true, false, if◌then◌else◌}
-use Rattle.std.proofs.Common.{refl, ap, ◌∙◌, inl, inr}
+use Rattle.std.proofs.Common.{refl, ap, ◌∙◌}
 use Rattle.asn1_core.specs.declared.tag.Tag.{Tag}
 use Rattle.asn1_core.specs.declared.parser.Place.{Place}
 use Rattle.asn1_core.specs.Tag.{tag_eq}
 use Rattle.asn1_core.specs.Element.{Element, element_text, ◌>>=◌}
 use Rattle.asn1_core.specs.Fault.{Fault}
 use Rattle.asn1_core.specs.Writing.{IsElementOf}
-use Rattle.asn1_core.specs.Reading.{Answers, expected, element_front, whole, refuses}
+use Rattle.asn1_core.specs.Reading.{expected, element_front, whole, refuses}
 use Rattle.asn1_core.specs.Der.{Der, no_content}
 use Rattle.asn1_core.specs.DefinedBy.{DefinedBy, ByItem}
 use Rattle.asn1.specs.DefinedReads.{element_read}
@@ -88,17 +88,6 @@ word_for_word both = (
     plain = λ p. p;
   },
 )
-
--- ---- what follows for calls
-
-abbrev done_at : {M : Type 0} → List ℕ → M → Result (M × List ℕ) Fault
-done_at rest m = Ok (m, rest)
-
-module _ {T M N : Type 0} (view : T → M) (view2 : T → N) (f : M → N) (is : (v : T) → f (view v) ≡ view2 v) (out out2 : List Place → Type 0) (law : (places : List Place) → out places → out2 places) (read : Result (M × List ℕ) Fault) (read2 : Result (N × List ℕ) Fault) (same : read2 ≡ seen_front f read) (rest : List ℕ) where
-  pub answers_seen : (r : Result T Fault) → Answers (λ v. (view v, rest)) out r read → Answers (λ v. (view2 v, rest)) out2 r read2
-  answers_seen (Ok v) h = same ∙ (ap (seen_front f) h ∙ ap (done_at rest) (is v))
-  answers_seen (Err e) (inl h) = inl (same ∙ ap (seen_front f) h)
-  answers_seen (Err e) (inr h) = inr (h.0, law e.places h.1)
 
 -- ---- under an explicit tag
 
