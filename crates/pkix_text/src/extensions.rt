@@ -1,7 +1,7 @@
 //! Extensions (RFC 5280, 4.2 and 5.2), the known ones with their values.
 
 use crate::common::short_name;
-use crate::show::{Lines, Show, read_again, with_name};
+use crate::show::{Lines, Show, with_name};
 use pkix::certificate::access::AccessDescription;
 use pkix::certificate::distribution::{
     DistributionPoint, DistributionPointName, IssuingDistributionPoint,
@@ -82,10 +82,7 @@ impl Show for DistributionPointName<'_> {
         match self {
             DistributionPointName::FullName(names) => lines.part("fullName", names),
             DistributionPointName::NameRelativeToCrlIssuer(set) => {
-                for attribute in set.clone()? {
-                    lines.part("nameRelativeToCRLIssuer", &read_again(attribute)?)?;
-                }
-                Ok(())
+                lines.part("nameRelativeToCRLIssuer", set)
             }
         }
     }
