@@ -4,7 +4,7 @@ ghost use Rattle.std.specs.Prelude.{◌⊎◌, IfOk};
 ghost use Rattle.pkix_text.specs.Program.{IsRead, IsShownOnlyIf};
 ghost use Rattle.pkix_text.specs.declared.kinds.Kind.TheVariants as kinds;
 
-use crate::errors::in_words;
+use crate::errors::{UNIVERSAL, in_words};
 use crate::kinds::Kind;
 use crate::pem::{Object, PemError, objects};
 use crate::show::{Show, lines_of, push_escaped};
@@ -226,6 +226,17 @@ pub fn answer_to<'a>(alloc: Global, kind: Kind, octets: &'a [u8]) -> Result<Answ
     }
 }
 
+/// Whether the octets are rejected with this error. One of a tag may be at another location: tags after it may tell the
+/// form of a key, whose fields have other names.
+fn has_error(alloc: Global, kind: Kind, octets: &[u8], error: &ParseError) -> Result<bool, Fault> {
+    let answer = answer_to(alloc, kind, octets)?;
+    let Answer::Rejected(Refusal::Der(other)) = &answer else {
+        return Ok(false);
+    };
+    let is_of_tag = matches!(error.kind(), ParseErrorKind::UnexpectedTag { .. });
+    Ok(other == error || (is_of_tag && other.kind() == error.kind()))
+}
+
 /// How many octets at the start decide this error: with any others after them, here 0xff, the error is the same.
 fn octets_of(alloc: Global, kind: Kind, octets: &[u8], error: &ParseError) -> Result<usize, Fault> {
     let (mut low, mut high) = (0usize, octets.len());
@@ -235,8 +246,7 @@ fn octets_of(alloc: Global, kind: Kind, octets: &[u8], error: &ParseError) -> Re
         let mut changed = Vec::new(alloc);
         changed.extend_from_slice(octets.get(..middle).unwrap_or(octets))?;
         changed.resize(octets.len(), 0xff)?;
-        let answer = answer_to(alloc, kind, changed.as_slice())?;
-        if matches!(&answer, Answer::Rejected(Refusal::Der(other)) if other == error) {
+        if has_error(alloc, kind, changed.as_slice(), error)? {
             high = middle;
         } else {
             low = middle.saturating_add(1);
@@ -246,6 +256,47 @@ fn octets_of(alloc: Global, kind: Kind, octets: &[u8], error: &ParseError) -> Re
         }
     }
     Ok(high)
+}
+
+/// The element in whose identifier and length octets this many octets end: where it begins, and where its contents
+/// octets begin.
+fn last_element(octets: &[u8], count: usize) -> Option<(usize, usize)> {
+    let mut start = 0usize;
+    for _ in 0..count {
+        let (element, _) = strip_tlv(octets.get(start..)?).ok()?;
+        let end = start.saturating_add(element.full_data().len());
+        let contents = end.saturating_sub(element.data().len());
+        if count <= contents {
+            return Some((start, contents));
+        }
+        start = if count > end { end } else { contents };
+    }
+    None
+}
+
+/// The identifier octets of `[0]` to `[8]`, primitive and constructed.
+const CONTEXT: &[u8] = b"\x80\xa0\x81\xa1\x82\xa2\x83\xa3\x84\xa4\x85\xa5\x86\xa6\x87\xa7\x88\xa8";
+
+/// The tags of the elements that may start here. Each is tried with no contents octets, and before elements whose tag
+/// no type has, so that it isn't unexpected elsewhere.
+fn expected_at(alloc: Global, kind: Kind, octets: &[u8], start: usize) -> Result<Vec<Tag>, Fault> {
+    let mut tags = Vec::new(alloc);
+    let mut changed = Vec::new(alloc);
+    changed.extend_from_slice(octets.get(..start).unwrap_or(octets))?;
+    changed.resize(octets.len(), 0x00)?;
+    let identifiers = UNIVERSAL.iter().map(|row| row.0);
+    for identifier in identifiers.chain(CONTEXT.iter().copied()) {
+        if let Some(octet) = changed.get_mut(start) {
+            *octet = identifier;
+        }
+        if let Ok((actual, _)) = Tag::from_bytes(&[identifier]) {
+            let unexpected = ParseError::new(ParseErrorKind::UnexpectedTag { actual });
+            if !has_error(alloc, kind, changed.as_slice(), &unexpected)? {
+                tags.extend_from_slice(&[actual])?;
+            }
+        }
+    }
+    Ok(tags)
 }
 
 /// The octet of an error, counted from 0: where the contents octets begin that encode no value or are under another
@@ -274,8 +325,16 @@ fn told(alloc: Global, kind: Kind, octets: &[u8]) -> Result<Answer, Fault> {
     let Answer::Rejected(Refusal::Der(error)) = &answer else {
         return Ok(answer);
     };
-    let mut words = in_words(alloc, error)?;
-    if let Some(octet) = octet_of(alloc, kind, octets, error)? {
+    let mut octet = octet_of(alloc, kind, octets, error)?;
+    let mut expected = Vec::new(alloc);
+    if let (Some(count), ParseErrorKind::UnexpectedTag { .. }) = (octet, error.kind()) {
+        if let Some((start, contents)) = last_element(octets, count) {
+            octet = Some(contents);
+            expected = expected_at(alloc, kind, octets, start)?;
+        }
+    }
+    let mut words = in_words(alloc, error, expected.as_slice())?;
+    if let Some(octet) = octet {
         write!(words, " (octet {octet})")?;
     }
     Ok(Answer::Rejected(Refusal::Told(words)))

@@ -3,28 +3,28 @@
 use asn1::{ParseError, ParseErrorKind, Tag, TagClass};
 use std::alloc::{AllocError, Global};
 
-/// Universal tags by number, in the words of X.680.
-const UNIVERSAL: &[(u32, &str)] = &[
-    (1, "BOOLEAN"),
-    (2, "INTEGER"),
-    (3, "BIT STRING"),
-    (4, "OCTET STRING"),
-    (5, "NULL"),
-    (6, "OBJECT IDENTIFIER"),
-    (10, "ENUMERATED"),
-    (12, "UTF8String"),
-    (16, "SEQUENCE"),
-    (17, "SET"),
-    (18, "NumericString"),
-    (19, "PrintableString"),
-    (20, "TeletexString"),
-    (22, "IA5String"),
-    (23, "UTCTime"),
-    (24, "GeneralizedTime"),
-    (26, "VisibleString"),
-    (27, "GeneralString"),
-    (28, "UniversalString"),
-    (30, "BMPString"),
+/// Universal types by their identifier octets, in the words of X.680.
+pub(crate) const UNIVERSAL: &[(u8, &str)] = &[
+    (0x01, "BOOLEAN"),
+    (0x02, "INTEGER"),
+    (0x03, "BIT STRING"),
+    (0x04, "OCTET STRING"),
+    (0x05, "NULL"),
+    (0x06, "OBJECT IDENTIFIER"),
+    (0x0a, "ENUMERATED"),
+    (0x0c, "UTF8String"),
+    (0x30, "SEQUENCE"),
+    (0x31, "SET"),
+    (0x12, "NumericString"),
+    (0x13, "PrintableString"),
+    (0x14, "TeletexString"),
+    (0x16, "IA5String"),
+    (0x17, "UTCTime"),
+    (0x18, "GeneralizedTime"),
+    (0x1a, "VisibleString"),
+    (0x1b, "GeneralString"),
+    (0x1c, "UniversalString"),
+    (0x1e, "BMPString"),
 ];
 
 /// Fields whose names in the documents have other capitals than their words have here.
@@ -38,26 +38,49 @@ const NAMES: &[(&str, &str)] = &[
     ("type_id", "type"),
 ];
 
-/// Appends a tag: its type, or its class and number.
-fn push_tag(out: &mut String, tag: Tag) -> Result<(), AllocError> {
-    let number = tag.value();
+/// The universal type with this tag.
+fn type_of(tag: Tag) -> Option<&'static str> {
+    let row = UNIVERSAL.iter().find(|row| Some(row.0) == tag.as_u8())?;
+    Some(row.1)
+}
+
+/// Appends a tag: its type, or its class and number; and its form, if a type or an expected tag has the other form.
+fn push_tag(out: &mut String, tag: Tag, expected: &[Tag]) -> Result<(), AllocError> {
+    let other = Tag::new(tag.value(), tag.class(), !tag.is_constructed());
+    let is_known = type_of(other).is_some() || expected.contains(&other);
+    let form = match (is_known, tag.is_constructed()) {
+        (false, _) => "",
+        (true, false) => "primitive ",
+        (true, true) => "constructed ",
+    };
+    if let Some(name) = type_of(tag).or(type_of(other)) {
+        return write!(out, "{form}{name}");
+    }
     let class = match tag.class() {
         TagClass::Universal => "UNIVERSAL ",
         TagClass::Application => "APPLICATION ",
         TagClass::ContextSpecific => "",
         TagClass::Private => "PRIVATE ",
     };
-    match UNIVERSAL.iter().find(|row| row.0 == number) {
-        Some((_, name)) if tag.class() == TagClass::Universal => {
-            let form = match (tag.is_constructed(), number) {
-                (false, 16 | 17) => "primitive ",
-                (false, _) | (true, 16 | 17) => "",
-                (true, _) => "constructed ",
-            };
-            write!(out, "{form}{name}")
-        }
-        _ => write!(out, "[{class}{number}]"),
+    write!(out, "{form}[{class}{}]", tag.value())
+}
+
+/// Appends the expected tags, if there are up to eight, and the one that was found.
+fn push_found(out: &mut String, found: Tag, expected: &[Tag]) -> Result<(), AllocError> {
+    if expected.is_empty() || expected.len() > 8 {
+        push_tag(out, found, &[])?;
+        return out.push_str(" isn't expected");
     }
+    for (number, tag) in expected.iter().enumerate() {
+        out.push_str(match number {
+            0 => "expected ",
+            _ if number.saturating_add(1) == expected.len() => " or ",
+            _ => ", ",
+        })?;
+        push_tag(out, *tag, &[])?;
+    }
+    out.push_str(", found ")?;
+    push_tag(out, found, expected)
 }
 
 /// Appends the name of a field, as it is in the lines.
@@ -95,8 +118,13 @@ fn push_location(alloc: Global, out: &mut String, error: &ParseError) -> Result<
     out.push_str(": ")
 }
 
-/// Why octets aren't the encoding of a value, in words, after the location in the value.
-pub(crate) fn in_words(alloc: Global, error: &ParseError) -> Result<String, AllocError> {
+/// Why octets aren't the encoding of a value, in words, after the location in the value. For a tag that isn't expected,
+/// these are.
+pub(crate) fn in_words(
+    alloc: Global,
+    error: &ParseError,
+    expected: &[Tag],
+) -> Result<String, AllocError> {
     let mut out = String::new(alloc);
     push_location(alloc, &mut out, error)?;
     let words = match error.kind() {
@@ -112,8 +140,8 @@ pub(crate) fn in_words(alloc: Global, error: &ParseError) -> Result<String, Allo
             ""
         }
         ParseErrorKind::UnexpectedTag { actual } => {
-            push_tag(&mut out, actual)?;
-            " isn't expected"
+            push_found(&mut out, actual, expected)?;
+            ""
         }
         ParseErrorKind::ShortData { needed } => {
             write!(out, "octets are missing: at least {needed}")?;

@@ -164,7 +164,7 @@ impl Show for bool {
 /// In words.
 impl Show for ParseError {
     fn show(&self, lines: &mut Lines) -> Result<(), AllocError> {
-        in_words(lines.alloc, self)?.show(lines)
+        in_words(lines.alloc, self, &[])?.show(lines)
     }
 }
 
