@@ -1,19 +1,34 @@
-"""Reads the sources of the repository's crates: what each crate uses, and its functions as a check names them, each with
-its clauses and its body. Reports what a script of the gate found."""
+"""Reads the sources of the repository's crates: what each crate uses, and its functions as a check names them, each
+with its clauses and its body. Runs the kit's `rattle`, and reports what a script of the gate found."""
 
-import re
+import re, subprocess
 from collections import namedtuple
 from functools import cache
 from pathlib import Path
 
 TOP = Path(__file__).resolve().parent.parent
 CRATES = TOP / "crates"
-# Of a function: its name, its file in the crate, whether it is public, its trait, the names of its `ensures` clauses, and
-# where its body begins and ends in the file, with the body's indentation.
+# Of a function: its name, its file in the crate, whether it is public, its trait, the names of its `ensures` clauses,
+# and where its body begins and ends in the file, with the body's indentation.
 Function = namedtuple("Function", "name file is_public trait clauses start end indent")
 KINDS = "fn|struct|enum|trait|impl|mod|type|const|static|ghost|use"
 START = rf"(pub )?(?:pub\(\w+\) )?(?:const |unsafe )*({KINDS})\b ?(\w*)"
 CLAUSE = re.compile(r"\b(?:requires|(ensures))(?:\s+(\w+))?\s+\{|\bghost (\w+)(?: =|:)\s+\{")
+TYPE = re.compile(r"^(?:pub )?(?:struct|enum) (\w+)", re.MULTILINE)
+# What is in angle brackets, with up to three pairs in one another.
+IN_ANGLES = r"<(?:[^<>]|<(?:[^<>]|<(?:[^<>]|<[^<>]*>)*>)*>)*>"
+
+
+@cache
+def kit():
+    """The kit's folder."""
+    return Path(subprocess.run(["rt", "doc"], capture_output=True, text=True, check=True).stdout.strip()).parent
+
+
+def said_by(*words, folder=TOP):
+    """What the kit's `rattle` says on both outputs."""
+    words = [kit() / "bin/rattle", *words]
+    return subprocess.run(words, cwd=folder, stdout=subprocess.PIPE, stderr=subprocess.STDOUT, text=True).stdout
 
 
 def report(results, tells_all=False):
@@ -27,11 +42,17 @@ def report(results, tells_all=False):
     return counts[False] > 0 or counts[True] == 0
 
 
+@cache
 def uses():
     """The repository's crates, and what each uses."""
-    lines = (TOP / "crates.txt").read_text().splitlines()
-    lines = (line.partition(":") for line in lines if line and not line.startswith("#"))
-    return {name: used.split() for name, _, used in lines}
+    lines = re.findall(r"^(\w+):(.*)", (TOP / "crates.txt").read_text(), re.MULTILINE)
+    return {name: used.split() for name, used in lines}
+
+
+def below(name):
+    """The repository's crates that a crate is made of, without itself, in their order."""
+    found = {one for used in uses()[name] if used in uses() for one in [used, *below(used)]}
+    return [one for one in uses() if one in found]
 
 
 def libraries(*others):
@@ -54,50 +75,25 @@ def clauses(text):
     return [(name, text[start:end]) for name, _, start, end in spans_of_clauses(text)]
 
 
-def parts(text):
-    """The parts between the commas that no bracket holds."""
-    depth, found = 0, [""]
-    for letter in text:
-        depth += (letter in "<([") - (letter in ">)]")
-        found = [*found, ""] if letter == "," and not depth else [*found[:-1], found[-1] + letter]
-    return [part.strip() for part in found if part.strip()]
-
-
-def cut_generics(header):
-    """The parameters in front of a header, and what follows them."""
-    depth = 0
-    for place, letter in enumerate(header):
-        depth += (letter == "<") - (letter == ">")
-        if not depth:
-            return (header[1:place], header[place + 1 :]) if place else ("", header)
-
-
 def word(named, parameters):
     """A type or trait as the name of an impl has it; parameters and lifetimes are left out."""
-    if named.startswith("&"):
-        return "Ref" + word(re.sub(r"^&('\w+ )?", "", named), parameters)
-    if named.startswith("["):
-        return ("Array" if ";" in named else "Slice") + word(re.split(r"[];]", named[1:])[0], parameters)
-    if named == "()":
-        return "Unit"
-    name, _, rest = named.partition("<")
-    name = name.rpartition("::")[2]
-    if name in parameters or not name[0].isalnum():
-        return ""
-    return name[0].upper() + name[1:] + "".join(word(part, parameters) for part in parts(rest.rpartition(">")[0]))
+    named = re.sub(r"'\w+|\w+::", "", named).replace("&", "Ref ").replace("()", "Unit")
+    named = re.sub(r"\[(\w+);.*?\]", r"Array \1", named).replace("[", "Slice ")
+    return "".join(part[0].upper() + part[1:] for part in re.findall(r"\w+", named) if part not in parameters)
 
 
 def impl_name(header):
     """The name of an impl, and that of its trait, if it has one."""
-    generics, rest = cut_generics(re.sub(r"\s+", " ", header.replace("->", "")).strip())
-    parameters = {re.match(r"(?:const )?('?\w+)", part)[1] for part in parts(generics)}
+    header = re.sub(r"\s+", " ", header.replace("->", "")).strip()
+    generics, rest = re.fullmatch(f"({IN_ANGLES}|)(.*)", header).groups()
+    parameters = re.findall(r"[<,] ?(?:const )?(\w+)", "<" + re.sub(IN_ANGLES, "", generics[1:-1]))
     trait, _, of = rest.strip().rpartition(" for ")
-    name = (word(of, parameters) or "Any") + (word(trait, parameters) if trait else "")
-    return name, re.match(r"(?:\w+::)*(\w*)", trait)[1]
+    return (word(of, parameters) or "Any") + word(trait, parameters), re.match(r"(?:\w+::)*(\w*)", trait)[1]
 
 
 def items(text, indent=""):
-    """Of each item of a file, or of an impl or trait: whether it is public, its kind, its name and its text."""
+    """Of each item of a file, or of an impl or trait: whether it is public, its kind, its name, its text, and where it
+    begins."""
     starts = [*re.finditer(f"^{indent}{START}", text, re.MULTILINE)]
     ends = [start.start() for start in starts[1:]] + [len(text)]
     for start, end in zip(starts, ends):
@@ -130,36 +126,30 @@ def functions_in(text, path):
 
 def function_in(item, start, path, is_public, trait="", indent=""):
     """A function whose text, from its header on, begins at this place of the file."""
-    head = contract(item, indent)
+    head, ends = contract(item, indent), (None, None)
+    if len(head) < len(item):
+        opens = item.index("{", len(head)) + 1
+        is_empty = item[opens] == "}"
+        closes = opens if is_empty else item.index(f"\n{indent}}}\n", len(head)) + 1
+        ends = start + opens + (not is_empty), start + closes
     named = [name for name, _ in clauses(head) if name is not None]
-    if len(head) == len(item):
-        return Function("::".join(path), None, is_public, trait, named, None, None, indent + "    ")
-    opens = item.index("{", len(head)) + 1
-    is_empty = item[opens] == "}"
-    opens += not is_empty
-    closes = opens if is_empty else item.index(f"\n{indent}}}\n", len(head)) + 1
-    return Function("::".join(path), None, is_public, trait, named, start + opens, start + closes, indent + "    ")
+    return Function("::".join(path), None, is_public, trait, named, *ends, indent + "    ")
 
 
 def functions(crate):
-    """The functions of a crate, those of its traits that have no body too. A method of no trait has the path of its type,
-    wherever its impl is."""
+    """The functions of a crate, those of its traits that have no body too. A method of no trait has the path of its
+    type, wherever its impl is."""
     source, texts = CRATES / crate / "src", {}
     for file in sorted(source.rglob("*.rt")):
         path = [crate, *(part for part in file.relative_to(source).with_suffix("").parts if part != "lib")]
         texts[file] = path, file.read_text()
-    homes = {name: path for path, text in texts.values() for name in types_in(text)}
+    homes = {name: path for path, text in texts.values() for name in TYPE.findall(text)}
     for file, (path, text) in texts.items():
         for function in functions_in(text, path):
             *_, block, name = function.name.split("::")
-            if not function.trait and block in homes and block not in types_in(text):
+            if not function.trait and block in homes and block not in TYPE.findall(text):
                 function = function._replace(name="::".join([*homes[block], block, name]))
             yield function._replace(file=file.relative_to(CRATES / crate))
-
-
-def types_in(text):
-    """The structs and enums of a file."""
-    return re.findall(r"^(?:pub )?(?:struct|enum) (\w+)", text, re.MULTILINE)
 
 
 @cache

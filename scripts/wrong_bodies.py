@@ -1,9 +1,8 @@
 """The wrong bodies in crates/NAME/must-fail and crates/NAME/wrong-bodies: reading them, putting them into a copy of a
-crate, and the state of a crate that scripts/planted.txt keeps. `rt ci` tries those of must-fail, and reads their lines
-file, old and new alone. Those of wrong-bodies/first the gate plants each time, the others if a crate changes.
+crate, and the state of a crate that scripts/planted.txt keeps. docs/WRONG_BODIES.md tells what they are for.
 
-A file holds one wrong body or several, parted by empty lines; a line that begins with # is a comment, which says what the
-body does, or the file's. Each is a few lines 'key: value':
+A file holds one wrong body or several, parted by empty lines; a line that begins with # is a comment, which says what
+the body does, or the file's. Each is a few lines 'key: value':
 
 function: PATH      the function that has to be refused, by its path in the crate, as a check names it
 body: TEXT          what replaces its whole body; or
@@ -18,15 +17,15 @@ test: CRATE::PATH   the test that fails with it: if the function has a proof wri
 no test: REASON     why none can
 must: WORDS         in a folder canaries alone: what has to come out in place of a refusal
 
-A list such as {i8,i16} means each of its words in turn. In must-fail a file holds one body, with old and new texts
-and no list.
+A list such as {i8,i16} means each of its words in turn. In must-fail a file holds one body, with old and new texts and
+no list: `rt ci` reads its lines file, old and new alone.
 """
 
-import hashlib
-import re
+import hashlib, re
 from collections import namedtuple
+from pathlib import Path
 
-from sources import CRATES, TOP, clauses_of, functions, functions_in, uses
+from sources import CRATES, TOP, below, clauses_of, functions, functions_in, uses
 
 COMMENT = re.compile(r"^\s*(?://.*|--( .*)?)\n", re.MULTILINE)
 NAMED_TEST = re.compile(r"^test: .*", re.MULTILINE)
@@ -39,11 +38,15 @@ Wrong = namedtuple("Wrong", "function name changes clauses tests must reason", d
 Change = namedtuple("Change", "file start end text")
 
 
+def demand(is_met, why):
+    if not is_met:
+        raise ValueError(why)
+
+
 def each_of(block):
     """The block once for each word of its lists, which are equally long."""
     counts = {words.count(",") + 1 for words in LIST.findall(block)} or {1}
-    if len(counts) > 1:
-        raise ValueError("lists of unequal length")
+    demand(len(counts) == 1, "lists of unequal length")
     for place in range(counts.pop()):
         yield LIST.sub(lambda found: found[1].split(",")[place], block)
 
@@ -55,25 +58,21 @@ def changes_of(crate, said, function):
         end = function.end if "body" in values else function.start
         text = f"{function.indent}{values.get('body') or values['first']}\n"
         return [Change(function.file, function.start, end, text)]
-    file, changes = CRATES / crate / values["file"], []
-    for (_, old), (_, new) in zip(*[iter(pair for pair in said if pair[0] in ("old", "new"))] * 2):
-        text = file.read_text()
-        if text.count(old) != 1:
-            raise ValueError("an old text that the file doesn't have once")
-        changes.append(Change(file.relative_to(CRATES / crate), text.index(old), text.index(old) + len(old), new))
-    return changes
+    file, text = Path(values["file"]), (CRATES / crate / values["file"]).read_text()
+    olds, news = ([value for key, value in said if key == wanted] for wanted in ("old", "new"))
+    demand(olds and len(olds) == len(news), "it changes nothing")
+    demand(all(text.count(old) == 1 for old in olds), "an old text that the file doesn't have once")
+    return [Change(file, text.index(old), text.index(old) + len(old), new) for old, new in zip(olds, news)]
 
 
 def broken(clause, function):
     """The clauses that a wrong body of this function breaks, as its file says: they are the function's, or goals."""
-    there = clauses_of(function)
+    there, words = clauses_of(function), clause.split()
     if clause == "the only one":
-        if there is not None and len(there) != 1:
-            raise ValueError(f"the clauses are {', '.join(there)}")
-        return ["unnamed"]
-    words = clause.split()
-    if there is not None and not {*there}.issuperset(word for word in words if "-" not in word):
-        raise ValueError(f"the clauses are {', '.join(there)}")
+        is_known, words = there is None or len(there) == 1, ["unnamed"]
+    else:
+        is_known = there is None or {*there}.issuperset(word for word in words if "-" not in word)
+    demand(is_known, f"the clauses are {', '.join(there or [])}")
     return words
 
 
@@ -89,33 +88,26 @@ def blocks_of(file):
             of_file = said
 
 
-def wrong_bodies_in(file, crate, known):
-    """The wrong bodies of a file, which are those of a crate with these functions."""
-    for comment, block in blocks_of(file):
-        try:
-            for text in each_of(block):
-                said = [line.partition(": ")[::2] for line in text.splitlines()]
-                values = {"clause": "", "test": "", "must": "be refused", "no test": None, **dict(said)}
-                name = values.get("body") or values.get("first") or comment or file.name
-                if not KEYS.issuperset(key for key, _ in said):
-                    raise ValueError("a line with another key")
-                function = known[values["function"]]
-                changes = changes_of(crate, said, function)
-                if not changes:
-                    raise ValueError("it changes nothing")
-                clauses = broken(values["clause"], function)
-                tests = values["test"].split()
-                yield Wrong(function.name, name, changes, clauses, tests, values["must"], values["no test"])
-        except (StopIteration, KeyError, ValueError, TypeError) as error:
-            raise ValueError(f"{file.relative_to(TOP)}: {block.splitlines()[0]}: {error!r}") from error
+def wrong_body(text, name, crate, known):
+    """The wrong body that these lines say, by this name if they have no text for a body."""
+    said = [line.partition(": ")[::2] for line in text.splitlines()]
+    values = {"clause": "", "test": "", "must": "be refused", "no test": None, **dict(said)}
+    demand(KEYS.issuperset(values), "a line with another key")
+    function = known[values["function"]]
+    changes, clauses = changes_of(crate, said, function), broken(values["clause"], function)
+    name = values.get("body") or values.get("first") or name
+    return Wrong(function.name, name, changes, clauses, values["test"].split(), values["must"], values["no test"])
 
 
-def wrong_bodies(name, *folders):
+def wrong_bodies(crate, *folders):
     """All wrong bodies in folders of a crate."""
-    crate = CRATES / name
-    files = [file for folder in folders for file in sorted(crate.glob(f"{folder}/*.edit"))]
-    known = {function.name: function for function in functions(name) if function.start is not None} if files else {}
-    return [body for file in files for body in wrong_bodies_in(file, name, known)]
+    files = [file for folder in folders for file in sorted(CRATES.glob(f"{crate}/{folder}/*.edit"))]
+    known = {function.name: function for function in functions(crate) if function.start is not None} if files else {}
+    for file, comment, block in ((file, *it) for file in files for it in blocks_of(file)):
+        try:
+            yield from [wrong_body(text, comment or file.name, crate, known) for text in each_of(block)]
+        except (KeyError, ValueError, TypeError) as error:
+            raise ValueError(f"{file.relative_to(TOP)}: {block.splitlines()[0]}: {error!r}") from error
 
 
 def crates_with_bodies():
@@ -136,15 +128,6 @@ def with_changes(text, changes):
     return text
 
 
-def below(name):
-    """The repository's crates that a crate is made of, without itself."""
-    used, found, left = uses(), [], [name]
-    while left:
-        more = [one for one in used[left.pop()] if one in used and one not in found]
-        found, left = found + more, left + more
-    return sorted(found)
-
-
 def without_comments(file):
     """The text of a file without lines of comments, which change no proof."""
     return COMMENT.sub("", file.read_text())
@@ -158,12 +141,11 @@ def without_bodies(file):
 
 
 def state_of(name):
-    """A hash of all that decides whether a crate's wrong bodies are refused: its sources, specs, proofs and wrong bodies,
-    and of the crates below the specs and the contracts, which its own cite; their bodies and proofs show nowhere above.
-    In which file a wrong body is decides nothing, and no check of the prover runs its test.
-    """
+    """A hash of all that decides whether a crate's wrong bodies are refused, as docs/WRONG_BODIES.md tells. In which
+    file a wrong body is decides nothing, and no check of the prover runs its test."""
     places = [(name, folder, without_comments) for folder in ["src", "specs", "proofs"]]
-    places += [(crate, *it) for crate in below(name) for it in (("src", without_bodies), ("specs", without_comments))]
+    lower = sorted(below(name))
+    places += [(crate, *it) for crate in lower for it in (("src", without_bodies), ("specs", without_comments))]
     found = hashlib.sha256()
     for crate, folder, text in places:
         for file in sorted((CRATES / crate / folder).glob("**/*.*")):
