@@ -5,18 +5,17 @@ from collections import namedtuple
 
 from sources import CRATES
 
-# Of a case: its name, the command, what is on standard input, and how it has to end: the status and both outputs.
-Case = namedtuple("Case", "name command stdin end")
+# Of a case, or of a test: its crate, its name, the command, what is on standard input, and how a case has to end: the
+# status and both outputs.
+Run = namedtuple("Run", "crate name command stdin end")
 
 
 def case_in(folder):
-    def octets(name):
-        return (folder / name).read_bytes() if (folder / name).exists() else b""
-
+    stored = {file.name: file.read_bytes() for file in folder.iterdir()}
+    stdin, stdout, stderr, args = (stored.get(name, b"") for name in ("stdin", "stdout", "stderr", "args"))
     crate = folder.parent.parent
-    command = [str(crate / "out" / crate.name), *octets("args").decode().splitlines()]
-    end = int(octets("status") or 0), octets("stdout"), octets("stderr")
-    return Case(f"{crate.name} {folder.name}", command, octets("stdin"), end)
+    command = [str(crate / "out" / crate.name), *args.decode().splitlines()]
+    return Run(crate.name, folder.name, command, stdin, (int(stored.get("status") or 0), stdout, stderr))
 
 
 def cases():
