@@ -1,5 +1,5 @@
-"""Reads the sources of the repository's crates: what each crate uses, and its functions as a check names them, each
-with its clauses and its body. Runs the kit's `rattle`, and reports what a script of the gate found."""
+"""Reads the sources of the repository's crates: what each crate uses, the cases of programs, and functions as a check
+names them, each with its clauses and its body. Runs the kit's `rattle`, and reports what a script of the gate found."""
 
 import re, subprocess
 from collections import namedtuple
@@ -11,6 +11,9 @@ CRATES = TOP / "crates"
 # Of a function: its name, its file in the crate, whether it is public, its trait, the names of its `ensures` clauses,
 # and where its body begins and ends in the file, with the body's indentation.
 Function = namedtuple("Function", "name file is_public trait clauses start end indent")
+# Of a case of a program, or of a test: its crate, its name, the command, what is on standard input, and how a case has
+# to end: the status and both outputs.
+Run = namedtuple("Run", "crate name command stdin end")
 KINDS = "fn|struct|enum|trait|impl|mod|type|const|static|ghost|use"
 START = rf"(pub )?(?:pub\(\w+\) )?(?:const |unsafe )*({KINDS})\b ?(\w*)"
 CLAUSE = re.compile(r"\b(?:requires|(ensures))(?:\s+(\w+))?\s+\{|\bghost (\w+)(?: =|:)\s+\{")
@@ -58,6 +61,16 @@ def below(name):
 def libraries(*others):
     """The crates that are no tests and no programs, without these others."""
     return [name for name in uses() if not name.endswith(("_tests", "_cli")) and name not in others]
+
+
+def cases():
+    """The cases of the programs. Each folder crates/PROGRAM/cases/NAME has the files of the kit's stored run: stdin;
+    stdout and stderr, if anything is written; args, a word on each line, if there are any; status, if it isn't 0."""
+    for folder in sorted(CRATES.glob("*/cases/*")):
+        stored, crate = {file.name: file.read_bytes() for file in folder.iterdir()}, folder.parent.parent
+        stdin, stdout, stderr, args = (stored.get(name, b"") for name in ("stdin", "stdout", "stderr", "args"))
+        command = [crate / "out" / crate.name, *args.decode().splitlines()]
+        yield Run(crate.name, folder.name, command, stdin, (int(stored.get("status") or 0), stdout, stderr))
 
 
 def spans_of_clauses(text):

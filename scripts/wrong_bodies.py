@@ -115,12 +115,6 @@ def crates_with_bodies():
     return [name for name in uses() if any((CRATES / name / folder).is_dir() for folder in FOLDERS)]
 
 
-def has_own_proof(function):
-    """Whether the function of this name has a proof written by hand."""
-    crate, *path = function.split("::")
-    return CRATES.joinpath(crate, "proofs", *path).is_dir()
-
-
 def with_changes(text, changes):
     """The text of a file with these changes, which don't overlap."""
     for _, start, end, new in sorted(changes, reverse=True):
