@@ -83,6 +83,9 @@ class Reader:
         self.tokens = [(token[0], source.count("\n", 0, token.start()) + 1) for token in found]
         self.tokens += [(END, source.count("\n") + 1)] * 3
         self.at = 0
+        # `int` takes few more.
+        for token, line in self.tokens:
+            reject(token[0].isdigit() and len(token) > 4000, line, "a number of more than 4000 digits")
 
     @property
     def line(self):
@@ -226,7 +229,8 @@ class Reader:
         uses, found = [], []
         while not self.takes(END):
             if self.takes("use"):
-                words = self.until(";")
+                line, words = self.line, self.until(";")
+                reject(not words, line, "a path was expected, and found `;`")
                 uses += [] if words[0] in ORIGINAL else ["use " + " ".join(words) + ";"]
             elif self.takes("#", "!", r"\["):
                 self.until("]")

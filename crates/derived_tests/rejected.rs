@@ -454,3 +454,9 @@ const DATA: asn1::ObjectIdentifier = asn1::oid!(1, 2, 840, 113549, 1, 7, 1); //~
 enum OfTypes {
     Type(u8), //~ `Type` is a word of Rust or Rattle: name it otherwise
 }
+
+use ; //~ a path was expected, and found `;`
+#[derive(asn1::Asn1Read)]
+struct AfterNoPath {
+    value: bool,
+}
