@@ -1,9 +1,9 @@
 //! Values of extensions of revocation lists and of their entries (RFC 5280, 5.2.3, 5.2.4, 5.3.1 and 5.3.2).
-// Printed by scripts/derive from declarations/revocation/extensions.rs, with the sum f9190a47.
+// Printed by scripts/derive from declarations/revocation/extensions.rs, with the sum 0cd22d43.
 
 ghost use Rattle.asn1.specs.Reads.{HasOneEncoding};
 
-use asn1::{Asn1Type, BigUint, Enumerated, GeneralizedTime, X509GeneralizedTime};
+use asn1::{Asn1Type, BigUint, Enumerated, X509GeneralizedTime};
 
 /// CRLNumber (RFC 5280, 5.2.3), an INTEGER from 0; identifier 2.5.29.20.
 pub type CrlNumber<'a> = BigUint<'a>;

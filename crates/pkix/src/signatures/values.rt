@@ -1,12 +1,12 @@
 //! Values of signatures (RFC 3279, 2.2.2 and 2.2.3; RFC 8017, 9.2).
-// Printed by scripts/derive from declarations/signatures/values.rs, with the sum 5bb91b8b.
+// Printed by scripts/derive from declarations/signatures/values.rs, with the sum e2f4d158.
 
 ghost use Rattle.std.specs.Prelude.{◌≡◌, ◌∷◌, [], codes};
 ghost use Rattle.asn1.specs.Reads.{HasOneEncoding, ReadsContents};
 ghost use Rattle.asn1.specs.Structures.{structure, fields2};
 
 use crate::common::{AlgorithmIdentifier, algorithm_identifier_is_lawful};
-use asn1::fields::{Fields2, Row, Value};
+use asn1::fields::{Fields2, Row};
 use asn1::{
     Asn1Type, BigUint, ParseResult, SimpleAsn1Readable, SimpleAsn1Writable, Tag, WriteBuf,
     WriteError, WriteResult, fields_length, known_fields, read_fields, write_fields,
