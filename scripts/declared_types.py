@@ -77,8 +77,7 @@ class Module:
                 self.known(Type(item.name, [item.life] if item.life else [], item.line))
         for item in items:
             for at, part in enumerate(item.parts):
-                self.check_part(item, part)
-                self.check_tags(item, part, item.parts[at + 1 :])
+                self.check_part(item, part, item.parts[at + 1 :])
 
     def within(self, type):
         """A type, and those that it is made of."""
@@ -142,7 +141,7 @@ class Module:
         return replace(inside, tags=tags, is_missing=False, is_simple=True)
 
     def known_item(self, item):
-        """What is known of a declared type, by what it is made of."""
+        """What is known of a declared type, by what it is made of: it has the derives that all its parts have."""
         if item.kind == "type":
             return self.known(item.type)
         by = "DefinedBy" if any("DefinedBy" in name for name in item.wanted) else ""
@@ -151,21 +150,29 @@ class Module:
         item.reject(is_both, "is defined by an item: an enum with no other derive of `asn1`")
         item.reject(not (item.reads or item.writes), "derives neither `Asn1Read` nor `Asn1Write`")
         parts = [(part.name, self.known(type)) for part in item.parts for type in [*part.parts[:-1], part.form]]
-        set_derives(item, parts)
-        tags = [known.tags for _, known in parts]
-        derives, fails = frozenset(item.derives), any(known.fails for _, known in parts)
+        lacks, left = {name: part for part, known in reversed(parts) for name in COPY - known.derives}, {}
+        item.derives = [name for name in KEPT if name in item.wanted and name not in lacks]
+        for name in item.wanted:
+            if name not in (*item.derives, *ASN1):
+                why = f"which `{lacks[name]}` lacks" if name in lacks else "which isn't kept"
+                left.setdefault(why, []).append(f"`{name}`")
+        said = "; ".join(f"{', '.join(names)}, {why}" for why, names in left.items())
+        item.note = f"`{item.name}` is printed without {said}" if left else ""
+        item.derives += [] if "Copy" in item.derives else ["Drop"]
+        tags, derives = [known.tags for _, known in parts], frozenset(item.derives)
         if item.kind == "struct":
-            return Known(tagged(16, True), derives, fails=fails)
+            return Known(tagged(16, True), derives, fails=any(known.fails for _, known in parts))
         tags = None if None in tags else ANY if ANY in tags else frozenset().union(*tags)
         return Known(tags, derives, any(known.is_missing for _, known in parts), False)
 
-    def check_part(self, item, part):
-        """A value that an item defines comes after it, and under an explicit tag at most."""
-        type, known = self.known(part.type), self.known(part.form)
-        is_choice = item.kind == "enum" and part.tag and not type.is_simple and type.tags != ANY
-        part.reject(is_choice, "is a choice or an option under a tag: put a struct around it")
+    def check_part(self, item, part, others):
+        """A value that an item defines comes after it, and under an explicit tag at most. A field that may be missing
+        is told from what may follow it, and a variant from the others."""
+        in_struct, type, known = item.kind == "struct", self.known(part.type), self.known(part.form)
+        is_unclear = not in_struct and part.tag and not type.is_simple and type.tags != ANY
+        part.reject(is_unclear, "is a choice or an option under a tag: put a struct around it")
         declared = self.items.get((part.type.inner[0] if part.type.name == "Option" else part.type).name)
-        by, is_value = item.kind == "struct" and "defined_by" in part.attributes, declared and declared.is_defined
+        by, is_value = in_struct and "defined_by" in part.attributes, declared and declared.is_defined
         part.reject(is_value and not by, "is defined by an item: it follows that, with `#[defined_by(..)]`")
         is_wrapped = part.form.name in ("Option", "Implicit", "Defaulted")
         part.reject(by and is_wrapped, "is defined by an item: it is there, with an explicit tag or none")
@@ -173,35 +180,18 @@ class Module:
         part.reject(by and is_other, "is defined by an item, and its type is not")
         # The trait whose impl says which errors a write returns, if any.
         part.fails = known.fails and ("SimpleAsn1Writable" if known.is_simple else "Asn1Writable")
-        is_read = item.reads or item.kind == "enum"
+        is_read = item.reads or not in_struct
         part.reject(part.fails and is_read, "is a list made in code, and may be only in a struct that isn't read")
-
-    def check_tags(self, item, part, others):
-        """A field that may be missing is told from what may follow it, and a variant from the others."""
-        is_choice, one = item.kind == "enum" and not item.is_defined, self.known(part.form)
-        part.reject(is_choice and one.is_missing, "may be missing, and is an alternative of a choice")
-        if not is_choice and (item.kind == "enum" or not one.is_missing):
-            return
-        for other in others:
-            two = self.known(other.form)
-            is_same = None not in (one.tags, two.tags) and (ANY in (one.tags, two.tags) or one.tags & two.tags)
+        is_choice = item.kind == "enum" and not item.is_defined
+        part.reject(is_choice and known.is_missing, "may be missing, and is an alternative of a choice")
+        for other in others if is_choice or in_struct and known.is_missing else []:
+            follows = self.known(other.form)
+            tags = (known.tags, follows.tags)
+            is_same = None not in tags and (ANY in tags or known.tags & follows.tags)
             why = f"a tag of `{other.name}` is one of `{part.name}` too, from which it is told by its tag"
             reject(is_same, other.line, why)
-            if not is_choice and not two.is_missing:
-                return
-
-
-def set_derives(item, parts):
-    """The derives that all parts have; and what is said of the others."""
-    lacks, left = {name: next((part for part, known in parts if name not in known.derives), "") for name in KEPT}, {}
-    item.derives = [name for name in KEPT if name in item.wanted and not lacks[name]]
-    for name in item.wanted:
-        if name not in (*item.derives, *ASN1):
-            why = f"which `{lacks[name]}` lacks" if name in KEPT else "which isn't kept"
-            left.setdefault(why, []).append(f"`{name}`")
-    said = "; ".join(f"{', '.join(names)}, {why}" for why, names in left.items())
-    item.note = f"`{item.name}` is printed without {said}" if left else ""
-    item.derives += [] if "Copy" in item.derives else ["Drop"]
+            if not is_choice and not follows.is_missing:
+                break
 
 
 def set_form(item, part):
@@ -215,14 +205,19 @@ def set_form(item, part):
     part.reject(item.is_defined and not is_by, "has neither `#[defined_by(..)]` nor `#[default]` alone")
     is_wrong = not in_struct and not item.is_defined and others or "derive" in attributes
     reject(is_wrong, part.line, f"an attribute that `{part.name}` can't have")
-    number, required = number_of(part) if part.tag else ("", False)
+    number, *words = attributes.get(part.tag, ["0"])
+    reject(not re.fullmatch(r"\d[\d_]*", number), part.line, f"`{part.tag}` without a number")
+    said = "".join(words).strip(",")
+    is_unknown = said not in ("", "required=true", "required=false")
+    reject(is_unknown, part.line, f"`{part.tag}` takes a number and `required = true`")
+    required = said == "required=true"
     has_default = in_struct and "default" in attributes
     part.reject(has_default and (is_option or required), "has a default, so it is neither an option nor required")
     is_unclear = in_struct and part.tag and not has_default and is_option == required
     part.reject(is_unclear, "has a tag: either it is an option, or the tag says `required = true`")
     is_around = is_option and part.tag and in_struct and part.type.inner
     part.base = part.type.inner[0] if is_around else part.type
-    part.form = Type(part.tag.capitalize(), [part.base, number], part.line) if part.tag else part.base
+    part.form = Type(part.tag.capitalize(), [part.base, number.replace("_", "")], part.line) if part.tag else part.base
     part.form = Type("Option", [part.form], part.line) if is_around else part.form
     # Of a marker the value that its item defines, and of this value the item's type.
     part.value = part.item = None
@@ -234,23 +229,12 @@ def set_form(item, part):
     part.is_wrapped = in_struct and part.form is not part.type and "defined_by" not in attributes
 
 
-def number_of(part):
-    """The number of an item's tag, and whether the field is there always."""
-    number, *others = part.attributes[part.tag]
-    reject(not re.fullmatch(r"\d[\d_]*", number), part.line, f"`{part.tag}` without a number")
-    said = "".join(others).strip(",")
-    is_known = said in ("", "required=true", "required=false")
-    reject(not is_known, part.line, f"`{part.tag}` takes a number and `required = true`")
-    return number.replace("_", ""), said == "required=true"
-
-
 def literal(part):
     """A default, as in Rust: a Boolean, or a number that the field's type has."""
     value, type = "".join(word for word in part.attributes["default"] if word != ","), str(part.base)
-    is_boolean = value in ("true", "false")
-    is_literal = is_boolean or re.fullmatch(r"-?\d[\d_]*(?:[ui]\d+)?", value)
-    reject(not is_literal, part.line, f"the default of `{part.name}` isn't a literal: `true`, `false` or a number")
+    found = re.fullmatch(r"(true|false)|-?\d[\d_]*(?:[ui]\d+)?", value)
+    reject(not found, part.line, f"the default of `{part.name}` isn't a literal: `true`, `false` or a number")
     value = re.sub(r"_|[ui]\d+$", "", value)
-    fits = is_boolean if type == "bool" else not is_boolean and int(value) in INTEGERS.get(type, ())
+    fits = found[1] if type == "bool" else not found[1] and int(value) in INTEGERS.get(type, ())
     reject(not fits, part.line, f"`{value}` is no value of `{type}`: a default is of a Boolean or an integer type")
     return value
