@@ -207,10 +207,8 @@ def set_form(item, part):
     reject(is_wrong, part.line, f"an attribute that `{part.name}` can't have")
     number, *words = attributes.get(part.tag, ["0"])
     reject(not re.fullmatch(r"\d[\d_]*", number), part.line, f"`{part.tag}` without a number")
-    said = "".join(words).strip(",")
-    is_unknown = said not in ("", "required=true", "required=false")
-    reject(is_unknown, part.line, f"`{part.tag}` takes a number and `required = true`")
-    required = said == "required=true"
+    required = {"": False, "required=false": False, "required=true": True}.get("".join(words).strip(","))
+    reject(required is None, part.line, f"`{part.tag}` takes a number and `required = true`")
     has_default = in_struct and "default" in attributes
     part.reject(has_default and (is_option or required), "has a default, so it is neither an option nor required")
     is_unclear = in_struct and part.tag and not has_default and is_option == required

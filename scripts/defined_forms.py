@@ -1,9 +1,7 @@
 """The forms of docs/OWN_TYPES.md for identifiers, and for a value that an item defines, filled in with an enum."""
 
-from functools import reduce
-
 from declarations import reject
-from derived_forms import Alternatives, comment, der, quoted, side
+from derived_forms import Choice, comment, der, quoted, side
 
 ITEM = "ObjectIdentifier"
 ANSWER = "\npub {0} : goal.{0}\n{2}{0} c = {1}\n"
@@ -45,7 +43,7 @@ pub fn {item.name.lower()}() -> ObjectIdentifier
 """
 
 
-class Defined(Alternatives):
+class Defined(Choice):
     """An enum with a variant for each identifier that is known; the last may serve every other."""
 
     def __init__(self, item, module):
@@ -59,9 +57,8 @@ class Defined(Alternatives):
         numbers, other = {}, self.other
         for part in self.known:
             name = "".join(part.attributes["defined_by"][:-1])
-            constant = self.module.items.get(name)
-            is_known = constant and constant.kind == "const"
-            reject(not is_known, part.line, f"`{name}` is no identifier that is declared here")
+            constant = self.module.items.get(name, item)
+            reject(constant.kind != "const", part.line, f"`{name}` is no identifier that is declared here")
             part.call, part.numbers = f"{name.lower()}()", f"{name}_NUMBERS"
             first = numbers.setdefault(tuple(octets_of(constant)[0]), part)
             part.reject(first is not part, f"has the identifier of `{first.name}`")
@@ -101,8 +98,8 @@ class Defined(Alternatives):
         facts = {part.call: f"bytes_eq (identifier_of item) {part.numbers} ≡" for part in self.known}
         fields = "".join(f"pub ghost is_not_{call[:-2]}: {{ {fact} false }}, " for call, fact in facts.items())
         tests = " || ".join(f"is_identifier(&item, {call})" for call in facts)
-        last, *others = [f"({fact} true)" for fact in reversed([*facts.values()])]
-        served = reduce(lambda rest, first: f"({first} ⊎ {rest})", others, last)
+        *firsts, last = [f"({fact} true)" for fact in facts.values()]
+        served = "".join(f"({first} ⊎ " for first in firsts) + last + ")" * len(firsts)
         text = f"""
 /// An identifier that no other variant of `{self.name}` is for, and the value.
 #[derive({derives})]

@@ -1,7 +1,6 @@
 """The forms of docs/OWN_TYPES.md, filled in with declarations. The formatter lays out what they print."""
 
 import re
-from functools import reduce
 from itertools import zip_longest
 
 from declarations import Type
@@ -60,12 +59,10 @@ class Structure(Form):
     part, default_comment = "pub {}: {}", "The field."
 
     def printed(self):
-        self.pair_items()
-        for part in self.parts:
-            self.set_row(part)
+        self.set_rows()
         row, (row_type, view) = self.item.own("Fields"), self.row(self.parts)
         text = self.stated(part.form if part.item else part.type for part in self.parts)
-        text += "".join(self.default(part) for part in self.parts if part.default is not None)
+        text += "".join(self.default(part) for part in self.parts if part.default)
         text += "".join(f"\ntype {part.row} = {part.form};\n" for part in self.parts if part.is_wrapped)
         names = "".join(f'codes "{self.name}::{part.name}" ∷ ' for part in self.parts)
         fields = ",".join(f" {part.words}" for part in self.parts)
@@ -94,8 +91,10 @@ class Structure(Form):
             fn data_length(&self) -> Option<usize> {{ fields_length!(self;{fields}) }}""")
         return text
 
-    def pair_items(self):
-        """Gives each marker the value that its item defines, and each of these values the type of its item."""
+    def set_rows(self):
+        """Gives each marker the value that its item defines, and each of these values the type of its item. Each field
+        gets its type in the row, its value as the row has it, and its words in the macros of bodies. The type is that
+        of a marker's item, or the private alias of one with a tag or a default."""
         paired = [part for part in self.parts if part.type.name == "DefinedByMarker" or "defined_by" in part.attributes]
         for marker, value in zip_longest(paired[::2], paired[1::2]):
             marker.reject("defined_by" in marker.attributes, "isn't after the marker of its item")
@@ -103,17 +102,14 @@ class Structure(Form):
             marker.reject(not value or "defined_by" not in value.attributes, f"marks an item: {follows}")
             value.reject(value.attributes["defined_by"] != [marker.name, ","], "isn't after the marker of its item")
             marker.value, value.item = value, marker.type.inner[0]
-
-    def set_row(self, part):
-        """Gives a field its type in the row, its value as the row has it, and its words in the macros of bodies. The
-        type is that of a marker's item, or the private alias of one with a tag or a default."""
-        alias = Type(f"{part.title}Field", part.form.lives[:1])
-        part.row = str(part.type.inner[0] if part.value else alias if part.is_wrapped else part.form)
-        of = f" of {part.value.name}" if part.value else f" by {part.item}" if part.item else ""
-        part.words = part.name + of + (f": {part.row}" if part.value or part.is_wrapped else "")
-        option = "option_meaning " if part.type.name == "Option" else ""
-        seen = f"{option}{part.tag} v.{part.name}" if part.tag and part.is_wrapped else f"v.{part.name}"
-        part.seen = f"defaulted {group(seen)}" if part.default is not None else seen
+        for part in self.parts:
+            alias = Type(f"{part.title}Field", part.form.lives[:1])
+            part.row = str(part.type.inner[0] if part.value else alias if part.is_wrapped else part.form)
+            of = f" of {part.value.name}" if part.value else f" by {part.item}" if part.item else ""
+            part.words = part.name + of + (f": {part.row}" if part.value or part.is_wrapped else "")
+            option = "option_meaning " if part.type.name == "Option" else ""
+            seen = f"{option}{part.tag} v.{part.name}" if part.tag and part.is_wrapped else f"v.{part.name}"
+            part.seen = f"defaulted {group(seen)}" if part.default else seen
 
     def row(self, parts, is_between=False):
         """The type of a row of these fields, and a struct's value as one of it: nested up to the last value that an
@@ -147,8 +143,30 @@ impl DefaultValue<{inner}> for {part.title} {{
 """
 
 
-class Alternatives(Form):
-    """What a choice and an enum that an item defines have both."""
+class Choice(Form):
+    """An enum whose variants are told by their tags. Its methods behind the first are also for those that an item tells."""
+
+    def printed(self):
+        choices = choices_of(self.item, self.parts, "Choice")
+        alias, forms = choices[0]
+        text = "".join(f"\ntype {name} = Choice{len(some)}<{', '.join(map(str, some))}>;\n" for name, some in choices)
+        text += self.stated(part.base for part in self.parts)
+        values = [part.place.format(f"({der(part.base)}.meaning x)")[1:-1] for part in self.parts]
+        *firsts, last = map(der, forms)
+        record = "".join(f"or {first} (" for first in firsts) + f"only {last}" + ")" * len(firsts)
+        text += self.impl("Asn1Type", self.variants(), f"""
+            ghost der = {{ choice_der {self.elim(values)} ({record}) }};
+            fn known(&self) {{ {self.match("x.known()")} }}""")
+        if self.item.reads:
+            arms = " ".join(f"{part.pattern.format('x')} => Ok({self.made(part, 'x')})," for part in self.parts)
+            body = f"match parser.read_element::<{alias}>()? {{ {arms} }}"
+            parse = self.parse("", body, f"ReadsPrefix {self.means}", f"{self.means}.stops")
+            text += self.impl(f"Asn1Readable<{self.life}>", parse, f"""
+            fn can_parse(tag: Tag) -> bool
+                ensures value {{ result ≡ {self.means}.accepts tag }}
+                ensures plain {{ {self.means}.plain }}
+            {{ <{alias} as Asn1Readable<{self.item.life or "'_"}>>::can_parse(tag) }}""")
+        return text + self.written("Asn1Writable") if self.item.writes else text
 
     def variants(self):
         """The import of the variants, in the impl: there no other enum's variants have these names."""
@@ -190,32 +208,6 @@ class Alternatives(Form):
         return self.impl(trait, ERROR, *members, f"""
             fn write(&self, dest: &mut Writer<'_>) -> WriteResult<()> {{ {write} }}
             fn encoded_length(&self) -> Option<usize> {{ {length} }}""")
-
-
-class Choice(Alternatives):
-    """An enum whose variants are told by their tags."""
-
-    def printed(self):
-        choices = choices_of(self.item, self.parts, "Choice")
-        alias, forms = choices[0]
-        text = "".join(f"\ntype {name} = Choice{len(some)}<{', '.join(map(str, some))}>;\n" for name, some in choices)
-        text += self.stated(part.base for part in self.parts)
-        values = [part.place.format(f"({der(part.base)}.meaning x)")[1:-1] for part in self.parts]
-        *firsts, last = map(der, forms)
-        record = reduce(lambda others, first: f"or {first} ({others})", reversed(firsts), f"only {last}")
-        text += self.impl("Asn1Type", self.variants(), f"""
-            ghost der = {{ choice_der {self.elim(values)} ({record}) }};
-            fn known(&self) {{ {self.match("x.known()")} }}""")
-        if self.item.reads:
-            arms = " ".join(f"{part.pattern.format('x')} => Ok({self.made(part, 'x')})," for part in self.parts)
-            body = f"match parser.read_element::<{alias}>()? {{ {arms} }}"
-            parse = self.parse("", body, f"ReadsPrefix {self.means}", f"{self.means}.stops")
-            text += self.impl(f"Asn1Readable<{self.life}>", parse, f"""
-            fn can_parse(tag: Tag) -> bool
-                ensures value {{ result ≡ {self.means}.accepts tag }}
-                ensures plain {{ {self.means}.plain }}
-            {{ <{alias} as Asn1Readable<{self.item.life or "'_"}>>::can_parse(tag) }}""")
-        return text + self.written("Asn1Writable") if self.item.writes else text
 
 
 def choices_of(item, parts, name="", pattern="{}", place="{}"):
