@@ -18,6 +18,8 @@ OF_CLAUSES = """
     tcoe unfold unfoldable unfolding""".split()
 ATTRIBUTES = ("derive", "implicit", "explicit", "default", "defined_by")
 ORIGINAL = ("asn1", "std", "core", "alloc")
+# No more digits than `int` takes.
+DIGITS = r"\d[\d_]{,4299}"
 
 
 class Rejected(Exception):
@@ -83,9 +85,6 @@ class Reader:
         self.tokens = [(token[0], source.count("\n", 0, token.start()) + 1) for token in found]
         self.tokens += [(END, source.count("\n") + 1)] * 3
         self.at = 0
-        # `int` takes few more.
-        for token, line in self.tokens:
-            reject(token[0].isdigit() and len(token) > 4000, line, "a number of more than 4000 digits")
 
     @property
     def line(self):
@@ -108,9 +107,8 @@ class Reader:
         """The tokens up to this one, which is left out; brackets are passed over as a whole."""
         words, depth = [], 0
         while depth or not self.takes(end):
-            word = self.expect(rf"(?!{END})[\s\S]*", f"`{end[-1]}`")
-            depth += {"(": 1, "[": 1, "{": 1, ")": -1, "]": -1, "}": -1}.get(word, 0)
-            words.append(word)
+            words.append(self.expect(rf"(?!{END})[\s\S]*", f"`{end[-1]}`"))
+            depth += (words[-1] in "([{") - (words[-1] in ")]}")
         return words
 
     def item(self, what, is_part=True):
@@ -195,32 +193,28 @@ class Reader:
         # The derives that are asked for, and whether an item defines the type's values.
         found.wanted = re.findall(r"([^\s,]+) ,", " ".join(found.attributes.get("derive", [])))
         found.is_defined = found.kind == "enum" and any(name.startswith("Asn1DefinedBy") for name in found.wanted)
-        if found.kind == "const":
-            return self.constant(found)
-        if self.takes("<"):
+        if found.kind != "const" and self.takes("<"):
             line, found.life = self.line, self.takes(LIFE)
             reject(not found.life, line, "type parameters have no form here: a declaration has one lifetime at most")
             reject(not self.takes(">"), line, "a declaration has one lifetime at most, and no bounds")
+        if found.kind in ("struct", "enum"):
+            found.reject(not self.takes("{"), "has no named fields")
+            found.parts = self.parts(self.field if found.kind == "struct" else self.variant, "}")
+            return found
         if found.kind == "type":
             self.expect("=")
             found.type = self.type()
-            self.expect(";")
-            return found
-        found.reject(not self.takes("{"), "has no named fields")
-        found.parts = self.parts(self.field if found.kind == "struct" else self.variant, "}")
-        return found
-
-    def constant(self, found):
-        function = found.name.lower()
-        is_word = function in (*WORDS, *OF_CLAUSES)
-        reject(is_word, found.line, f"`{function}` is a word, and a function's name here: name it otherwise")
-        self.expect(":")
-        found.reject(self.type().name != "ObjectIdentifier", "isn't an object identifier")
-        self.expect("=")
-        found.reject(self.path() != "oid" or not self.takes("!", r"\("), "isn't made by `oid!`")
-        found.arcs = [word for word in self.until(r"\)") if word != ","]
-        are_numbers = re.fullmatch(r"\d[\d_]*( \d[\d_]*)+", " ".join(found.arcs))
-        found.reject(not are_numbers, "isn't written as two or more numbers")
+        else:
+            function = found.name.lower()
+            is_word = function in (*WORDS, *OF_CLAUSES)
+            reject(is_word, found.line, f"`{function}` is a word, and a function's name here: name it otherwise")
+            self.expect(":")
+            found.reject(self.type().name != "ObjectIdentifier", "isn't an object identifier")
+            self.expect("=")
+            found.reject(self.path() != "oid" or not self.takes("!", r"\("), "isn't made by `oid!`")
+            found.arcs = [word for word in self.until(r"\)") if word != ","]
+            are_numbers = re.fullmatch(rf"{DIGITS}( {DIGITS})+", " ".join(found.arcs))
+            found.reject(not are_numbers, "isn't written as two or more numbers")
         self.expect(";")
         return found
 

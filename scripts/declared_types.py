@@ -6,7 +6,7 @@ What has no form is rejected here, except what the reader of declarations doesn'
 import re
 from dataclasses import dataclass, replace
 
-from declarations import Type, reject
+from declarations import DIGITS, Type, reject
 
 KEPT = ("Debug", "Clone", "Copy", "PartialEq", "Eq", "Hash")
 COPY = frozenset(KEPT)
@@ -132,7 +132,7 @@ class Module:
             return replace(inside, tags=tagged(4), is_missing=False, is_simple=True)
         if name not in ("Implicit", "Explicit"):
             return replace(inside, derives=inside.derives & ALL)
-        is_large = not re.fullmatch(r"\d+", type.args[1]) or int(type.args[1]) > LARGEST_TAG
+        is_large = not re.fullmatch(r"\d{1,4300}", type.args[1]) or int(type.args[1]) > LARGEST_TAG
         reject(is_large, type.line, f"a tag isn't a number from 0 to {LARGEST_TAG}")
         has_no_tag = name == "Implicit" and not inside.is_simple
         reject(has_no_tag, type.line, f"`{type.inner[0]}` is implicit, and has no tag of its own")
@@ -230,7 +230,7 @@ def set_form(item, part):
 def literal(part):
     """A default, as in Rust: a Boolean, or a number that the field's type has."""
     value, type = "".join(word for word in part.attributes["default"] if word != ","), str(part.base)
-    found = re.fullmatch(r"(true|false)|-?\d[\d_]*(?:[ui]\d+)?", value)
+    found = re.fullmatch(rf"(true|false)|-?{DIGITS}(?:[ui]\d+)?", value)
     reject(not found, part.line, f"the default of `{part.name}` isn't a literal: `true`, `false` or a number")
     value = re.sub(r"_|[ui]\d+$", "", value)
     fits = found[1] if type == "bool" else not found[1] and int(value) in INTEGERS.get(type, ())
