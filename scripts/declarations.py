@@ -1,7 +1,10 @@
-"""Reads declarations in the original's form: structs, enums, aliases and identifiers, with their attributes."""
+"""Reads declarations in the original's form: structs, enums, aliases and identifiers, with their attributes.
+
+Says what is known of their types: tags, derives, and what a field is in its row. What has no form is rejected here.
+"""
 
 import re
-from dataclasses import dataclass, field
+from dataclasses import dataclass, field, replace
 
 WORD, LIFE, NUMBER = r"[A-Za-z_]\w*", r"'[A-Za-z_]\w*", r"\d\w*"
 SKIP, STRING = r"\s+|//(?!/)[^\n]*|/\*.*?\*/", r"\"(?:\\.|[^\"\\])*\""
@@ -20,6 +23,22 @@ ATTRIBUTES = ("derive", "implicit", "explicit", "default", "defined_by")
 ORIGINAL = ("asn1", "std", "core", "alloc")
 # No more digits than `int` takes.
 DIGITS = r"\d[\d_]{,4299}"
+KEPT = ("Debug", "Clone", "Copy", "PartialEq", "Eq", "Hash")
+COPY = frozenset(KEPT)
+ALL = COPY - {"Copy"}
+ASN1 = ("Asn1Read", "Asn1Write", "Asn1DefinedByRead", "Asn1DefinedByWrite")
+LISTS = ("SequenceOf", "SetOf", "SequenceOfWriter", "SetOfWriter")
+# What is in a type's brackets: a lifetime, a type, or a number.
+SHAPES = {
+    **dict.fromkeys(("Option", "Box", "OctetStringEncoded", "DefinedByMarker"), "T"),
+    **dict.fromkeys(("Implicit", "Explicit"), "Tn"),
+    **dict.fromkeys(LISTS, "'T"),
+    "SequenceOf": "'Tn?n?",
+}
+INTEGERS = {f"u{bits}": range(2**bits) for bits in (8, 16, 32, 64)}
+INTEGERS.update({f"i{bits}": range(-(2**bits) // 2, 2**bits // 2) for bits in (8, 16, 32, 64)})
+MOST_FIELDS, MOST_VARIANTS, LARGEST_TAG = 30, 36, 2**32 - 1
+ANY = "any"
 
 
 class Rejected(Exception):
@@ -231,3 +250,208 @@ class Reader:
             else:
                 found.append(self.declaration())
         return uses, found
+
+
+@dataclass(frozen=True)
+class Known:
+    """What is known of a type: its tags, its derives, whether a field of it may be missing, whether it has one tag of
+    its own, and whether its writes fail as those of a list that is made in code."""
+
+    tags: set = None
+    derives: frozenset = COPY
+    is_missing: bool = False
+    is_simple: bool = True
+    fails: bool = False
+
+
+# Types by their derives and by what is in their brackets, each name after the number of its tag.
+LIBRARY = {
+    name: (Known({f"{number} constructed" if number in ("16", "17") else number}, derives), shape)
+    for derives, shape, types in (
+        (COPY, "", "1 bool, 4 [u8], 5 (), 5 Null, " + ", ".join(f"2 {name}" for name in INTEGERS)),
+        (COPY, "'", "2 BigInt, 2 BigUint, 16 Sequence"),
+        (COPY, "n", "4 [u8; N]"),
+        (ALL, "", "2 OwnedBigInt, 2 OwnedBigUint, 3 OwnedBitString, 6 ObjectIdentifier"),
+        (ALL, "", "23 UtcTime, 24 GeneralizedTime, 24 X509GeneralizedTime"),
+        (ALL, "'", "3 BitString, 12 Utf8String, 17 Set, 19 PrintableString, 28 UniversalString, 30 BMPString"),
+        (ALL - {"Hash"}, "'", "22 IA5String, 26 VisibleString"),
+        (frozenset({"Debug", "PartialEq", "Eq"}), "", "10 Enumerated"),
+    )
+    for number, name in (type.split(" ", 1) for type in types.split(", "))
+}
+LIBRARY["Tlv"] = (Known(ANY, is_simple=False), "'")
+
+
+class Module:
+    """The declarations of a file, what is known of their types, and the path of their specs."""
+
+    def __init__(self, items, imported, specs):
+        self.items, self.imported, self.specs, self.seen = {item.name: item for item in items}, imported, specs, {}
+        for named in (items, *(item.parts for item in items)):
+            for at, one in enumerate(named):
+                one.reject(one.name in [before.name for before in named[:at]], "is declared twice")
+        for item in items:
+            self.check_item(item)
+            for part in item.parts:
+                set_form(item, part)
+        for item in items:
+            if item.kind != "const":
+                self.known(Type(item.name, [item.life] if item.life else [], item.line))
+        for item in items:
+            for at, part in enumerate(item.parts):
+                self.check_part(item, part, item.parts[at + 1 :])
+
+    def within(self, type):
+        """A type, and those that it is made of."""
+        item = self.items.get(type.name)
+        inner = type.inner if not item else [item.type] if item.type else [part.base for part in item.parts]
+        return [type, *(one for each in inner for one in self.within(each))]
+
+    def check_item(self, item):
+        """A declaration is none of a type of the library, of a size that has a form, and of one lifetime."""
+        item.reject(item.name in (*SHAPES, *self.imported), "is imported, or a type of the library: name it otherwise")
+        item.reject(item.kind == "struct" and len(item.parts) > MOST_FIELDS, f"has more than {MOST_FIELDS} fields")
+        has_no_form = item.kind == "enum" and not 0 < len(item.parts) <= MOST_VARIANTS
+        item.reject(has_no_form, f"has no variant, or more than {MOST_VARIANTS}")
+        types = [item.type] if item.type else [type for part in item.parts for type in part.parts or [part.type]]
+        for type in types:
+            reject(set(type.lives) - {item.life}, type.line, f"a lifetime that `{item.name}` doesn't declare")
+        is_unused = item.life and not any(type.lives for type in types)
+        item.reject(is_unused, "declares a lifetime, and nothing in it has one")
+
+    def known(self, type):
+        """What is known of a type; nothing if it is declared elsewhere."""
+        name, item = type.name, self.items.get(type.name)
+        is_other = name in ("&", "Defaulted", *self.imported) or "::" in name
+        found, shape = LIBRARY.get(name, (None, SHAPES.get(name, ".*" if is_other else None)))
+        shape = shape if not item else "'" if item.life else ""
+        reject(shape is None, type.line, f"`{name}` is no type of the library, and neither declared nor imported here")
+        kinds = "".join("T" if isinstance(arg, Type) else "'" if arg.startswith("'") else "n" for arg in type.args)
+        is_well = re.fullmatch(shape, kinds)
+        reject(not is_well, type.line, f"`{name}` lacks its lifetime, its type or its number, or has another")
+        if not item:
+            return found or self.known_around(type, *map(self.known, type.inner))
+        item.reject(self.seen.get(name, item) is None, "is recursive: it has no form")
+        if name not in self.seen:
+            self.seen[name] = None
+            self.seen[name] = self.known_item(item)
+        return self.seen[name]
+
+    def known_around(self, type, inside=Known(), *others):
+        """What is known of a type that is made of another."""
+        name = type.name
+        if name == "&":
+            reject(type.inner[0].name != "[u8]", type.line, "a reference other than one to `[u8]` isn't read")
+            return inside
+        if name in ("Option", "Defaulted"):
+            reject(inside.is_missing, type.line, "an option or a default of what may be missing itself")
+            return replace(inside, is_missing=True, is_simple=False)
+        if name in LISTS:
+            is_made = name.endswith("Writer")
+            derives = inside.derives & ALL if is_made else ALL - ({"Debug"} - inside.derives)
+            return Known({"17 constructed" if name.startswith("Set") else "16 constructed"}, derives, fails=is_made)
+        if name == "OctetStringEncoded":
+            return replace(inside, tags={"4"}, is_missing=False, is_simple=True)
+        if name not in ("Implicit", "Explicit"):
+            return replace(inside, derives=inside.derives & ALL)
+        is_large = not re.fullmatch(r"\d{1,4300}", type.args[1]) or int(type.args[1]) > LARGEST_TAG
+        reject(is_large, type.line, f"a tag isn't a number from 0 to {LARGEST_TAG}")
+        has_no_tag = name == "Implicit" and not inside.is_simple
+        reject(has_no_tag, type.line, f"`{type.inner[0]}` is implicit, and has no tag of its own")
+        is_constructed = name == "Explicit" or "constructed" in "".join(inside.tags or "")
+        tag = f"context {int(type.args[1])}" + " constructed" * is_constructed
+        return replace(inside, tags={tag}, is_missing=False, is_simple=True)
+
+    def known_item(self, item):
+        """What is known of a declared type, by what it is made of: it has the derives that all its parts have."""
+        if item.kind == "type":
+            return self.known(item.type)
+        by = "DefinedBy" if any("DefinedBy" in name for name in item.wanted) else ""
+        item.reads, item.writes = f"Asn1{by}Read" in item.wanted, f"Asn1{by}Write" in item.wanted
+        is_both = by and ("Asn1Read" in item.wanted or "Asn1Write" in item.wanted or item.kind == "struct")
+        item.reject(is_both, "is defined by an item: an enum with no other derive of `asn1`")
+        item.reject(not (item.reads or item.writes), "derives neither `Asn1Read` nor `Asn1Write`")
+        parts = [(part.name, self.known(type)) for part in item.parts for type in [*part.parts[:-1], part.form]]
+        lacks, left = {name: part for part, known in reversed(parts) for name in COPY - known.derives}, {}
+        item.derives = [name for name in KEPT if name in item.wanted and name not in lacks]
+        for name in item.wanted:
+            if name not in (*item.derives, *ASN1):
+                why = f"which `{lacks[name]}` lacks" if name in lacks else "which isn't kept"
+                left.setdefault(why, []).append(f"`{name}`")
+        said = "; ".join(f"{', '.join(names)}, {why}" for why, names in left.items())
+        item.note = f"`{item.name}` is printed without {said}" if left else ""
+        item.derives += [] if "Copy" in item.derives else ["Drop"]
+        tags, derives = [known.tags for _, known in parts], frozenset(item.derives)
+        if item.kind == "struct":
+            return Known({"16 constructed"}, derives, fails=any(known.fails for _, known in parts))
+        tags = None if None in tags else ANY if ANY in tags else set().union(*tags)
+        return Known(tags, derives, any(known.is_missing for _, known in parts), False)
+
+    def check_part(self, item, part, others):
+        """A value that an item defines comes after it, and under an explicit tag at most. A field that may be missing
+        is told from what may follow it, and a variant from the others."""
+        in_struct, type, known = item.kind == "struct", self.known(part.type), self.known(part.form)
+        is_unclear = not in_struct and part.tag and not type.is_simple and type.tags != ANY
+        part.reject(is_unclear, "is a choice or an option under a tag: put a struct around it")
+        declared = self.items.get((part.type.inner[0] if part.type.name == "Option" else part.type).name)
+        by, is_value = in_struct and "defined_by" in part.attributes, declared and declared.is_defined
+        part.reject(is_value and not by, "is defined by an item: it follows that, with `#[defined_by(..)]`")
+        is_wrapped = part.form.name in ("Option", "Implicit", "Defaulted")
+        part.reject(by and is_wrapped, "is defined by an item: it is there, with an explicit tag or none")
+        is_other = not is_value and (declared or part.base.name in LIBRARY or part.base.name in SHAPES)
+        part.reject(by and is_other, "is defined by an item, and its type is not")
+        # The trait whose impl says which errors a write returns, if any.
+        part.fails = known.fails and ("SimpleAsn1Writable" if known.is_simple else "Asn1Writable")
+        is_read = item.reads or not in_struct
+        part.reject(part.fails and is_read, "is a list made in code, and may be only in a struct that isn't read")
+        is_choice = item.kind == "enum" and not item.is_defined
+        part.reject(is_choice and known.is_missing, "may be missing, and is an alternative of a choice")
+        for other in others if is_choice or in_struct and known.is_missing else []:
+            follows = self.known(other.form)
+            tags = (known.tags, follows.tags)
+            is_same = None not in tags and (ANY in tags or known.tags & follows.tags)
+            why = f"a tag of `{other.name}` is one of `{part.name}` too, from which it is told by its tag"
+            reject(is_same, other.line, why)
+            if not is_choice and not follows.is_missing:
+                break
+
+
+def set_form(item, part):
+    """Gives a field or a variant its type in the row, and what is said of it by its attributes."""
+    in_struct, attributes, is_option = item.kind == "struct", part.attributes, part.type.name == "Option"
+    tags = {"implicit", "explicit"} & set(attributes)
+    part.reject(len(tags) > 1, "is both implicit and explicit")
+    part.tag = "".join(tags)
+    others = set(attributes) - {part.tag}
+    is_by = others == {"defined_by"} or set(attributes) == {"default"}
+    part.reject(item.is_defined and not is_by, "has neither `#[defined_by(..)]` nor `#[default]` alone")
+    is_wrong = not in_struct and not item.is_defined and others or "derive" in attributes
+    reject(is_wrong, part.line, f"an attribute that `{part.name}` can't have")
+    number, *words = attributes.get(part.tag, ["0"])
+    reject(not re.fullmatch(r"\d[\d_]*", number), part.line, f"`{part.tag}` without a number")
+    required = {"": False, "required=false": False, "required=true": True}.get("".join(words).strip(","))
+    reject(required is None, part.line, f"`{part.tag}` takes a number and `required = true`")
+    has_default = in_struct and "default" in attributes
+    part.reject(has_default and (is_option or required), "has a default, so it is neither an option nor required")
+    is_unclear = in_struct and part.tag and not has_default and is_option == required
+    part.reject(is_unclear, "has a tag: either it is an option, or the tag says `required = true`")
+    is_around = is_option and part.tag and in_struct and part.type.inner
+    part.base = part.type.inner[0] if is_around else part.type
+    part.form = Type(part.tag.capitalize(), [part.base, number.replace("_", "")], part.line) if part.tag else part.base
+    part.form = Type("Option", [part.form], part.line) if is_around else part.form
+    # Of a marker the value that its item defines, and of this value the item's type.
+    part.value = part.item = None
+    # The struct's name and the field's, as that of a type.
+    part.title = item.name + "".join(word.capitalize() for word in part.name.split("_"))
+    part.default = ""
+    if has_default:
+        part.form = Type("Defaulted", [part.form, part.title], part.line)
+        value, type = "".join(word for word in attributes["default"] if word != ","), str(part.base)
+        found = re.fullmatch(rf"(true|false)|-?{DIGITS}(?:[ui]\d+)?", value)
+        reject(not found, part.line, f"the default of `{part.name}` isn't a literal: `true`, `false` or a number")
+        part.default = re.sub(r"_|[ui]\d+$", "", value)
+        fits = found[1] if type == "bool" else not found[1] and int(part.default) in INTEGERS.get(type, ())
+        why = f"`{part.default}` is no value of `{type}`: a default is of a Boolean or an integer type"
+        reject(not fits, part.line, why)
+    # Whether the type in the row is another than the field's.
+    part.is_wrapped = in_struct and part.form is not part.type and "defined_by" not in attributes

@@ -69,7 +69,7 @@ class Structure(Form):
 
     part, default_comment = "pub {}: {}", "The field."
 
-    def printed(self):
+    def __str__(self):
         self.set_rows()
         row, (row_type, view) = self.item.own("Fields"), self.row(self.parts)
         text = self.stated(part.form if part.item else part.type for part in self.parts)
@@ -157,7 +157,7 @@ impl DefaultValue<{inner}> for {part.title} {{
 class Choice(Form):
     """An enum whose variants are told by their tags. Its methods behind the first are also for those that an item tells."""
 
-    def printed(self):
+    def __str__(self):
         choices = choices_of(self.item, self.parts, "Choice")
         alias, forms = choices[0]
         text = "".join(f"\ntype {name} = Choice{len(some)}<{', '.join(map(str, some))}>;\n" for name, some in choices)
@@ -246,7 +246,7 @@ class Defined(Choice):
             is_tlv = [*map(str, other.parts)] == [ITEM, f"Tlv<{self.item.life}>"]
             other.reject(not is_tlv, f"is the default, and not of an `{ITEM}` and a `Tlv`")
 
-    def printed(self):
+    def __str__(self):
         text = self.other_struct() if self.other else ""
         text += self.stated([*(part.base for part in self.known), f"{self.kept}<{self.life}>"])
         text += self.impl(f"Asn1DefinedBy<{ITEM}>", self.variants(), f"""
@@ -349,7 +349,7 @@ def side(at, count):
     return "(inr " * at + ("(inl {})" if at < count - 1 else "{}") + ")" * at
 
 
-def lawful(module, item):
+def lawful(item, module):
     """The functions that say that each value of the type has one encoding: first those of the choices in a choice. They
     call the laws of the types in the type. If one of these may be missing, or for a choice, tags differ."""
     if item.kind == "const" or item.is_defined or item.kind != "type" and not item.reads:
@@ -396,7 +396,7 @@ def octets_of(item):
     return numbers, octets
 
 
-def identifier(item):
+def identifier(item, _):
     """A function that returns an identifier: its clause has the numbers, of which the first means two."""
     numbers, octets = octets_of(item)
     contents = "".join(f"\\x{octet:02x}" for octet in octets)
@@ -409,6 +409,14 @@ pub fn {item.name.lower()}() -> ObjectIdentifier
     ensures {{ identifier_of result ≡ {item.name}_NUMBERS }}
 {{ known_identifier(b"{contents}") }}
 """
+
+
+def alias(item, _):
+    return f"\n{comment(item, 'A list.')}\npub type {item.own()} = {item.type};\n"
+
+
+# What prints each kind of declaration.
+FORMS = {"struct": Structure, "enum": Choice, "type": alias, "const": identifier}
 
 
 def answers(item, module):
