@@ -1,7 +1,5 @@
-"""Reads declarations in the original's form: structs, enums, aliases and identifiers, with their attributes.
-
-Says what is known of their types: tags, derives, and what a field is in its row. What has no form is rejected here.
-"""
+"""Reads declarations in the original's form: structs, enums, aliases and identifiers, with their attributes. Says what
+is known of their types: tags, derives, and what a field is in its row. What has no form is rejected here."""
 
 import re
 from dataclasses import dataclass, field, replace
@@ -24,9 +22,7 @@ ORIGINAL = ("asn1", "std", "core", "alloc")
 # No more digits than `int` takes.
 DIGITS = r"\d[\d_]{,4299}"
 KEPT = ("Debug", "Clone", "Copy", "PartialEq", "Eq", "Hash")
-COPY = frozenset(KEPT)
-ALL = COPY - {"Copy"}
-ASN1 = ("Asn1Read", "Asn1Write", "Asn1DefinedByRead", "Asn1DefinedByWrite")
+COPY, ALL = frozenset(KEPT), frozenset(KEPT) - {"Copy"}
 LISTS = ("SequenceOf", "SetOf", "SequenceOfWriter", "SetOfWriter")
 # What is in a type's brackets: a lifetime, a type, or a number.
 SHAPES = {
@@ -101,25 +97,21 @@ class Reader:
 
     def __init__(self, source):
         found = [token for token in TOKEN.finditer(source) if not token["skip"]]
-        self.tokens = [(token[0], source.count("\n", 0, token.start()) + 1) for token in found]
-        self.tokens += [(END, source.count("\n") + 1)] * 3
+        self.tokens = [*(token[0] for token in found), END, END, END]
+        self.lines = [source.count("\n", 0, token.start()) + 1 for token in found] + [source.count("\n") + 1] * 3
         self.at = 0
-
-    @property
-    def line(self):
-        return self.tokens[self.at][1]
 
     def takes(self, *patterns):
         """The next token, if these match it and those after it; else nothing is taken."""
-        tokens = [token for token, _ in self.tokens[self.at : self.at + len(patterns)]]
+        tokens = self.tokens[self.at : self.at + len(patterns)]
         found = all(map(re.fullmatch, patterns, tokens))
         self.at += len(patterns) if found else 0
         return tokens[0] if found else ""
 
     def expect(self, pattern, what=""):
-        word, found = self.tokens[self.at][0], self.takes(pattern)
+        word, found = self.tokens[self.at], self.takes(pattern)
         what = what or f"`{pattern.replace(chr(92), '')}`"
-        reject(not found, self.line, f"{what} was expected, and found `{word}`")
+        reject(not found, self.lines[self.at], f"{what} was expected, and found `{word}`")
         return found
 
     def until(self, end):
@@ -137,16 +129,16 @@ class Reader:
             found.doc += self.attribute(found.attributes) if word == "#" else [word]
         if self.takes("pub") and self.takes(r"\("):
             self.until(r"\)")
-        found.line, found.kind = self.line, "" if is_part else self.expect(WORD, "a declaration")
+        found.line, found.kind = self.lines[self.at], "" if is_part else self.expect(WORD, "a declaration")
         is_other = found.kind not in ("", "struct", "enum", "type", "const")
         reject(is_other, found.line, f"`{found.kind}` isn't a struct, an enum, an alias or an identifier's constant")
-        line, found.name = self.line, self.expect(WORD, what)
+        line, found.name = self.lines[self.at], self.expect(WORD, what)
         reject(found.name in WORDS, line, f"`{found.name}` is a word of Rust or Rattle: name it otherwise")
         return found
 
     def attribute(self, attributes):
         """Adds an attribute to these; or returns the comment that it is, if any."""
-        line = self.line
+        line = self.lines[self.at]
         self.expect(r"\[")
         name, words = self.expect(WORD, "an attribute"), self.until("]")
         if name == "doc" and len(words) == 2 and words[0] == "=":
@@ -165,16 +157,13 @@ class Reader:
         return names[-1] if names[0] in ORIGINAL else "::".join(names)
 
     def type(self):
-        line = self.line
+        line = self.lines[self.at]
         if self.takes("&"):
             return Type("&", [self.expect(LIFE, "a lifetime"), self.type()], line)
         if self.takes(r"\[", "u8", ";"):
             return Type("[u8; N]", ["".join(self.until("]"))], line)
-        if self.takes(r"\(", r"\)"):
-            return Type("()", [], line)
-        if self.takes(r"\[", "u8", "]"):
-            return Type("[u8]", [], line)
-        return Type(self.path(), self.parts(self.argument, ">") if self.takes("<") else [], line)
+        plain = "()" if self.takes(r"\(", r"\)") else "[u8]" if self.takes(r"\[", "u8", "]") else ""
+        return Type(plain or self.path(), self.parts(self.argument, ">") if not plain and self.takes("<") else [], line)
 
     def argument(self):
         if self.takes("{"):
@@ -201,8 +190,7 @@ class Reader:
         found = []
         while not self.takes(end):
             found.append(read())
-            if not self.takes(","):
-                self.expect(end)
+            if not self.takes(",") and self.expect(end):
                 break
         return found
 
@@ -213,7 +201,7 @@ class Reader:
         found.wanted = re.findall(r"([^\s,]+) ,", " ".join(found.attributes.get("derive", [])))
         found.is_defined = found.kind == "enum" and any(name.startswith("Asn1DefinedBy") for name in found.wanted)
         if found.kind != "const" and self.takes("<"):
-            line, found.life = self.line, self.takes(LIFE)
+            line, found.life = self.lines[self.at], self.takes(LIFE)
             reject(not found.life, line, "type parameters have no form here: a declaration has one lifetime at most")
             reject(not self.takes(">"), line, "a declaration has one lifetime at most, and no bounds")
         if found.kind in ("struct", "enum"):
@@ -242,7 +230,7 @@ class Reader:
         uses, found = [], []
         while not self.takes(END):
             if self.takes("use"):
-                line, words = self.line, self.until(";")
+                line, words = self.lines[self.at], self.until(";")
                 reject(not words, line, "a path was expected, and found `;`")
                 uses += [] if words[0] in ORIGINAL else ["use " + " ".join(words) + ";"]
             elif self.takes("#", "!", r"\["):
@@ -291,7 +279,16 @@ class Module:
             for at, one in enumerate(named):
                 one.reject(one.name in [before.name for before in named[:at]], "is declared twice")
         for item in items:
-            self.check_item(item)
+            # It is none of a type of the library, of a size that has a form, and of one lifetime.
+            item.reject(item.name in (*SHAPES, *imported), "is imported, or a type of the library: name it otherwise")
+            item.reject(item.kind == "struct" and len(item.parts) > MOST_FIELDS, f"has more than {MOST_FIELDS} fields")
+            has_no_form = item.kind == "enum" and not 0 < len(item.parts) <= MOST_VARIANTS
+            item.reject(has_no_form, f"has no variant, or more than {MOST_VARIANTS}")
+            types = [item.type] if item.type else [type for part in item.parts for type in part.parts or [part.type]]
+            for type in types:
+                reject(set(type.lives) - {item.life}, type.line, f"a lifetime that `{item.name}` doesn't declare")
+            is_unused = item.life and not any(type.lives for type in types)
+            item.reject(is_unused, "declares a lifetime, and nothing in it has one")
             for part in item.parts:
                 set_form(item, part)
         for item in items:
@@ -306,18 +303,6 @@ class Module:
         item = self.items.get(type.name)
         inner = type.inner if not item else [item.type] if item.type else [part.base for part in item.parts]
         return [type, *(one for each in inner for one in self.within(each))]
-
-    def check_item(self, item):
-        """A declaration is none of a type of the library, of a size that has a form, and of one lifetime."""
-        item.reject(item.name in (*SHAPES, *self.imported), "is imported, or a type of the library: name it otherwise")
-        item.reject(item.kind == "struct" and len(item.parts) > MOST_FIELDS, f"has more than {MOST_FIELDS} fields")
-        has_no_form = item.kind == "enum" and not 0 < len(item.parts) <= MOST_VARIANTS
-        item.reject(has_no_form, f"has no variant, or more than {MOST_VARIANTS}")
-        types = [item.type] if item.type else [type for part in item.parts for type in part.parts or [part.type]]
-        for type in types:
-            reject(set(type.lives) - {item.life}, type.line, f"a lifetime that `{item.name}` doesn't declare")
-        is_unused = item.life and not any(type.lives for type in types)
-        item.reject(is_unused, "declares a lifetime, and nothing in it has one")
 
     def known(self, type):
         """What is known of a type; nothing if it is declared elsewhere."""
@@ -375,7 +360,7 @@ class Module:
         lacks, left = {name: part for part, known in reversed(parts) for name in COPY - known.derives}, {}
         item.derives = [name for name in KEPT if name in item.wanted and name not in lacks]
         for name in item.wanted:
-            if name not in (*item.derives, *ASN1):
+            if name not in item.derives and not re.fullmatch("Asn1(DefinedBy)?(Read|Write)", name):
                 why = f"which `{lacks[name]}` lacks" if name in lacks else "which isn't kept"
                 left.setdefault(why, []).append(f"`{name}`")
         said = "; ".join(f"{', '.join(names)}, {why}" for why, names in left.items())

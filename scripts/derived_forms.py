@@ -155,7 +155,7 @@ impl DefaultValue<{inner}> for {part.title} {{
 
 
 class Choice(Form):
-    """An enum whose variants are told by their tags. Its methods behind the first are also for those that an item tells."""
+    """An enum whose variants are told by their tags; and what one has whose variants are told by an item."""
 
     def __str__(self):
         choices = choices_of(self.item, self.parts, "Choice")
@@ -224,18 +224,17 @@ class Choice(Form):
 class Defined(Choice):
     """An enum with a variant for each identifier that is known; the last may serve every other."""
 
-    def __init__(self, item, module):
-        super().__init__(item, module)
-        self.by = quoted(item.own(), f"Asn1DefinedBy<{ITEM}>") + ".by"
-        self.known = [part for part in item.parts if "defined_by" in part.attributes]
-        self.other = next((part for part in item.parts if "default" in part.attributes), None)
+    def __str__(self):
+        by = quoted(self.item.own(), f"Asn1DefinedBy<{ITEM}>") + ".by"
+        self.known = [part for part in self.parts if "defined_by" in part.attributes]
+        self.other = next((part for part in self.parts if "default" in part.attributes), None)
         # What the default keeps.
         self.kept = self.name + self.other.name if self.other else ""
         # Each identifier is declared, and told from the others; what serves every other is last, and keeps it.
         numbers, other = {}, self.other
         for part in self.known:
             name = "".join(part.attributes["defined_by"][:-1])
-            constant = self.module.items.get(name, item)
+            constant = self.module.items.get(name, self.item)
             reject(constant.kind != "const", part.line, f"`{name}` is no identifier that is declared here")
             part.call, part.numbers = f"{name.lower()}()", f"{name}_NUMBERS"
             first = numbers.setdefault(tuple(octets_of(constant)[0]), part)
@@ -245,9 +244,7 @@ class Defined(Choice):
             other.reject(other is not self.parts[-1], "is the default, and not the last variant")
             is_tlv = [*map(str, other.parts)] == [ITEM, f"Tlv<{self.item.life}>"]
             other.reject(not is_tlv, f"is the default, and not of an `{ITEM}` and a `Tlv`")
-
-    def __str__(self):
-        text = self.other_struct() if self.other else ""
+        text = self.other_struct() if other else ""
         text += self.stated([*(part.base for part in self.known), f"{self.kept}<{self.life}>"])
         text += self.impl(f"Asn1DefinedBy<{ITEM}>", self.variants(), f"""
             ghost by = {{ by_item (record {{
@@ -258,7 +255,7 @@ class Defined(Choice):
         text += self.impl(f"DefinedField<{ITEM}>", f"""
             ghost both = {{ record {{
             item = {der(ITEM)};
-            value = {self.by}.means;
+            value = {by}.means;
             }} }};
             fn known_item(&self) {{ {self.match("{call}.known()", "x.item.known()", "_")} }}
             ghost agrees = {{ word_for_word _ }};""")
@@ -267,14 +264,14 @@ class Defined(Choice):
             reads = {part.call: self.made(part, f"parser.read_element::<{part.form}>()?") for part in self.known}
             tests = "".join(f"if is_identifier(&item, {call}) {{ return Ok({made}); }} " for call, made in reads.items())
             last = "Err(ParseError::new(ParseErrorKind::UnknownDefinedBy))"
-            if self.other:
+            if other:
                 value = f"{self.kept} {{ item, value: parser.read_element::<Tlv<{self.life}>>()? }}"
-                last = f"Ok({self.made(self.other, value)})"
-            stops = f"{self.by}.means.stops ({self.by}.seen item)"
-            parse = self.parse(f"item: {ITEM}, ", tests + last, f"ReadsDefined {self.by} item", stops)
+                last = f"Ok({self.made(other, value)})"
+            stops = f"{by}.means.stops ({by}.seen item)"
+            parse = self.parse(f"item: {ITEM}, ", tests + last, f"ReadsDefined {by} item", stops)
             text += self.impl(f"Asn1DefinedByReadable<{self.life}, {ITEM}>", parse, f"""
             fn one_text()
-                ensures {{ {self.by}.means.plain }}
+                ensures {{ {by}.means.plain }}
             {{}}""")
         if self.item.writes:
             told = f"fn item(&self) -> {ITEM} {{ {self.match('{call}', 'x.item.clone().unwrap()', '_')} }}"
@@ -371,10 +368,9 @@ def lawful(item, module):
 
 def laws_of(module, type):
     """The names of the laws of the types in a type, of those whose laws are said here, or imported."""
-    if isinstance(type, str):
-        return [law_name(type.split("<")[0])]
-    declared, name = module.items.get(type.name), law_name(type.name)
-    if declared and not declared.is_defined or name in module.imported:
+    word = str(type).split("<")[0]
+    declared, name = module.items.get(word), law_name(word)
+    if isinstance(type, str) or declared and not declared.is_defined or name in module.imported:
         return [name]
     inner = [part.form for part in declared.parts] if declared else type.inner
     return [name for part in inner for name in laws_of(module, part)]
@@ -420,12 +416,10 @@ FORMS = {"struct": Structure, "enum": Choice, "type": alias, "const": identifier
 
 
 def answers(item, module):
-    """The proofs that are owed for an item: their function, what they use, and the proofs, if any.
-
-    The write of large variants owes some, in which the search would end at its limit: their types have one encoding, so
-    nothing more is asked; and of what an item defines, that an error leaves the buffer as it was. Large is an enum of
-    the file; of what an item defines, each type that is declared or imported.
-    """
+    """The proofs that are owed for an item: their function, what they use, and the proofs, if any. The write of large
+    variants owes some, in which the search would end at its limit: their types have one encoding, so nothing more is
+    asked; and of what an item defines, that an error leaves the buffer as it was. Large is an enum of the file; of what
+    an item defines, each type that is declared or imported."""
     if item.kind != "enum" or not item.writes:
         return (item.name.lower(), IDENTIFIER_USES, IDENTIFIER_ANSWERS) if item.kind == "const" else ("", "", "")
     enums = [name for name, other in module.items.items() if other.kind == "enum"]
