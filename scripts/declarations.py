@@ -87,6 +87,9 @@ class Item:
         """Rejects what is wrong with the item, by a reason that begins with its name."""
         reject(wrong, self.line, f"`{self.name}` {reason}")
 
+    def comment(self, default):
+        return "\n".join(self.doc or [f"/// {default}"])
+
     def own(self, suffix=""):
         """The item's type, or one with more behind the item's name."""
         return f"{self.name}{suffix}<{self.life}>" if self.life else self.name + suffix

@@ -30,10 +30,6 @@ def der(type):
     return quoted(type) + ".der"
 
 
-def comment(item, default):
-    return "\n".join(item.doc or [f"/// {default}"])
-
-
 def group(words):
     return f"({words})" if " " in words else words
 
@@ -50,15 +46,15 @@ class Form:
 
     def stated(self, types):
         """The struct or the enum, with its comments and its derives, and with these types of its parts."""
-        text = f"\n{comment(self.item, f'`{self.name}`.')}\n#[derive({', '.join(self.item.derives)})]\n"
+        text = f"\n{self.item.comment(f'`{self.name}`.')}\n#[derive({', '.join(self.item.derives)})]\n"
         text += f"pub {self.item.kind} {self.item.own()} {{\n"
         for part, type in zip(self.parts, types):
-            text += f"{comment(part, self.default_comment)}\n{self.part.format(part.name, type)},\n"
+            text += f"{part.comment(self.default_comment)}\n{self.part.format(part.name, type)},\n"
         return text + "}\n"
 
-    def impl(self, trait, *members):
+    def impl(self, trait, *members, of=""):
         """An impl of a trait. Clauses are written if the type has a lifetime; else they are the trait's."""
-        head, text = f"{trait} for {self.item.own()}", "\n".join(f"    {member}" for member in members)
+        head, text = f"{trait} for {of or self.item.own()}", "\n".join(f"    {member}" for member in members)
         text = text if self.item.life else re.sub(r"\n *ensures .*", "", text)
         generics = f"<{self.life}>" if "'" in head else ""
         return f"\nimpl{generics} {head} {{\n{text}\n}}\n"
@@ -144,14 +140,9 @@ class Structure(Form):
             term = f"negsuc {-int(term) - 1}" if term.startswith("-") else f"pos {term}"
         if part.tag:
             term, made = f"record {{ inner = {term} }}", f"{part.tag.capitalize()}::new({made})"
-        return f"""
-/// What `{part.name}` is if it is left out.
-pub struct {part.title};
-impl DefaultValue<{inner}> for {part.title} {{
-    ghost default = {{ {term} }};
-    fn value() -> {inner} {{ {made} }}
-}}
-"""
+        text = f"\n/// What `{part.name}` is if it is left out.\npub struct {part.title};"
+        value = f"fn value() -> {inner} {{ {made} }}"
+        return text + self.impl(f"DefaultValue<{inner}>", f"ghost default = {{ {term} }};", value, of=part.title)
 
 
 class Choice(Form):
@@ -305,13 +296,11 @@ impl<{life}> {of} {{
     pub fn value(&self) -> Tlv<{life}> ensures {{ result ≡ self.now.value }} {{ self.value }}
 }}
 """
-        return text if "Clone" not in self.item.derives else text + f"""
-impl<{life}> Clone for {of} {{
-    ghost is_clone = {{ λ x y. (identifier_of y.item ≡ identifier_of x.item) × (y.value ≡ x.value) }};
-    ghost is_infallible = {{ λ _. ⊤ }};
-    fn clone(&self) -> Result<{of}, AllocError> {{ Ok({kept} {{ item: self.item.clone()?, value: self.value }}) }}
-}}
-"""
+        return text if "Clone" not in self.item.derives else text + self.impl("Clone", f"""
+            ghost is_clone = {{ λ x y. (identifier_of y.item ≡ identifier_of x.item) × (y.value ≡ x.value) }};
+            ghost is_infallible = {{ λ _. ⊤ }};
+            fn clone(&self) -> Result<{of}, AllocError> {{ Ok({kept} {{ item: self.item.clone()?, value: self.value }}) }}
+            """, of=of)
 
     def alternatives(self):
         """The record of the variants, from the last one on; the first one says what all values mean."""
@@ -359,7 +348,7 @@ def lawful(item, module):
         called = dict.fromkeys(called for part in parts for called in laws_of(module, part))
         text += f"""
 /// Each value of `{name}` has one encoding, which is read back.
-{by_tags}{'pub ' if name == item.name else ''}fn {law_name(name)}()
+{by_tags}{'pub ' if name == item.name else ''}fn {laws_of(module, own)[0]}()
     ensures {{ HasOneEncoding {der(re.sub("'.*>", "'static>", own))} }}
 {{ {' '.join(f'{law}();' for law in called)} }}
 """
@@ -367,17 +356,15 @@ def lawful(item, module):
 
 
 def laws_of(module, type):
-    """The names of the laws of the types in a type, of those whose laws are said here, or imported."""
+    """The names of the laws of the types in a type, of those whose laws are said here, or imported. A type that the
+    library's choices are made of is a string, and has its own law."""
     word = str(type).split("<")[0]
-    declared, name = module.items.get(word), law_name(word)
+    name = re.sub(r"(?<=[a-z0-9])(?=[A-Z])|(?<=[A-Z])(?=[A-Z][a-z])", "_", word).lower() + "_is_lawful"
+    declared = module.items.get(word)
     if isinstance(type, str) or declared and not declared.is_defined or name in module.imported:
         return [name]
     inner = [part.form for part in declared.parts] if declared else type.inner
     return [name for part in inner for name in laws_of(module, part)]
-
-
-def law_name(name):
-    return re.sub(r"(?<=[a-z0-9])(?=[A-Z])|(?<=[A-Z])(?=[A-Z][a-z])", "_", name).lower() + "_is_lawful"
 
 
 def octets_of(item):
@@ -400,7 +387,7 @@ def identifier(item, _):
 /// The numbers of [`{item.name.lower()}`], as they are encoded: the first means two.
 pub const {item.name}_NUMBERS: [{"u64" if max(numbers) < 2**64 else "u128"}; {len(numbers)}] = {numbers};
 
-{comment(item, f"The identifier {'.'.join(item.arcs)}.")}
+{item.comment(f"The identifier {'.'.join(item.arcs)}.")}
 pub fn {item.name.lower()}() -> ObjectIdentifier
     ensures {{ identifier_of result ≡ {item.name}_NUMBERS }}
 {{ known_identifier(b"{contents}") }}
@@ -408,7 +395,7 @@ pub fn {item.name.lower()}() -> ObjectIdentifier
 
 
 def alias(item, _):
-    return f"\n{comment(item, 'A list.')}\npub type {item.own()} = {item.type};\n"
+    return f"\n{item.comment('A list.')}\npub type {item.own()} = {item.type};\n"
 
 
 # What prints each kind of declaration.
