@@ -322,7 +322,7 @@ class Module:
         item.reject(self.seen.get(name, item) is None, "is recursive: it has no form")
         if name not in self.seen:
             self.seen[name] = None
-            self.seen[name] = self.known_item(item)
+            self.seen[name] = self.known(item.type) if item.type else self.known_item(item)
         return self.seen[name]
 
     def known_around(self, type, inside=Known(), *others):
@@ -352,8 +352,6 @@ class Module:
 
     def known_item(self, item):
         """What is known of a declared type, by what it is made of: it has the derives that all its parts have."""
-        if item.kind == "type":
-            return self.known(item.type)
         by = "DefinedBy" if any("DefinedBy" in name for name in item.wanted) else ""
         item.reads, item.writes = f"Asn1{by}Read" in item.wanted, f"Asn1{by}Write" in item.wanted
         is_both = by and ("Asn1Read" in item.wanted or "Asn1Write" in item.wanted or item.kind == "struct")
@@ -407,9 +405,8 @@ class Module:
 def set_form(item, part):
     """Gives a field or a variant its type in the row, and what is said of it by its attributes."""
     in_struct, attributes, is_option = item.kind == "struct", part.attributes, part.type.name == "Option"
-    tags = {"implicit", "explicit"} & set(attributes)
-    part.reject(len(tags) > 1, "is both implicit and explicit")
-    part.tag = "".join(tags)
+    part.reject({"implicit", "explicit"} <= set(attributes), "is both implicit and explicit")
+    part.tag = "".join({"implicit", "explicit"} & set(attributes))
     others = set(attributes) - {part.tag}
     is_by = others == {"defined_by"} or set(attributes) == {"default"}
     part.reject(item.is_defined and not is_by, "has neither `#[defined_by(..)]` nor `#[default]` alone")
@@ -428,18 +425,16 @@ def set_form(item, part):
     part.form = Type(part.tag.capitalize(), [part.base, number.replace("_", "")], part.line) if part.tag else part.base
     part.form = Type("Option", [part.form], part.line) if is_around else part.form
     # Of a marker the value that its item defines, and of this value the item's type.
-    part.value = part.item = None
+    part.value = part.item = part.default = None
     # The struct's name and the field's, as that of a type.
     part.title = item.name + "".join(word.capitalize() for word in part.name.split("_"))
-    part.default = ""
     if has_default:
         part.form = Type("Defaulted", [part.form, part.title], part.line)
         value, type = "".join(word for word in attributes["default"] if word != ","), str(part.base)
         found = re.fullmatch(rf"(true|false)|-?{DIGITS}(?:[ui]\d+)?", value)
         reject(not found, part.line, f"the default of `{part.name}` isn't a literal: `true`, `false` or a number")
-        part.default = re.sub(r"_|[ui]\d+$", "", value)
-        fits = found[1] if type == "bool" else not found[1] and int(part.default) in INTEGERS.get(type, ())
-        why = f"`{part.default}` is no value of `{type}`: a default is of a Boolean or an integer type"
-        reject(not fits, part.line, why)
+        part.default = value = re.sub(r"_|[ui]\d+$", "", value)
+        fits = found[1] if type == "bool" else not found[1] and int(value) in INTEGERS.get(type, ())
+        reject(not fits, part.line, f"`{value}` is no value of `{type}`: a default is of a Boolean or an integer type")
     # Whether the type in the row is another than the field's.
     part.is_wrapped = in_struct and part.form is not part.type and "defined_by" not in attributes

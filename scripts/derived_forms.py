@@ -1,12 +1,12 @@
 """The forms of docs/OWN_TYPES.md, filled in with declarations. The formatter lays out what they print."""
 
 import re
-from itertools import zip_longest
 
 from declarations import Type, reject
 
 BY_TAGS = "#[tactic(auto, using(asn1::specs::Lemmas::Fields::tags_differ))]\n"
 ERROR = "type Error = WriteError;"
+UNKNOWN = "Err(ParseError::new(ParseErrorKind::UnknownDefinedBy))"
 ITEM = "ObjectIdentifier"
 ANSWER = "\npub {0} : goal.{0}\n{2}{0} c = {1}\n"
 # What the proofs of an identifier's function use, and the proofs: the numbers that its octets are read as are computed.
@@ -103,7 +103,7 @@ class Structure(Form):
         gets its type in the row, its value as the row has it, and its words in the macros of bodies. The type is that
         of a marker's item, or the private alias of one with a tag or a default."""
         paired = [part for part in self.parts if part.type.name == "DefinedByMarker" or "defined_by" in part.attributes]
-        for marker, value in zip_longest(paired[::2], paired[1::2]):
+        for marker, value in zip(paired[::2], [*paired[1::2], None]):
             marker.reject("defined_by" in marker.attributes, "isn't after the marker of its item")
             follows = f"`#[defined_by({marker.name})]` has to follow, with no other marker between"
             marker.reject(not value or "defined_by" not in value.attributes, f"marks an item: {follows}")
@@ -177,8 +177,7 @@ class Choice(Form):
 
     def elim(self, values):
         """What each variant means: its value in its place of the sum."""
-        cases = " | ".join(f"{part.name} x ↦ {value}" for part, value in zip(self.parts, values))
-        return f"(elim [ {cases} ])"
+        return f"(elim [ {' | '.join(f'{part.name} x ↦ {value}' for part, value in zip(self.parts, values))} ])"
 
     def match(self, body, other="", name="x", tagged=""):
         """A match with an arm for each variant: of the default, and of those under a tag, it may be another."""
@@ -237,10 +236,18 @@ class Defined(Choice):
             other.reject(not is_tlv, f"is the default, and not of an `{ITEM}` and a `Tlv`")
         text = self.other_struct() if other else ""
         text += self.stated([*(part.base for part in self.known), f"{self.kept}<{self.life}>"])
+        values = [f"({der(part.base)}.meaning x)" for part in self.known]
+        values += [f"({der(ITEM)}.meaning x.item, {der(other.base)}.meaning x.value)"] if other else []
+        places = [side(at, len(values)).format(value)[1:-1] for at, value in enumerate(values)]
+        # The record of the variants, from the last one on; the first one says what all values mean.
+        rest = f"(any_variant {der(other.base)} (λ m. m)) " if other else ""
+        for part in reversed(self.known):
+            word, view = "or_variant" if rest else "variant", self.elim(places) if part is self.known[0] else "(λ m. m)"
+            rest = f"({word} (identifier_with {part.numbers}) {der(part.form)} {rest}{view}) "
         text += self.impl(f"Asn1DefinedBy<{ITEM}>", self.variants(), f"""
             ghost by = {{ by_item (record {{
             item = {der(ITEM)};
-            value = {self.alternatives()};
+            value = {rest[1:-2]};
             }}) }};
             fn known_by(&self) {{ {self.match("x.known()", "x.value.known()")} }}""")
         text += self.impl(f"DefinedField<{ITEM}>", f"""
@@ -252,12 +259,10 @@ class Defined(Choice):
             ghost agrees = {{ word_for_word _ }};""")
         if self.item.reads:
             # One identifier after another is tested.
-            reads = {part.call: self.made(part, f"parser.read_element::<{part.form}>()?") for part in self.known}
-            tests = "".join(f"if is_identifier(&item, {call}) {{ return Ok({made}); }} " for call, made in reads.items())
-            last = "Err(ParseError::new(ParseErrorKind::UnknownDefinedBy))"
-            if other:
-                value = f"{self.kept} {{ item, value: parser.read_element::<Tlv<{self.life}>>()? }}"
-                last = f"Ok({self.made(other, value)})"
+            read = {part.call: self.made(part, f"parser.read_element::<{part.form}>()?") for part in self.known}
+            tests = "".join(f"if is_identifier(&item, {call}) {{ return Ok({made}); }} " for call, made in read.items())
+            value = f"{self.kept} {{ item, value: parser.read_element::<Tlv<{self.life}>>()? }}"
+            last = f"Ok({self.made(other, value)})" if other else UNKNOWN
             stops = f"{by}.means.stops ({by}.seen item)"
             parse = self.parse(f"item: {ITEM}, ", tests + last, f"ReadsDefined {by} item", stops)
             text += self.impl(f"Asn1DefinedByReadable<{self.life}, {ITEM}>", parse, f"""
@@ -299,19 +304,8 @@ impl<{life}> {of} {{
         return text if "Clone" not in self.item.derives else text + self.impl("Clone", f"""
             ghost is_clone = {{ λ x y. (identifier_of y.item ≡ identifier_of x.item) × (y.value ≡ x.value) }};
             ghost is_infallible = {{ λ _. ⊤ }};
-            fn clone(&self) -> Result<{of}, AllocError> {{ Ok({kept} {{ item: self.item.clone()?, value: self.value }}) }}
-            """, of=of)
-
-    def alternatives(self):
-        """The record of the variants, from the last one on; the first one says what all values mean."""
-        values = [f"({der(part.base)}.meaning x)" for part in self.known]
-        values += [f"({der(ITEM)}.meaning x.item, {der(self.other.base)}.meaning x.value)"] if self.other else []
-        places = [side(at, len(values)).format(value)[1:-1] for at, value in enumerate(values)]
-        text = f"(any_variant {der(self.other.base)} (λ m. m)) " if self.other else ""
-        for part in reversed(self.known):
-            word, view = "or_variant" if text else "variant", self.elim(places) if part is self.known[0] else "(λ m. m)"
-            text = f"({word} (identifier_with {part.numbers}) {der(part.form)} {text}{view}) "
-        return text[1:-2]
+            fn clone(&self) -> Result<{of}, AllocError>
+            {{ Ok({kept} {{ item: self.item.clone()?, value: self.value }}) }}""", of=of)
 
 
 def choices_of(item, parts, name="", pattern="{}", place="{}"):
@@ -356,8 +350,7 @@ def lawful(item, module):
 
 
 def laws_of(module, type):
-    """The names of the laws of the types in a type, of those whose laws are said here, or imported. A type that the
-    library's choices are made of is a string, and has its own law."""
+    """The names of the laws of the types in a type: those said here or imported, and those of a choice's choices."""
     word = str(type).split("<")[0]
     name = re.sub(r"(?<=[a-z0-9])(?=[A-Z])|(?<=[A-Z])(?=[A-Z][a-z])", "_", word).lower() + "_is_lawful"
     declared = module.items.get(word)
