@@ -282,7 +282,7 @@ class Module:
             for at, one in enumerate(named):
                 one.reject(one.name in [before.name for before in named[:at]], "is declared twice")
         for item in items:
-            # It is none of a type of the library, of a size that has a form, and of one lifetime.
+            # It isn't named like a type of the library, its size has a form, and it uses the lifetime that it declares.
             item.reject(item.name in (*SHAPES, *imported), "is imported, or a type of the library: name it otherwise")
             item.reject(item.kind == "struct" and len(item.parts) > MOST_FIELDS, f"has more than {MOST_FIELDS} fields")
             has_no_form = item.kind == "enum" and not 0 < len(item.parts) <= MOST_VARIANTS
@@ -351,7 +351,7 @@ class Module:
         return replace(inside, tags={tag}, is_missing=False, is_simple=True)
 
     def known_item(self, item):
-        """What is known of a declared type, by what it is made of: it has the derives that all its parts have."""
+        """What is known of a struct or an enum, by what it is made of: it has the derives that all its parts have."""
         by = "DefinedBy" if any("DefinedBy" in name for name in item.wanted) else ""
         item.reads, item.writes = f"Asn1{by}Read" in item.wanted, f"Asn1{by}Write" in item.wanted
         is_both = by and ("Asn1Read" in item.wanted or "Asn1Write" in item.wanted or item.kind == "struct")
@@ -424,7 +424,7 @@ def set_form(item, part):
     part.base = part.type.inner[0] if is_around else part.type
     part.form = Type(part.tag.capitalize(), [part.base, number.replace("_", "")], part.line) if part.tag else part.base
     part.form = Type("Option", [part.form], part.line) if is_around else part.form
-    # Of a marker the value that its item defines, and of this value the item's type.
+    # Of a marker the value that its item defines, of this value the item's type, and of any field its default.
     part.value = part.item = part.default = None
     # The struct's name and the field's, as that of a type.
     part.title = item.name + "".join(word.capitalize() for word in part.name.split("_"))
