@@ -502,6 +502,14 @@ fn read_length(octets: &[u8]) -> Result<(usize, &[u8]), ParseErrorKind>
 /// `InvalidTag`, `InvalidLength`, or `ShortData` with the number of octets that this part lacks at least. The error
 /// has no location. A result other than `ShortData` stays the same for every longer input, except that the remaining
 /// octets are longer.
+///
+/// ```text
+/// let octets = [5u8, 0, 1].as_slice();
+///
+/// let (tlv, rest) = strip_tlv(octets)?;
+///
+/// same((tlv.full_data(), rest), (&[5, 0], &[1]))
+/// ```
 #[inline]
 pub fn strip_tlv(data: &[u8]) -> ParseResult<(Tlv<'_>, &[u8])>
     // The result is the one that the definitions allow.
@@ -581,6 +589,12 @@ fn cut<'a>(octets: &'a [u8], tag: Tag, n: usize, rest: &'a [u8]) -> (Tlv<'a>, &'
 ///
 /// Errors: an error of `f` is returned as it is; if `f` returns a value and octets remain, the error is `ExtraData`,
 /// converted by `E::from`. The caller has to prove that `f` may always be called (`requires`).
+///
+/// ```text
+/// let pair = parse(alloc, &[1, 1, 0xff, 1, 1, 0], |parser| -> ParseResult<(bool, bool)> {
+///     Ok((parser.read_element::<bool>()?, parser.read_element::<bool>()?))
+/// })?;
+/// ```
 #[inline]
 pub fn parse<'a, T: Drop, E: From<ParseError> + Drop, F: FnOnce(&mut Parser<'a>) -> Result<T, E>>(
     alloc: Global,
@@ -603,6 +617,10 @@ pub fn parse<'a, T: Drop, E: From<ParseError> + Drop, F: FnOnce(&mut Parser<'a>)
 /// For a lawful type a value is returned exactly if `data` is its one encoding (`found`, `only`). All other input is
 /// rejected with the type's first error in the order of the input, or with `ExtraData` if octets remain after a
 /// value. Only a type that allocates returns `AllocationError`.
+///
+/// ```text
+/// let value = parse_single::<bool>(alloc, &[0x01, 0x01, 0xff])?;
+/// ```
 #[inline(always)]
 pub fn parse_single<'a, T: Asn1Readable<'a>>(alloc: Global, data: &'a [u8]) -> ParseResult<T>
     ensures exact { ReadsWhole T.der «data».entry.now result }

@@ -522,6 +522,12 @@ impl<'a> Writer<'a> {
 ///
 /// The caller has to prove (`requires`) that `f` may always be called, and that it leaves the octets before its own as
 /// they were, at `Ok` and at `Err`, in the buffer that it was given.
+///
+/// ```text
+/// let tagged = write(alloc, |writer: &mut Writer<'_>| writer.write_explicit_element(&true, 2))?;
+///
+/// same(tagged.as_slice(), &[0xa2, 3, 1, 1, 0xff])?;
+/// ```
 #[inline]
 pub fn write<E: From<WriteError>, F: Fn(&mut Writer<'_>) -> Result<(), E> + Drop>(
     alloc: Global,
@@ -539,6 +545,12 @@ pub fn write<E: From<WriteError>, F: Fn(&mut Writer<'_>) -> Result<(), E> + Drop
 
 /// Writes one value, and returns its encoding: the one of DER, or if the value holds closures, one that they may
 /// append. Errors and what the caller has to prove are those of [`Writer::write_element`].
+///
+/// ```text
+/// let octets = write_single(alloc, &true)?;
+///
+/// same(octets.as_slice(), &[1, 1, 0xff])?;
+/// ```
 #[inline]
 pub fn write_single<T: Asn1Writable>(alloc: Global, value: &T) -> Result<Vec<u8>, T::Error>
     requires { IsWritable T.der (T.der.meaning value.now) }

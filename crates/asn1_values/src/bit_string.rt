@@ -33,6 +33,15 @@ const fn has_padding(octets: &[u8], padding: u8) -> bool
 /// The contents octets are the number of unused bits, 0 to 7, and the octets. DER demands that the unused bits, the low
 /// ones of the last octet, are zero (11.2.1), and that an empty string has none. Reading rejects other contents octets
 /// with `InvalidValue`. Named bits aren't treated differently: their trailing zero bits (11.2.2) are kept.
+///
+/// ```text
+/// let bits = BitString::new(&[0x81, 0xf0], 4).ok_or(PADDING)?;
+///
+/// const TEXT: &[u8] = &[0x03, 0x03, 0x04, 0x81, 0xf0];
+///
+/// let read = parse_single::<BitString<'_>>(alloc, TEXT)?;
+/// same(&bits.clone()?, &read)?;
+/// ```
 #[derive(PartialEq, Eq, Hash, Drop)]
 pub struct BitString<'a> {
     octets: &'a [u8],

@@ -100,6 +100,12 @@ fn first_of(first: u128, second: u128) -> Option<u128>
 /// Its contents octets are one or more numbers in base 128, each in the fewest octets. The first number encodes the
 /// first two of the identifier (8.19.4). Here numbers are below 2^128, and there are 1 to 63 contents octets, copied
 /// and kept in place. Reading rejects more octets with `OidTooLong`, and other contents octets with `InvalidValue`.
+///
+/// ```text
+/// let identifier = ObjectIdentifier::from_string("1.+2.03").ok_or(NONE)?;
+/// same(identifier.as_der(), &[0x2a, 0x03])?;
+/// is_displayed(alloc, &identifier, "1.2.3")
+/// ```
 #[derive(PartialEq, Eq, Hash, Drop)]
 pub struct ObjectIdentifier {
     octets: [u8; 63],

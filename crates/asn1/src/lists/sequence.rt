@@ -18,6 +18,15 @@ use std::alloc::Global;
 /// from the input. They are read by [`Sequence::parse`], and written as they were read.
 ///
 /// Reading one rejects no contents octets and doesn't allocate. Two are equal if their contents octets are.
+///
+/// ```text
+/// let sequence = parse_single::<Sequence<'_>>(alloc, octets)?;
+///
+/// let parts = sequence.parse(alloc, |parser: &mut Parser<'_>| -> ParseResult<(bool, u8)> {
+///     Ok((parser.read_element::<bool>()?, parser.read_element::<u8>()?))
+/// });
+/// same(&parts, &Ok((true, 6)))?;
+/// ```
 #[derive(Clone, Copy, Debug, PartialEq, Eq, Hash)]
 pub struct Sequence<'a> {
     data: &'a [u8],

@@ -43,6 +43,16 @@ use std::marker::PhantomData;
 /// returns `Some(Err(..))` only if reading an item runs out of memory (`AllocationError`, without a location of this
 /// list). That item counts as taken. Writing a list whose item runs out of memory returns `AllocationError` too. The
 /// length of a list is known without reading an item: the items' encodings are the octets that remain.
+///
+/// ```text
+/// const FIVE_AND_SEVEN: &[u8] = &[0x30, 0x06, 0x02, 0x01, 0x05, 0x02, 0x01, 0x07];
+///
+/// let mut list = parse_single::<SequenceOf<'_, u64, 2, 3>>(alloc, FIVE_AND_SEVEN)?;
+/// assert!(rt; list.len() == 2 && !list.is_empty());
+/// same(list.next().transpose()?, Some(5))?;
+/// same(list.next().transpose()?, Some(7))?;
+/// assert!(rt; list.next().is_none() && list.is_empty());
+/// ```
 #[derive(Drop)]
 pub struct SequenceOf<'a, T: Asn1Type, const MINIMUM_LEN: usize, const MAXIMUM_LEN: usize> {
     content: &'a [u8],

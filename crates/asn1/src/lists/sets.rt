@@ -118,6 +118,13 @@ fn check_elements(alloc: Global, content: &[u8]) -> ParseResult<()>
 /// each element in turn. The first error decides: that of framing, or `InvalidSetOrdering` if an element's tag comes
 /// before the tag of the element before it. Each has the location `Index(i)`, i being counted from 0. Reading doesn't
 /// allocate. Two sets are equal if their contents octets are.
+///
+/// ```text
+/// let set = parse_single::<Set<'_>>(alloc, octets)?;
+/// set.parse(alloc, |parser: &mut Parser<'_>| -> ParseResult<(bool, u64)> {
+///     Ok((parser.read_element::<bool>()?, parser.read_element::<u64>()?))
+/// })
+/// ```
 #[derive(Debug, PartialEq, Eq, Hash, Drop)]
 pub struct Set<'a> {
     data: &'a [u8],
@@ -225,6 +232,13 @@ impl SimpleAsn1Writable for Set<'_> {
 /// reading the items allocates.
 ///
 /// The iterator returns what the iterator of [`crate::SequenceOf`] does, and so do writing and the length.
+///
+/// ```text
+/// const FIVE_TWICE: &[u8] = &[0x31, 0x06, 0x02, 0x01, 0x05, 0x02, 0x01, 0x05];
+///
+/// let mut set = parse_single::<SetOf<'_, u64>>(alloc, FIVE_TWICE)?;
+/// assert!(rt; matches!(set.next(), Some(Ok(5))));
+/// ```
 #[derive(Drop)]
 pub struct SetOf<'a, T: Asn1Type> {
     content: &'a [u8],

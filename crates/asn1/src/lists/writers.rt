@@ -15,6 +15,17 @@ use std::marker::PhantomData;
 ///
 /// The length isn't known before the contents octets are written. Writing returns `AllocationError` if out of memory,
 /// or an error that the closure may return.
+///
+/// ```text
+/// let fields = |writer: &mut Writer<'_>| -> WriteResult<()>
+///     ensures same_buffer { buffer_name writer.new ≡ buffer_name writer.old }
+///     ensures front { KeepsFront (octets_of writer.old) (octets_of writer.new) }
+/// {
+///     writer.write_element(&name)?;
+///     writer.write_element(&true)
+/// };
+/// is_written(alloc, &SequenceWriter::new(&fields), SMITH)
+/// ```
 #[derive(Drop)]
 pub struct SequenceWriter<'a, F: Fn(&mut Writer<'_>) -> Result<(), E>, E> {
     f: &'a F,
@@ -67,6 +78,12 @@ impl<F: Fn(&mut Writer<'_>) -> Result<(), E>, E: From<WriteError>> SimpleAsn1Wri
 ///
 /// The length is known if each item's is and their sum fits in a `usize`. Writing returns `AllocationError` if out of
 /// memory, or an error of one of the items.
+///
+/// ```text
+/// let items = [1u8, 2, 3];
+/// let list = SequenceOfWriter::new(&items);
+/// is_written(alloc, &list, ONE_TO_THREE)?;
+/// ```
 #[derive(Debug, Clone, PartialEq, Eq, Hash, Drop)]
 pub struct SequenceOfWriter<'a, T> {
     items: &'a [T],

@@ -67,6 +67,16 @@ impl<T1: Asn1Writable<Error = WriteError>> Asn1Writable for Choice1<T1> {
 /// Reading frames the element first. The first alternative that accepts the element's tag reads the element. If this
 /// alternative rejects the element, the second isn't tried. The error is `UnexpectedTag` if none accepts the tag.
 /// What is written is read back if no tag is accepted by both ([`crate::laws_wrappers::choices_are_lawful`]).
+///
+/// ```text
+/// are_both_ways::<Choice2<bool, i64>>(
+///     alloc,
+///     &[
+///         (Choice2::ChoiceA(true), &[1, 1, 0xff]),
+///         (Choice2::ChoiceB(18), &[2, 1, 0x12]),
+///     ],
+/// )?;
+/// ```
 #[derive(Debug, Clone, Copy, PartialEq, Eq, Hash)]
 pub enum Choice2<T1, T2> {
     /// A value of the first type.

@@ -38,6 +38,16 @@ pub trait DefaultValue<T: Asn1Type> {
 ///
 /// Reading returns the default if no tag that the type accepts is next. A default that is encoded nevertheless is
 /// rejected with `EncodedDefault`; other errors are the type's.
+///
+/// ```text
+/// /// A Boolean is false if it is left out.
+/// struct False;
+///
+/// type Critical = Defaulted<bool, False>;
+///
+/// both_ways(alloc, Critical::new(true), &[1, 1, 0xff])?;
+/// both_ways(alloc, Critical::new(false), &[])?;
+/// ```
 #[derive_where(Debug, Clone, Copy, PartialEq, Eq, Hash; T)]
 pub struct Defaulted<T, D> {
     inner: T,

@@ -18,6 +18,10 @@ use std::fmt;
 ///
 /// Errors of reading, after those of framing: `UnexpectedTag`, the first error of `T` in the contents octets,
 /// `ExtraData` if octets remain there. Writing returns what writing `T` does.
+///
+/// ```text
+/// both_ways(alloc, Explicit::<_, 2>::new(true), &[0xa2, 3, 1, 1, 0xff])?;
+/// ```
 #[derive(Debug, Clone, Copy, PartialEq, Eq, Hash)]
 pub struct Explicit<T, const TAG: u32> {
     pub(crate) inner: T,
@@ -101,6 +105,10 @@ impl<T: Asn1Writable, const TAG: u32> SimpleAsn1Writable for Explicit<T, TAG> {
 ///
 /// Errors of reading, after those of framing: `UnexpectedTag`, then the first error of `T` in the contents octets.
 /// Writing returns what writing `T` does.
+///
+/// ```text
+/// both_ways(alloc, Implicit::<_, 2>::new(true), &[0x82, 1, 0xff])?;
+/// ```
 #[derive(Debug, Clone, Copy, PartialEq, Eq, Hash)]
 pub struct Implicit<T, const TAG: u32> {
     pub(crate) inner: T,
@@ -180,6 +188,10 @@ impl<T: SimpleAsn1Writable, const TAG: u32> SimpleAsn1Writable for Implicit<T, T
 ///
 /// Errors of reading, after those of framing: `UnexpectedTag`, the first error of `T` in the contents octets,
 /// `ExtraData` if octets remain there. Writing returns what writing `T` does.
+///
+/// ```text
+/// both_ways(alloc, OctetStringEncoded::new(true), &[4, 3, 1, 1, 0xff])?;
+/// ```
 #[derive(Clone, Copy, PartialEq, Eq, Hash)]
 pub struct OctetStringEncoded<T> {
     inner: T,

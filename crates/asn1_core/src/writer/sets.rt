@@ -139,6 +139,15 @@ fn write_listing<T: Asn1Writable>(items: &[T], dest: &mut WriteBuf) -> Result<()
 /// Two sets of items, each of which is written as one element, have the same encoding exactly if the items have the
 /// same encodings, each the same number of times. Writing returns `AllocationError` if out of memory, or an error of
 /// an item. The length is known if each item's is and their sum fits a `usize`.
+///
+/// ```text
+/// let longer = [256u16, 1, 255, 1];
+/// is_written(
+///     alloc,
+///     &SetOfWriter::new(&longer),
+///     &[0x31, 0x0e, 2, 1, 1, 2, 1, 1, 2, 2, 0, 0xff, 2, 2, 1, 0],
+/// )?;
+/// ```
 #[derive(Debug, Clone, PartialEq, Eq, Hash, Drop)]
 pub struct SetOfWriter<'a, T> {
     items: &'a [T],
@@ -304,6 +313,18 @@ fn tag_behind(last: Option<Tag>, octets: &[u8]) -> Option<Tag>
 ///
 /// The length isn't known before the set is written. Writing returns `AllocationError` if out of memory, or an error
 /// that the closure returns. `InvalidSetOrdering` is among these if the closure passes it on.
+///
+/// ```text
+/// let writes = |set: &mut SetElementWriter<'_>| -> WriteResult<()>
+///     ensures front { set.new.front ≡ set.old.front }
+///     ensures elements { OnOk result (KeepsElements set.old set.new) }
+/// {
+///     set.write_element(&true)?;
+///     set.write_element(&number)
+/// };
+/// set_writers_write_sets(&writes);
+/// write_single(alloc, &SetWriter::new(&writes))
+/// ```
 #[derive(Drop)]
 pub struct SetWriter<'a, F: Fn(&mut SetElementWriter<'_>) -> Result<(), E>, E> {
     f: &'a F,

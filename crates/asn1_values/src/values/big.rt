@@ -121,6 +121,11 @@ impl SimpleAsn1Writable for BigUint<'_> {
 ///
 /// DER demands the fewest octets (8.3.2). Reading rejects more than the fewest octets, and no octets, with
 /// `InvalidValue`.
+///
+/// ```text
+/// let number = BigInt::new(content).ok_or(NONE)?;
+/// same(number.as_bytes(), *content)?;
+/// ```
 #[derive(Clone, Copy, PartialEq, Eq, Hash)]
 pub struct BigInt<'a> {
     octets: &'a [u8],

@@ -24,6 +24,11 @@ use std::alloc::{AllocError, Global};
 /// a point and no comma, and a last digit of the fraction that isn't 0. Reading rejects other contents octets with
 /// `InvalidValue`, also those that are no date or no time of day. More than nine digits of a fraction are rejected too:
 /// this bound is the library's.
+///
+/// ```text
+/// let time = GeneralizedTime::new(date.clone()?, *nanoseconds)?;
+/// same((time.as_datetime(), time.nanoseconds()), (&date, *nanoseconds))?;
+/// ```
 #[derive(Debug, PartialEq, Eq, PartialOrd, Hash, Drop)]
 pub struct GeneralizedTime {
     datetime: DateTime,

@@ -20,6 +20,11 @@ use std::fmt;
 /// The contents octets are `YYMMDDHHMMSSZ`. A `YY` below 50 counts the years from 2000 on, any other those from 1900 on
 /// (RFC 5280 4.1.2.5.1). DER demands the seconds and the `Z`. Reading rejects other contents octets, and those that are
 /// no date or no time of day, with `InvalidValue`.
+///
+/// ```text
+/// let time = UtcTime::new(date.clone()?)?;
+/// same(time.as_datetime(), &date)?;
+/// ```
 #[derive(PartialEq, Eq, Hash, Drop)]
 pub struct UtcTime {
     datetime: DateTime,
