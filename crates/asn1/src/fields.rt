@@ -173,7 +173,7 @@ pub type Fields16<A, B, C, D, E, F, G, H, I, J, K, L, M, N, O, P> = Field<
     Fields15<B, C, D, E, F, G, H, I, J, K, L, M, N, O, P>,
 >;
 
-/// The result of reading a field. An error gets the field's name as location.
+/// The result of reading a field: the value, or the field's error with the field's name as a further location.
 pub fn placed<T: Drop>(answer: ParseResult<T>, name: &'static str) -> ParseResult<T>
     ensures { result ≡ in_field name.now answer }
 {
@@ -183,7 +183,7 @@ pub fn placed<T: Drop>(answer: ParseResult<T>, name: &'static str) -> ParseResul
     }
 }
 
-/// Rejects octets that remain after the last field.
+/// Rejects octets that remain after the last field, with `ExtraData` without a location.
 pub fn finish(parser: Parser<'_>) -> ParseResult<()>
     ensures { result ≡ rest_refused parser.entry }
 {

@@ -73,8 +73,8 @@ macro_rules! taken_field {
     ($value:expr, $type:ty) => { $crate::fields::into_plain::<$type, _>($value) };
 }
 
-/// Appends the fields as the contents octets of a structure: the body of `write_data`.
-/// `write_fields!(self, dest; r, s)`
+/// Appends the fields as the contents octets of a structure: the body of `write_data`. The first error of a field's
+/// write is returned, `AllocationError` if out of memory. `write_fields!(self, dest; r, s)`
 #[macro_export]
 macro_rules! write_fields {
     ($of:expr, $dest:expr;) => {{
