@@ -205,11 +205,11 @@ impl fmt::Display for ParseError {
     ghost output = { λ e. error_text e.kind };
 
     fn fmt<W: fmt::Write>(&self, f: &mut fmt::Formatter<W>) -> fmt::Result {
-        write!(f, "ASN.1 parsing error: ")?;
+        f.write_str("ASN.1 parsing error: ")?;
         match self.kind {
-            ParseErrorKind::InvalidValue => write!(f, "invalid value"),
-            ParseErrorKind::InvalidTag => write!(f, "invalid tag"),
-            ParseErrorKind::InvalidLength => write!(f, "invalid length"),
+            ParseErrorKind::InvalidValue => f.write_str("invalid value"),
+            ParseErrorKind::InvalidTag => f.write_str("invalid tag"),
+            ParseErrorKind::InvalidLength => f.write_str("invalid length"),
             ParseErrorKind::InvalidSize { min, max, actual } => write!(
                 f,
                 "invalid container size (expected between {min} and {max}, got {actual})"
@@ -220,16 +220,15 @@ impl fmt::Display for ParseError {
             ParseErrorKind::ShortData { needed } => {
                 write!(f, "short data (needed at least {needed} additional bytes)")
             }
-            ParseErrorKind::IntegerOverflow => write!(f, "integer overflow"),
-            ParseErrorKind::ExtraData => write!(f, "extra data"),
-            ParseErrorKind::InvalidSetOrdering => write!(f, "SET value was ordered incorrectly"),
-            ParseErrorKind::EncodedDefault => write!(f, "DEFAULT value was explicitly encoded"),
-            ParseErrorKind::OidTooLong => write!(
-                f,
-                "OBJECT IDENTIFIER was too large to be stored in rust-asn1's buffer"
+            ParseErrorKind::IntegerOverflow => f.write_str("integer overflow"),
+            ParseErrorKind::ExtraData => f.write_str("extra data"),
+            ParseErrorKind::InvalidSetOrdering => f.write_str("SET value was ordered incorrectly"),
+            ParseErrorKind::EncodedDefault => f.write_str("DEFAULT value was explicitly encoded"),
+            ParseErrorKind::OidTooLong => f.write_str(
+                "OBJECT IDENTIFIER was too large to be stored in rust-asn1's buffer",
             ),
-            ParseErrorKind::UnknownDefinedBy => write!(f, "DEFINED BY with unknown value"),
-            ParseErrorKind::AllocationError => write!(f, "allocation error"),
+            ParseErrorKind::UnknownDefinedBy => f.write_str("DEFINED BY with unknown value"),
+            ParseErrorKind::AllocationError => f.write_str("allocation error"),
         }
     }
 }
@@ -248,9 +247,9 @@ impl fmt::Debug for ParseError {
             is_first = false;
         }
         if is_first {
-            write!(f, " }}")
+            f.write_str(" }")
         } else {
-            write!(f, "] }}")
+            f.write_str("] }")
         }
     }
 }

@@ -33,8 +33,8 @@ impl fmt::Display for WriteError {
 
     fn fmt<W: fmt::Write>(&self, f: &mut fmt::Formatter<W>) -> fmt::Result {
         match self {
-            WriteError::AllocationError => write!(f, "allocation error"),
-            WriteError::InvalidSetOrdering => write!(f, "SET elements are not in DER order"),
+            WriteError::AllocationError => f.write_str("allocation error"),
+            WriteError::InvalidSetOrdering => f.write_str("SET elements are not in DER order"),
         }
     }
 }

@@ -37,9 +37,9 @@ pub enum Fault {
 impl fmt::Display for Fault {
     fn fmt<W: fmt::Write>(&self, f: &mut fmt::Formatter<W>) -> fmt::Result {
         match self {
-            Fault::Memory => write!(f, "out of memory"),
-            Fault::Read => write!(f, "the input could not be read"),
-            Fault::Write => write!(f, "the output could not be written"),
+            Fault::Memory => f.write_str("out of memory"),
+            Fault::Read => f.write_str("the input could not be read"),
+            Fault::Write => f.write_str("the output could not be written"),
         }
     }
 }
@@ -75,11 +75,11 @@ impl fmt::Display for Refusal {
     fn fmt<W: fmt::Write>(&self, f: &mut fmt::Formatter<W>) -> fmt::Result {
         match self {
             Refusal::NoKind => write!(f, "this has the form of none of {}", Kind::NAMES),
-            Refusal::SeveralKinds => write!(f, "several kinds have this form: name one"),
+            Refusal::SeveralKinds => f.write_str("several kinds have this form: name one"),
             Refusal::Label(label) => write!(f, "the label {label} is of another kind, or of none"),
-            Refusal::Encrypted => write!(f, "an encrypted key; `openssl pkey` decrypts it"),
+            Refusal::Encrypted => f.write_str("an encrypted key; `openssl pkey` decrypts it"),
             Refusal::Pem(error) => write!(f, "{error}"),
-            Refusal::Empty => write!(f, "the input has no octets"),
+            Refusal::Empty => f.write_str("the input has no octets"),
             Refusal::Der(error) => write!(f, "{error}"),
             Refusal::Told(words) => write!(f, "{words}"),
         }

@@ -31,7 +31,7 @@ pub enum PemError {
 impl fmt::Display for PemError {
     fn fmt<W: fmt::Write>(&self, f: &mut fmt::Formatter<W>) -> fmt::Result {
         match self {
-            PemError::NoEnd => write!(f, "PEM: no line ends what the first one begins"),
+            PemError::NoEnd => f.write_str("PEM: no line ends what the first one begins"),
             PemError::Base64(error) => write!(f, "PEM: {error}"),
         }
     }
