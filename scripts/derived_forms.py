@@ -1,11 +1,15 @@
 """The forms of docs/OWN_TYPES.md, filled in with declarations. The formatter lays out what they print."""
 
 import re
+import textwrap
 
 from declarations import Type, reject
 
 BY_TAGS = "#[tactic(auto, using(asn1::specs::Lemmas::Fields::tags_differ))]\n"
 ERROR = "type Error = WriteError;"
+WIDTH = 100
+# The longest list of fields that stands in each body: it takes one line.
+MOST_IN_BODY = WIDTH - 12
 UNKNOWN = "Err(ParseError::new(ParseErrorKind::UnknownDefinedBy))"
 ITEM = "ObjectIdentifier"
 ANSWER = "\npub {0} : goal.{0}\n{2}{0} c = {1}\n"
@@ -28,6 +32,17 @@ def quoted(type, trait="Asn1Type"):
 def der(type):
     """What a type means."""
     return quoted(type) + ".der"
+
+
+def snake(name):
+    """A type's name as a function or a macro has it."""
+    return re.sub(r"(?<=[a-z0-9])(?=[A-Z])|(?<=[A-Z])(?=[A-Z][a-z])", "_", name).lower()
+
+
+def in_columns(words, indent):
+    """A list of words in lines that end behind commas, and begin in this column."""
+    lines = textwrap.wrap(re.sub(r"(?<!,) ", "\0", words.strip()), WIDTH - indent, break_long_words=False)
+    return f"\n{' ' * indent}".join(lines).replace("\0", " ")
 
 
 def group(words):
@@ -71,32 +86,45 @@ class Structure(Form):
         text = self.stated(part.form if part.item else part.type for part in self.parts)
         text += "".join(self.default(part) for part in self.parts if part.default)
         text += "".join(f"\ntype {part.row} = {part.form};\n" for part in self.parts if part.is_wrapped)
-        names = "".join(f'codes "{self.name}::{part.name}" ∷ ' for part in self.parts)
-        fields = ",".join(f" {part.words}" for part in self.parts)
-        text += f"\ntype {row} = {row_type};\n" + self.impl("Asn1Type", f"""
-            ghost der = {{ structure (λ v. {view}) {quoted(row, 'Row')}.list ({names}[]) }};
-            fn known(&self) {{ known_fields!(self;{fields}) }}""")
+        names = "".join(f'"{part.name}" ∷ ' for part in self.parts)
+        text += f"\ntype {row} = {row_type};\n" + self.list_of_fields() + self.impl("Asn1Type", f"""
+            ghost der = {{ structure (λ v. {view}) {quoted(row, 'Row')}.list (field_names "{self.name}" ({names}[])) }};
+            fn known(&self) {{ {self.body("known_fields", "self")} }}""")
         tag = f"""
             fn tag() -> Tag
                 ensures value {{ result ≡ {self.means}.content.tag }}
                 ensures simple {{ {self.means}.is_simple }}"""
         if self.item.reads:
-            read = ",".join(f" {part.name if part.value or part.item else part.words}" for part in self.parts)
             text += self.impl(f"SimpleAsn1Readable<{self.life}>", f"""{tag}
                 ensures plain {{ {self.means}.plain }}
             {{ Tag::constructed(0x10) }}
             fn parse_data(alloc: Global, data: &{self.life} [u8]) -> ParseResult<{self.item.own()}>
                 ensures {{ ReadsContents {self.means} «data».entry.now result }}
-            {{ read_fields!({row}, alloc, data => {self.name} {{{read and read + ' '}}}) }}""")
+            {{ {self.body("read_fields", f"{row}, alloc, data => {self.name}")} }}""")
         if self.item.writes:
             lists = [part for part in self.parts if part.fails]
             errors = (f"{quoted(part.form, part.fails)}.write_errors {group(part.seen)} e" for part in lists)
             failing = f"ghost write_errors = {{ λ v e. {' ⊎ '.join(errors)} }};" if lists else ""
             text += self.impl("SimpleAsn1Writable", ERROR, failing, f"""{tag}
             {{ Tag::constructed(0x10) }}
-            fn write_data(&self, dest: &mut WriteBuf) -> WriteResult<()> {{ write_fields!(self, dest;{fields}) }}
-            fn data_length(&self) -> Option<usize> {{ fields_length!(self;{fields}) }}""")
+            fn write_data(&self, dest: &mut WriteBuf) -> WriteResult<()> {{ {self.body("write_fields", "self, dest")} }}
+            fn data_length(&self) -> Option<usize> {{ {self.body("fields_length", "self")} }}""")
         return text
+
+    def list_of_fields(self):
+        """The macro that has the list of the fields, if the list is too long to stand in each body."""
+        self.fields = ",".join(f" {part.words}" for part in self.parts)
+        self.listed = f"fields_of_{snake(self.name)}" if len(self.fields) > MOST_IN_BODY else ""
+        return self.listed and f"""
+macro_rules! {self.listed} {{
+    ($body:ident, $($of:tt)*) => {{ $body!($($of)*;
+        {in_columns(self.fields + ") };", 8)}
+}}
+"""
+
+    def body(self, macro, of):
+        """The body of a method: a macro with the list of the fields, or with this list from another macro."""
+        return f"{self.listed}!({macro}, {of})" if self.listed else f"{macro}!({of};{self.fields})"
 
     def set_rows(self):
         """Gives each marker the value that its item defines, and each of these values the type of its item. Each field
@@ -352,7 +380,7 @@ def lawful(item, module):
 def laws_of(module, type):
     """The names of the laws of the types in a type: those said here or imported, and those of a choice's choices."""
     word = str(type).split("<")[0]
-    name = re.sub(r"(?<=[a-z0-9])(?=[A-Z])|(?<=[A-Z])(?=[A-Z][a-z])", "_", word).lower() + "_is_lawful"
+    name = snake(word) + "_is_lawful"
     declared = module.items.get(word)
     if isinstance(type, str) or declared and not declared.is_defined or name in module.imported:
         return [name]

@@ -1,5 +1,6 @@
 -- Structures (X.690 8.9), seen as rows of fields.
-use Rattle.std.specs.Prelude.{◌≡◌, ℕ, List, map}
+use Prim.Native.String.{String}
+use Rattle.std.specs.Prelude.{◌≡◌, ℕ, List, map, codes, ◌++◌}
 use Rattle.asn1_core.specs.Der.{Der, simple_der}
 use Rattle.asn1.specs.declared.fields.Names.{Names}
 use Rattle.asn1.specs.ItemsAndValues.{ItemAndValue}
@@ -18,6 +19,10 @@ use Rattle.asn1.specs.declared.wrappers.defaulted.Defaulted.{Defaulted}
 -- The names, in order.
 abbrev pub texts_of : Names → List (List ℕ)
 texts_of names = map (λ s. s.now) names.list.now
+
+-- The names of a struct's fields as errors show them, such as `Signature::r`.
+abbrev pub field_names : String → List String → List (List ℕ)
+field_names owner fields = map (λ field. codes owner ++ codes "::" ++ codes field) fields
 
 -- What a list of fields means.
 pub record FieldList (V : Type 0) : Type 1 where

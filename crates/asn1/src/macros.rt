@@ -33,16 +33,18 @@ macro_rules! known_field {
 }
 
 /// Reads a row of fields, and moves them to the fields of a struct, in order: the body of `parse_data`.
-/// `read_fields!(Fields2<u64, u64>, alloc, data => Signature { r, s })`
+/// `read_fields!(Fields2<u64, u64>, alloc, data => Signature; r, s)`
 #[macro_export]
 macro_rules! read_fields {
-    ($row:ty, $alloc:expr, $data:expr => $of:ident { $($name:ident $(: $type:ty)?),* $(,)? }) => {
+    ($row:ty, $alloc:expr, $data:expr => $of:ident;
+        $($name:ident $(of $value:ident)? $(by $item:ty)? $(: $type:ty)?),* $(,)?) => {
         match $crate::fields::read_fields::<$row, $crate::fields::Names>(
             $alloc,
             $data,
             $crate::fields::Names { list: &[$(concat!(stringify!($of), "::", stringify!($name))),*] },
         ) {
-            Ok(row) => Ok($crate::take_fields!(row; $of {}; $($name $(: $type)?),*)),
+            Ok(row) => Ok($crate::take_fields!(row; $of {};
+                $($name $(of $value)? $(by $item)? $(: $type)?),*)),
             Err(error) => Err(error),
         }
     };
@@ -55,12 +57,14 @@ macro_rules! take_fields {
         let _fields = $row;
         $of {}
     }};
-    ($row:ident; $of:ident { $($done:ident),* }; $name:ident $(: $type:ty)?) => {{
-        let $name = $crate::taken_field!($row.value $(, $type)?);
+    ($row:ident; $of:ident { $($done:ident),* };
+        $name:ident $(of $value:ident)? $(by $item:ty)? $(: $type:ty)?) => {{
+        let $name = $crate::taken_field!($row.value $(, of $value)? $(, $type)?);
         $of { $($done,)* $name }
     }};
-    ($row:ident; $of:ident { $($done:ident),* }; $name:ident $(: $type:ty)?, $($rest:tt)+) => {{
-        let $name = $crate::taken_field!($row.value $(, $type)?);
+    ($row:ident; $of:ident { $($done:ident),* };
+        $name:ident $(of $value:ident)? $(by $item:ty)? $(: $type:ty)?, $($rest:tt)+) => {{
+        let $name = $crate::taken_field!($row.value $(, of $value)? $(, $type)?);
         let rest = $row.rest;
         $crate::take_fields!(rest; $of { $($done,)* $name }; $($rest)+)
     }};
@@ -69,7 +73,7 @@ macro_rules! take_fields {
 /// The value of a field as a struct has it.
 #[macro_export]
 macro_rules! taken_field {
-    ($value:expr) => { $value };
+    ($value:expr $(, of $by:ident, $item:ty)?) => { $value };
     ($value:expr, $type:ty) => { $crate::fields::into_plain::<$type, _>($value) };
 }
 
@@ -82,10 +86,9 @@ macro_rules! write_fields {
         Ok(())
     }};
     ($of:expr, $dest:expr; $($name:ident $(of $value:ident)? $(by $item:ty)? $(: $type:ty)?),+ $(,)?) => {
-        $crate::fields::RowWritable::write(
-            &$crate::row!($($crate::field_value!($of, $name $(of $value)? $(by $item)? $(: $type)?)),+),
-            $dest,
-        )
+        $crate::fields::RowWritable::<
+            $crate::kinds!($($crate::kind!($name $(of $value)? $(by $item)? $(: $type)?)),+),
+        >::write(&$crate::row!($($crate::field_value!($of, $name $(of $value)?)),+), $dest)
     };
 }
 
@@ -95,25 +98,36 @@ macro_rules! write_fields {
 macro_rules! fields_length {
     ($of:expr;) => { Some(0) };
     ($of:expr; $($name:ident $(of $value:ident)? $(by $item:ty)? $(: $type:ty)?),+ $(,)?) => {
-        $crate::fields::RowWritable::length(
-            &$crate::row!($($crate::field_value!($of, $name $(of $value)? $(by $item)? $(: $type)?)),+),
-        )
+        $crate::fields::RowWritable::<
+            $crate::kinds!($($crate::kind!($name $(of $value)? $(by $item)? $(: $type)?)),+),
+        >::length(&$crate::row!($($crate::field_value!($of, $name $(of $value)?)),+))
     };
 }
 
-/// A field as it is written.
+/// A field whose value is written: of an item the field that defines it.
 #[macro_export]
 macro_rules! field_value {
-    ($of:expr, $name:ident of $value:ident: $item:ty) => {
-        &$crate::fields::ItemOf { value: &$of.$value, of: std::marker::PhantomData::<$item> }
-    };
-    ($of:expr, $name:ident by $item:ty) => {
-        &$crate::fields::ValueOf { value: &$of.$name, of: std::marker::PhantomData::<$item> }
-    };
-    ($of:expr, $name:ident: $type:ty) => {
-        &$crate::fields::Wrapped { value: &$of.$name, of: std::marker::PhantomData::<$type> }
-    };
+    ($of:expr, $name:ident of $value:ident) => { &$of.$value };
     ($of:expr, $name:ident) => { &$of.$name };
+}
+
+/// How a field is written: the type that implements `FieldWritable`.
+#[macro_export]
+macro_rules! kind {
+    ($name:ident of $value:ident: $item:ty) => { $crate::fields::ItemOf<$item> };
+    ($name:ident by $item:ty) => { $crate::fields::ValueOf<$item> };
+    ($name:ident: $type:ty) => { $type };
+    ($name:ident) => { $crate::fields::Plain };
+}
+
+/// How the fields of a row are written.
+#[macro_export]
+macro_rules! kinds {
+    ($a:ty, $b:ty, $c:ty, $d:ty, $($rest:ty),+) => {
+        $crate::fields::Four<$a, $b, $c, $d, $crate::kinds!($($rest),+)>
+    };
+    ($kind:ty, $($rest:ty),+) => { $crate::fields::Field<$kind, $crate::kinds!($($rest),+)> };
+    ($kind:ty) => { $crate::fields::Last<$kind> };
 }
 
 /// The values as a row, which is written: four at a time, since the kit finds the lifetimes of a row that is nested

@@ -1,8 +1,8 @@
 //! Types with tags of the class application: those of the example of X.690, 8.14.3, and a structure.
 
-ghost use Rattle.std.specs.Prelude.{◌≡◌, ◌∷◌, [], codes, false, true};
+ghost use Rattle.std.specs.Prelude.{◌≡◌, ◌∷◌, [], false, true};
 ghost use Rattle.asn1.specs.Reads.{HasOneEncoding, ReadsContents};
-ghost use Rattle.asn1.specs.Structures.{fields2, structure};
+ghost use Rattle.asn1.specs.Structures.{field_names, structure, fields2};
 ghost use Rattle.asn1.specs.Tagged.{application_tag, seen_under_tag, seen_with_tag};
 
 use crate::lists::{is_refused, other_tag};
@@ -135,7 +135,7 @@ type Fields = Fields2<u64, bool>;
 
 impl Asn1Type for Use {
     ghost der = { structure (λ v. fields2 v.value v.used) ⟦<Fields as Row>⟧.list
-        (codes "Use::value" ∷ codes "Use::used" ∷ []) };
+        (field_names "Use" ("value" ∷ "used" ∷ [])) };
 
     fn known(&self) {
         known_fields!(self; value, used)
@@ -148,7 +148,7 @@ impl<'a> SimpleAsn1Readable<'a> for Use {
     }
 
     fn parse_data(alloc: Global, data: &'a [u8]) -> ParseResult<Use> {
-        read_fields!(Fields, alloc, data => Use { value, used })
+        read_fields!(Fields, alloc, data => Use; value, used)
     }
 }
 

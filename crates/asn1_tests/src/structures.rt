@@ -1,10 +1,11 @@
 //! Structures whose fields have tags and are always there.
 
-ghost use Rattle.std.specs.Prelude.{◌∷◌, [], codes};
+ghost use Rattle.std.specs.Prelude.{◌∷◌, []};
 ghost use Rattle.asn1.specs.Reads.{HasOneEncoding};
 ghost use Rattle.asn1.specs.Structures.{
   defaulted,
   explicit,
+  field_names,
   fields16,
   fields2,
   fields3,
@@ -39,7 +40,7 @@ type Fields = Fields2<Number, Flag>;
 
 impl Asn1Type for Tagged {
     ghost der = { structure (λ v. fields2 (implicit v.number) (explicit v.flag))
-        ⟦<Fields as Row>⟧.list (codes "Tagged::number" ∷ codes "Tagged::flag" ∷ []) };
+        ⟦<Fields as Row>⟧.list (field_names "Tagged" ("number" ∷ "flag" ∷ [])) };
 
     fn known(&self) {
         known_fields!(self; number: Number, flag: Flag)
@@ -52,7 +53,7 @@ impl<'a> SimpleAsn1Readable<'a> for Tagged {
     }
 
     fn parse_data(alloc: Global, data: &'a [u8]) -> ParseResult<Tagged> {
-        read_fields!(Fields, alloc, data => Tagged { number: Number, flag: Flag })
+        read_fields!(Fields, alloc, data => Tagged; number: Number, flag: Flag)
     }
 }
 
@@ -156,7 +157,7 @@ type DefaultsFields = Fields3<ExplicitThree, ImplicitThree, PlainThree>;
 impl Asn1Type for Defaults {
     ghost der = { structure (λ v. fields3 (defaulted (explicit v.explicit))
         (defaulted (implicit v.implicit)) (defaulted v.plain)) ⟦<DefaultsFields as Row>⟧.list
-        (codes "Defaults::explicit" ∷ codes "Defaults::implicit" ∷ codes "Defaults::plain" ∷ []) };
+        (field_names "Defaults" ("explicit" ∷ "implicit" ∷ "plain" ∷ [])) };
 
     fn known(&self) {
         known_fields!(self; explicit: ExplicitThree, implicit: ImplicitThree, plain: PlainThree)
@@ -169,9 +170,8 @@ impl<'a> SimpleAsn1Readable<'a> for Defaults {
     }
 
     fn parse_data(alloc: Global, data: &'a [u8]) -> ParseResult<Defaults> {
-        read_fields!(DefaultsFields, alloc, data => Defaults {
-            explicit: ExplicitThree, implicit: ImplicitThree, plain: PlainThree
-        })
+        read_fields!(DefaultsFields, alloc, data => Defaults;
+            explicit: ExplicitThree, implicit: ImplicitThree, plain: PlainThree)
     }
 }
 
@@ -267,12 +267,9 @@ impl Asn1Type for Eighteen {
             fields16 v.c v.d v.e v.f v.g v.h v.i v.j v.k v.l v.m v.n v.o v.p v.q v.r;
       };
     })
-        ⟦<EighteenFields as Row>⟧.list (codes "Eighteen::a" ∷ codes "Eighteen::b" ∷
-        codes "Eighteen::c" ∷ codes "Eighteen::d" ∷ codes "Eighteen::e" ∷ codes "Eighteen::f" ∷
-        codes "Eighteen::g" ∷ codes "Eighteen::h" ∷ codes "Eighteen::i" ∷ codes "Eighteen::j" ∷
-        codes "Eighteen::k" ∷ codes "Eighteen::l" ∷ codes "Eighteen::m" ∷ codes "Eighteen::n" ∷
-        codes "Eighteen::o" ∷ codes "Eighteen::p" ∷ codes "Eighteen::q" ∷ codes "Eighteen::r" ∷
-        []) };
+        ⟦<EighteenFields as Row>⟧.list
+        (field_names "Eighteen" ("a" ∷ "b" ∷ "c" ∷ "d" ∷ "e" ∷ "f" ∷ "g" ∷ "h" ∷ "i" ∷ "j" ∷ "k" ∷
+        "l" ∷ "m" ∷ "n" ∷ "o" ∷ "p" ∷ "q" ∷ "r" ∷ [])) };
 
     fn known(&self) {
         known_fields!(self; a, b, c, d, e, f, g, h, i, j, k, l, m, n, o, p, q, r)
@@ -285,9 +282,8 @@ impl<'a> SimpleAsn1Readable<'a> for Eighteen {
     }
 
     fn parse_data(alloc: Global, data: &'a [u8]) -> ParseResult<Eighteen> {
-        read_fields!(EighteenFields, alloc, data => Eighteen {
-            a, b, c, d, e, f, g, h, i, j, k, l, m, n, o, p, q, r
-        })
+        read_fields!(EighteenFields, alloc, data => Eighteen;
+            a, b, c, d, e, f, g, h, i, j, k, l, m, n, o, p, q, r)
     }
 }
 

@@ -1,10 +1,10 @@
 //! Private keys of elliptic curves (RFC 5915, 3).
-// Printed by scripts/derive from declarations/ec_private_key.rs, with the sum 9335705c.
+// Printed by scripts/derive from declarations/ec_private_key.rs, with the sum 3ade710b.
 
-ghost use Rattle.std.specs.Prelude.{◌≡◌, ◌∷◌, [], codes};
+ghost use Rattle.std.specs.Prelude.{◌≡◌, ◌∷◌, []};
 ghost use Rattle.asn1.specs.Options.{option_meaning};
 ghost use Rattle.asn1.specs.Reads.{HasOneEncoding, ReadsContents};
-ghost use Rattle.asn1.specs.Structures.{explicit, structure, fields4};
+ghost use Rattle.asn1.specs.Structures.{explicit, field_names, structure, fields4};
 
 use asn1::fields::{Fields4, Row};
 use asn1::{
@@ -38,16 +38,20 @@ type EcPrivateKeyFields<'a> = Fields4<
     EcPrivateKeyPublicKeyField<'a>,
 >;
 
+macro_rules! fields_of_ec_private_key {
+    ($body:ident, $($of:tt)*) => { $body!($($of)*;
+        version, private_key, parameters: EcPrivateKeyParametersField,
+        public_key: EcPrivateKeyPublicKeyField<'a>) };
+}
+
 impl<'a> Asn1Type for EcPrivateKey<'a> {
     ghost der = { structure (λ v. fields4 v.version v.private_key (option_meaning explicit
         v.parameters) (option_meaning explicit v.public_key)) ⟦<EcPrivateKeyFields<'a> as Row>⟧.list
-        (codes "EcPrivateKey::version" ∷ codes "EcPrivateKey::private_key" ∷
-        codes "EcPrivateKey::parameters" ∷ codes "EcPrivateKey::public_key" ∷ []) };
+        (field_names "EcPrivateKey" ("version" ∷ "private_key" ∷ "parameters" ∷ "public_key" ∷
+        [])) };
 
     fn known(&self) {
-        known_fields!(self;
-            version, private_key, parameters: EcPrivateKeyParametersField,
-            public_key: EcPrivateKeyPublicKeyField<'a>)
+        fields_of_ec_private_key!(known_fields, self)
     }
 }
 
@@ -63,10 +67,7 @@ impl<'a> SimpleAsn1Readable<'a> for EcPrivateKey<'a> {
     fn parse_data(alloc: Global, data: &'a [u8]) -> ParseResult<EcPrivateKey<'a>>
         ensures { ReadsContents ⟦<EcPrivateKey<'a> as Asn1Type>⟧.der «data».entry.now result }
     {
-        read_fields!(EcPrivateKeyFields<'a>, alloc, data => EcPrivateKey {
-            version, private_key, parameters: EcPrivateKeyParametersField,
-            public_key: EcPrivateKeyPublicKeyField<'a>
-        })
+        fields_of_ec_private_key!(read_fields, EcPrivateKeyFields<'a>, alloc, data => EcPrivateKey)
     }
 }
 
@@ -81,15 +82,11 @@ impl<'a> SimpleAsn1Writable for EcPrivateKey<'a> {
     }
 
     fn write_data(&self, dest: &mut WriteBuf) -> WriteResult<()> {
-        write_fields!(self, dest;
-            version, private_key, parameters: EcPrivateKeyParametersField,
-            public_key: EcPrivateKeyPublicKeyField<'a>)
+        fields_of_ec_private_key!(write_fields, self, dest)
     }
 
     fn data_length(&self) -> Option<usize> {
-        fields_length!(self;
-            version, private_key, parameters: EcPrivateKeyParametersField,
-            public_key: EcPrivateKeyPublicKeyField<'a>)
+        fields_of_ec_private_key!(fields_length, self)
     }
 }
 

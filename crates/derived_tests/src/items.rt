@@ -1,7 +1,7 @@
 //! Values that an item before them defines: each attribute of the original's derives for them, once.
-// Printed by scripts/derive from declarations/items.rs, with the sum 24eb6649.
+// Printed by scripts/derive from declarations/items.rs, with the sum be4b7554.
 
-ghost use Rattle.std.specs.Prelude.{◌≡◌, ◌⊎◌, ◌∷◌, [], codes, true, false, ⊤, MatchOption, OnErr};
+ghost use Rattle.std.specs.Prelude.{◌≡◌, ◌⊎◌, ◌∷◌, [], true, false, ⊤, MatchOption, OnErr};
 ghost use Rattle.std.specs.Str.{bytes_eq};
 ghost use Rattle.std.proofs.Common.{inl, inr};
 ghost use Rattle.asn1.specs.IdentifierValues.{identifier_of};
@@ -9,7 +9,7 @@ ghost use Rattle.asn1.specs.ItemsAndValues.{by_item, word_for_word};
 ghost use Rattle.asn1.specs.Options.{option_meaning};
 ghost use Rattle.asn1.specs.Reading.{EndsWith};
 ghost use Rattle.asn1.specs.Reads.{HasOneEncoding, ReadsContents, ReadsDefined};
-ghost use Rattle.asn1.specs.Structures.{defaulted, implicit, structure, fields1};
+ghost use Rattle.asn1.specs.Structures.{defaulted, field_names, implicit, structure, fields1};
 ghost use Rattle.asn1.specs.Variants.{any_variant, identifier_with, or_variant, variant};
 ghost use Rattle.derived_tests.specs.declared.items.TheConstants.{OTHER_OID_NUMBERS, SHA256_WITH_RSA_NUMBERS, SOME_OID_NUMBERS};
 
@@ -74,8 +74,8 @@ impl Asn1Type for MySequence {
       rest = record {
         value = v.content;
       };
-    }) ⟦<MySequenceFields as Row>⟧.list (codes "MySequence::content_type" ∷
-        codes "MySequence::content" ∷ []) };
+    }) ⟦<MySequenceFields as Row>⟧.list (field_names "MySequence" ("content_type" ∷
+        "content" ∷ [])) };
 
     fn known(&self) {
         known_fields!(self; content_type of content: ObjectIdentifier, content by ObjectIdentifier)
@@ -88,7 +88,8 @@ impl<'a> SimpleAsn1Readable<'a> for MySequence {
     }
 
     fn parse_data(alloc: Global, data: &'a [u8]) -> ParseResult<MySequence> {
-        read_fields!(MySequenceFields, alloc, data => MySequence { content_type, content })
+        read_fields!(MySequenceFields, alloc, data => MySequence;
+            content_type of content: ObjectIdentifier, content by ObjectIdentifier)
     }
 }
 
@@ -401,8 +402,8 @@ impl<'a> Asn1Type for AnySequence<'a> {
       rest = record {
         value = v.content;
       };
-    }) ⟦<AnySequenceFields<'a> as Row>⟧.list (codes "AnySequence::content_type" ∷
-        codes "AnySequence::content" ∷ []) };
+    }) ⟦<AnySequenceFields<'a> as Row>⟧.list (field_names "AnySequence" ("content_type"
+        ∷ "content" ∷ [])) };
 
     fn known(&self) {
         known_fields!(self; content_type of content: ObjectIdentifier, content by ObjectIdentifier)
@@ -421,7 +422,8 @@ impl<'a> SimpleAsn1Readable<'a> for AnySequence<'a> {
     fn parse_data(alloc: Global, data: &'a [u8]) -> ParseResult<AnySequence<'a>>
         ensures { ReadsContents ⟦<AnySequence<'a> as Asn1Type>⟧.der «data».entry.now result }
     {
-        read_fields!(AnySequenceFields<'a>, alloc, data => AnySequence { content_type, content })
+        read_fields!(AnySequenceFields<'a>, alloc, data => AnySequence;
+            content_type of content: ObjectIdentifier, content by ObjectIdentifier)
     }
 }
 
@@ -485,6 +487,12 @@ type LetterFields = Field<
     >,
 >;
 
+macro_rules! fields_of_letter {
+    ($body:ident, $($of:tt)*) => { $body!($($of)*;
+        number, kind of content: ObjectIdentifier, critical: LetterCriticalField,
+        sent: LetterSentField, content by ObjectIdentifier, is_read) };
+}
+
 impl Asn1Type for Letter {
     ghost der = { structure (λ v. record {
       value = v.number;
@@ -501,14 +509,11 @@ impl Asn1Type for Letter {
           };
         };
       };
-    }) ⟦<LetterFields as Row>⟧.list (codes "Letter::number" ∷ codes "Letter::kind" ∷
-        codes "Letter::critical" ∷ codes "Letter::sent" ∷ codes "Letter::content" ∷
-        codes "Letter::is_read" ∷ []) };
+    }) ⟦<LetterFields as Row>⟧.list (field_names "Letter" ("number" ∷ "kind" ∷
+        "critical" ∷ "sent" ∷ "content" ∷ "is_read" ∷ [])) };
 
     fn known(&self) {
-        known_fields!(self;
-            number, kind of content: ObjectIdentifier, critical: LetterCriticalField,
-            sent: LetterSentField, content by ObjectIdentifier, is_read)
+        fields_of_letter!(known_fields, self)
     }
 }
 
@@ -518,9 +523,7 @@ impl<'a> SimpleAsn1Readable<'a> for Letter {
     }
 
     fn parse_data(alloc: Global, data: &'a [u8]) -> ParseResult<Letter> {
-        read_fields!(LetterFields, alloc, data => Letter {
-            number, kind, critical: LetterCriticalField, sent: LetterSentField, content, is_read
-        })
+        fields_of_letter!(read_fields, LetterFields, alloc, data => Letter)
     }
 }
 
@@ -532,15 +535,11 @@ impl SimpleAsn1Writable for Letter {
     }
 
     fn write_data(&self, dest: &mut WriteBuf) -> WriteResult<()> {
-        write_fields!(self, dest;
-            number, kind of content: ObjectIdentifier, critical: LetterCriticalField,
-            sent: LetterSentField, content by ObjectIdentifier, is_read)
+        fields_of_letter!(write_fields, self, dest)
     }
 
     fn data_length(&self) -> Option<usize> {
-        fields_length!(self;
-            number, kind of content: ObjectIdentifier, critical: LetterCriticalField,
-            sent: LetterSentField, content by ObjectIdentifier, is_read)
+        fields_of_letter!(fields_length, self)
     }
 }
 
@@ -697,8 +696,8 @@ impl<'a> Asn1Type for Entry<'a> {
         value = v.listed;
         rest = fields1 v.note;
       };
-    }) ⟦<EntryFields<'a> as Row>⟧.list (codes "Entry::kind" ∷ codes "Entry::listed" ∷
-        codes "Entry::note" ∷ []) };
+    }) ⟦<EntryFields<'a> as Row>⟧.list (field_names "Entry" ("kind" ∷ "listed" ∷ "note"
+        ∷ [])) };
 
     fn known(&self) {
         known_fields!(self; kind of listed: ObjectIdentifier, listed by ObjectIdentifier, note)
@@ -717,7 +716,8 @@ impl<'a> SimpleAsn1Readable<'a> for Entry<'a> {
     fn parse_data(alloc: Global, data: &'a [u8]) -> ParseResult<Entry<'a>>
         ensures { ReadsContents ⟦<Entry<'a> as Asn1Type>⟧.der «data».entry.now result }
     {
-        read_fields!(EntryFields<'a>, alloc, data => Entry { kind, listed, note })
+        read_fields!(EntryFields<'a>, alloc, data => Entry;
+            kind of listed: ObjectIdentifier, listed by ObjectIdentifier, note)
     }
 }
 

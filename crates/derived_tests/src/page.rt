@@ -1,12 +1,12 @@
 //! Structures and choices: each attribute of the original's derives for them, once.
-// Printed by scripts/derive from declarations/page.rs, with the sum 67269240.
+// Printed by scripts/derive from declarations/page.rs, with the sum 7e8196dc.
 
-ghost use Rattle.std.specs.Prelude.{◌≡◌, ◌∷◌, [], codes, negsuc, OnErr};
+ghost use Rattle.std.specs.Prelude.{◌≡◌, ◌∷◌, [], negsuc, OnErr};
 ghost use Rattle.std.proofs.Common.{inl, inr};
 ghost use Rattle.asn1.specs.Choices.{choice_der, only, or};
 ghost use Rattle.asn1.specs.Reading.{EndsWith};
 ghost use Rattle.asn1.specs.Reads.{HasOneEncoding, ReadsContents, ReadsPrefix};
-ghost use Rattle.asn1.specs.Structures.{defaulted, explicit, implicit, structure, fields0, fields1, fields2, fields4};
+ghost use Rattle.asn1.specs.Structures.{defaulted, explicit, field_names, implicit, structure, fields0, fields1, fields2, fields4};
 
 use asn1::fields::{Fields2, Fields4, Last, NoFields, Row, plain_length, write_plain};
 use asn1::{
@@ -30,7 +30,7 @@ type SignatureFields = Fields2<u64, u64>;
 
 impl Asn1Type for Signature {
     ghost der = { structure (λ v. fields2 v.r v.s) ⟦<SignatureFields as Row>⟧.list
-        (codes "Signature::r" ∷ codes "Signature::s" ∷ []) };
+        (field_names "Signature" ("r" ∷ "s" ∷ [])) };
 
     fn known(&self) {
         known_fields!(self; r, s)
@@ -43,7 +43,7 @@ impl<'a> SimpleAsn1Readable<'a> for Signature {
     }
 
     fn parse_data(alloc: Global, data: &'a [u8]) -> ParseResult<Signature> {
-        read_fields!(SignatureFields, alloc, data => Signature { r, s })
+        read_fields!(SignatureFields, alloc, data => Signature; r, s)
     }
 }
 
@@ -70,7 +70,8 @@ pub struct Nothing {}
 type NothingFields = NoFields;
 
 impl Asn1Type for Nothing {
-    ghost der = { structure (λ v. fields0) ⟦<NothingFields as Row>⟧.list ([]) };
+    ghost der = { structure (λ v. fields0) ⟦<NothingFields as Row>⟧.list (field_names "Nothing"
+        ([])) };
 
     fn known(&self) {
         known_fields!(self;)
@@ -83,7 +84,7 @@ impl<'a> SimpleAsn1Readable<'a> for Nothing {
     }
 
     fn parse_data(alloc: Global, data: &'a [u8]) -> ParseResult<Nothing> {
-        read_fields!(NothingFields, alloc, data => Nothing {})
+        read_fields!(NothingFields, alloc, data => Nothing;)
     }
 }
 
@@ -153,16 +154,19 @@ type TaggedFields<'a> = Fields4<
     TaggedLevelField,
 >;
 
+macro_rules! fields_of_tagged {
+    ($body:ident, $($of:tt)*) => { $body!($($of)*;
+        version: TaggedVersionField, numbers: TaggedNumbersField<'a>,
+        signature: TaggedSignatureField, level: TaggedLevelField) };
+}
+
 impl<'a> Asn1Type for Tagged<'a> {
     ghost der = { structure (λ v. fields4 (defaulted (explicit v.version)) (implicit v.numbers)
         (explicit v.signature) (defaulted (implicit v.level))) ⟦<TaggedFields<'a> as Row>⟧.list
-        (codes "Tagged::version" ∷ codes "Tagged::numbers" ∷ codes "Tagged::signature" ∷
-        codes "Tagged::level" ∷ []) };
+        (field_names "Tagged" ("version" ∷ "numbers" ∷ "signature" ∷ "level" ∷ [])) };
 
     fn known(&self) {
-        known_fields!(self;
-            version: TaggedVersionField, numbers: TaggedNumbersField<'a>,
-            signature: TaggedSignatureField, level: TaggedLevelField)
+        fields_of_tagged!(known_fields, self)
     }
 }
 
@@ -178,10 +182,7 @@ impl<'a> SimpleAsn1Readable<'a> for Tagged<'a> {
     fn parse_data(alloc: Global, data: &'a [u8]) -> ParseResult<Tagged<'a>>
         ensures { ReadsContents ⟦<Tagged<'a> as Asn1Type>⟧.der «data».entry.now result }
     {
-        read_fields!(TaggedFields<'a>, alloc, data => Tagged {
-            version: TaggedVersionField, numbers: TaggedNumbersField<'a>,
-            signature: TaggedSignatureField, level: TaggedLevelField
-        })
+        fields_of_tagged!(read_fields, TaggedFields<'a>, alloc, data => Tagged)
     }
 }
 
@@ -196,15 +197,11 @@ impl<'a> SimpleAsn1Writable for Tagged<'a> {
     }
 
     fn write_data(&self, dest: &mut WriteBuf) -> WriteResult<()> {
-        write_fields!(self, dest;
-            version: TaggedVersionField, numbers: TaggedNumbersField<'a>,
-            signature: TaggedSignatureField, level: TaggedLevelField)
+        fields_of_tagged!(write_fields, self, dest)
     }
 
     fn data_length(&self) -> Option<usize> {
-        fields_length!(self;
-            version: TaggedVersionField, numbers: TaggedNumbersField<'a>,
-            signature: TaggedSignatureField, level: TaggedLevelField)
+        fields_of_tagged!(fields_length, self)
     }
 }
 
@@ -291,7 +288,7 @@ type AlternativeFields<'a> = Last<Option<ResponderId<'a>>>;
 
 impl<'a> Asn1Type for Alternative<'a> {
     ghost der = { structure (λ v. fields1 v.responder) ⟦<AlternativeFields<'a> as Row>⟧.list
-        (codes "Alternative::responder" ∷ []) };
+        (field_names "Alternative" ("responder" ∷ [])) };
 
     fn known(&self) {
         known_fields!(self; responder)
@@ -310,7 +307,7 @@ impl<'a> SimpleAsn1Readable<'a> for Alternative<'a> {
     fn parse_data(alloc: Global, data: &'a [u8]) -> ParseResult<Alternative<'a>>
         ensures { ReadsContents ⟦<Alternative<'a> as Asn1Type>⟧.der «data».entry.now result }
     {
-        read_fields!(AlternativeFields<'a>, alloc, data => Alternative { responder })
+        read_fields!(AlternativeFields<'a>, alloc, data => Alternative; responder)
     }
 }
 
@@ -346,7 +343,7 @@ type BagFields<'a> = Fields2<bool, SetOfWriter<'a, u64>>;
 
 impl<'a> Asn1Type for Bag<'a> {
     ghost der = { structure (λ v. fields2 v.full v.numbers) ⟦<BagFields<'a> as Row>⟧.list
-        (codes "Bag::full" ∷ codes "Bag::numbers" ∷ []) };
+        (field_names "Bag" ("full" ∷ "numbers" ∷ [])) };
 
     fn known(&self) {
         known_fields!(self; full, numbers)

@@ -1,10 +1,10 @@
 //! Keys, and the parameters of their algorithms (RFC 5958, 8017, 5915, 5480, 3279 and 4055).
-// Printed by scripts/derive from declarations/keys.rs, with the sum c1d38a80.
+// Printed by scripts/derive from declarations/keys.rs, with the sum 04a3b897.
 
-ghost use Rattle.std.specs.Prelude.{◌≡◌, ◌∷◌, [], codes};
+ghost use Rattle.std.specs.Prelude.{◌≡◌, ◌∷◌, []};
 ghost use Rattle.asn1.specs.Options.{option_meaning};
 ghost use Rattle.asn1.specs.Reads.{HasOneEncoding, ReadsContents};
-ghost use Rattle.asn1.specs.Structures.{defaulted, explicit, implicit, structure, fields2, fields3, fields4, fields5, fields9};
+ghost use Rattle.asn1.specs.Structures.{defaulted, explicit, field_names, implicit, structure, fields2, fields3, fields4, fields5, fields9};
 
 use crate::common::{
     AlgorithmIdentifier, Attributes, algorithm_identifier_is_lawful, attributes_is_lawful,
@@ -46,18 +46,21 @@ type OneAsymmetricKeyFields<'a> = Fields5<
     OneAsymmetricKeyPublicKeyField<'a>,
 >;
 
+macro_rules! fields_of_one_asymmetric_key {
+    ($body:ident, $($of:tt)*) => { $body!($($of)*;
+        version, private_key_algorithm, private_key,
+        attributes: OneAsymmetricKeyAttributesField<'a>,
+        public_key: OneAsymmetricKeyPublicKeyField<'a>) };
+}
+
 impl<'a> Asn1Type for OneAsymmetricKey<'a> {
     ghost der = { structure (λ v. fields5 v.version v.private_key_algorithm v.private_key
         (option_meaning implicit v.attributes) (option_meaning implicit v.public_key))
-        ⟦<OneAsymmetricKeyFields<'a> as Row>⟧.list (codes "OneAsymmetricKey::version" ∷
-        codes "OneAsymmetricKey::private_key_algorithm" ∷ codes "OneAsymmetricKey::private_key" ∷
-        codes "OneAsymmetricKey::attributes" ∷ codes "OneAsymmetricKey::public_key" ∷ []) };
+        ⟦<OneAsymmetricKeyFields<'a> as Row>⟧.list (field_names "OneAsymmetricKey" ("version" ∷
+        "private_key_algorithm" ∷ "private_key" ∷ "attributes" ∷ "public_key" ∷ [])) };
 
     fn known(&self) {
-        known_fields!(self;
-            version, private_key_algorithm, private_key,
-            attributes: OneAsymmetricKeyAttributesField<'a>,
-            public_key: OneAsymmetricKeyPublicKeyField<'a>)
+        fields_of_one_asymmetric_key!(known_fields, self)
     }
 }
 
@@ -73,11 +76,8 @@ impl<'a> SimpleAsn1Readable<'a> for OneAsymmetricKey<'a> {
     fn parse_data(alloc: Global, data: &'a [u8]) -> ParseResult<OneAsymmetricKey<'a>>
         ensures { ReadsContents ⟦<OneAsymmetricKey<'a> as Asn1Type>⟧.der «data».entry.now result }
     {
-        read_fields!(OneAsymmetricKeyFields<'a>, alloc, data => OneAsymmetricKey {
-            version, private_key_algorithm, private_key,
-            attributes: OneAsymmetricKeyAttributesField<'a>,
-            public_key: OneAsymmetricKeyPublicKeyField<'a>
-        })
+        fields_of_one_asymmetric_key!(read_fields,
+            OneAsymmetricKeyFields<'a>, alloc, data => OneAsymmetricKey)
     }
 }
 
@@ -92,17 +92,11 @@ impl<'a> SimpleAsn1Writable for OneAsymmetricKey<'a> {
     }
 
     fn write_data(&self, dest: &mut WriteBuf) -> WriteResult<()> {
-        write_fields!(self, dest;
-            version, private_key_algorithm, private_key,
-            attributes: OneAsymmetricKeyAttributesField<'a>,
-            public_key: OneAsymmetricKeyPublicKeyField<'a>)
+        fields_of_one_asymmetric_key!(write_fields, self, dest)
     }
 
     fn data_length(&self) -> Option<usize> {
-        fields_length!(self;
-            version, private_key_algorithm, private_key,
-            attributes: OneAsymmetricKeyAttributesField<'a>,
-            public_key: OneAsymmetricKeyPublicKeyField<'a>)
+        fields_of_one_asymmetric_key!(fields_length, self)
     }
 }
 
@@ -119,9 +113,8 @@ type EncryptedPrivateKeyInfoFields<'a> = Fields2<AlgorithmIdentifier<'a>, &'a [u
 
 impl<'a> Asn1Type for EncryptedPrivateKeyInfo<'a> {
     ghost der = { structure (λ v. fields2 v.encryption_algorithm v.encrypted_data)
-        ⟦<EncryptedPrivateKeyInfoFields<'a> as Row>⟧.list
-        (codes "EncryptedPrivateKeyInfo::encryption_algorithm" ∷
-        codes "EncryptedPrivateKeyInfo::encrypted_data" ∷ []) };
+        ⟦<EncryptedPrivateKeyInfoFields<'a> as Row>⟧.list (field_names "EncryptedPrivateKeyInfo"
+        ("encryption_algorithm" ∷ "encrypted_data" ∷ [])) };
 
     fn known(&self) {
         known_fields!(self; encryption_algorithm, encrypted_data)
@@ -141,9 +134,8 @@ impl<'a> SimpleAsn1Readable<'a> for EncryptedPrivateKeyInfo<'a> {
         ensures { ReadsContents ⟦<EncryptedPrivateKeyInfo<'a> as Asn1Type>⟧.der «data».entry.now
             result }
     {
-        read_fields!(EncryptedPrivateKeyInfoFields<'a>, alloc, data => EncryptedPrivateKeyInfo {
-            encryption_algorithm, encrypted_data
-        })
+        read_fields!(EncryptedPrivateKeyInfoFields<'a>, alloc, data => EncryptedPrivateKeyInfo;
+            encryption_algorithm, encrypted_data)
     }
 }
 
@@ -179,8 +171,8 @@ type RsaPublicKeyFields<'a> = Fields2<BigUint<'a>, BigUint<'a>>;
 
 impl<'a> Asn1Type for RsaPublicKey<'a> {
     ghost der = { structure (λ v. fields2 v.modulus v.public_exponent)
-        ⟦<RsaPublicKeyFields<'a> as Row>⟧.list (codes "RsaPublicKey::modulus" ∷
-        codes "RsaPublicKey::public_exponent" ∷ []) };
+        ⟦<RsaPublicKeyFields<'a> as Row>⟧.list (field_names "RsaPublicKey" ("modulus" ∷
+        "public_exponent" ∷ [])) };
 
     fn known(&self) {
         known_fields!(self; modulus, public_exponent)
@@ -199,9 +191,7 @@ impl<'a> SimpleAsn1Readable<'a> for RsaPublicKey<'a> {
     fn parse_data(alloc: Global, data: &'a [u8]) -> ParseResult<RsaPublicKey<'a>>
         ensures { ReadsContents ⟦<RsaPublicKey<'a> as Asn1Type>⟧.der «data».entry.now result }
     {
-        read_fields!(RsaPublicKeyFields<'a>, alloc, data => RsaPublicKey {
-            modulus, public_exponent
-        })
+        read_fields!(RsaPublicKeyFields<'a>, alloc, data => RsaPublicKey; modulus, public_exponent)
     }
 }
 
@@ -260,19 +250,21 @@ type RsaPrivateKeyFields<'a> = Fields9<
     BigUint<'a>,
 >;
 
+macro_rules! fields_of_rsa_private_key {
+    ($body:ident, $($of:tt)*) => { $body!($($of)*;
+        version, modulus, public_exponent, private_exponent, prime1, prime2, exponent1, exponent2,
+        coefficient) };
+}
+
 impl<'a> Asn1Type for RsaPrivateKey<'a> {
     ghost der = { structure (λ v. fields9 v.version v.modulus v.public_exponent v.private_exponent
         v.prime1 v.prime2 v.exponent1 v.exponent2 v.coefficient)
-        ⟦<RsaPrivateKeyFields<'a> as Row>⟧.list (codes "RsaPrivateKey::version" ∷
-        codes "RsaPrivateKey::modulus" ∷ codes "RsaPrivateKey::public_exponent" ∷
-        codes "RsaPrivateKey::private_exponent" ∷ codes "RsaPrivateKey::prime1" ∷
-        codes "RsaPrivateKey::prime2" ∷ codes "RsaPrivateKey::exponent1" ∷
-        codes "RsaPrivateKey::exponent2" ∷ codes "RsaPrivateKey::coefficient" ∷ []) };
+        ⟦<RsaPrivateKeyFields<'a> as Row>⟧.list (field_names "RsaPrivateKey" ("version" ∷ "modulus"
+        ∷ "public_exponent" ∷ "private_exponent" ∷ "prime1" ∷ "prime2" ∷ "exponent1" ∷ "exponent2" ∷
+        "coefficient" ∷ [])) };
 
     fn known(&self) {
-        known_fields!(self;
-            version, modulus, public_exponent, private_exponent, prime1, prime2, exponent1,
-            exponent2, coefficient)
+        fields_of_rsa_private_key!(known_fields, self)
     }
 }
 
@@ -288,10 +280,8 @@ impl<'a> SimpleAsn1Readable<'a> for RsaPrivateKey<'a> {
     fn parse_data(alloc: Global, data: &'a [u8]) -> ParseResult<RsaPrivateKey<'a>>
         ensures { ReadsContents ⟦<RsaPrivateKey<'a> as Asn1Type>⟧.der «data».entry.now result }
     {
-        read_fields!(RsaPrivateKeyFields<'a>, alloc, data => RsaPrivateKey {
-            version, modulus, public_exponent, private_exponent, prime1, prime2, exponent1,
-            exponent2, coefficient
-        })
+        fields_of_rsa_private_key!(read_fields,
+            RsaPrivateKeyFields<'a>, alloc, data => RsaPrivateKey)
     }
 }
 
@@ -306,15 +296,11 @@ impl<'a> SimpleAsn1Writable for RsaPrivateKey<'a> {
     }
 
     fn write_data(&self, dest: &mut WriteBuf) -> WriteResult<()> {
-        write_fields!(self, dest;
-            version, modulus, public_exponent, private_exponent, prime1, prime2, exponent1,
-            exponent2, coefficient)
+        fields_of_rsa_private_key!(write_fields, self, dest)
     }
 
     fn data_length(&self) -> Option<usize> {
-        fields_length!(self;
-            version, modulus, public_exponent, private_exponent, prime1, prime2, exponent1,
-            exponent2, coefficient)
+        fields_of_rsa_private_key!(fields_length, self)
     }
 }
 
@@ -342,16 +328,20 @@ type EcPrivateKeyFields<'a> = Fields4<
     EcPrivateKeyPublicKeyField<'a>,
 >;
 
+macro_rules! fields_of_ec_private_key {
+    ($body:ident, $($of:tt)*) => { $body!($($of)*;
+        version, private_key, parameters: EcPrivateKeyParametersField,
+        public_key: EcPrivateKeyPublicKeyField<'a>) };
+}
+
 impl<'a> Asn1Type for EcPrivateKey<'a> {
     ghost der = { structure (λ v. fields4 v.version v.private_key (option_meaning explicit
         v.parameters) (option_meaning explicit v.public_key)) ⟦<EcPrivateKeyFields<'a> as Row>⟧.list
-        (codes "EcPrivateKey::version" ∷ codes "EcPrivateKey::private_key" ∷
-        codes "EcPrivateKey::parameters" ∷ codes "EcPrivateKey::public_key" ∷ []) };
+        (field_names "EcPrivateKey" ("version" ∷ "private_key" ∷ "parameters" ∷ "public_key" ∷
+        [])) };
 
     fn known(&self) {
-        known_fields!(self;
-            version, private_key, parameters: EcPrivateKeyParametersField,
-            public_key: EcPrivateKeyPublicKeyField<'a>)
+        fields_of_ec_private_key!(known_fields, self)
     }
 }
 
@@ -367,10 +357,7 @@ impl<'a> SimpleAsn1Readable<'a> for EcPrivateKey<'a> {
     fn parse_data(alloc: Global, data: &'a [u8]) -> ParseResult<EcPrivateKey<'a>>
         ensures { ReadsContents ⟦<EcPrivateKey<'a> as Asn1Type>⟧.der «data».entry.now result }
     {
-        read_fields!(EcPrivateKeyFields<'a>, alloc, data => EcPrivateKey {
-            version, private_key, parameters: EcPrivateKeyParametersField,
-            public_key: EcPrivateKeyPublicKeyField<'a>
-        })
+        fields_of_ec_private_key!(read_fields, EcPrivateKeyFields<'a>, alloc, data => EcPrivateKey)
     }
 }
 
@@ -385,15 +372,11 @@ impl<'a> SimpleAsn1Writable for EcPrivateKey<'a> {
     }
 
     fn write_data(&self, dest: &mut WriteBuf) -> WriteResult<()> {
-        write_fields!(self, dest;
-            version, private_key, parameters: EcPrivateKeyParametersField,
-            public_key: EcPrivateKeyPublicKeyField<'a>)
+        fields_of_ec_private_key!(write_fields, self, dest)
     }
 
     fn data_length(&self) -> Option<usize> {
-        fields_length!(self;
-            version, private_key, parameters: EcPrivateKeyParametersField,
-            public_key: EcPrivateKeyPublicKeyField<'a>)
+        fields_of_ec_private_key!(fields_length, self)
     }
 }
 
@@ -412,7 +395,7 @@ type DssParmsFields<'a> = Fields3<BigUint<'a>, BigUint<'a>, BigUint<'a>>;
 
 impl<'a> Asn1Type for DssParms<'a> {
     ghost der = { structure (λ v. fields3 v.p v.q v.g) ⟦<DssParmsFields<'a> as Row>⟧.list
-        (codes "DssParms::p" ∷ codes "DssParms::q" ∷ codes "DssParms::g" ∷ []) };
+        (field_names "DssParms" ("p" ∷ "q" ∷ "g" ∷ [])) };
 
     fn known(&self) {
         known_fields!(self; p, q, g)
@@ -431,7 +414,7 @@ impl<'a> SimpleAsn1Readable<'a> for DssParms<'a> {
     fn parse_data(alloc: Global, data: &'a [u8]) -> ParseResult<DssParms<'a>>
         ensures { ReadsContents ⟦<DssParms<'a> as Asn1Type>⟧.der «data».entry.now result }
     {
-        read_fields!(DssParmsFields<'a>, alloc, data => DssParms { p, q, g })
+        read_fields!(DssParmsFields<'a>, alloc, data => DssParms; p, q, g)
     }
 }
 
@@ -505,19 +488,22 @@ type RsassaPssParamsFields<'a> = Fields4<
     RsassaPssParamsTrailerFieldField,
 >;
 
+macro_rules! fields_of_rsassa_pss_params {
+    ($body:ident, $($of:tt)*) => { $body!($($of)*;
+        hash_algorithm: RsassaPssParamsHashAlgorithmField<'a>,
+        mask_gen_algorithm: RsassaPssParamsMaskGenAlgorithmField<'a>,
+        salt_length: RsassaPssParamsSaltLengthField,
+        trailer_field: RsassaPssParamsTrailerFieldField) };
+}
+
 impl<'a> Asn1Type for RsassaPssParams<'a> {
     ghost der = { structure (λ v. fields4 (option_meaning explicit v.hash_algorithm) (option_meaning
         explicit v.mask_gen_algorithm) (defaulted (explicit v.salt_length)) (defaulted (explicit
-        v.trailer_field))) ⟦<RsassaPssParamsFields<'a> as Row>⟧.list
-        (codes "RsassaPssParams::hash_algorithm" ∷ codes "RsassaPssParams::mask_gen_algorithm" ∷
-        codes "RsassaPssParams::salt_length" ∷ codes "RsassaPssParams::trailer_field" ∷ []) };
+        v.trailer_field))) ⟦<RsassaPssParamsFields<'a> as Row>⟧.list (field_names "RsassaPssParams"
+        ("hash_algorithm" ∷ "mask_gen_algorithm" ∷ "salt_length" ∷ "trailer_field" ∷ [])) };
 
     fn known(&self) {
-        known_fields!(self;
-            hash_algorithm: RsassaPssParamsHashAlgorithmField<'a>,
-            mask_gen_algorithm: RsassaPssParamsMaskGenAlgorithmField<'a>,
-            salt_length: RsassaPssParamsSaltLengthField,
-            trailer_field: RsassaPssParamsTrailerFieldField)
+        fields_of_rsassa_pss_params!(known_fields, self)
     }
 }
 
@@ -533,12 +519,8 @@ impl<'a> SimpleAsn1Readable<'a> for RsassaPssParams<'a> {
     fn parse_data(alloc: Global, data: &'a [u8]) -> ParseResult<RsassaPssParams<'a>>
         ensures { ReadsContents ⟦<RsassaPssParams<'a> as Asn1Type>⟧.der «data».entry.now result }
     {
-        read_fields!(RsassaPssParamsFields<'a>, alloc, data => RsassaPssParams {
-            hash_algorithm: RsassaPssParamsHashAlgorithmField<'a>,
-            mask_gen_algorithm: RsassaPssParamsMaskGenAlgorithmField<'a>,
-            salt_length: RsassaPssParamsSaltLengthField,
-            trailer_field: RsassaPssParamsTrailerFieldField
-        })
+        fields_of_rsassa_pss_params!(read_fields,
+            RsassaPssParamsFields<'a>, alloc, data => RsassaPssParams)
     }
 }
 
@@ -553,19 +535,11 @@ impl<'a> SimpleAsn1Writable for RsassaPssParams<'a> {
     }
 
     fn write_data(&self, dest: &mut WriteBuf) -> WriteResult<()> {
-        write_fields!(self, dest;
-            hash_algorithm: RsassaPssParamsHashAlgorithmField<'a>,
-            mask_gen_algorithm: RsassaPssParamsMaskGenAlgorithmField<'a>,
-            salt_length: RsassaPssParamsSaltLengthField,
-            trailer_field: RsassaPssParamsTrailerFieldField)
+        fields_of_rsassa_pss_params!(write_fields, self, dest)
     }
 
     fn data_length(&self) -> Option<usize> {
-        fields_length!(self;
-            hash_algorithm: RsassaPssParamsHashAlgorithmField<'a>,
-            mask_gen_algorithm: RsassaPssParamsMaskGenAlgorithmField<'a>,
-            salt_length: RsassaPssParamsSaltLengthField,
-            trailer_field: RsassaPssParamsTrailerFieldField)
+        fields_of_rsassa_pss_params!(fields_length, self)
     }
 }
 

@@ -1,9 +1,9 @@
 //! Requests for certificates (RFC 2986).
-// Printed by scripts/derive from declarations/request.rs, with the sum 5f52b24e.
+// Printed by scripts/derive from declarations/request.rs, with the sum 377385e2.
 
-ghost use Rattle.std.specs.Prelude.{◌≡◌, ◌∷◌, [], codes};
+ghost use Rattle.std.specs.Prelude.{◌≡◌, ◌∷◌, []};
 ghost use Rattle.asn1.specs.Reads.{HasOneEncoding, ReadsContents};
-ghost use Rattle.asn1.specs.Structures.{implicit, structure, fields3, fields4};
+ghost use Rattle.asn1.specs.Structures.{field_names, implicit, structure, fields3, fields4};
 
 use crate::common::{
     AlgorithmIdentifier, Attributes, Name, SubjectPublicKeyInfo, algorithm_identifier_is_lawful,
@@ -38,17 +38,20 @@ type CertificationRequestInfoFields<'a> = Fields4<
     CertificationRequestInfoAttributesField<'a>,
 >;
 
+macro_rules! fields_of_certification_request_info {
+    ($body:ident, $($of:tt)*) => { $body!($($of)*;
+        version, subject, subject_pk_info,
+        attributes: CertificationRequestInfoAttributesField<'a>) };
+}
+
 impl<'a> Asn1Type for CertificationRequestInfo<'a> {
     ghost der = { structure (λ v. fields4 v.version v.subject v.subject_pk_info (implicit
         v.attributes)) ⟦<CertificationRequestInfoFields<'a> as Row>⟧.list
-        (codes "CertificationRequestInfo::version" ∷ codes "CertificationRequestInfo::subject" ∷
-        codes "CertificationRequestInfo::subject_pk_info" ∷
-        codes "CertificationRequestInfo::attributes" ∷ []) };
+        (field_names "CertificationRequestInfo" ("version" ∷ "subject" ∷ "subject_pk_info" ∷
+        "attributes" ∷ [])) };
 
     fn known(&self) {
-        known_fields!(self;
-            version, subject, subject_pk_info,
-            attributes: CertificationRequestInfoAttributesField<'a>)
+        fields_of_certification_request_info!(known_fields, self)
     }
 }
 
@@ -65,10 +68,8 @@ impl<'a> SimpleAsn1Readable<'a> for CertificationRequestInfo<'a> {
         ensures { ReadsContents ⟦<CertificationRequestInfo<'a> as Asn1Type>⟧.der «data».entry.now
             result }
     {
-        read_fields!(CertificationRequestInfoFields<'a>, alloc, data => CertificationRequestInfo {
-            version, subject, subject_pk_info,
-            attributes: CertificationRequestInfoAttributesField<'a>
-        })
+        fields_of_certification_request_info!(read_fields,
+            CertificationRequestInfoFields<'a>, alloc, data => CertificationRequestInfo)
     }
 }
 
@@ -83,15 +84,11 @@ impl<'a> SimpleAsn1Writable for CertificationRequestInfo<'a> {
     }
 
     fn write_data(&self, dest: &mut WriteBuf) -> WriteResult<()> {
-        write_fields!(self, dest;
-            version, subject, subject_pk_info,
-            attributes: CertificationRequestInfoAttributesField<'a>)
+        fields_of_certification_request_info!(write_fields, self, dest)
     }
 
     fn data_length(&self) -> Option<usize> {
-        fields_length!(self;
-            version, subject, subject_pk_info,
-            attributes: CertificationRequestInfoAttributesField<'a>)
+        fields_of_certification_request_info!(fields_length, self)
     }
 }
 
@@ -115,9 +112,8 @@ type CertificationRequestFields<'a> = Fields3<
 impl<'a> Asn1Type for CertificationRequest<'a> {
     ghost der = { structure (λ v. fields3 v.certification_request_info v.signature_algorithm
         v.signature) ⟦<CertificationRequestFields<'a> as Row>⟧.list
-        (codes "CertificationRequest::certification_request_info" ∷
-        codes "CertificationRequest::signature_algorithm" ∷ codes "CertificationRequest::signature"
-        ∷ []) };
+        (field_names "CertificationRequest" ("certification_request_info" ∷ "signature_algorithm" ∷
+        "signature" ∷ [])) };
 
     fn known(&self) {
         known_fields!(self; certification_request_info, signature_algorithm, signature)
@@ -137,9 +133,8 @@ impl<'a> SimpleAsn1Readable<'a> for CertificationRequest<'a> {
         ensures { ReadsContents ⟦<CertificationRequest<'a> as Asn1Type>⟧.der «data».entry.now
             result }
     {
-        read_fields!(CertificationRequestFields<'a>, alloc, data => CertificationRequest {
-            certification_request_info, signature_algorithm, signature
-        })
+        read_fields!(CertificationRequestFields<'a>, alloc, data => CertificationRequest;
+            certification_request_info, signature_algorithm, signature)
     }
 }
 

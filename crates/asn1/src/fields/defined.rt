@@ -8,9 +8,9 @@ ghost use Rattle.asn1_core.specs.Writing.{buffer_name, octets_of, KnowsLength, R
 ghost use Rattle.asn1_values.specs.Identifier.{read_identifier};
 ghost use Rattle.asn1_values.specs.IdentifierValues.{identifier_of};
 ghost use Rattle.asn1.specs.Structures.{BehindItem, ItemErrors, before_behind, item_list, value_behind, value_last_behind};
-ghost use Rattle.asn1.specs.ItemsAndValues.{item_der, written_value, Agrees, ItemAgrees, ItemAndValue};
+ghost use Rattle.asn1.specs.ItemsAndValues.{Agrees, ItemAgrees, ItemAndValue};
 
-use super::{NameSource, Row, RowReadable, finish, placed};
+use super::{FieldWritable, NameSource, Row, RowReadable, finish, placed};
 use crate::laws::identifiers_compare;
 use crate::wrappers::DefinedByMarker;
 use asn1_core::{
@@ -210,73 +210,57 @@ pub fn known_value<T: Asn1Type, C: DefinedField<T>>(value: &C)
     value.known_by()
 }
 
-/// The item that defines a value. The item is written from the value, which determines it.
-#[derive(Drop)]
-pub struct ItemOf<'r, T, C> {
-    /// The value.
-    pub value: &'r C,
-    /// The type of its item.
-    pub of: PhantomData<T>,
+/// The item of a value, which is written from the value: the value determines it.
+pub struct ItemOf<T> {
+    of: PhantomData<T>,
 }
 
-impl<T: Asn1Type, C: DefinedField<T>> Asn1Type for ItemOf<'_, T, C> {
-    ghost der = { item_der (λ x. x.value.now) C.both };
-
-    fn known(&self) {
-        known_item::<T, C>(self.value)
-    }
-}
-
-impl<T: Asn1Writable + Drop, C: DefinedField<T> + Asn1DefinedByWritable<T>> Asn1Writable
-    for ItemOf<'_, T, C> {
+impl<T: Asn1Writable + Drop, C: DefinedField<T> + Asn1DefinedByWritable<T>> FieldWritable<C>
+    for ItemOf<T> {
     type Error = T::Error;
 
-    ghost write_errors = { λ x. ItemErrors C.both x.value.now T.write_errors };
+    ghost encodings = { λ v. C.both.item.texts (C.both.value.item (C.both.value.meaning v)) };
 
-    ghost length_known = { λ x. (item : T) → (C.both.item.meaning item ≡
-        C.both.value.item (C.both.value.meaning x.value.now)) → T.length_known item };
+    ghost owes = { λ v. C.both.item.closures (C.both.value.item (C.both.value.meaning v)) };
 
-    fn write(&self, dest: &mut Writer<'_>) -> Result<(), T::Error> {
-        let item = self.value.item();
+    ghost write_errors = { λ v. ItemErrors C.both v T.write_errors };
+
+    ghost length_known = { λ v. (item : T) → (C.both.item.meaning item ≡
+        C.both.value.item (C.both.value.meaning v)) → T.length_known item };
+
+    fn write_plain(value: &C, dest: &mut Writer<'_>) -> Result<(), T::Error> {
+        let item = value.item();
         dest.write_element(&item)
     }
 
-    fn encoded_length(&self) -> Option<usize> {
-        let item = self.value.item();
+    fn plain_length(value: &C) -> Option<usize> {
+        let item = value.item();
         item.encoded_length()
     }
 }
 
-/// A value that an item defines, written without the item.
-#[derive(Drop)]
-pub struct ValueOf<'r, T, C> {
-    /// The value.
-    pub value: &'r C,
-    /// The type of its item.
-    pub of: PhantomData<T>,
+/// A value that an item of the type `T` defines, which is written without the item.
+pub struct ValueOf<T> {
+    of: PhantomData<T>,
 }
 
-impl<T: Asn1Type, C: DefinedField<T>> Asn1Type for ValueOf<'_, T, C> {
-    ghost der = { written_value (λ x. x.value.now) C.both.value };
-
-    fn known(&self) {
-        known_value::<T, C>(self.value)
-    }
-}
-
-impl<T: Asn1Writable, C: DefinedField<T> + Asn1DefinedByWritable<T>> Asn1Writable
-    for ValueOf<'_, T, C> {
+impl<T: Asn1Writable, C: DefinedField<T> + Asn1DefinedByWritable<T>> FieldWritable<C>
+    for ValueOf<T> {
     type Error = C::Error;
 
-    ghost write_errors = { λ x. C.write_errors_by x.value.now };
+    ghost encodings = { λ v. C.both.value.texts (C.both.value.meaning v) };
 
-    ghost length_known = { λ x. C.length_known_by x.value.now };
+    ghost owes = { λ v. C.both.value.closures (C.both.value.meaning v) };
 
-    fn write(&self, dest: &mut Writer<'_>) -> Result<(), C::Error> {
-        self.value.write(dest)
+    ghost write_errors = { C.write_errors_by };
+
+    ghost length_known = { C.length_known_by };
+
+    fn write_plain(value: &C, dest: &mut Writer<'_>) -> Result<(), C::Error> {
+        value.write(dest)
     }
 
-    fn encoded_length(&self) -> Option<usize> {
-        self.value.encoded_length()
+    fn plain_length(value: &C) -> Option<usize> {
+        value.encoded_length()
     }
 }

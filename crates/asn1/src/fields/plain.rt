@@ -1,14 +1,13 @@
-//! Fields under a tag or with a default, whose values a struct has without these.
+//! How fields are written and read whose values a struct has as they are, under a tag or with a default: without the
+//! tag, and with no mention of the default.
 
-ghost use Rattle.std.specs.Prelude.{◌≡◌, OnOk, OnErr, IfErr};
+ghost use Rattle.std.specs.Prelude.{◌≡◌, List, ℕ, OnOk, OnErr, IfErr};
 ghost use Rattle.asn1_core.specs.Buffer.{Appends, KeepsFront};
-ghost use Rattle.asn1_core.specs.Der.{seen};
 ghost use Rattle.asn1_core.specs.Writing.{buffer_name, octets_of, GivesLength, Refuses};
-ghost use Rattle.asn1.specs.Structures.{defaulted};
+ghost use Rattle.asn1.specs.Structures.{defaulted, encoded, owed};
 
 use crate::wrappers::{DefaultValue, Defaulted, MeaningEq, is_default};
-use asn1_core::{Asn1Type, Asn1Writable, Writer};
-use std::marker::PhantomData;
+use asn1_core::{Asn1Type, Asn1Writable, WriteError, Writer};
 
 mod explicit;
 mod implicit;
@@ -27,55 +26,57 @@ pub trait Wraps<P>: Asn1Type {
         ensures { Self.der.valid (Self.der.meaning (wrap value.now)) };
 }
 
-/// A field's type in the encoding, which is written.
-pub trait WrapsWritable<P>: Wraps<P> + Asn1Writable {
+/// How a value of a struct's field, a `P`, is written: as it is ([`Plain`]), or as the type in the encoding that
+/// implements this trait. The trait has no supertrait: the prover would compare what two of them mean, in each field.
+pub trait FieldWritable<P>: Sized {
+    /// The error of a write that fails.
+    type Error: From<WriteError>;
+
+    // What a write may append; what the caller has to prove of the closures in the value; the errors that a write may
+    // return, other than out of memory; and the values whose length is known without writing them.
+    ghost encodings: { P → List ℕ → Type 0 };
+
+    ghost owes: { P → Type 0 };
+
+    ghost write_errors: { P → Self.Error → Type 0 };
+
+    ghost length_known: { P → Type 0 };
+
     /// Appends the encoding of the value. Errors and what the caller has to prove are those of
     /// [`Asn1Writable::write`].
     fn write_plain(value: &P, dest: &mut Writer<'_>) -> Result<(), Self::Error>
-        requires { Self.der.closures (Self.der.meaning (Self.wrap value.now)) }
+        requires { owes value.now }
         ensures same_buffer { buffer_name dest.new ≡ buffer_name dest.old }
-        ensures ok { OnOk result (Appends (Self.der.texts (Self.der.meaning (Self.wrap value.now)))
-            (octets_of dest.old) (octets_of dest.new)) }
+        ensures ok { OnOk result (Appends (encodings value.now) (octets_of dest.old)
+            (octets_of dest.new)) }
         ensures err { OnErr result (KeepsFront (octets_of dest.old) (octets_of dest.new)) }
-        ensures error { IfErr result (Refuses Self.Error.from_gives
-            (Self.write_errors (Self.wrap value.now))) };
+        ensures error { IfErr result (Refuses Self.Error.from_gives (write_errors value.now)) };
 
     /// How many octets the encoding of the value has, if that is known without writing the value.
     fn plain_length(value: &P) -> Option<usize>
-        ensures { GivesLength (Self.length_known (Self.wrap value.now))
-            (Self.der.texts (Self.der.meaning (Self.wrap value.now))) result };
+        ensures { GivesLength (length_known value.now) (encodings value.now) result };
 }
 
-/// A reference to a field's value in a struct, which is written as a `W`.
-#[derive(Drop)]
-pub struct Wrapped<'r, W, P> {
-    /// The value.
-    pub value: &'r P,
-    /// The type as which the value is written.
-    pub of: PhantomData<W>,
-}
+/// A field that is written as it is.
+pub struct Plain;
 
-impl<W: Wraps<P>, P> Asn1Type for Wrapped<'_, W, P> {
-    ghost der = { seen (λ x. W.wrap x.value.now) W.der };
+impl<T: Asn1Writable> FieldWritable<T> for Plain {
+    type Error = T::Error;
 
-    fn known(&self) {
-        W::known_plain(self.value)
-    }
-}
+    ghost encodings = { encoded T.der };
 
-impl<W: WrapsWritable<P>, P> Asn1Writable for Wrapped<'_, W, P> {
-    type Error = W::Error;
+    ghost owes = { owed T.der };
 
-    ghost write_errors = { λ x. W.write_errors (W.wrap x.value.now) };
+    ghost write_errors = { T.write_errors };
 
-    ghost length_known = { λ x. W.length_known (W.wrap x.value.now) };
+    ghost length_known = { T.length_known };
 
-    fn write(&self, dest: &mut Writer<'_>) -> Result<(), W::Error> {
-        W::write_plain(self.value, dest)
+    fn write_plain(value: &T, dest: &mut Writer<'_>) -> Result<(), T::Error> {
+        dest.write_element(value)
     }
 
-    fn encoded_length(&self) -> Option<usize> {
-        W::plain_length(self.value)
+    fn plain_length(value: &T) -> Option<usize> {
+        value.encoded_length()
     }
 }
 
@@ -95,22 +96,20 @@ pub fn known_plain<W: Wraps<P>, P>(value: &P)
 
 /// Appends the encoding of a field's value. Errors and what the caller has to prove are those of
 /// [`Asn1Writable::write`].
-pub fn write_plain<W: WrapsWritable<P>, P>(value: &P, dest: &mut Writer<'_>) -> Result<(), W::Error>
-    requires { W.der.closures (W.der.meaning (W.wrap value.now)) }
+pub fn write_plain<W: FieldWritable<P>, P>(value: &P, dest: &mut Writer<'_>) -> Result<(), W::Error>
+    requires { W.owes value.now }
     ensures same_buffer { buffer_name dest.new ≡ buffer_name dest.old }
-    ensures ok { OnOk result (Appends (W.der.texts (W.der.meaning (W.wrap value.now)))
-        (octets_of dest.old) (octets_of dest.new)) }
+    ensures ok { OnOk result (Appends (W.encodings value.now) (octets_of dest.old)
+        (octets_of dest.new)) }
     ensures err { OnErr result (KeepsFront (octets_of dest.old) (octets_of dest.new)) }
-    ensures error { IfErr result (Refuses W.Error.from_gives
-        (W.write_errors (W.wrap value.now))) }
+    ensures error { IfErr result (Refuses W.Error.from_gives (W.write_errors value.now)) }
 {
     W::write_plain(value, dest)
 }
 
 /// How many octets the encoding of a field's value has, if that is known.
-pub fn plain_length<W: WrapsWritable<P>, P>(value: &P) -> Option<usize>
-    ensures { GivesLength (W.length_known (W.wrap value.now))
-        (W.der.texts (W.der.meaning (W.wrap value.now))) result }
+pub fn plain_length<W: FieldWritable<P>, P>(value: &P) -> Option<usize>
+    ensures { GivesLength (W.length_known value.now) (W.encodings value.now) result }
 {
     W::plain_length(value)
 }
@@ -127,7 +126,17 @@ impl<T: MeaningEq, D: DefaultValue<T>> Wraps<T> for Defaulted<T, D> {
     }
 }
 
-impl<T: Asn1Writable + MeaningEq + Drop, D: DefaultValue<T>> WrapsWritable<T> for Defaulted<T, D> {
+impl<T: Asn1Writable + MeaningEq + Drop, D: DefaultValue<T>> FieldWritable<T> for Defaulted<T, D> {
+    type Error = T::Error;
+
+    ghost encodings = { λ v. encoded ⟦<Defaulted<T, D> as Asn1Type>⟧.der (defaulted v) };
+
+    ghost owes = { λ v. owed ⟦<Defaulted<T, D> as Asn1Type>⟧.der (defaulted v) };
+
+    ghost write_errors = { λ v. ⟦<Defaulted<T, D> as Asn1Writable>⟧.write_errors (defaulted v) };
+
+    ghost length_known = { λ v. ⟦<Defaulted<T, D> as Asn1Writable>⟧.length_known (defaulted v) };
+
     fn write_plain(value: &T, dest: &mut Writer<'_>) -> Result<(), T::Error> {
         if is_default::<T, D>(value) {
             return Ok(());

@@ -1,13 +1,12 @@
-//! Fields that are written: a row of references to a struct's fields, four at a time.
+//! Fields that are written: a row of references to a struct's fields, four at a time, and how each is written.
 
 ghost use Rattle.std.specs.Prelude.{◌⊎◌, List, ℕ, OnOk, OnErr, IfErr};
 ghost use Rattle.asn1_core.specs.Buffer.{Appends, KeepsFront};
 ghost use Rattle.asn1_core.specs.Writing.{GivesLength, Refuses};
 ghost use Rattle.asn1.specs.FieldReads.{Both};
-ghost use Rattle.asn1.specs.Structures.{encoded, owed};
 
-use super::{Field, Last, sum};
-use asn1_core::{Asn1Writable, WriteBuf, WriteError, Writer};
+use super::{Field, FieldWritable, Last, sum};
+use asn1_core::{WriteBuf, WriteError, Writer};
 
 // Four fields as a row of one field after another.
 macro_rules! one_by_one {
@@ -43,8 +42,9 @@ pub struct Four<A, B, C, D, R> {
     pub rest: R,
 }
 
-/// A row of fields that are written.
-pub trait RowWritable: Sized {
+/// A row of references to fields that are written. `K` is a row too: it has the type of [`FieldWritable`] as which each
+/// field is written.
+pub trait RowWritable<K>: Sized {
     /// The error of a write that fails.
     type Error: From<WriteError>;
 
@@ -72,50 +72,51 @@ pub trait RowWritable: Sized {
         ensures { GivesLength (length_known self.now) (encodings self.now) result };
 }
 
-impl<A: Asn1Writable> RowWritable for Last<&A> {
-    type Error = A::Error;
+impl<A, K: FieldWritable<A>> RowWritable<Last<K>> for Last<&A> {
+    type Error = K::Error;
 
-    ghost encodings = { λ row. encoded A.der row.value.now };
+    ghost encodings = { λ row. K.encodings row.value.now };
 
-    ghost owes = { λ row. owed A.der row.value.now };
+    ghost owes = { λ row. K.owes row.value.now };
 
-    ghost write_errors = { λ row. A.write_errors row.value.now };
+    ghost write_errors = { λ row. K.write_errors row.value.now };
 
-    ghost length_known = { λ row. A.length_known row.value.now };
+    ghost length_known = { λ row. K.length_known row.value.now };
 
-    fn write(&self, dest: &mut WriteBuf) -> Result<(), A::Error> {
-        Writer::new(dest).write_element(self.value)
+    fn write(&self, dest: &mut WriteBuf) -> Result<(), K::Error> {
+        K::write_plain(self.value, &mut Writer::new(dest))
     }
 
     fn length(&self) -> Option<usize> {
-        self.value.encoded_length()
+        K::plain_length(self.value)
     }
 }
 
-impl<A: Asn1Writable, R: RowWritable<Error = A::Error>> RowWritable for Field<&A, R> {
-    type Error = A::Error;
+impl<A, K: FieldWritable<A>, KR, R: RowWritable<KR, Error = K::Error>> RowWritable<Field<K, KR>>
+    for Field<&A, R> {
+    type Error = K::Error;
 
-    ghost encodings = { λ row. Both (encoded A.der row.value.now) (R.encodings row.rest) };
+    ghost encodings = { λ row. Both (K.encodings row.value.now) (R.encodings row.rest) };
 
-    ghost owes = { λ row. owed A.der row.value.now × R.owes row.rest };
+    ghost owes = { λ row. K.owes row.value.now × R.owes row.rest };
 
-    ghost write_errors = { λ row e. A.write_errors row.value.now e ⊎ R.write_errors row.rest e };
+    ghost write_errors = { λ row e. K.write_errors row.value.now e ⊎ R.write_errors row.rest e };
 
-    ghost length_known = { λ row. A.length_known row.value.now × R.length_known row.rest };
+    ghost length_known = { λ row. K.length_known row.value.now × R.length_known row.rest };
 
     #[tactic(auto, using(crate::specs::Lemmas::FieldSteps::in_turn))]
-    fn write(&self, dest: &mut WriteBuf) -> Result<(), A::Error> {
-        Writer::new(dest).write_element(self.value)?;
+    fn write(&self, dest: &mut WriteBuf) -> Result<(), K::Error> {
+        K::write_plain(self.value, &mut Writer::new(dest))?;
         self.rest.write(dest)
     }
 
     #[tactic(auto, using(crate::specs::Lemmas::FieldSteps::sum_known))]
     fn length(&self) -> Option<usize> {
-        sum(self.value.encoded_length(), self.rest.length())
+        sum(K::plain_length(self.value), self.rest.length())
     }
 }
 
-impl<R: RowWritable> RowWritable for &R {
+impl<K, R: RowWritable<K>> RowWritable<K> for &R {
     type Error = R::Error;
 
     ghost encodings = { λ row. R.encodings row.now };
@@ -135,32 +136,41 @@ impl<R: RowWritable> RowWritable for &R {
     }
 }
 
+/// How four fields are written, one after another.
+type InTurn<KA, KB, KC, KD, KR> = Field<KA, Field<KB, Field<KC, Field<KD, KR>>>>;
+
 impl<
-    A: Asn1Writable,
-    B: Asn1Writable<Error = A::Error>,
-    C: Asn1Writable<Error = A::Error>,
-    D: Asn1Writable<Error = A::Error>,
-    R: RowWritable<Error = A::Error>,
-> RowWritable for Four<&A, &B, &C, &D, R> {
-    type Error = A::Error;
+    A,
+    B,
+    C,
+    D,
+    KA: FieldWritable<A>,
+    KB: FieldWritable<B, Error = KA::Error>,
+    KC: FieldWritable<C, Error = KA::Error>,
+    KD: FieldWritable<D, Error = KA::Error>,
+    KR,
+    R: RowWritable<KR, Error = KA::Error>,
+> RowWritable<Four<KA, KB, KC, KD, KR>> for Four<&A, &B, &C, &D, R> {
+    type Error = KA::Error;
 
-    ghost encodings = { λ row. Both (encoded A.der row.a.now) (Both (encoded B.der row.b.now)
-        (Both (encoded C.der row.c.now) (Both (encoded D.der row.d.now) (R.encodings row.rest)))) };
+    ghost encodings = { λ row. Both (KA.encodings row.a.now) (Both (KB.encodings row.b.now)
+        (Both (KC.encodings row.c.now) (Both (KD.encodings row.d.now) (R.encodings row.rest)))) };
 
-    ghost owes = { λ row. owed A.der row.a.now × (owed B.der row.b.now × (owed C.der row.c.now ×
-        (owed D.der row.d.now × R.owes row.rest))) };
+    ghost owes = { λ row. KA.owes row.a.now × (KB.owes row.b.now × (KC.owes row.c.now ×
+        (KD.owes row.d.now × R.owes row.rest))) };
 
-    ghost write_errors = { λ row e. A.write_errors row.a.now e ⊎ (B.write_errors row.b.now e ⊎
-        (C.write_errors row.c.now e ⊎ (D.write_errors row.d.now e ⊎ R.write_errors row.rest e))) };
+    ghost write_errors = { λ row e. KA.write_errors row.a.now e ⊎ (KB.write_errors row.b.now e ⊎
+        (KC.write_errors row.c.now e ⊎ (KD.write_errors row.d.now e ⊎
+        R.write_errors row.rest e))) };
 
-    ghost length_known = { λ row. A.length_known row.a.now × (B.length_known row.b.now ×
-        (C.length_known row.c.now × (D.length_known row.d.now × R.length_known row.rest))) };
+    ghost length_known = { λ row. KA.length_known row.a.now × (KB.length_known row.b.now ×
+        (KC.length_known row.c.now × (KD.length_known row.d.now × R.length_known row.rest))) };
 
-    fn write(&self, dest: &mut WriteBuf) -> Result<(), A::Error> {
-        one_by_one!(self).write(dest)
+    fn write(&self, dest: &mut WriteBuf) -> Result<(), KA::Error> {
+        RowWritable::<InTurn<KA, KB, KC, KD, KR>>::write(&one_by_one!(self), dest)
     }
 
     fn length(&self) -> Option<usize> {
-        one_by_one!(self).length()
+        RowWritable::<InTurn<KA, KB, KC, KD, KR>>::length(&one_by_one!(self))
     }
 }

@@ -1,7 +1,7 @@
 //! A structure in which fields follow a value that the OBJECT IDENTIFIER before it defines.
 
-ghost use Rattle.std.specs.Prelude.{◌∷◌, [], codes};
-ghost use Rattle.asn1.specs.Structures.{defaulted, explicit, fields2, structure};
+ghost use Rattle.std.specs.Prelude.{◌∷◌, []};
+ghost use Rattle.asn1.specs.Structures.{defaulted, explicit, field_names, structure, fields2};
 
 use super::my_sequence::Content;
 use asn1::fields::{Fields2, Item, Row, Value};
@@ -49,8 +49,8 @@ impl Asn1Type for Entry {
         rest = fields2 v.note (defaulted (explicit v.version));
       };
     })
-        ⟦<Fields as Row>⟧.list (codes "Entry::content_type" ∷ codes "Entry::content" ∷ codes
-        "Entry::note" ∷ codes "Entry::version" ∷ []) };
+        ⟦<Fields as Row>⟧.list
+        (field_names "Entry" ("content_type" ∷ "content" ∷ "note" ∷ "version" ∷ [])) };
 
     fn known(&self) {
         known_fields!(self;
@@ -65,7 +65,7 @@ impl<'a> SimpleAsn1Readable<'a> for Entry {
     }
 
     fn parse_data(alloc: Global, data: &'a [u8]) -> ParseResult<Entry> {
-        read_fields!(Fields, alloc, data => Entry { content_type, content, note, version: Version })
+        read_fields!(Fields, alloc, data => Entry; content_type, content, note, version: Version)
     }
 }
 

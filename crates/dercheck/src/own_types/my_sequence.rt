@@ -1,9 +1,9 @@
 //! A structure whose content is defined by the OBJECT IDENTIFIER before it.
 
-ghost use Rattle.std.specs.Prelude.{◌≡◌, ◌∷◌, [], codes};
+ghost use Rattle.std.specs.Prelude.{◌≡◌, ◌∷◌, []};
 ghost use Rattle.asn1.specs.IdentifierValues.{identifier_of};
 ghost use Rattle.asn1.specs.ItemsAndValues.{by_item, word_for_word};
-ghost use Rattle.asn1.specs.Structures.{structure};
+ghost use Rattle.asn1.specs.Structures.{field_names, structure};
 ghost use Rattle.dercheck.specs.OwnTypes.{some_numbers, content_both};
 
 use asn1::fields::{DefinedField, Item, LastValue, Row, is_identifier, known_identifier};
@@ -100,8 +100,7 @@ impl Asn1Type for MySequence {
         value =
             v.content;
       };
-    }) ⟦<Fields as Row>⟧.list (codes "MySequence::content_type" ∷ codes "MySequence::content"
-        ∷ []) };
+    }) ⟦<Fields as Row>⟧.list (field_names "MySequence" ("content_type" ∷ "content" ∷ [])) };
 
     fn known(&self) {
         known_fields!(self; content_type of content: ObjectIdentifier, content by ObjectIdentifier)
@@ -114,7 +113,7 @@ impl<'a> SimpleAsn1Readable<'a> for MySequence {
     }
 
     fn parse_data(alloc: Global, data: &'a [u8]) -> ParseResult<MySequence> {
-        read_fields!(Fields, alloc, data => MySequence { content_type, content })
+        read_fields!(Fields, alloc, data => MySequence; content_type, content)
     }
 }
 

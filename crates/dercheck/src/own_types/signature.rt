@@ -1,7 +1,7 @@
 //! A structure of two numbers.
 
-ghost use Rattle.std.specs.Prelude.{◌∷◌, [], codes};
-ghost use Rattle.asn1.specs.Structures.{fields2, structure};
+ghost use Rattle.std.specs.Prelude.{◌∷◌, []};
+ghost use Rattle.asn1.specs.Structures.{field_names, structure, fields2};
 
 use asn1::fields::{Fields2, Row};
 use asn1::{
@@ -22,8 +22,8 @@ pub struct Signature {
 type Fields = Fields2<u64, u64>;
 
 impl Asn1Type for Signature {
-    ghost der = { structure (λ v. fields2 v.r v.s) ⟦<Fields as Row>⟧.list (codes "Signature::r" ∷
-        codes "Signature::s" ∷ []) };
+    ghost der = { structure (λ v. fields2 v.r v.s) ⟦<Fields as Row>⟧.list
+        (field_names "Signature" ("r" ∷ "s" ∷ [])) };
 
     fn known(&self) {
         known_fields!(self; r, s)
@@ -36,7 +36,7 @@ impl<'a> SimpleAsn1Readable<'a> for Signature {
     }
 
     fn parse_data(alloc: Global, data: &'a [u8]) -> ParseResult<Signature> {
-        read_fields!(Fields, alloc, data => Signature { r, s })
+        read_fields!(Fields, alloc, data => Signature; r, s)
     }
 }
 

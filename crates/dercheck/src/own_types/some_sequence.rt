@@ -1,9 +1,9 @@
 //! A structure of two fields that may be missing, each under a tag of its own.
 
-ghost use Rattle.std.specs.Prelude.{◌≡◌, ◌∷◌, [], codes};
+ghost use Rattle.std.specs.Prelude.{◌≡◌, ◌∷◌, []};
 ghost use Rattle.asn1.specs.Options.{option_meaning};
 ghost use Rattle.asn1.specs.Reads.{ReadsContents};
-ghost use Rattle.asn1.specs.Structures.{explicit, fields2, implicit, structure};
+ghost use Rattle.asn1.specs.Structures.{explicit, field_names, implicit, structure, fields2};
 
 use asn1::fields::{Fields2, Row};
 use asn1::{
@@ -29,7 +29,7 @@ type Fields<'a> = Fields2<A<'a>, B>;
 
 impl<'a> Asn1Type for SomeSequence<'a> {
     ghost der = { structure (λ v. fields2 (option_meaning implicit v.a) (option_meaning explicit
-        v.b)) ⟦<Fields<'a> as Row>⟧.list (codes "SomeSequence::a" ∷ codes "SomeSequence::b" ∷ []) };
+        v.b)) ⟦<Fields<'a> as Row>⟧.list (field_names "SomeSequence" ("a" ∷ "b" ∷ [])) };
 
     fn known(&self) {
         known_fields!(self; a: A<'a>, b: B)
@@ -48,7 +48,7 @@ impl<'a> SimpleAsn1Readable<'a> for SomeSequence<'a> {
     fn parse_data(alloc: Global, data: &'a [u8]) -> ParseResult<SomeSequence<'a>>
         ensures { ReadsContents ⟦<SomeSequence<'a> as Asn1Type>⟧.der «data».entry.now result }
     {
-        read_fields!(Fields<'a>, alloc, data => SomeSequence { a: A<'a>, b: B })
+        read_fields!(Fields<'a>, alloc, data => SomeSequence; a: A<'a>, b: B)
     }
 }
 

@@ -1,7 +1,7 @@
 //! A structure made in code, with a list in it.
 
-ghost use Rattle.std.specs.Prelude.{◌≡◌, ◌∷◌, [], codes};
-ghost use Rattle.asn1.specs.Structures.{fields2, structure};
+ghost use Rattle.std.specs.Prelude.{◌≡◌, ◌∷◌, []};
+ghost use Rattle.asn1.specs.Structures.{field_names, structure, fields2};
 
 use asn1::fields::{Fields2, Row};
 use asn1::{
@@ -22,7 +22,7 @@ type Fields<'a> = Fields2<bool, SetOfWriter<'a, u64>>;
 
 impl<'a> Asn1Type for Bag<'a> {
     ghost der = { structure (λ v. fields2 v.full v.numbers) ⟦<Fields<'a> as Row>⟧.list
-        (codes "Bag::full" ∷ codes "Bag::numbers" ∷ []) };
+        (field_names "Bag" ("full" ∷ "numbers" ∷ [])) };
 
     fn known(&self) {
         known_fields!(self; full, numbers)

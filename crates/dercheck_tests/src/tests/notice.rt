@@ -1,8 +1,8 @@
 //! A field between an item and the value that it defines.
 
-ghost use Rattle.std.specs.Prelude.{◌∷◌, [], codes, false};
+ghost use Rattle.std.specs.Prelude.{◌∷◌, [], false};
 ghost use Rattle.asn1.specs.Reads.{HasOneEncoding};
-ghost use Rattle.asn1.specs.Structures.{defaulted, structure};
+ghost use Rattle.asn1.specs.Structures.{defaulted, field_names, structure};
 
 use crate::tests::own_types::{EXTRA, INVALID, IS_DEFAULT, UNKNOWN, is_at, other_tag, refusal};
 use asn1::fields::{Before, Item, Last, LastValue, Row, Value};
@@ -47,8 +47,7 @@ impl Asn1Type for Notice {
             v.critical;
         rest = record { value = v.content };
       };
-    }) ⟦<NoticeFields as Row>⟧.list (codes
-        "Notice::kind" ∷ codes "Notice::critical" ∷ codes "Notice::content" ∷ []) };
+    }) ⟦<NoticeFields as Row>⟧.list (field_names "Notice" ("kind" ∷ "critical" ∷ "content" ∷ [])) };
 
     fn known(&self) {
         known_fields!(self;
@@ -62,7 +61,7 @@ impl<'a> SimpleAsn1Readable<'a> for Notice {
     }
 
     fn parse_data(alloc: Global, data: &'a [u8]) -> ParseResult<Notice> {
-        read_fields!(NoticeFields, alloc, data => Notice { kind, critical: Critical, content })
+        read_fields!(NoticeFields, alloc, data => Notice; kind, critical: Critical, content)
     }
 }
 
@@ -107,8 +106,8 @@ impl Asn1Type for Letter {
         rest = record { value = v.content; rest = record { value = v.number } };
       };
     })
-        ⟦<LetterFields as Row>⟧.list (codes "Letter::kind" ∷ codes "Letter::critical" ∷ codes
-        "Letter::content" ∷ codes "Letter::number" ∷ []) };
+        ⟦<LetterFields as Row>⟧.list
+        (field_names "Letter" ("kind" ∷ "critical" ∷ "content" ∷ "number" ∷ [])) };
 
     fn known(&self) {
         known_fields!(self;
@@ -123,9 +122,7 @@ impl<'a> SimpleAsn1Readable<'a> for Letter {
     }
 
     fn parse_data(alloc: Global, data: &'a [u8]) -> ParseResult<Letter> {
-        read_fields!(LetterFields, alloc, data => Letter {
-            kind, critical: Critical, content, number
-        })
+        read_fields!(LetterFields, alloc, data => Letter; kind, critical: Critical, content, number)
     }
 }
 

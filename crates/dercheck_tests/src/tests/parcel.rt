@@ -1,8 +1,8 @@
 //! Fields in one structure whose writes fail with different errors.
 
-ghost use Rattle.std.specs.Prelude.{◌≡◌, ◌∷◌, [], codes, true};
+ghost use Rattle.std.specs.Prelude.{◌≡◌, ◌∷◌, [], true};
 ghost use Rattle.asn1.specs.Reads.{HasOneEncoding};
-ghost use Rattle.asn1.specs.Structures.{fields3, structure};
+ghost use Rattle.asn1.specs.Structures.{field_names, structure, fields3};
 ghost use Rattle.dercheck.specs.declared.own_types.sealable.SealError.TheVariants.{Sealed};
 
 use crate::tests::own_types::is_written_or_sealed;
@@ -28,7 +28,7 @@ type Fields = Fields3<Sealable, ErrorInto<bool, SealError>, ErrorInto<Option<u64
 
 impl Asn1Type for Parcel {
     ghost der = { structure (λ v. fields3 v.number v.fragile v.weight) ⟦<Fields as Row>⟧.list
-        (codes "Parcel::number" ∷ codes "Parcel::fragile" ∷ codes "Parcel::weight" ∷ []) };
+        (field_names "Parcel" ("number" ∷ "fragile" ∷ "weight" ∷ [])) };
 
     fn known(&self) {
         known_fields!(self; number, fragile, weight)
@@ -41,7 +41,7 @@ impl<'a> SimpleAsn1Readable<'a> for Parcel {
     }
 
     fn parse_data(alloc: Global, data: &'a [u8]) -> ParseResult<Parcel> {
-        read_fields!(Fields, alloc, data => Parcel { number, fragile, weight })
+        read_fields!(Fields, alloc, data => Parcel; number, fragile, weight)
     }
 }
 

@@ -1,8 +1,8 @@
 //! A set of two fields, in the order of their tags.
 
-ghost use Rattle.std.specs.Prelude.{◌∷◌, [], codes};
+ghost use Rattle.std.specs.Prelude.{◌∷◌, []};
 ghost use Rattle.asn1.specs.Listing.{set_tag};
-ghost use Rattle.asn1.specs.Structures.{fields2, structure_with_tag};
+ghost use Rattle.asn1.specs.Structures.{field_names, structure_with_tag, fields2};
 
 use crate::tests::own_types::{is_at, other_tag, refusal};
 use asn1::fields::{Fields2, Row};
@@ -25,7 +25,7 @@ type Fields = Fields2<bool, u64>;
 
 impl Asn1Type for Pair {
     ghost der = { structure_with_tag set_tag (λ v. fields2 v.r v.s) ⟦<Fields as Row>⟧.list
-        (codes "Pair::r" ∷ codes "Pair::s" ∷ []) };
+        (field_names "Pair" ("r" ∷ "s" ∷ [])) };
 
     fn known(&self) {
         known_fields!(self; r, s)
@@ -38,7 +38,7 @@ impl<'a> SimpleAsn1Readable<'a> for Pair {
     }
 
     fn parse_data(alloc: Global, data: &'a [u8]) -> ParseResult<Pair> {
-        read_fields!(Fields, alloc, data => Pair { r, s })
+        read_fields!(Fields, alloc, data => Pair; r, s)
     }
 }
 

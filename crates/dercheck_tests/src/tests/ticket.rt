@@ -1,8 +1,8 @@
 //! A structure of a user's own, and its test, in one file.
 
-ghost use Rattle.std.specs.Prelude.{◌≡◌, ◌∷◌, [], codes};
+ghost use Rattle.std.specs.Prelude.{◌≡◌, ◌∷◌, []};
 ghost use Rattle.asn1.specs.Reads.{HasOneEncoding, ReadsContents};
-ghost use Rattle.asn1.specs.Structures.{fields3, structure};
+ghost use Rattle.asn1.specs.Structures.{field_names, structure, fields3};
 
 use asn1::fields::{Fields3, Row};
 use asn1::{
@@ -25,7 +25,7 @@ type Fields<'a> = Fields3<u64, Option<bool>, Utf8String<'a>>;
 
 impl<'a> Asn1Type for Ticket<'a> {
     ghost der = { structure (λ v. fields3 v.number v.paid v.holder) ⟦<Fields<'a> as Row>⟧.list
-        (codes "Ticket::number" ∷ codes "Ticket::paid" ∷ codes "Ticket::holder" ∷ []) };
+        (field_names "Ticket" ("number" ∷ "paid" ∷ "holder" ∷ [])) };
 
     fn known(&self) {
         known_fields!(self; number, paid, holder)
@@ -44,7 +44,7 @@ impl<'a> SimpleAsn1Readable<'a> for Ticket<'a> {
     fn parse_data(alloc: Global, data: &'a [u8]) -> ParseResult<Ticket<'a>>
         ensures { ReadsContents ⟦<Ticket<'a> as Asn1Type>⟧.der «data».entry.now result }
     {
-        read_fields!(Fields<'a>, alloc, data => Ticket { number, paid, holder })
+        read_fields!(Fields<'a>, alloc, data => Ticket; number, paid, holder)
     }
 }
 

@@ -1,9 +1,9 @@
 //! Where other data of an issuer or a subject is (RFC 5280, 4.2.2).
-// Printed by scripts/derive from declarations/certificate/access.rs, with the sum 077f45b9.
+// Printed by scripts/derive from declarations/certificate/access.rs, with the sum de868c46.
 
-ghost use Rattle.std.specs.Prelude.{◌≡◌, ◌∷◌, [], codes};
+ghost use Rattle.std.specs.Prelude.{◌≡◌, ◌∷◌, []};
 ghost use Rattle.asn1.specs.Reads.{HasOneEncoding, ReadsContents};
-ghost use Rattle.asn1.specs.Structures.{structure, fields2};
+ghost use Rattle.asn1.specs.Structures.{field_names, structure, fields2};
 
 use crate::common::{GeneralName, general_name_is_lawful};
 use asn1::fields::{Fields2, Row};
@@ -26,8 +26,8 @@ type AccessDescriptionFields<'a> = Fields2<ObjectIdentifier, GeneralName<'a>>;
 
 impl<'a> Asn1Type for AccessDescription<'a> {
     ghost der = { structure (λ v. fields2 v.access_method v.access_location)
-        ⟦<AccessDescriptionFields<'a> as Row>⟧.list (codes "AccessDescription::access_method" ∷
-        codes "AccessDescription::access_location" ∷ []) };
+        ⟦<AccessDescriptionFields<'a> as Row>⟧.list (field_names "AccessDescription"
+        ("access_method" ∷ "access_location" ∷ [])) };
 
     fn known(&self) {
         known_fields!(self; access_method, access_location)
@@ -46,9 +46,8 @@ impl<'a> SimpleAsn1Readable<'a> for AccessDescription<'a> {
     fn parse_data(alloc: Global, data: &'a [u8]) -> ParseResult<AccessDescription<'a>>
         ensures { ReadsContents ⟦<AccessDescription<'a> as Asn1Type>⟧.der «data».entry.now result }
     {
-        read_fields!(AccessDescriptionFields<'a>, alloc, data => AccessDescription {
-            access_method, access_location
-        })
+        read_fields!(AccessDescriptionFields<'a>, alloc, data => AccessDescription;
+            access_method, access_location)
     }
 }
 

@@ -1,13 +1,13 @@
 //! Where revocation lists are found, and what they have (RFC 5280, 4.2.1.13 and 5.2.5).
-// Printed by scripts/derive from declarations/certificate/distribution.rs, with the sum a5856057.
+// Printed by scripts/derive from declarations/certificate/distribution.rs, with the sum 91427d39.
 
-ghost use Rattle.std.specs.Prelude.{◌≡◌, ◌∷◌, [], codes, false, OnErr};
+ghost use Rattle.std.specs.Prelude.{◌≡◌, ◌∷◌, [], false, OnErr};
 ghost use Rattle.std.proofs.Common.{inl, inr};
 ghost use Rattle.asn1.specs.Choices.{choice_der, only, or};
 ghost use Rattle.asn1.specs.Options.{option_meaning};
 ghost use Rattle.asn1.specs.Reading.{EndsWith};
 ghost use Rattle.asn1.specs.Reads.{HasOneEncoding, ReadsContents, ReadsPrefix};
-ghost use Rattle.asn1.specs.Structures.{defaulted, explicit, implicit, structure, fields3, fields6};
+ghost use Rattle.asn1.specs.Structures.{defaulted, explicit, field_names, implicit, structure, fields3, fields6};
 
 use crate::common::{
     AttributeTypeAndValue, GeneralNames, NamedBits, attribute_type_and_value_is_lawful,
@@ -132,17 +132,21 @@ type DistributionPointFields<'a> = Fields3<
     DistributionPointCrlIssuerField<'a>,
 >;
 
+macro_rules! fields_of_distribution_point {
+    ($body:ident, $($of:tt)*) => { $body!($($of)*;
+        distribution_point: DistributionPointDistributionPointField<'a>,
+        reasons: DistributionPointReasonsField<'a>,
+        crl_issuer: DistributionPointCrlIssuerField<'a>) };
+}
+
 impl<'a> Asn1Type for DistributionPoint<'a> {
     ghost der = { structure (λ v. fields3 (option_meaning explicit v.distribution_point)
         (option_meaning implicit v.reasons) (option_meaning implicit v.crl_issuer))
-        ⟦<DistributionPointFields<'a> as Row>⟧.list (codes "DistributionPoint::distribution_point" ∷
-        codes "DistributionPoint::reasons" ∷ codes "DistributionPoint::crl_issuer" ∷ []) };
+        ⟦<DistributionPointFields<'a> as Row>⟧.list (field_names "DistributionPoint"
+        ("distribution_point" ∷ "reasons" ∷ "crl_issuer" ∷ [])) };
 
     fn known(&self) {
-        known_fields!(self;
-            distribution_point: DistributionPointDistributionPointField<'a>,
-            reasons: DistributionPointReasonsField<'a>,
-            crl_issuer: DistributionPointCrlIssuerField<'a>)
+        fields_of_distribution_point!(known_fields, self)
     }
 }
 
@@ -158,11 +162,8 @@ impl<'a> SimpleAsn1Readable<'a> for DistributionPoint<'a> {
     fn parse_data(alloc: Global, data: &'a [u8]) -> ParseResult<DistributionPoint<'a>>
         ensures { ReadsContents ⟦<DistributionPoint<'a> as Asn1Type>⟧.der «data».entry.now result }
     {
-        read_fields!(DistributionPointFields<'a>, alloc, data => DistributionPoint {
-            distribution_point: DistributionPointDistributionPointField<'a>,
-            reasons: DistributionPointReasonsField<'a>,
-            crl_issuer: DistributionPointCrlIssuerField<'a>
-        })
+        fields_of_distribution_point!(read_fields,
+            DistributionPointFields<'a>, alloc, data => DistributionPoint)
     }
 }
 
@@ -177,17 +178,11 @@ impl<'a> SimpleAsn1Writable for DistributionPoint<'a> {
     }
 
     fn write_data(&self, dest: &mut WriteBuf) -> WriteResult<()> {
-        write_fields!(self, dest;
-            distribution_point: DistributionPointDistributionPointField<'a>,
-            reasons: DistributionPointReasonsField<'a>,
-            crl_issuer: DistributionPointCrlIssuerField<'a>)
+        fields_of_distribution_point!(write_fields, self, dest)
     }
 
     fn data_length(&self) -> Option<usize> {
-        fields_length!(self;
-            distribution_point: DistributionPointDistributionPointField<'a>,
-            reasons: DistributionPointReasonsField<'a>,
-            crl_issuer: DistributionPointCrlIssuerField<'a>)
+        fields_of_distribution_point!(fields_length, self)
     }
 }
 
@@ -292,27 +287,27 @@ type IssuingDistributionPointFields<'a> = Fields6<
     IssuingDistributionPointOnlyContainsAttributeCertsField,
 >;
 
+macro_rules! fields_of_issuing_distribution_point {
+    ($body:ident, $($of:tt)*) => { $body!($($of)*;
+        distribution_point: IssuingDistributionPointDistributionPointField<'a>,
+        only_contains_user_certs: IssuingDistributionPointOnlyContainsUserCertsField,
+        only_contains_ca_certs: IssuingDistributionPointOnlyContainsCaCertsField,
+        only_some_reasons: IssuingDistributionPointOnlySomeReasonsField<'a>,
+        indirect_crl: IssuingDistributionPointIndirectCrlField,
+        only_contains_attribute_certs: IssuingDistributionPointOnlyContainsAttributeCertsField) };
+}
+
 impl<'a> Asn1Type for IssuingDistributionPoint<'a> {
     ghost der = { structure (λ v. fields6 (option_meaning explicit v.distribution_point) (defaulted
         (implicit v.only_contains_user_certs)) (defaulted (implicit v.only_contains_ca_certs))
         (option_meaning implicit v.only_some_reasons) (defaulted (implicit v.indirect_crl))
         (defaulted (implicit v.only_contains_attribute_certs)))
-        ⟦<IssuingDistributionPointFields<'a> as Row>⟧.list
-        (codes "IssuingDistributionPoint::distribution_point" ∷
-        codes "IssuingDistributionPoint::only_contains_user_certs" ∷
-        codes "IssuingDistributionPoint::only_contains_ca_certs" ∷
-        codes "IssuingDistributionPoint::only_some_reasons" ∷
-        codes "IssuingDistributionPoint::indirect_crl" ∷
-        codes "IssuingDistributionPoint::only_contains_attribute_certs" ∷ []) };
+        ⟦<IssuingDistributionPointFields<'a> as Row>⟧.list (field_names "IssuingDistributionPoint"
+        ("distribution_point" ∷ "only_contains_user_certs" ∷ "only_contains_ca_certs" ∷
+        "only_some_reasons" ∷ "indirect_crl" ∷ "only_contains_attribute_certs" ∷ [])) };
 
     fn known(&self) {
-        known_fields!(self;
-            distribution_point: IssuingDistributionPointDistributionPointField<'a>,
-            only_contains_user_certs: IssuingDistributionPointOnlyContainsUserCertsField,
-            only_contains_ca_certs: IssuingDistributionPointOnlyContainsCaCertsField,
-            only_some_reasons: IssuingDistributionPointOnlySomeReasonsField<'a>,
-            indirect_crl: IssuingDistributionPointIndirectCrlField,
-            only_contains_attribute_certs: IssuingDistributionPointOnlyContainsAttributeCertsField)
+        fields_of_issuing_distribution_point!(known_fields, self)
     }
 }
 
@@ -329,14 +324,8 @@ impl<'a> SimpleAsn1Readable<'a> for IssuingDistributionPoint<'a> {
         ensures { ReadsContents ⟦<IssuingDistributionPoint<'a> as Asn1Type>⟧.der «data».entry.now
             result }
     {
-        read_fields!(IssuingDistributionPointFields<'a>, alloc, data => IssuingDistributionPoint {
-            distribution_point: IssuingDistributionPointDistributionPointField<'a>,
-            only_contains_user_certs: IssuingDistributionPointOnlyContainsUserCertsField,
-            only_contains_ca_certs: IssuingDistributionPointOnlyContainsCaCertsField,
-            only_some_reasons: IssuingDistributionPointOnlySomeReasonsField<'a>,
-            indirect_crl: IssuingDistributionPointIndirectCrlField,
-            only_contains_attribute_certs: IssuingDistributionPointOnlyContainsAttributeCertsField
-        })
+        fields_of_issuing_distribution_point!(read_fields,
+            IssuingDistributionPointFields<'a>, alloc, data => IssuingDistributionPoint)
     }
 }
 
@@ -351,23 +340,11 @@ impl<'a> SimpleAsn1Writable for IssuingDistributionPoint<'a> {
     }
 
     fn write_data(&self, dest: &mut WriteBuf) -> WriteResult<()> {
-        write_fields!(self, dest;
-            distribution_point: IssuingDistributionPointDistributionPointField<'a>,
-            only_contains_user_certs: IssuingDistributionPointOnlyContainsUserCertsField,
-            only_contains_ca_certs: IssuingDistributionPointOnlyContainsCaCertsField,
-            only_some_reasons: IssuingDistributionPointOnlySomeReasonsField<'a>,
-            indirect_crl: IssuingDistributionPointIndirectCrlField,
-            only_contains_attribute_certs: IssuingDistributionPointOnlyContainsAttributeCertsField)
+        fields_of_issuing_distribution_point!(write_fields, self, dest)
     }
 
     fn data_length(&self) -> Option<usize> {
-        fields_length!(self;
-            distribution_point: IssuingDistributionPointDistributionPointField<'a>,
-            only_contains_user_certs: IssuingDistributionPointOnlyContainsUserCertsField,
-            only_contains_ca_certs: IssuingDistributionPointOnlyContainsCaCertsField,
-            only_some_reasons: IssuingDistributionPointOnlySomeReasonsField<'a>,
-            indirect_crl: IssuingDistributionPointIndirectCrlField,
-            only_contains_attribute_certs: IssuingDistributionPointOnlyContainsAttributeCertsField)
+        fields_of_issuing_distribution_point!(fields_length, self)
     }
 }
 

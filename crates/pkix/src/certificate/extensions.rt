@@ -1,10 +1,10 @@
 //! Values of extensions (RFC 5280, 4.2.1 and 4.2.2): each type is what the octets of an extension hold.
-// Printed by scripts/derive from declarations/certificate/extensions.rs, with the sum 29109aa8.
+// Printed by scripts/derive from declarations/certificate/extensions.rs, with the sum 38be8872.
 
-ghost use Rattle.std.specs.Prelude.{◌≡◌, ◌∷◌, [], codes, false};
+ghost use Rattle.std.specs.Prelude.{◌≡◌, ◌∷◌, [], false};
 ghost use Rattle.asn1.specs.Options.{option_meaning};
 ghost use Rattle.asn1.specs.Reads.{HasOneEncoding, ReadsContents};
-ghost use Rattle.asn1.specs.Structures.{defaulted, implicit, structure, fields2, fields3};
+ghost use Rattle.asn1.specs.Structures.{defaulted, field_names, implicit, structure, fields2, fields3};
 
 use crate::common::{GeneralNames, NamedBits, general_names_is_lawful, named_bits_is_lawful};
 use asn1::fields::{Fields2, Fields3, Row};
@@ -41,8 +41,8 @@ type BasicConstraintsFields<'a> = Fields2<BasicConstraintsCaField, Option<BigUin
 
 impl<'a> Asn1Type for BasicConstraints<'a> {
     ghost der = { structure (λ v. fields2 (defaulted v.ca) v.path_len_constraint)
-        ⟦<BasicConstraintsFields<'a> as Row>⟧.list (codes "BasicConstraints::ca" ∷
-        codes "BasicConstraints::path_len_constraint" ∷ []) };
+        ⟦<BasicConstraintsFields<'a> as Row>⟧.list (field_names "BasicConstraints" ("ca" ∷
+        "path_len_constraint" ∷ [])) };
 
     fn known(&self) {
         known_fields!(self; ca: BasicConstraintsCaField, path_len_constraint)
@@ -61,9 +61,8 @@ impl<'a> SimpleAsn1Readable<'a> for BasicConstraints<'a> {
     fn parse_data(alloc: Global, data: &'a [u8]) -> ParseResult<BasicConstraints<'a>>
         ensures { ReadsContents ⟦<BasicConstraints<'a> as Asn1Type>⟧.der «data».entry.now result }
     {
-        read_fields!(BasicConstraintsFields<'a>, alloc, data => BasicConstraints {
-            ca: BasicConstraintsCaField, path_len_constraint
-        })
+        read_fields!(BasicConstraintsFields<'a>, alloc, data => BasicConstraints;
+            ca: BasicConstraintsCaField, path_len_constraint)
     }
 }
 
@@ -110,19 +109,21 @@ type AuthorityKeyIdentifierFields<'a> = Fields3<
     AuthorityKeyIdentifierAuthorityCertSerialNumberField<'a>,
 >;
 
+macro_rules! fields_of_authority_key_identifier {
+    ($body:ident, $($of:tt)*) => { $body!($($of)*;
+        key_identifier: AuthorityKeyIdentifierKeyIdentifierField<'a>,
+        authority_cert_issuer: AuthorityKeyIdentifierAuthorityCertIssuerField<'a>,
+        authority_cert_serial_number: AuthorityKeyIdentifierAuthorityCertSerialNumberField<'a>) };
+}
+
 impl<'a> Asn1Type for AuthorityKeyIdentifier<'a> {
     ghost der = { structure (λ v. fields3 (option_meaning implicit v.key_identifier) (option_meaning
         implicit v.authority_cert_issuer) (option_meaning implicit v.authority_cert_serial_number))
-        ⟦<AuthorityKeyIdentifierFields<'a> as Row>⟧.list
-        (codes "AuthorityKeyIdentifier::key_identifier" ∷
-        codes "AuthorityKeyIdentifier::authority_cert_issuer" ∷
-        codes "AuthorityKeyIdentifier::authority_cert_serial_number" ∷ []) };
+        ⟦<AuthorityKeyIdentifierFields<'a> as Row>⟧.list (field_names "AuthorityKeyIdentifier"
+        ("key_identifier" ∷ "authority_cert_issuer" ∷ "authority_cert_serial_number" ∷ [])) };
 
     fn known(&self) {
-        known_fields!(self;
-            key_identifier: AuthorityKeyIdentifierKeyIdentifierField<'a>,
-            authority_cert_issuer: AuthorityKeyIdentifierAuthorityCertIssuerField<'a>,
-            authority_cert_serial_number: AuthorityKeyIdentifierAuthorityCertSerialNumberField<'a>)
+        fields_of_authority_key_identifier!(known_fields, self)
     }
 }
 
@@ -139,11 +140,8 @@ impl<'a> SimpleAsn1Readable<'a> for AuthorityKeyIdentifier<'a> {
         ensures { ReadsContents ⟦<AuthorityKeyIdentifier<'a> as Asn1Type>⟧.der «data».entry.now
             result }
     {
-        read_fields!(AuthorityKeyIdentifierFields<'a>, alloc, data => AuthorityKeyIdentifier {
-            key_identifier: AuthorityKeyIdentifierKeyIdentifierField<'a>,
-            authority_cert_issuer: AuthorityKeyIdentifierAuthorityCertIssuerField<'a>,
-            authority_cert_serial_number: AuthorityKeyIdentifierAuthorityCertSerialNumberField<'a>
-        })
+        fields_of_authority_key_identifier!(read_fields,
+            AuthorityKeyIdentifierFields<'a>, alloc, data => AuthorityKeyIdentifier)
     }
 }
 
@@ -158,17 +156,11 @@ impl<'a> SimpleAsn1Writable for AuthorityKeyIdentifier<'a> {
     }
 
     fn write_data(&self, dest: &mut WriteBuf) -> WriteResult<()> {
-        write_fields!(self, dest;
-            key_identifier: AuthorityKeyIdentifierKeyIdentifierField<'a>,
-            authority_cert_issuer: AuthorityKeyIdentifierAuthorityCertIssuerField<'a>,
-            authority_cert_serial_number: AuthorityKeyIdentifierAuthorityCertSerialNumberField<'a>)
+        fields_of_authority_key_identifier!(write_fields, self, dest)
     }
 
     fn data_length(&self) -> Option<usize> {
-        fields_length!(self;
-            key_identifier: AuthorityKeyIdentifierKeyIdentifierField<'a>,
-            authority_cert_issuer: AuthorityKeyIdentifierAuthorityCertIssuerField<'a>,
-            authority_cert_serial_number: AuthorityKeyIdentifierAuthorityCertSerialNumberField<'a>)
+        fields_of_authority_key_identifier!(fields_length, self)
     }
 }
 

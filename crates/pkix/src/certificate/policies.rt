@@ -1,11 +1,11 @@
 //! The policies of a certificate, and what it demands of those that follow it in a path (RFC 5280, 4.2.1.4, 4.2.1.5,
 //! 4.2.1.10, 4.2.1.11 and 4.2.1.14).
-// Printed by scripts/derive from declarations/certificate/policies.rs, with the sum 84c13b95.
+// Printed by scripts/derive from declarations/certificate/policies.rs, with the sum cf8a3fa7.
 
-ghost use Rattle.std.specs.Prelude.{◌≡◌, ◌∷◌, [], codes};
+ghost use Rattle.std.specs.Prelude.{◌≡◌, ◌∷◌, []};
 ghost use Rattle.asn1.specs.Options.{option_meaning};
 ghost use Rattle.asn1.specs.Reads.{HasOneEncoding, ReadsContents};
-ghost use Rattle.asn1.specs.Structures.{defaulted, implicit, structure, fields2, fields3};
+ghost use Rattle.asn1.specs.Structures.{defaulted, field_names, implicit, structure, fields2, fields3};
 
 use crate::common::{GeneralName, general_name_is_lawful};
 use asn1::fields::{Fields2, Fields3, Row};
@@ -29,9 +29,8 @@ type PolicyQualifierInfoFields<'a> = Fields2<ObjectIdentifier, Tlv<'a>>;
 
 impl<'a> Asn1Type for PolicyQualifierInfo<'a> {
     ghost der = { structure (λ v. fields2 v.policy_qualifier_id v.qualifier)
-        ⟦<PolicyQualifierInfoFields<'a> as Row>⟧.list
-        (codes "PolicyQualifierInfo::policy_qualifier_id" ∷ codes "PolicyQualifierInfo::qualifier" ∷
-        []) };
+        ⟦<PolicyQualifierInfoFields<'a> as Row>⟧.list (field_names "PolicyQualifierInfo"
+        ("policy_qualifier_id" ∷ "qualifier" ∷ [])) };
 
     fn known(&self) {
         known_fields!(self; policy_qualifier_id, qualifier)
@@ -51,9 +50,8 @@ impl<'a> SimpleAsn1Readable<'a> for PolicyQualifierInfo<'a> {
         ensures { ReadsContents ⟦<PolicyQualifierInfo<'a> as Asn1Type>⟧.der «data».entry.now
             result }
     {
-        read_fields!(PolicyQualifierInfoFields<'a>, alloc, data => PolicyQualifierInfo {
-            policy_qualifier_id, qualifier
-        })
+        read_fields!(PolicyQualifierInfoFields<'a>, alloc, data => PolicyQualifierInfo;
+            policy_qualifier_id, qualifier)
     }
 }
 
@@ -92,8 +90,8 @@ type PolicyInformationFields<'a> = Fields2<
 
 impl<'a> Asn1Type for PolicyInformation<'a> {
     ghost der = { structure (λ v. fields2 v.policy_identifier v.policy_qualifiers)
-        ⟦<PolicyInformationFields<'a> as Row>⟧.list (codes "PolicyInformation::policy_identifier" ∷
-        codes "PolicyInformation::policy_qualifiers" ∷ []) };
+        ⟦<PolicyInformationFields<'a> as Row>⟧.list (field_names "PolicyInformation"
+        ("policy_identifier" ∷ "policy_qualifiers" ∷ [])) };
 
     fn known(&self) {
         known_fields!(self; policy_identifier, policy_qualifiers)
@@ -112,9 +110,8 @@ impl<'a> SimpleAsn1Readable<'a> for PolicyInformation<'a> {
     fn parse_data(alloc: Global, data: &'a [u8]) -> ParseResult<PolicyInformation<'a>>
         ensures { ReadsContents ⟦<PolicyInformation<'a> as Asn1Type>⟧.der «data».entry.now result }
     {
-        read_fields!(PolicyInformationFields<'a>, alloc, data => PolicyInformation {
-            policy_identifier, policy_qualifiers
-        })
+        read_fields!(PolicyInformationFields<'a>, alloc, data => PolicyInformation;
+            policy_identifier, policy_qualifiers)
     }
 }
 
@@ -155,8 +152,8 @@ type PolicyMappingFields = Fields2<ObjectIdentifier, ObjectIdentifier>;
 
 impl Asn1Type for PolicyMapping {
     ghost der = { structure (λ v. fields2 v.issuer_domain_policy v.subject_domain_policy)
-        ⟦<PolicyMappingFields as Row>⟧.list (codes "PolicyMapping::issuer_domain_policy" ∷
-        codes "PolicyMapping::subject_domain_policy" ∷ []) };
+        ⟦<PolicyMappingFields as Row>⟧.list (field_names "PolicyMapping" ("issuer_domain_policy" ∷
+        "subject_domain_policy" ∷ [])) };
 
     fn known(&self) {
         known_fields!(self; issuer_domain_policy, subject_domain_policy)
@@ -169,9 +166,8 @@ impl<'a> SimpleAsn1Readable<'a> for PolicyMapping {
     }
 
     fn parse_data(alloc: Global, data: &'a [u8]) -> ParseResult<PolicyMapping> {
-        read_fields!(PolicyMappingFields, alloc, data => PolicyMapping {
-            issuer_domain_policy, subject_domain_policy
-        })
+        read_fields!(PolicyMappingFields, alloc, data => PolicyMapping;
+            issuer_domain_policy, subject_domain_policy)
     }
 }
 
@@ -228,8 +224,8 @@ type GeneralSubtreeFields<'a> = Fields3<
 
 impl<'a> Asn1Type for GeneralSubtree<'a> {
     ghost der = { structure (λ v. fields3 v.base (defaulted (implicit v.minimum)) (option_meaning
-        implicit v.maximum)) ⟦<GeneralSubtreeFields<'a> as Row>⟧.list (codes "GeneralSubtree::base"
-        ∷ codes "GeneralSubtree::minimum" ∷ codes "GeneralSubtree::maximum" ∷ []) };
+        implicit v.maximum)) ⟦<GeneralSubtreeFields<'a> as Row>⟧.list (field_names "GeneralSubtree"
+        ("base" ∷ "minimum" ∷ "maximum" ∷ [])) };
 
     fn known(&self) {
         known_fields!(self;
@@ -249,9 +245,8 @@ impl<'a> SimpleAsn1Readable<'a> for GeneralSubtree<'a> {
     fn parse_data(alloc: Global, data: &'a [u8]) -> ParseResult<GeneralSubtree<'a>>
         ensures { ReadsContents ⟦<GeneralSubtree<'a> as Asn1Type>⟧.der «data».entry.now result }
     {
-        read_fields!(GeneralSubtreeFields<'a>, alloc, data => GeneralSubtree {
-            base, minimum: GeneralSubtreeMinimumField, maximum: GeneralSubtreeMaximumField<'a>
-        })
+        read_fields!(GeneralSubtreeFields<'a>, alloc, data => GeneralSubtree;
+            base, minimum: GeneralSubtreeMinimumField, maximum: GeneralSubtreeMaximumField<'a>)
     }
 }
 
@@ -298,16 +293,19 @@ type NameConstraintsFields<'a> = Fields2<
     NameConstraintsExcludedSubtreesField<'a>,
 >;
 
+macro_rules! fields_of_name_constraints {
+    ($body:ident, $($of:tt)*) => { $body!($($of)*;
+        permitted_subtrees: NameConstraintsPermittedSubtreesField<'a>,
+        excluded_subtrees: NameConstraintsExcludedSubtreesField<'a>) };
+}
+
 impl<'a> Asn1Type for NameConstraints<'a> {
     ghost der = { structure (λ v. fields2 (option_meaning implicit v.permitted_subtrees)
         (option_meaning implicit v.excluded_subtrees)) ⟦<NameConstraintsFields<'a> as Row>⟧.list
-        (codes "NameConstraints::permitted_subtrees" ∷ codes "NameConstraints::excluded_subtrees" ∷
-        []) };
+        (field_names "NameConstraints" ("permitted_subtrees" ∷ "excluded_subtrees" ∷ [])) };
 
     fn known(&self) {
-        known_fields!(self;
-            permitted_subtrees: NameConstraintsPermittedSubtreesField<'a>,
-            excluded_subtrees: NameConstraintsExcludedSubtreesField<'a>)
+        fields_of_name_constraints!(known_fields, self)
     }
 }
 
@@ -323,10 +321,8 @@ impl<'a> SimpleAsn1Readable<'a> for NameConstraints<'a> {
     fn parse_data(alloc: Global, data: &'a [u8]) -> ParseResult<NameConstraints<'a>>
         ensures { ReadsContents ⟦<NameConstraints<'a> as Asn1Type>⟧.der «data».entry.now result }
     {
-        read_fields!(NameConstraintsFields<'a>, alloc, data => NameConstraints {
-            permitted_subtrees: NameConstraintsPermittedSubtreesField<'a>,
-            excluded_subtrees: NameConstraintsExcludedSubtreesField<'a>
-        })
+        fields_of_name_constraints!(read_fields,
+            NameConstraintsFields<'a>, alloc, data => NameConstraints)
     }
 }
 
@@ -341,15 +337,11 @@ impl<'a> SimpleAsn1Writable for NameConstraints<'a> {
     }
 
     fn write_data(&self, dest: &mut WriteBuf) -> WriteResult<()> {
-        write_fields!(self, dest;
-            permitted_subtrees: NameConstraintsPermittedSubtreesField<'a>,
-            excluded_subtrees: NameConstraintsExcludedSubtreesField<'a>)
+        fields_of_name_constraints!(write_fields, self, dest)
     }
 
     fn data_length(&self) -> Option<usize> {
-        fields_length!(self;
-            permitted_subtrees: NameConstraintsPermittedSubtreesField<'a>,
-            excluded_subtrees: NameConstraintsExcludedSubtreesField<'a>)
+        fields_of_name_constraints!(fields_length, self)
     }
 }
 
@@ -372,17 +364,20 @@ type PolicyConstraintsFields<'a> = Fields2<
     PolicyConstraintsInhibitPolicyMappingField<'a>,
 >;
 
+macro_rules! fields_of_policy_constraints {
+    ($body:ident, $($of:tt)*) => { $body!($($of)*;
+        require_explicit_policy: PolicyConstraintsRequireExplicitPolicyField<'a>,
+        inhibit_policy_mapping: PolicyConstraintsInhibitPolicyMappingField<'a>) };
+}
+
 impl<'a> Asn1Type for PolicyConstraints<'a> {
     ghost der = { structure (λ v. fields2 (option_meaning implicit v.require_explicit_policy)
         (option_meaning implicit v.inhibit_policy_mapping))
-        ⟦<PolicyConstraintsFields<'a> as Row>⟧.list
-        (codes "PolicyConstraints::require_explicit_policy" ∷
-        codes "PolicyConstraints::inhibit_policy_mapping" ∷ []) };
+        ⟦<PolicyConstraintsFields<'a> as Row>⟧.list (field_names "PolicyConstraints"
+        ("require_explicit_policy" ∷ "inhibit_policy_mapping" ∷ [])) };
 
     fn known(&self) {
-        known_fields!(self;
-            require_explicit_policy: PolicyConstraintsRequireExplicitPolicyField<'a>,
-            inhibit_policy_mapping: PolicyConstraintsInhibitPolicyMappingField<'a>)
+        fields_of_policy_constraints!(known_fields, self)
     }
 }
 
@@ -398,10 +393,8 @@ impl<'a> SimpleAsn1Readable<'a> for PolicyConstraints<'a> {
     fn parse_data(alloc: Global, data: &'a [u8]) -> ParseResult<PolicyConstraints<'a>>
         ensures { ReadsContents ⟦<PolicyConstraints<'a> as Asn1Type>⟧.der «data».entry.now result }
     {
-        read_fields!(PolicyConstraintsFields<'a>, alloc, data => PolicyConstraints {
-            require_explicit_policy: PolicyConstraintsRequireExplicitPolicyField<'a>,
-            inhibit_policy_mapping: PolicyConstraintsInhibitPolicyMappingField<'a>
-        })
+        fields_of_policy_constraints!(read_fields,
+            PolicyConstraintsFields<'a>, alloc, data => PolicyConstraints)
     }
 }
 
@@ -416,15 +409,11 @@ impl<'a> SimpleAsn1Writable for PolicyConstraints<'a> {
     }
 
     fn write_data(&self, dest: &mut WriteBuf) -> WriteResult<()> {
-        write_fields!(self, dest;
-            require_explicit_policy: PolicyConstraintsRequireExplicitPolicyField<'a>,
-            inhibit_policy_mapping: PolicyConstraintsInhibitPolicyMappingField<'a>)
+        fields_of_policy_constraints!(write_fields, self, dest)
     }
 
     fn data_length(&self) -> Option<usize> {
-        fields_length!(self;
-            require_explicit_policy: PolicyConstraintsRequireExplicitPolicyField<'a>,
-            inhibit_policy_mapping: PolicyConstraintsInhibitPolicyMappingField<'a>)
+        fields_of_policy_constraints!(fields_length, self)
     }
 }
 

@@ -1,13 +1,13 @@
 //! General names (RFC 5280, 4.2.1.6).
-// Printed by scripts/derive from declarations/common/general_name.rs, with the sum 91e3a0f8.
+// Printed by scripts/derive from declarations/common/general_name.rs, with the sum e3ed1166.
 
-ghost use Rattle.std.specs.Prelude.{◌≡◌, ◌∷◌, [], codes, OnErr};
+ghost use Rattle.std.specs.Prelude.{◌≡◌, ◌∷◌, [], OnErr};
 ghost use Rattle.std.proofs.Common.{inl, inr};
 ghost use Rattle.asn1.specs.Choices.{choice_der, only, or};
 ghost use Rattle.asn1.specs.Options.{option_meaning};
 ghost use Rattle.asn1.specs.Reading.{EndsWith};
 ghost use Rattle.asn1.specs.Reads.{HasOneEncoding, ReadsContents, ReadsPrefix};
-ghost use Rattle.asn1.specs.Structures.{explicit, structure, fields2};
+ghost use Rattle.asn1.specs.Structures.{explicit, field_names, structure, fields2};
 
 use crate::common::{Name, name_is_lawful};
 use asn1::fields::{Fields2, Row, plain_length, write_plain};
@@ -34,8 +34,7 @@ type OtherNameFields<'a> = Fields2<ObjectIdentifier, OtherNameValueField<'a>>;
 
 impl<'a> Asn1Type for OtherName<'a> {
     ghost der = { structure (λ v. fields2 v.type_id (explicit v.value))
-        ⟦<OtherNameFields<'a> as Row>⟧.list (codes "OtherName::type_id" ∷ codes "OtherName::value" ∷
-        []) };
+        ⟦<OtherNameFields<'a> as Row>⟧.list (field_names "OtherName" ("type_id" ∷ "value" ∷ [])) };
 
     fn known(&self) {
         known_fields!(self; type_id, value: OtherNameValueField<'a>)
@@ -54,9 +53,8 @@ impl<'a> SimpleAsn1Readable<'a> for OtherName<'a> {
     fn parse_data(alloc: Global, data: &'a [u8]) -> ParseResult<OtherName<'a>>
         ensures { ReadsContents ⟦<OtherName<'a> as Asn1Type>⟧.der «data».entry.now result }
     {
-        read_fields!(OtherNameFields<'a>, alloc, data => OtherName {
-            type_id, value: OtherNameValueField<'a>
-        })
+        read_fields!(OtherNameFields<'a>, alloc, data => OtherName;
+            type_id, value: OtherNameValueField<'a>)
     }
 }
 
@@ -97,15 +95,19 @@ type EdiPartyNameFields<'a> = Fields2<
     EdiPartyNamePartyNameField<'a>,
 >;
 
+macro_rules! fields_of_edi_party_name {
+    ($body:ident, $($of:tt)*) => { $body!($($of)*;
+        name_assigner: EdiPartyNameNameAssignerField<'a>,
+        party_name: EdiPartyNamePartyNameField<'a>) };
+}
+
 impl<'a> Asn1Type for EdiPartyName<'a> {
     ghost der = { structure (λ v. fields2 (option_meaning explicit v.name_assigner) (explicit
-        v.party_name)) ⟦<EdiPartyNameFields<'a> as Row>⟧.list (codes "EdiPartyName::name_assigner" ∷
-        codes "EdiPartyName::party_name" ∷ []) };
+        v.party_name)) ⟦<EdiPartyNameFields<'a> as Row>⟧.list (field_names "EdiPartyName"
+        ("name_assigner" ∷ "party_name" ∷ [])) };
 
     fn known(&self) {
-        known_fields!(self;
-            name_assigner: EdiPartyNameNameAssignerField<'a>,
-            party_name: EdiPartyNamePartyNameField<'a>)
+        fields_of_edi_party_name!(known_fields, self)
     }
 }
 
@@ -121,10 +123,7 @@ impl<'a> SimpleAsn1Readable<'a> for EdiPartyName<'a> {
     fn parse_data(alloc: Global, data: &'a [u8]) -> ParseResult<EdiPartyName<'a>>
         ensures { ReadsContents ⟦<EdiPartyName<'a> as Asn1Type>⟧.der «data».entry.now result }
     {
-        read_fields!(EdiPartyNameFields<'a>, alloc, data => EdiPartyName {
-            name_assigner: EdiPartyNameNameAssignerField<'a>,
-            party_name: EdiPartyNamePartyNameField<'a>
-        })
+        fields_of_edi_party_name!(read_fields, EdiPartyNameFields<'a>, alloc, data => EdiPartyName)
     }
 }
 
@@ -139,15 +138,11 @@ impl<'a> SimpleAsn1Writable for EdiPartyName<'a> {
     }
 
     fn write_data(&self, dest: &mut WriteBuf) -> WriteResult<()> {
-        write_fields!(self, dest;
-            name_assigner: EdiPartyNameNameAssignerField<'a>,
-            party_name: EdiPartyNamePartyNameField<'a>)
+        fields_of_edi_party_name!(write_fields, self, dest)
     }
 
     fn data_length(&self) -> Option<usize> {
-        fields_length!(self;
-            name_assigner: EdiPartyNameNameAssignerField<'a>,
-            party_name: EdiPartyNamePartyNameField<'a>)
+        fields_of_edi_party_name!(fields_length, self)
     }
 }
 

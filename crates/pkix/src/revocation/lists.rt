@@ -1,10 +1,10 @@
 //! Revocation lists (RFC 5280, 5.1 to 5.3).
-// Printed by scripts/derive from declarations/revocation/lists.rs, with the sum 35bf2a09.
+// Printed by scripts/derive from declarations/revocation/lists.rs, with the sum f70f141c.
 
-ghost use Rattle.std.specs.Prelude.{◌≡◌, ◌∷◌, [], codes};
+ghost use Rattle.std.specs.Prelude.{◌≡◌, ◌∷◌, []};
 ghost use Rattle.asn1.specs.Options.{option_meaning};
 ghost use Rattle.asn1.specs.Reads.{HasOneEncoding, ReadsContents};
-ghost use Rattle.asn1.specs.Structures.{explicit, structure, fields3, fields7};
+ghost use Rattle.asn1.specs.Structures.{explicit, field_names, structure, fields3, fields7};
 
 use crate::common::{
     AlgorithmIdentifier, Extensions, Name, Time, algorithm_identifier_is_lawful,
@@ -34,8 +34,8 @@ type RevokedCertificateFields<'a> = Fields3<BigInt<'a>, Time, Option<Extensions<
 impl<'a> Asn1Type for RevokedCertificate<'a> {
     ghost der = { structure (λ v. fields3 v.user_certificate v.revocation_date
         v.crl_entry_extensions) ⟦<RevokedCertificateFields<'a> as Row>⟧.list
-        (codes "RevokedCertificate::user_certificate" ∷ codes "RevokedCertificate::revocation_date"
-        ∷ codes "RevokedCertificate::crl_entry_extensions" ∷ []) };
+        (field_names "RevokedCertificate" ("user_certificate" ∷ "revocation_date" ∷
+        "crl_entry_extensions" ∷ [])) };
 
     fn known(&self) {
         known_fields!(self; user_certificate, revocation_date, crl_entry_extensions)
@@ -54,9 +54,8 @@ impl<'a> SimpleAsn1Readable<'a> for RevokedCertificate<'a> {
     fn parse_data(alloc: Global, data: &'a [u8]) -> ParseResult<RevokedCertificate<'a>>
         ensures { ReadsContents ⟦<RevokedCertificate<'a> as Asn1Type>⟧.der «data».entry.now result }
     {
-        read_fields!(RevokedCertificateFields<'a>, alloc, data => RevokedCertificate {
-            user_certificate, revocation_date, crl_entry_extensions
-        })
+        read_fields!(RevokedCertificateFields<'a>, alloc, data => RevokedCertificate;
+            user_certificate, revocation_date, crl_entry_extensions)
     }
 }
 
@@ -113,18 +112,21 @@ type TbsCertListFields<'a> = Fields7<
     TbsCertListCrlExtensionsField<'a>,
 >;
 
+macro_rules! fields_of_tbs_cert_list {
+    ($body:ident, $($of:tt)*) => { $body!($($of)*;
+        version, signature, issuer, this_update, next_update, revoked_certificates,
+        crl_extensions: TbsCertListCrlExtensionsField<'a>) };
+}
+
 impl<'a> Asn1Type for TbsCertList<'a> {
     ghost der = { structure (λ v. fields7 v.version v.signature v.issuer v.this_update v.next_update
         v.revoked_certificates (option_meaning explicit v.crl_extensions))
-        ⟦<TbsCertListFields<'a> as Row>⟧.list (codes "TbsCertList::version" ∷
-        codes "TbsCertList::signature" ∷ codes "TbsCertList::issuer" ∷
-        codes "TbsCertList::this_update" ∷ codes "TbsCertList::next_update" ∷
-        codes "TbsCertList::revoked_certificates" ∷ codes "TbsCertList::crl_extensions" ∷ []) };
+        ⟦<TbsCertListFields<'a> as Row>⟧.list (field_names "TbsCertList" ("version" ∷ "signature" ∷
+        "issuer" ∷ "this_update" ∷ "next_update" ∷ "revoked_certificates" ∷ "crl_extensions" ∷
+        [])) };
 
     fn known(&self) {
-        known_fields!(self;
-            version, signature, issuer, this_update, next_update, revoked_certificates,
-            crl_extensions: TbsCertListCrlExtensionsField<'a>)
+        fields_of_tbs_cert_list!(known_fields, self)
     }
 }
 
@@ -140,10 +142,7 @@ impl<'a> SimpleAsn1Readable<'a> for TbsCertList<'a> {
     fn parse_data(alloc: Global, data: &'a [u8]) -> ParseResult<TbsCertList<'a>>
         ensures { ReadsContents ⟦<TbsCertList<'a> as Asn1Type>⟧.der «data».entry.now result }
     {
-        read_fields!(TbsCertListFields<'a>, alloc, data => TbsCertList {
-            version, signature, issuer, this_update, next_update, revoked_certificates,
-            crl_extensions: TbsCertListCrlExtensionsField<'a>
-        })
+        fields_of_tbs_cert_list!(read_fields, TbsCertListFields<'a>, alloc, data => TbsCertList)
     }
 }
 
@@ -158,15 +157,11 @@ impl<'a> SimpleAsn1Writable for TbsCertList<'a> {
     }
 
     fn write_data(&self, dest: &mut WriteBuf) -> WriteResult<()> {
-        write_fields!(self, dest;
-            version, signature, issuer, this_update, next_update, revoked_certificates,
-            crl_extensions: TbsCertListCrlExtensionsField<'a>)
+        fields_of_tbs_cert_list!(write_fields, self, dest)
     }
 
     fn data_length(&self) -> Option<usize> {
-        fields_length!(self;
-            version, signature, issuer, this_update, next_update, revoked_certificates,
-            crl_extensions: TbsCertListCrlExtensionsField<'a>)
+        fields_of_tbs_cert_list!(fields_length, self)
     }
 }
 
@@ -185,9 +180,8 @@ type CertificateListFields<'a> = Fields3<TbsCertList<'a>, AlgorithmIdentifier<'a
 
 impl<'a> Asn1Type for CertificateList<'a> {
     ghost der = { structure (λ v. fields3 v.tbs_cert_list v.signature_algorithm v.signature_value)
-        ⟦<CertificateListFields<'a> as Row>⟧.list (codes "CertificateList::tbs_cert_list" ∷
-        codes "CertificateList::signature_algorithm" ∷ codes "CertificateList::signature_value" ∷
-        []) };
+        ⟦<CertificateListFields<'a> as Row>⟧.list (field_names "CertificateList" ("tbs_cert_list" ∷
+        "signature_algorithm" ∷ "signature_value" ∷ [])) };
 
     fn known(&self) {
         known_fields!(self; tbs_cert_list, signature_algorithm, signature_value)
@@ -206,9 +200,8 @@ impl<'a> SimpleAsn1Readable<'a> for CertificateList<'a> {
     fn parse_data(alloc: Global, data: &'a [u8]) -> ParseResult<CertificateList<'a>>
         ensures { ReadsContents ⟦<CertificateList<'a> as Asn1Type>⟧.der «data».entry.now result }
     {
-        read_fields!(CertificateListFields<'a>, alloc, data => CertificateList {
-            tbs_cert_list, signature_algorithm, signature_value
-        })
+        read_fields!(CertificateListFields<'a>, alloc, data => CertificateList;
+            tbs_cert_list, signature_algorithm, signature_value)
     }
 }
 

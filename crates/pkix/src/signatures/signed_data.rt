@@ -1,10 +1,10 @@
 //! Signed data (RFC 5652), as far as time stamps need it.
-// Printed by scripts/derive from declarations/signatures/signed_data.rs, with the sum 8a99783b.
+// Printed by scripts/derive from declarations/signatures/signed_data.rs, with the sum 5006b825.
 
-ghost use Rattle.std.specs.Prelude.{◌≡◌, ◌∷◌, [], codes};
+ghost use Rattle.std.specs.Prelude.{◌≡◌, ◌∷◌, []};
 ghost use Rattle.asn1.specs.Options.{option_meaning};
 ghost use Rattle.asn1.specs.Reads.{HasOneEncoding, ReadsContents};
-ghost use Rattle.asn1.specs.Structures.{explicit, implicit, structure, fields2, fields6};
+ghost use Rattle.asn1.specs.Structures.{explicit, field_names, implicit, structure, fields2, fields6};
 
 use crate::certificate::{Certificate, certificate_is_lawful};
 use crate::common::{AlgorithmIdentifier, algorithm_identifier_is_lawful};
@@ -33,8 +33,8 @@ type ContentInfoFields<'a> = Fields2<ObjectIdentifier, ContentInfoContentField<'
 
 impl<'a> Asn1Type for ContentInfo<'a> {
     ghost der = { structure (λ v. fields2 v.content_type (explicit v.content))
-        ⟦<ContentInfoFields<'a> as Row>⟧.list (codes "ContentInfo::content_type" ∷
-        codes "ContentInfo::content" ∷ []) };
+        ⟦<ContentInfoFields<'a> as Row>⟧.list (field_names "ContentInfo" ("content_type" ∷ "content"
+        ∷ [])) };
 
     fn known(&self) {
         known_fields!(self; content_type, content: ContentInfoContentField<'a>)
@@ -53,9 +53,8 @@ impl<'a> SimpleAsn1Readable<'a> for ContentInfo<'a> {
     fn parse_data(alloc: Global, data: &'a [u8]) -> ParseResult<ContentInfo<'a>>
         ensures { ReadsContents ⟦<ContentInfo<'a> as Asn1Type>⟧.der «data».entry.now result }
     {
-        read_fields!(ContentInfoFields<'a>, alloc, data => ContentInfo {
-            content_type, content: ContentInfoContentField<'a>
-        })
+        read_fields!(ContentInfoFields<'a>, alloc, data => ContentInfo;
+            content_type, content: ContentInfoContentField<'a>)
     }
 }
 
@@ -96,9 +95,8 @@ type EncapsulatedContentInfoFields<'a> = Fields2<
 
 impl<'a> Asn1Type for EncapsulatedContentInfo<'a> {
     ghost der = { structure (λ v. fields2 v.e_content_type (option_meaning explicit v.e_content))
-        ⟦<EncapsulatedContentInfoFields<'a> as Row>⟧.list
-        (codes "EncapsulatedContentInfo::e_content_type" ∷
-        codes "EncapsulatedContentInfo::e_content" ∷ []) };
+        ⟦<EncapsulatedContentInfoFields<'a> as Row>⟧.list (field_names "EncapsulatedContentInfo"
+        ("e_content_type" ∷ "e_content" ∷ [])) };
 
     fn known(&self) {
         known_fields!(self; e_content_type, e_content: EncapsulatedContentInfoEContentField<'a>)
@@ -118,9 +116,8 @@ impl<'a> SimpleAsn1Readable<'a> for EncapsulatedContentInfo<'a> {
         ensures { ReadsContents ⟦<EncapsulatedContentInfo<'a> as Asn1Type>⟧.der «data».entry.now
             result }
     {
-        read_fields!(EncapsulatedContentInfoFields<'a>, alloc, data => EncapsulatedContentInfo {
-            e_content_type, e_content: EncapsulatedContentInfoEContentField<'a>
-        })
+        read_fields!(EncapsulatedContentInfoFields<'a>, alloc, data => EncapsulatedContentInfo;
+            e_content_type, e_content: EncapsulatedContentInfoEContentField<'a>)
     }
 }
 
@@ -174,19 +171,22 @@ type SignedDataFields<'a> = Fields6<
     SetOf<'a, SignerInfo<'a>>,
 >;
 
+macro_rules! fields_of_signed_data {
+    ($body:ident, $($of:tt)*) => { $body!($($of)*;
+        version, digest_algorithms, encap_content_info,
+        certificates: SignedDataCertificatesField<'a>, crls: SignedDataCrlsField<'a>,
+        signer_infos) };
+}
+
 impl<'a> Asn1Type for SignedData<'a> {
     ghost der = { structure (λ v. fields6 v.version v.digest_algorithms v.encap_content_info
         (option_meaning implicit v.certificates) (option_meaning implicit v.crls) v.signer_infos)
-        ⟦<SignedDataFields<'a> as Row>⟧.list (codes "SignedData::version" ∷
-        codes "SignedData::digest_algorithms" ∷ codes "SignedData::encap_content_info" ∷
-        codes "SignedData::certificates" ∷ codes "SignedData::crls" ∷
-        codes "SignedData::signer_infos" ∷ []) };
+        ⟦<SignedDataFields<'a> as Row>⟧.list (field_names "SignedData" ("version" ∷
+        "digest_algorithms" ∷ "encap_content_info" ∷ "certificates" ∷ "crls" ∷ "signer_infos" ∷
+        [])) };
 
     fn known(&self) {
-        known_fields!(self;
-            version, digest_algorithms, encap_content_info,
-            certificates: SignedDataCertificatesField<'a>, crls: SignedDataCrlsField<'a>,
-            signer_infos)
+        fields_of_signed_data!(known_fields, self)
     }
 }
 
@@ -202,11 +202,7 @@ impl<'a> SimpleAsn1Readable<'a> for SignedData<'a> {
     fn parse_data(alloc: Global, data: &'a [u8]) -> ParseResult<SignedData<'a>>
         ensures { ReadsContents ⟦<SignedData<'a> as Asn1Type>⟧.der «data».entry.now result }
     {
-        read_fields!(SignedDataFields<'a>, alloc, data => SignedData {
-            version, digest_algorithms, encap_content_info,
-            certificates: SignedDataCertificatesField<'a>, crls: SignedDataCrlsField<'a>,
-            signer_infos
-        })
+        fields_of_signed_data!(read_fields, SignedDataFields<'a>, alloc, data => SignedData)
     }
 }
 
@@ -221,17 +217,11 @@ impl<'a> SimpleAsn1Writable for SignedData<'a> {
     }
 
     fn write_data(&self, dest: &mut WriteBuf) -> WriteResult<()> {
-        write_fields!(self, dest;
-            version, digest_algorithms, encap_content_info,
-            certificates: SignedDataCertificatesField<'a>, crls: SignedDataCrlsField<'a>,
-            signer_infos)
+        fields_of_signed_data!(write_fields, self, dest)
     }
 
     fn data_length(&self) -> Option<usize> {
-        fields_length!(self;
-            version, digest_algorithms, encap_content_info,
-            certificates: SignedDataCertificatesField<'a>, crls: SignedDataCrlsField<'a>,
-            signer_infos)
+        fields_of_signed_data!(fields_length, self)
     }
 }
 

@@ -1,13 +1,13 @@
 //! Who signed (RFC 5652, 5.3).
-// Printed by scripts/derive from declarations/signatures/signer.rs, with the sum f5493afc.
+// Printed by scripts/derive from declarations/signatures/signer.rs, with the sum a7d3bdbc.
 
-ghost use Rattle.std.specs.Prelude.{◌≡◌, ◌∷◌, [], codes, OnErr};
+ghost use Rattle.std.specs.Prelude.{◌≡◌, ◌∷◌, [], OnErr};
 ghost use Rattle.std.proofs.Common.{inl, inr};
 ghost use Rattle.asn1.specs.Choices.{choice_der, only, or};
 ghost use Rattle.asn1.specs.Options.{option_meaning};
 ghost use Rattle.asn1.specs.Reading.{EndsWith};
 ghost use Rattle.asn1.specs.Reads.{HasOneEncoding, ReadsContents, ReadsPrefix};
-ghost use Rattle.asn1.specs.Structures.{implicit, structure, fields2, fields7};
+ghost use Rattle.asn1.specs.Structures.{field_names, implicit, structure, fields2, fields7};
 
 use crate::common::{
     AlgorithmIdentifier, Attributes, Name, algorithm_identifier_is_lawful, attributes_is_lawful,
@@ -34,8 +34,8 @@ type IssuerAndSerialNumberFields<'a> = Fields2<Name<'a>, BigInt<'a>>;
 
 impl<'a> Asn1Type for IssuerAndSerialNumber<'a> {
     ghost der = { structure (λ v. fields2 v.issuer v.serial_number)
-        ⟦<IssuerAndSerialNumberFields<'a> as Row>⟧.list (codes "IssuerAndSerialNumber::issuer" ∷
-        codes "IssuerAndSerialNumber::serial_number" ∷ []) };
+        ⟦<IssuerAndSerialNumberFields<'a> as Row>⟧.list (field_names "IssuerAndSerialNumber"
+        ("issuer" ∷ "serial_number" ∷ [])) };
 
     fn known(&self) {
         known_fields!(self; issuer, serial_number)
@@ -55,9 +55,8 @@ impl<'a> SimpleAsn1Readable<'a> for IssuerAndSerialNumber<'a> {
         ensures { ReadsContents ⟦<IssuerAndSerialNumber<'a> as Asn1Type>⟧.der «data».entry.now
             result }
     {
-        read_fields!(IssuerAndSerialNumberFields<'a>, alloc, data => IssuerAndSerialNumber {
-            issuer, serial_number
-        })
+        read_fields!(IssuerAndSerialNumberFields<'a>, alloc, data => IssuerAndSerialNumber;
+            issuer, serial_number)
     }
 }
 
@@ -188,18 +187,21 @@ type SignerInfoFields<'a> = Fields7<
     SignerInfoUnsignedAttrsField<'a>,
 >;
 
+macro_rules! fields_of_signer_info {
+    ($body:ident, $($of:tt)*) => { $body!($($of)*;
+        version, sid, digest_algorithm, signed_attrs: SignerInfoSignedAttrsField<'a>,
+        signature_algorithm, signature, unsigned_attrs: SignerInfoUnsignedAttrsField<'a>) };
+}
+
 impl<'a> Asn1Type for SignerInfo<'a> {
     ghost der = { structure (λ v. fields7 v.version v.sid v.digest_algorithm (option_meaning
         implicit v.signed_attrs) v.signature_algorithm v.signature (option_meaning implicit
-        v.unsigned_attrs)) ⟦<SignerInfoFields<'a> as Row>⟧.list (codes "SignerInfo::version" ∷
-        codes "SignerInfo::sid" ∷ codes "SignerInfo::digest_algorithm" ∷
-        codes "SignerInfo::signed_attrs" ∷ codes "SignerInfo::signature_algorithm" ∷
-        codes "SignerInfo::signature" ∷ codes "SignerInfo::unsigned_attrs" ∷ []) };
+        v.unsigned_attrs)) ⟦<SignerInfoFields<'a> as Row>⟧.list (field_names "SignerInfo" ("version"
+        ∷ "sid" ∷ "digest_algorithm" ∷ "signed_attrs" ∷ "signature_algorithm" ∷ "signature" ∷
+        "unsigned_attrs" ∷ [])) };
 
     fn known(&self) {
-        known_fields!(self;
-            version, sid, digest_algorithm, signed_attrs: SignerInfoSignedAttrsField<'a>,
-            signature_algorithm, signature, unsigned_attrs: SignerInfoUnsignedAttrsField<'a>)
+        fields_of_signer_info!(known_fields, self)
     }
 }
 
@@ -215,10 +217,7 @@ impl<'a> SimpleAsn1Readable<'a> for SignerInfo<'a> {
     fn parse_data(alloc: Global, data: &'a [u8]) -> ParseResult<SignerInfo<'a>>
         ensures { ReadsContents ⟦<SignerInfo<'a> as Asn1Type>⟧.der «data».entry.now result }
     {
-        read_fields!(SignerInfoFields<'a>, alloc, data => SignerInfo {
-            version, sid, digest_algorithm, signed_attrs: SignerInfoSignedAttrsField<'a>,
-            signature_algorithm, signature, unsigned_attrs: SignerInfoUnsignedAttrsField<'a>
-        })
+        fields_of_signer_info!(read_fields, SignerInfoFields<'a>, alloc, data => SignerInfo)
     }
 }
 
@@ -233,15 +232,11 @@ impl<'a> SimpleAsn1Writable for SignerInfo<'a> {
     }
 
     fn write_data(&self, dest: &mut WriteBuf) -> WriteResult<()> {
-        write_fields!(self, dest;
-            version, sid, digest_algorithm, signed_attrs: SignerInfoSignedAttrsField<'a>,
-            signature_algorithm, signature, unsigned_attrs: SignerInfoUnsignedAttrsField<'a>)
+        fields_of_signer_info!(write_fields, self, dest)
     }
 
     fn data_length(&self) -> Option<usize> {
-        fields_length!(self;
-            version, sid, digest_algorithm, signed_attrs: SignerInfoSignedAttrsField<'a>,
-            signature_algorithm, signature, unsigned_attrs: SignerInfoUnsignedAttrsField<'a>)
+        fields_of_signer_info!(fields_length, self)
     }
 }
 

@@ -1,9 +1,9 @@
 //! Values of signatures (RFC 3279, 2.2.2 and 2.2.3; RFC 8017, 9.2).
-// Printed by scripts/derive from declarations/signatures/values.rs, with the sum e2f4d158.
+// Printed by scripts/derive from declarations/signatures/values.rs, with the sum 5df69621.
 
-ghost use Rattle.std.specs.Prelude.{◌≡◌, ◌∷◌, [], codes};
+ghost use Rattle.std.specs.Prelude.{◌≡◌, ◌∷◌, []};
 ghost use Rattle.asn1.specs.Reads.{HasOneEncoding, ReadsContents};
-ghost use Rattle.asn1.specs.Structures.{structure, fields2};
+ghost use Rattle.asn1.specs.Structures.{field_names, structure, fields2};
 
 use crate::common::{AlgorithmIdentifier, algorithm_identifier_is_lawful};
 use asn1::fields::{Fields2, Row};
@@ -27,7 +27,7 @@ type EcdsaSigValueFields<'a> = Fields2<BigUint<'a>, BigUint<'a>>;
 
 impl<'a> Asn1Type for EcdsaSigValue<'a> {
     ghost der = { structure (λ v. fields2 v.r v.s) ⟦<EcdsaSigValueFields<'a> as Row>⟧.list
-        (codes "EcdsaSigValue::r" ∷ codes "EcdsaSigValue::s" ∷ []) };
+        (field_names "EcdsaSigValue" ("r" ∷ "s" ∷ [])) };
 
     fn known(&self) {
         known_fields!(self; r, s)
@@ -46,7 +46,7 @@ impl<'a> SimpleAsn1Readable<'a> for EcdsaSigValue<'a> {
     fn parse_data(alloc: Global, data: &'a [u8]) -> ParseResult<EcdsaSigValue<'a>>
         ensures { ReadsContents ⟦<EcdsaSigValue<'a> as Asn1Type>⟧.der «data».entry.now result }
     {
-        read_fields!(EcdsaSigValueFields<'a>, alloc, data => EcdsaSigValue { r, s })
+        read_fields!(EcdsaSigValueFields<'a>, alloc, data => EcdsaSigValue; r, s)
     }
 }
 
@@ -82,8 +82,8 @@ type DigestInfoFields<'a> = Fields2<AlgorithmIdentifier<'a>, &'a [u8]>;
 
 impl<'a> Asn1Type for DigestInfo<'a> {
     ghost der = { structure (λ v. fields2 v.digest_algorithm v.digest)
-        ⟦<DigestInfoFields<'a> as Row>⟧.list (codes "DigestInfo::digest_algorithm" ∷
-        codes "DigestInfo::digest" ∷ []) };
+        ⟦<DigestInfoFields<'a> as Row>⟧.list (field_names "DigestInfo" ("digest_algorithm" ∷
+        "digest" ∷ [])) };
 
     fn known(&self) {
         known_fields!(self; digest_algorithm, digest)
@@ -102,7 +102,7 @@ impl<'a> SimpleAsn1Readable<'a> for DigestInfo<'a> {
     fn parse_data(alloc: Global, data: &'a [u8]) -> ParseResult<DigestInfo<'a>>
         ensures { ReadsContents ⟦<DigestInfo<'a> as Asn1Type>⟧.der «data».entry.now result }
     {
-        read_fields!(DigestInfoFields<'a>, alloc, data => DigestInfo { digest_algorithm, digest })
+        read_fields!(DigestInfoFields<'a>, alloc, data => DigestInfo; digest_algorithm, digest)
     }
 }
 

@@ -1,10 +1,10 @@
 //! Requests for time stamps, and responses (RFC 3161, 2.4).
-// Printed by scripts/derive from declarations/timestamps/exchange.rs, with the sum 977bc12a.
+// Printed by scripts/derive from declarations/timestamps/exchange.rs, with the sum b71ee7b3.
 
-ghost use Rattle.std.specs.Prelude.{◌≡◌, ◌∷◌, [], codes, false};
+ghost use Rattle.std.specs.Prelude.{◌≡◌, ◌∷◌, [], false};
 ghost use Rattle.asn1.specs.Options.{option_meaning};
 ghost use Rattle.asn1.specs.Reads.{HasOneEncoding, ReadsContents};
-ghost use Rattle.asn1.specs.Structures.{defaulted, implicit, structure, fields2, fields3, fields6};
+ghost use Rattle.asn1.specs.Structures.{defaulted, field_names, implicit, structure, fields2, fields3, fields6};
 
 use crate::common::{
     AlgorithmIdentifier, Extensions, NamedBits, algorithm_identifier_is_lawful,
@@ -32,8 +32,8 @@ type MessageImprintFields<'a> = Fields2<AlgorithmIdentifier<'a>, &'a [u8]>;
 
 impl<'a> Asn1Type for MessageImprint<'a> {
     ghost der = { structure (λ v. fields2 v.hash_algorithm v.hashed_message)
-        ⟦<MessageImprintFields<'a> as Row>⟧.list (codes "MessageImprint::hash_algorithm" ∷
-        codes "MessageImprint::hashed_message" ∷ []) };
+        ⟦<MessageImprintFields<'a> as Row>⟧.list (field_names "MessageImprint" ("hash_algorithm" ∷
+        "hashed_message" ∷ [])) };
 
     fn known(&self) {
         known_fields!(self; hash_algorithm, hashed_message)
@@ -52,9 +52,8 @@ impl<'a> SimpleAsn1Readable<'a> for MessageImprint<'a> {
     fn parse_data(alloc: Global, data: &'a [u8]) -> ParseResult<MessageImprint<'a>>
         ensures { ReadsContents ⟦<MessageImprint<'a> as Asn1Type>⟧.der «data».entry.now result }
     {
-        read_fields!(MessageImprintFields<'a>, alloc, data => MessageImprint {
-            hash_algorithm, hashed_message
-        })
+        read_fields!(MessageImprintFields<'a>, alloc, data => MessageImprint;
+            hash_algorithm, hashed_message)
     }
 }
 
@@ -118,18 +117,20 @@ type TimeStampReqFields<'a> = Fields6<
     TimeStampReqExtensionsField<'a>,
 >;
 
+macro_rules! fields_of_time_stamp_req {
+    ($body:ident, $($of:tt)*) => { $body!($($of)*;
+        version, message_imprint, req_policy, nonce, cert_req: TimeStampReqCertReqField,
+        extensions: TimeStampReqExtensionsField<'a>) };
+}
+
 impl<'a> Asn1Type for TimeStampReq<'a> {
     ghost der = { structure (λ v. fields6 v.version v.message_imprint v.req_policy v.nonce
         (defaulted v.cert_req) (option_meaning implicit v.extensions))
-        ⟦<TimeStampReqFields<'a> as Row>⟧.list (codes "TimeStampReq::version" ∷
-        codes "TimeStampReq::message_imprint" ∷ codes "TimeStampReq::req_policy" ∷
-        codes "TimeStampReq::nonce" ∷ codes "TimeStampReq::cert_req" ∷
-        codes "TimeStampReq::extensions" ∷ []) };
+        ⟦<TimeStampReqFields<'a> as Row>⟧.list (field_names "TimeStampReq" ("version" ∷
+        "message_imprint" ∷ "req_policy" ∷ "nonce" ∷ "cert_req" ∷ "extensions" ∷ [])) };
 
     fn known(&self) {
-        known_fields!(self;
-            version, message_imprint, req_policy, nonce, cert_req: TimeStampReqCertReqField,
-            extensions: TimeStampReqExtensionsField<'a>)
+        fields_of_time_stamp_req!(known_fields, self)
     }
 }
 
@@ -145,10 +146,7 @@ impl<'a> SimpleAsn1Readable<'a> for TimeStampReq<'a> {
     fn parse_data(alloc: Global, data: &'a [u8]) -> ParseResult<TimeStampReq<'a>>
         ensures { ReadsContents ⟦<TimeStampReq<'a> as Asn1Type>⟧.der «data».entry.now result }
     {
-        read_fields!(TimeStampReqFields<'a>, alloc, data => TimeStampReq {
-            version, message_imprint, req_policy, nonce, cert_req: TimeStampReqCertReqField,
-            extensions: TimeStampReqExtensionsField<'a>
-        })
+        fields_of_time_stamp_req!(read_fields, TimeStampReqFields<'a>, alloc, data => TimeStampReq)
     }
 }
 
@@ -163,15 +161,11 @@ impl<'a> SimpleAsn1Writable for TimeStampReq<'a> {
     }
 
     fn write_data(&self, dest: &mut WriteBuf) -> WriteResult<()> {
-        write_fields!(self, dest;
-            version, message_imprint, req_policy, nonce, cert_req: TimeStampReqCertReqField,
-            extensions: TimeStampReqExtensionsField<'a>)
+        fields_of_time_stamp_req!(write_fields, self, dest)
     }
 
     fn data_length(&self) -> Option<usize> {
-        fields_length!(self;
-            version, message_imprint, req_policy, nonce, cert_req: TimeStampReqCertReqField,
-            extensions: TimeStampReqExtensionsField<'a>)
+        fields_of_time_stamp_req!(fields_length, self)
     }
 }
 
@@ -190,8 +184,8 @@ type PkiStatusInfoFields<'a> = Fields3<u32, Option<PkiFreeText<'a>>, Option<Name
 
 impl<'a> Asn1Type for PkiStatusInfo<'a> {
     ghost der = { structure (λ v. fields3 v.status v.status_string v.fail_info)
-        ⟦<PkiStatusInfoFields<'a> as Row>⟧.list (codes "PkiStatusInfo::status" ∷
-        codes "PkiStatusInfo::status_string" ∷ codes "PkiStatusInfo::fail_info" ∷ []) };
+        ⟦<PkiStatusInfoFields<'a> as Row>⟧.list (field_names "PkiStatusInfo" ("status" ∷
+        "status_string" ∷ "fail_info" ∷ [])) };
 
     fn known(&self) {
         known_fields!(self; status, status_string, fail_info)
@@ -210,9 +204,8 @@ impl<'a> SimpleAsn1Readable<'a> for PkiStatusInfo<'a> {
     fn parse_data(alloc: Global, data: &'a [u8]) -> ParseResult<PkiStatusInfo<'a>>
         ensures { ReadsContents ⟦<PkiStatusInfo<'a> as Asn1Type>⟧.der «data».entry.now result }
     {
-        read_fields!(PkiStatusInfoFields<'a>, alloc, data => PkiStatusInfo {
-            status, status_string, fail_info
-        })
+        read_fields!(PkiStatusInfoFields<'a>, alloc, data => PkiStatusInfo;
+            status, status_string, fail_info)
     }
 }
 
@@ -251,8 +244,8 @@ type TimeStampRespFields<'a> = Fields2<PkiStatusInfo<'a>, Option<ContentInfo<'a>
 
 impl<'a> Asn1Type for TimeStampResp<'a> {
     ghost der = { structure (λ v. fields2 v.status v.time_stamp_token)
-        ⟦<TimeStampRespFields<'a> as Row>⟧.list (codes "TimeStampResp::status" ∷
-        codes "TimeStampResp::time_stamp_token" ∷ []) };
+        ⟦<TimeStampRespFields<'a> as Row>⟧.list (field_names "TimeStampResp" ("status" ∷
+        "time_stamp_token" ∷ [])) };
 
     fn known(&self) {
         known_fields!(self; status, time_stamp_token)
@@ -271,9 +264,8 @@ impl<'a> SimpleAsn1Readable<'a> for TimeStampResp<'a> {
     fn parse_data(alloc: Global, data: &'a [u8]) -> ParseResult<TimeStampResp<'a>>
         ensures { ReadsContents ⟦<TimeStampResp<'a> as Asn1Type>⟧.der «data».entry.now result }
     {
-        read_fields!(TimeStampRespFields<'a>, alloc, data => TimeStampResp {
-            status, time_stamp_token
-        })
+        read_fields!(TimeStampRespFields<'a>, alloc, data => TimeStampResp;
+            status, time_stamp_token)
     }
 }
 

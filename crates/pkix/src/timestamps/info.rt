@@ -1,10 +1,10 @@
 //! What a time stamp says (RFC 3161, 2.4.2).
-// Printed by scripts/derive from declarations/timestamps/info.rs, with the sum 8ea036ec.
+// Printed by scripts/derive from declarations/timestamps/info.rs, with the sum 1585d6c6.
 
-ghost use Rattle.std.specs.Prelude.{◌≡◌, ◌∷◌, [], codes, false};
+ghost use Rattle.std.specs.Prelude.{◌≡◌, ◌∷◌, [], false};
 ghost use Rattle.asn1.specs.Options.{option_meaning};
 ghost use Rattle.asn1.specs.Reads.{HasOneEncoding, ReadsContents};
-ghost use Rattle.asn1.specs.Structures.{defaulted, explicit, implicit, structure, fields3, fields10};
+ghost use Rattle.asn1.specs.Structures.{defaulted, explicit, field_names, implicit, structure, fields3, fields10};
 
 use crate::common::{Extensions, GeneralName, extensions_is_lawful, general_name_is_lawful};
 use crate::timestamps::{MessageImprint, message_imprint_is_lawful};
@@ -36,7 +36,7 @@ type AccuracyFields<'a> = Fields3<Option<BigInt<'a>>, AccuracyMillisField, Accur
 impl<'a> Asn1Type for Accuracy<'a> {
     ghost der = { structure (λ v. fields3 v.seconds (option_meaning implicit v.millis)
         (option_meaning implicit v.micros)) ⟦<AccuracyFields<'a> as Row>⟧.list
-        (codes "Accuracy::seconds" ∷ codes "Accuracy::millis" ∷ codes "Accuracy::micros" ∷ []) };
+        (field_names "Accuracy" ("seconds" ∷ "millis" ∷ "micros" ∷ [])) };
 
     fn known(&self) {
         known_fields!(self; seconds, millis: AccuracyMillisField, micros: AccuracyMicrosField)
@@ -55,9 +55,8 @@ impl<'a> SimpleAsn1Readable<'a> for Accuracy<'a> {
     fn parse_data(alloc: Global, data: &'a [u8]) -> ParseResult<Accuracy<'a>>
         ensures { ReadsContents ⟦<Accuracy<'a> as Asn1Type>⟧.der «data».entry.now result }
     {
-        read_fields!(AccuracyFields<'a>, alloc, data => Accuracy {
-            seconds, millis: AccuracyMillisField, micros: AccuracyMicrosField
-        })
+        read_fields!(AccuracyFields<'a>, alloc, data => Accuracy;
+            seconds, millis: AccuracyMillisField, micros: AccuracyMicrosField)
     }
 }
 
@@ -135,20 +134,22 @@ type TstInfoFields<'a> = Fields10<
     TstInfoExtensionsField<'a>,
 >;
 
+macro_rules! fields_of_tst_info {
+    ($body:ident, $($of:tt)*) => { $body!($($of)*;
+        version, policy, message_imprint, serial_number, gen_time, accuracy,
+        ordering: TstInfoOrderingField, nonce, tsa: TstInfoTsaField<'a>,
+        extensions: TstInfoExtensionsField<'a>) };
+}
+
 impl<'a> Asn1Type for TstInfo<'a> {
     ghost der = { structure (λ v. fields10 v.version v.policy v.message_imprint v.serial_number
         v.gen_time v.accuracy (defaulted v.ordering) v.nonce (option_meaning explicit v.tsa)
         (option_meaning implicit v.extensions)) ⟦<TstInfoFields<'a> as Row>⟧.list
-        (codes "TstInfo::version" ∷ codes "TstInfo::policy" ∷ codes "TstInfo::message_imprint" ∷
-        codes "TstInfo::serial_number" ∷ codes "TstInfo::gen_time" ∷ codes "TstInfo::accuracy" ∷
-        codes "TstInfo::ordering" ∷ codes "TstInfo::nonce" ∷ codes "TstInfo::tsa" ∷
-        codes "TstInfo::extensions" ∷ []) };
+        (field_names "TstInfo" ("version" ∷ "policy" ∷ "message_imprint" ∷ "serial_number" ∷
+        "gen_time" ∷ "accuracy" ∷ "ordering" ∷ "nonce" ∷ "tsa" ∷ "extensions" ∷ [])) };
 
     fn known(&self) {
-        known_fields!(self;
-            version, policy, message_imprint, serial_number, gen_time, accuracy,
-            ordering: TstInfoOrderingField, nonce, tsa: TstInfoTsaField<'a>,
-            extensions: TstInfoExtensionsField<'a>)
+        fields_of_tst_info!(known_fields, self)
     }
 }
 
@@ -164,11 +165,7 @@ impl<'a> SimpleAsn1Readable<'a> for TstInfo<'a> {
     fn parse_data(alloc: Global, data: &'a [u8]) -> ParseResult<TstInfo<'a>>
         ensures { ReadsContents ⟦<TstInfo<'a> as Asn1Type>⟧.der «data».entry.now result }
     {
-        read_fields!(TstInfoFields<'a>, alloc, data => TstInfo {
-            version, policy, message_imprint, serial_number, gen_time, accuracy,
-            ordering: TstInfoOrderingField, nonce, tsa: TstInfoTsaField<'a>,
-            extensions: TstInfoExtensionsField<'a>
-        })
+        fields_of_tst_info!(read_fields, TstInfoFields<'a>, alloc, data => TstInfo)
     }
 }
 
@@ -183,17 +180,11 @@ impl<'a> SimpleAsn1Writable for TstInfo<'a> {
     }
 
     fn write_data(&self, dest: &mut WriteBuf) -> WriteResult<()> {
-        write_fields!(self, dest;
-            version, policy, message_imprint, serial_number, gen_time, accuracy,
-            ordering: TstInfoOrderingField, nonce, tsa: TstInfoTsaField<'a>,
-            extensions: TstInfoExtensionsField<'a>)
+        fields_of_tst_info!(write_fields, self, dest)
     }
 
     fn data_length(&self) -> Option<usize> {
-        fields_length!(self;
-            version, policy, message_imprint, serial_number, gen_time, accuracy,
-            ordering: TstInfoOrderingField, nonce, tsa: TstInfoTsaField<'a>,
-            extensions: TstInfoExtensionsField<'a>)
+        fields_of_tst_info!(fields_length, self)
     }
 }
 

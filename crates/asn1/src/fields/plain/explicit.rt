@@ -6,9 +6,9 @@ ghost use Rattle.asn1_core.specs.Options.{option_meaning};
 ghost use Rattle.asn1_core.specs.Tag.{explicit_tag_of};
 ghost use Rattle.asn1_core.specs.Writing.{IsElementOf, GivesLength};
 ghost use Rattle.asn1.specs.Defaults.{same_text};
-ghost use Rattle.asn1.specs.Structures.{defaulted, explicit};
+ghost use Rattle.asn1.specs.Structures.{defaulted, encoded, explicit, owed};
 
-use super::{Wraps, WrapsWritable};
+use super::{FieldWritable, Wraps};
 use crate::wrappers::{DefaultValue, Defaulted, Explicit, MeaningEq};
 use asn1_core::writer::full_length;
 use asn1_core::{Asn1Type, Asn1Writable, Writer, explicit_tag};
@@ -44,7 +44,17 @@ impl<T: Asn1Type, const N: u32> Wraps<T> for Explicit<T, N> {
     }
 }
 
-impl<T: Asn1Writable, const N: u32> WrapsWritable<T> for Explicit<T, N> {
+impl<T: Asn1Writable, const N: u32> FieldWritable<T> for Explicit<T, N> {
+    type Error = T::Error;
+
+    ghost encodings = { λ v. encoded ⟦<Explicit<T, N> as Asn1Type>⟧.der (explicit v) };
+
+    ghost owes = { λ v. owed ⟦<Explicit<T, N> as Asn1Type>⟧.der (explicit v) };
+
+    ghost write_errors = { λ v. ⟦<Explicit<T, N> as Asn1Writable>⟧.write_errors (explicit v) };
+
+    ghost length_known = { λ v. ⟦<Explicit<T, N> as Asn1Writable>⟧.length_known (explicit v) };
+
     fn write_plain(value: &T, dest: &mut Writer<'_>) -> Result<(), T::Error> {
         dest.write_explicit_element(value, N)
     }
@@ -69,7 +79,21 @@ impl<T: Asn1Type, const N: u32> Wraps<Option<T>> for Option<Explicit<T, N>> {
     }
 }
 
-impl<T: Asn1Writable, const N: u32> WrapsWritable<Option<T>> for Option<Explicit<T, N>> {
+impl<T: Asn1Writable, const N: u32> FieldWritable<Option<T>> for Option<Explicit<T, N>> {
+    type Error = T::Error;
+
+    ghost encodings = { λ v. encoded ⟦<Option<Explicit<T, N>> as Asn1Type>⟧.der
+        (option_meaning explicit v) };
+
+    ghost owes = { λ v. owed ⟦<Option<Explicit<T, N>> as Asn1Type>⟧.der
+        (option_meaning explicit v) };
+
+    ghost write_errors = { λ v. ⟦<Option<Explicit<T, N>> as Asn1Writable>⟧.write_errors
+        (option_meaning explicit v) };
+
+    ghost length_known = { λ v. ⟦<Option<Explicit<T, N>> as Asn1Writable>⟧.length_known
+        (option_meaning explicit v) };
+
     fn write_plain(value: &Option<T>, dest: &mut Writer<'_>) -> Result<(), T::Error> {
         match value {
             Some(value) => dest.write_explicit_element(value, N),
@@ -102,7 +126,21 @@ impl<
     T: Asn1Writable + MeaningEq + Drop,
     const N: u32,
     D: DefaultValue<Explicit<T, N>>,
-> WrapsWritable<T> for Defaulted<Explicit<T, N>, D> {
+> FieldWritable<T> for Defaulted<Explicit<T, N>, D> {
+    type Error = T::Error;
+
+    ghost encodings = { λ v. encoded ⟦<Defaulted<Explicit<T, N>, D> as Asn1Type>⟧.der
+        (defaulted (explicit v)) };
+
+    ghost owes = { λ v. owed ⟦<Defaulted<Explicit<T, N>, D> as Asn1Type>⟧.der
+        (defaulted (explicit v)) };
+
+    ghost write_errors = { λ v. ⟦<Defaulted<Explicit<T, N>, D> as Asn1Writable>⟧.write_errors
+        (defaulted (explicit v)) };
+
+    ghost length_known = { λ v. ⟦<Defaulted<Explicit<T, N>, D> as Asn1Writable>⟧.length_known
+        (defaulted (explicit v)) };
+
     fn write_plain(value: &T, dest: &mut Writer<'_>) -> Result<(), T::Error> {
         if is_explicit_default::<T, N, D>(value) {
             return Ok(());

@@ -6,12 +6,12 @@ ghost use Rattle.asn1_core.specs.Options.{option_meaning};
 ghost use Rattle.asn1_core.specs.Tag.{implicit_tag_of};
 ghost use Rattle.asn1_core.specs.Writing.{IsElementOf, GivesLength};
 ghost use Rattle.asn1.specs.Defaults.{same_text};
-ghost use Rattle.asn1.specs.Structures.{defaulted, implicit};
+ghost use Rattle.asn1.specs.Structures.{defaulted, encoded, implicit, owed};
 
-use super::{Wraps, WrapsWritable};
+use super::{FieldWritable, Wraps};
 use crate::wrappers::{DefaultValue, Defaulted, Implicit, SimpleMeaningEq};
 use asn1_core::writer::full_length;
-use asn1_core::{Asn1Type, SimpleAsn1Writable, Writer, implicit_tag};
+use asn1_core::{Asn1Type, Asn1Writable, SimpleAsn1Writable, Writer, implicit_tag};
 
 /// How many octets the encoding of a value under an implicit tag has, if that is known.
 fn implicit_length<T: SimpleAsn1Writable>(value: &T, tag: u32) -> Option<usize>
@@ -45,7 +45,17 @@ impl<T: Asn1Type, const N: u32> Wraps<T> for Implicit<T, N> {
     }
 }
 
-impl<T: SimpleAsn1Writable, const N: u32> WrapsWritable<T> for Implicit<T, N> {
+impl<T: SimpleAsn1Writable, const N: u32> FieldWritable<T> for Implicit<T, N> {
+    type Error = T::Error;
+
+    ghost encodings = { λ v. encoded ⟦<Implicit<T, N> as Asn1Type>⟧.der (implicit v) };
+
+    ghost owes = { λ v. owed ⟦<Implicit<T, N> as Asn1Type>⟧.der (implicit v) };
+
+    ghost write_errors = { λ v. ⟦<Implicit<T, N> as Asn1Writable>⟧.write_errors (implicit v) };
+
+    ghost length_known = { λ v. ⟦<Implicit<T, N> as Asn1Writable>⟧.length_known (implicit v) };
+
     fn write_plain(value: &T, dest: &mut Writer<'_>) -> Result<(), T::Error> {
         dest.write_implicit_element(value, N)
     }
@@ -70,7 +80,21 @@ impl<T: Asn1Type, const N: u32> Wraps<Option<T>> for Option<Implicit<T, N>> {
     }
 }
 
-impl<T: SimpleAsn1Writable, const N: u32> WrapsWritable<Option<T>> for Option<Implicit<T, N>> {
+impl<T: SimpleAsn1Writable, const N: u32> FieldWritable<Option<T>> for Option<Implicit<T, N>> {
+    type Error = T::Error;
+
+    ghost encodings = { λ v. encoded ⟦<Option<Implicit<T, N>> as Asn1Type>⟧.der
+        (option_meaning implicit v) };
+
+    ghost owes = { λ v. owed ⟦<Option<Implicit<T, N>> as Asn1Type>⟧.der
+        (option_meaning implicit v) };
+
+    ghost write_errors = { λ v. ⟦<Option<Implicit<T, N>> as Asn1Writable>⟧.write_errors
+        (option_meaning implicit v) };
+
+    ghost length_known = { λ v. ⟦<Option<Implicit<T, N>> as Asn1Writable>⟧.length_known
+        (option_meaning implicit v) };
+
     fn write_plain(value: &Option<T>, dest: &mut Writer<'_>) -> Result<(), T::Error> {
         match value {
             Some(value) => dest.write_implicit_element(value, N),
@@ -103,7 +127,21 @@ impl<
     T: SimpleAsn1Writable + SimpleMeaningEq + Drop,
     const N: u32,
     D: DefaultValue<Implicit<T, N>>,
-> WrapsWritable<T> for Defaulted<Implicit<T, N>, D> {
+> FieldWritable<T> for Defaulted<Implicit<T, N>, D> {
+    type Error = T::Error;
+
+    ghost encodings = { λ v. encoded ⟦<Defaulted<Implicit<T, N>, D> as Asn1Type>⟧.der
+        (defaulted (implicit v)) };
+
+    ghost owes = { λ v. owed ⟦<Defaulted<Implicit<T, N>, D> as Asn1Type>⟧.der
+        (defaulted (implicit v)) };
+
+    ghost write_errors = { λ v. ⟦<Defaulted<Implicit<T, N>, D> as Asn1Writable>⟧.write_errors
+        (defaulted (implicit v)) };
+
+    ghost length_known = { λ v. ⟦<Defaulted<Implicit<T, N>, D> as Asn1Writable>⟧.length_known
+        (defaulted (implicit v)) };
+
     fn write_plain(value: &T, dest: &mut Writer<'_>) -> Result<(), T::Error> {
         if is_implicit_default::<T, N, D>(value) {
             return Ok(());
