@@ -1,6 +1,6 @@
 -- Structures (X.690 8.9), seen as rows of fields.
 use Prim.Native.String.{String}
-use Rattle.std.specs.Prelude.{◌≡◌, ℕ, List, map, codes, ◌++◌}
+use Rattle.std.specs.Prelude.{◌≡◌, ◌↔◌, ℕ, List, map, codes, ◌++◌}
 use Rattle.asn1_core.specs.Der.{Der, simple_der}
 use Rattle.asn1.specs.declared.fields.Names.{Names}
 use Rattle.asn1.specs.ItemsAndValues.{ItemAndValue}
@@ -110,6 +110,14 @@ encoded d v = d.texts (d.meaning v)
 
 abbrev pub owed : {V : Type 0} → Der V → V → Type 0
 owed d v = d.closures (d.meaning v)
+
+-- What is written, and what is required of closures, is as these say of the meaning.
+abbrev pub IsWrittenAs : {P M : Type 0} → (M → List ℕ → Type 0) → (M → Type 0) → (P → M) → (P → List ℕ → Type 0) → (P → Type 0) → Type 0
+IsWrittenAs {P} texts closures meaning encodings owes = ((v : P) (text : List ℕ) → encodings v text ↔ texts (meaning v) text) × ((v : P) → owes v ↔ closures (meaning v))
+
+-- The same of a value that is seen as one of another type.
+abbrev pub IsEncoded : {P V : Type 0} → Der V → (P → V) → (P → List ℕ → Type 0) → (P → Type 0) → Type 0
+IsEncoded d wrap = IsWrittenAs d.texts d.closures (λ v. d.meaning (wrap v))
 
 -- ---- values of a struct's fields as a row has them: under a tag, or with a default
 

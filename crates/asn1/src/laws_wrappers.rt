@@ -1,13 +1,18 @@
-//! Laws of options, wrappers and choices, each the contract of a function that does nothing.
+//! Laws of options, wrappers, choices and fields, each the contract of a function that does nothing.
 
 ghost use Rattle.std.specs.Prelude.{◌≡◌, true, false};
+ghost use Rattle.asn1_core.specs.Options.{option_meaning};
 ghost use Rattle.asn1.specs.Alternatives.{Disjoint};
+ghost use Rattle.asn1.specs.Structures.{defaulted, explicit, implicit, IsEncoded, IsWrittenAs};
 
+use crate::fields::{DefinedField, FieldWritable, ItemOf, Plain, ValueOf};
 use crate::{
     Choice1, Choice2, Choice3, DefaultValue, Defaulted, ErrorInto, Explicit, Implicit, MeaningEq,
-    OctetStringEncoded,
+    OctetStringEncoded, SimpleMeaningEq,
 };
-use asn1_core::{Asn1DefinedBy, Asn1Type};
+use asn1_core::{
+    Asn1DefinedBy, Asn1DefinedByWritable, Asn1Type, Asn1Writable, SimpleAsn1Writable,
+};
 
 /// Each wrapper of a lawful part is lawful: what is written is read back, and means the same. The part of an option
 /// has to be an element, since else nothing distinguishes an option with a value from one without. A part under an
@@ -65,4 +70,51 @@ pub fn defined_types_are_lawful<T: Asn1Type, U: Asn1DefinedBy<T>, const TAG: u32
         ⟦<Explicit<U, TAG> as Asn1DefinedBy<T>>⟧.by.means.takes_memory → ⊥ }
     ensures unbounded { (U.by.means.bounded → ⊥) →
         ⟦<Explicit<U, TAG> as Asn1DefinedBy<T>>⟧.by.means.bounded → ⊥ }
+{}
+
+/// What [`FieldWritable`] states of each kind of field, it states of the value with its tag and its default: what a
+/// write may append are the encodings of that value, and what a write requires is what its type requires of closures.
+pub fn fields_are_encoded<
+    T: SimpleAsn1Writable + SimpleMeaningEq + Drop,
+    D: DefaultValue<T>,
+    E: DefaultValue<Explicit<T, TAG>>,
+    I: DefaultValue<Implicit<T, TAG>>,
+    const TAG: u32,
+>()
+    ensures plain { IsEncoded T.der (λ v. v) ⟦<Plain as FieldWritable<T>>⟧.encodings
+        ⟦<Plain as FieldWritable<T>>⟧.owes }
+    ensures default { IsEncoded ⟦<Defaulted<T, D> as Asn1Type>⟧.der defaulted
+        ⟦<Defaulted<T, D> as FieldWritable<T>>⟧.encodings
+        ⟦<Defaulted<T, D> as FieldWritable<T>>⟧.owes }
+    ensures explicit { IsEncoded ⟦<Explicit<T, TAG> as Asn1Type>⟧.der explicit
+        ⟦<Explicit<T, TAG> as FieldWritable<T>>⟧.encodings
+        ⟦<Explicit<T, TAG> as FieldWritable<T>>⟧.owes }
+    ensures explicit_option { IsEncoded ⟦<Option<Explicit<T, TAG>> as Asn1Type>⟧.der
+        (option_meaning explicit)
+        ⟦<Option<Explicit<T, TAG>> as FieldWritable<Option<T>>>⟧.encodings
+        ⟦<Option<Explicit<T, TAG>> as FieldWritable<Option<T>>>⟧.owes }
+    ensures explicit_default { IsEncoded ⟦<Defaulted<Explicit<T, TAG>, E> as Asn1Type>⟧.der
+        (λ v. defaulted (explicit v))
+        ⟦<Defaulted<Explicit<T, TAG>, E> as FieldWritable<T>>⟧.encodings
+        ⟦<Defaulted<Explicit<T, TAG>, E> as FieldWritable<T>>⟧.owes }
+    ensures implicit { IsEncoded ⟦<Implicit<T, TAG> as Asn1Type>⟧.der implicit
+        ⟦<Implicit<T, TAG> as FieldWritable<T>>⟧.encodings
+        ⟦<Implicit<T, TAG> as FieldWritable<T>>⟧.owes }
+    ensures implicit_option { IsEncoded ⟦<Option<Implicit<T, TAG>> as Asn1Type>⟧.der
+        (option_meaning implicit)
+        ⟦<Option<Implicit<T, TAG>> as FieldWritable<Option<T>>>⟧.encodings
+        ⟦<Option<Implicit<T, TAG>> as FieldWritable<Option<T>>>⟧.owes }
+    ensures implicit_default { IsEncoded ⟦<Defaulted<Implicit<T, TAG>, I> as Asn1Type>⟧.der
+        (λ v. defaulted (implicit v))
+        ⟦<Defaulted<Implicit<T, TAG>, I> as FieldWritable<T>>⟧.encodings
+        ⟦<Defaulted<Implicit<T, TAG>, I> as FieldWritable<T>>⟧.owes }
+{}
+
+/// The same of an item, which is written from the value that it defines, and of that value.
+pub fn items_are_encoded<T: Asn1Writable + Drop, C: DefinedField<T> + Asn1DefinedByWritable<T>>()
+    ensures item { IsWrittenAs C.both.item.texts C.both.item.closures
+        (λ v. C.both.value.item (C.both.value.meaning v))
+        ⟦<ItemOf<T> as FieldWritable<C>>⟧.encodings ⟦<ItemOf<T> as FieldWritable<C>>⟧.owes }
+    ensures value { IsWrittenAs C.both.value.texts C.both.value.closures C.both.value.meaning
+        ⟦<ValueOf<T> as FieldWritable<C>>⟧.encodings ⟦<ValueOf<T> as FieldWritable<C>>⟧.owes }
 {}

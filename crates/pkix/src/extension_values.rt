@@ -200,6 +200,18 @@ pub enum ExtensionValue<'a> {
     Other(&'a [u8]),
 }
 
+// Reads all of the octets as a value of the variant with the name of the extension.
+macro_rules! read_value {
+    ($extension:expr, $alloc:expr, $octets:expr; $($of:ident),+) => {
+        match $extension {
+            $(KnownExtension::$of => match parse_single($alloc, $octets) {
+                Ok(value) => Ok(ExtensionValue::$of(value)),
+                Err(error) => Err(error),
+            },)+
+        }
+    };
+}
+
 impl<'a> Extension<'a> {
     /// The value, read as [`parse_single`] reads the type that `extn_id` names. For an extension that isn't a
     /// [`KnownExtension`] the value is the octets. Returns the first error of the octets if they aren't the encoding of
@@ -257,71 +269,11 @@ impl<'a> Extension<'a> {
         let Some(extension) = KnownExtension::with_identifier(&self.extn_id) else {
             return Ok(ExtensionValue::Other(octets));
         };
-        match extension {
-            KnownExtension::AuthorityInfoAccess => Ok(ExtensionValue::AuthorityInfoAccess(
-                parse_single(alloc, octets)?,
-            )),
-            KnownExtension::AuthorityKeyIdentifier => Ok(ExtensionValue::AuthorityKeyIdentifier(
-                parse_single(alloc, octets)?,
-            )),
-            KnownExtension::BasicConstraints => Ok(ExtensionValue::BasicConstraints(parse_single(
-                alloc, octets,
-            )?)),
-            KnownExtension::CertificateIssuer => Ok(ExtensionValue::CertificateIssuer(parse_single(
-                alloc, octets,
-            )?)),
-            KnownExtension::CertificatePolicies => Ok(ExtensionValue::CertificatePolicies(
-                parse_single(alloc, octets)?,
-            )),
-            KnownExtension::CrlDistributionPoints => Ok(ExtensionValue::CrlDistributionPoints(
-                parse_single(alloc, octets)?,
-            )),
-            KnownExtension::CrlNumber => Ok(ExtensionValue::CrlNumber(parse_single(
-                alloc, octets,
-            )?)),
-            KnownExtension::CrlReason => Ok(ExtensionValue::CrlReason(parse_single(
-                alloc, octets,
-            )?)),
-            KnownExtension::DeltaCrlIndicator => Ok(ExtensionValue::DeltaCrlIndicator(parse_single(
-                alloc, octets,
-            )?)),
-            KnownExtension::ExtendedKeyUsage => Ok(ExtensionValue::ExtendedKeyUsage(parse_single(
-                alloc, octets,
-            )?)),
-            KnownExtension::FreshestCrl => Ok(ExtensionValue::FreshestCrl(parse_single(
-                alloc, octets,
-            )?)),
-            KnownExtension::InhibitAnyPolicy => Ok(ExtensionValue::InhibitAnyPolicy(parse_single(
-                alloc, octets,
-            )?)),
-            KnownExtension::InvalidityDate => Ok(ExtensionValue::InvalidityDate(parse_single(
-                alloc, octets,
-            )?)),
-            KnownExtension::IssuerAltName => Ok(ExtensionValue::IssuerAltName(parse_single(
-                alloc, octets,
-            )?)),
-            KnownExtension::IssuingDistributionPoint => Ok(ExtensionValue::IssuingDistributionPoint(
-                parse_single(alloc, octets)?,
-            )),
-            KnownExtension::KeyUsage => Ok(ExtensionValue::KeyUsage(parse_single(alloc, octets)?)),
-            KnownExtension::NameConstraints => Ok(ExtensionValue::NameConstraints(parse_single(
-                alloc, octets,
-            )?)),
-            KnownExtension::PolicyConstraints => Ok(ExtensionValue::PolicyConstraints(parse_single(
-                alloc, octets,
-            )?)),
-            KnownExtension::PolicyMappings => Ok(ExtensionValue::PolicyMappings(parse_single(
-                alloc, octets,
-            )?)),
-            KnownExtension::SubjectAltName => Ok(ExtensionValue::SubjectAltName(parse_single(
-                alloc, octets,
-            )?)),
-            KnownExtension::SubjectInfoAccess => Ok(ExtensionValue::SubjectInfoAccess(parse_single(
-                alloc, octets,
-            )?)),
-            KnownExtension::SubjectKeyIdentifier => Ok(ExtensionValue::SubjectKeyIdentifier(
-                parse_single(alloc, octets)?,
-            )),
-        }
+        read_value!(extension, alloc, octets;
+            AuthorityInfoAccess, AuthorityKeyIdentifier, BasicConstraints, CertificateIssuer,
+            CertificatePolicies, CrlDistributionPoints, CrlNumber, CrlReason, DeltaCrlIndicator,
+            ExtendedKeyUsage, FreshestCrl, InhibitAnyPolicy, InvalidityDate, IssuerAltName,
+            IssuingDistributionPoint, KeyUsage, NameConstraints, PolicyConstraints, PolicyMappings,
+            SubjectAltName, SubjectInfoAccess, SubjectKeyIdentifier)
     }
 }

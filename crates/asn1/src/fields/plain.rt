@@ -1,5 +1,5 @@
-//! How fields are written and read whose values a struct has as they are, under a tag or with a default: without the
-//! tag, and with no mention of the default.
+//! Fields under a tag or with a default, of which a struct has the value alone ([`Wraps`]); and how each field is
+//! written ([`FieldWritable`]).
 
 ghost use Rattle.std.specs.Prelude.{◌≡◌, List, ℕ, OnOk, OnErr, IfErr};
 ghost use Rattle.asn1_core.specs.Buffer.{Appends, KeepsFront};
@@ -27,7 +27,8 @@ pub trait Wraps<P>: Asn1Type {
 }
 
 /// How a value of a struct's field, a `P`, is written: as it is ([`Plain`]), or as the type in the encoding that
-/// implements this trait. The trait has no supertrait: the prover would compare what two of them mean, in each field.
+/// implements this trait. With supertraits the prover would compare what they mean in each field. So the law
+/// [`crate::laws_wrappers::fields_are_encoded`] says which encodings are those of `encodings`.
 pub trait FieldWritable<P>: Sized {
     /// The error of a write that fails.
     type Error: From<WriteError>;

@@ -1,245 +1,178 @@
 use Rattle.std.proofs.Common.{◌∙◌, sym, ap, refl, Some}
-use Rattle.std.proofs.lemmas.Result.{err_from_is_err_and}
 use Rattle.pkix.proofs.common.extension.Extension.value.Goals as goal
 
-pub returns-in_err-parse_single-in-AuthorityInfoAccess : goal.returns-in_err-parse_single-in-AuthorityInfoAccess
-returns-in_err-parse_single-in-AuthorityInfoAccess c =
-    let named = sym c.with_identifier.ensures ∙ c.in-Some.is ∙ ap Some c.in-AuthorityInfoAccess.is in
-    let p = err_from_is_err_and c.from_residual.result c.from_residual.ensures.1 in
-    rw (named, p.1, p.2) c.in_err-parse_single-in-AuthorityInfoAccess.ensures.exact
+pub returns-in-Ok : goal.returns-in-Ok
+returns-in-Ok c =
+    rw (sym c.with_identifier.ensures ∙ c.in-Some.is ∙ ap Some c.in-AuthorityInfoAccess.is) (c.in-Ok.value, refl, c.in-Ok.ensures.exact)
 
-pub returns-in_ok-parse_single-in-AuthorityInfoAccess : goal.returns-in_ok-parse_single-in-AuthorityInfoAccess
-returns-in_ok-parse_single-in-AuthorityInfoAccess c =
-    let named = sym c.with_identifier.ensures ∙ c.in-Some.is ∙ ap Some c.in-AuthorityInfoAccess.is in
-    rw named (c.in_ok-parse_single-in-AuthorityInfoAccess.field-0, refl, c.in_ok-parse_single-in-AuthorityInfoAccess.ensures.exact)
+pub returns-in-Err : goal.returns-in-Err
+returns-in-Err c =
+    rw (sym c.with_identifier.ensures ∙ c.in-Some.is ∙ ap Some c.in-AuthorityInfoAccess.is) c.in-Err.ensures.exact
 
-pub returns-in_err-parse_single-in-AuthorityKeyIdentifier : goal.returns-in_err-parse_single-in-AuthorityKeyIdentifier
-returns-in_err-parse_single-in-AuthorityKeyIdentifier c =
-    let named = sym c.with_identifier.ensures ∙ c.in-Some.is ∙ ap Some c.in-AuthorityKeyIdentifier.is in
-    let p = err_from_is_err_and c.from_residual-in_err-parse_single-in-AuthorityKeyIdentifier.result c.from_residual-in_err-parse_single-in-AuthorityKeyIdentifier.ensures.1 in
-    rw (named, p.1, p.2) c.in_err-parse_single-in-AuthorityKeyIdentifier.ensures.exact
+pub returns-in-Ok-parse_single : goal.returns-in-Ok-parse_single
+returns-in-Ok-parse_single c =
+    rw (sym c.with_identifier.ensures ∙ c.in-Some.is ∙ ap Some c.in-AuthorityKeyIdentifier.is) (c.in-Ok-parse_single.value, refl, c.in-Ok-parse_single.ensures.exact)
 
-pub returns-in_ok-parse_single-in-AuthorityKeyIdentifier : goal.returns-in_ok-parse_single-in-AuthorityKeyIdentifier
-returns-in_ok-parse_single-in-AuthorityKeyIdentifier c =
-    let named = sym c.with_identifier.ensures ∙ c.in-Some.is ∙ ap Some c.in-AuthorityKeyIdentifier.is in
-    rw named (c.in_ok-parse_single-in-AuthorityKeyIdentifier.field-0, refl, c.in_ok-parse_single-in-AuthorityKeyIdentifier.ensures.exact)
+pub returns-in-Err-parse_single : goal.returns-in-Err-parse_single
+returns-in-Err-parse_single c =
+    rw (sym c.with_identifier.ensures ∙ c.in-Some.is ∙ ap Some c.in-AuthorityKeyIdentifier.is) c.in-Err-parse_single.ensures.exact
 
-pub returns-in_err-parse_single-in-BasicConstraints : goal.returns-in_err-parse_single-in-BasicConstraints
-returns-in_err-parse_single-in-BasicConstraints c =
-    let named = sym c.with_identifier.ensures ∙ c.in-Some.is ∙ ap Some c.in-BasicConstraints.is in
-    let p = err_from_is_err_and c.from_residual-in_err-parse_single-in-BasicConstraints.result c.from_residual-in_err-parse_single-in-BasicConstraints.ensures.1 in
-    rw (named, p.1, p.2) c.in_err-parse_single-in-BasicConstraints.ensures.exact
+pub returns-in-Ok-parse_single-2 : goal.returns-in-Ok-parse_single-2
+returns-in-Ok-parse_single-2 c =
+    rw (sym c.with_identifier.ensures ∙ c.in-Some.is ∙ ap Some c.in-BasicConstraints.is) (c.in-Ok-parse_single-2.value, refl, c.in-Ok-parse_single-2.ensures.exact)
 
-pub returns-in_ok-parse_single-in-BasicConstraints : goal.returns-in_ok-parse_single-in-BasicConstraints
-returns-in_ok-parse_single-in-BasicConstraints c =
-    let named = sym c.with_identifier.ensures ∙ c.in-Some.is ∙ ap Some c.in-BasicConstraints.is in
-    rw named (c.in_ok-parse_single-in-BasicConstraints.field-0, refl, c.in_ok-parse_single-in-BasicConstraints.ensures.exact)
+pub returns-in-Err-parse_single-2 : goal.returns-in-Err-parse_single-2
+returns-in-Err-parse_single-2 c =
+    rw (sym c.with_identifier.ensures ∙ c.in-Some.is ∙ ap Some c.in-BasicConstraints.is) c.in-Err-parse_single-2.ensures.exact
 
-pub returns-in_err-parse_single-in-CertificateIssuer : goal.returns-in_err-parse_single-in-CertificateIssuer
-returns-in_err-parse_single-in-CertificateIssuer c =
-    let named = sym c.with_identifier.ensures ∙ c.in-Some.is ∙ ap Some c.in-CertificateIssuer.is in
-    let p = err_from_is_err_and c.from_residual-in_err-parse_single-in-CertificateIssuer.result c.from_residual-in_err-parse_single-in-CertificateIssuer.ensures.1 in
-    rw (named, p.1, p.2) c.in_err-parse_single-in-CertificateIssuer.ensures.exact
+pub returns-in-Ok-parse_single-3 : goal.returns-in-Ok-parse_single-3
+returns-in-Ok-parse_single-3 c =
+    rw (sym c.with_identifier.ensures ∙ c.in-Some.is ∙ ap Some c.in-CertificateIssuer.is) (c.in-Ok-parse_single-3.value, refl, c.in-Ok-parse_single-3.ensures.exact)
 
-pub returns-in_ok-parse_single-in-CertificateIssuer : goal.returns-in_ok-parse_single-in-CertificateIssuer
-returns-in_ok-parse_single-in-CertificateIssuer c =
-    let named = sym c.with_identifier.ensures ∙ c.in-Some.is ∙ ap Some c.in-CertificateIssuer.is in
-    rw named (c.in_ok-parse_single-in-CertificateIssuer.field-0, refl, c.in_ok-parse_single-in-CertificateIssuer.ensures.exact)
+pub returns-in-Err-parse_single-3 : goal.returns-in-Err-parse_single-3
+returns-in-Err-parse_single-3 c =
+    rw (sym c.with_identifier.ensures ∙ c.in-Some.is ∙ ap Some c.in-CertificateIssuer.is) c.in-Err-parse_single-3.ensures.exact
 
-pub returns-in_err-parse_single-in-CertificatePolicies : goal.returns-in_err-parse_single-in-CertificatePolicies
-returns-in_err-parse_single-in-CertificatePolicies c =
-    let named = sym c.with_identifier.ensures ∙ c.in-Some.is ∙ ap Some c.in-CertificatePolicies.is in
-    let p = err_from_is_err_and c.from_residual-in_err-parse_single-in-CertificatePolicies.result c.from_residual-in_err-parse_single-in-CertificatePolicies.ensures.1 in
-    rw (named, p.1, p.2) c.in_err-parse_single-in-CertificatePolicies.ensures.exact
+pub returns-in-Ok-parse_single-4 : goal.returns-in-Ok-parse_single-4
+returns-in-Ok-parse_single-4 c =
+    rw (sym c.with_identifier.ensures ∙ c.in-Some.is ∙ ap Some c.in-CertificatePolicies.is) (c.in-Ok-parse_single-4.value, refl, c.in-Ok-parse_single-4.ensures.exact)
 
-pub returns-in_ok-parse_single-in-CertificatePolicies : goal.returns-in_ok-parse_single-in-CertificatePolicies
-returns-in_ok-parse_single-in-CertificatePolicies c =
-    let named = sym c.with_identifier.ensures ∙ c.in-Some.is ∙ ap Some c.in-CertificatePolicies.is in
-    rw named (c.in_ok-parse_single-in-CertificatePolicies.field-0, refl, c.in_ok-parse_single-in-CertificatePolicies.ensures.exact)
+pub returns-in-Err-parse_single-4 : goal.returns-in-Err-parse_single-4
+returns-in-Err-parse_single-4 c =
+    rw (sym c.with_identifier.ensures ∙ c.in-Some.is ∙ ap Some c.in-CertificatePolicies.is) c.in-Err-parse_single-4.ensures.exact
 
-pub returns-in_err-parse_single-in-CrlDistributionPoints : goal.returns-in_err-parse_single-in-CrlDistributionPoints
-returns-in_err-parse_single-in-CrlDistributionPoints c =
-    let named = sym c.with_identifier.ensures ∙ c.in-Some.is ∙ ap Some c.in-CrlDistributionPoints.is in
-    let p = err_from_is_err_and c.from_residual-in_err-parse_single-in-CrlDistributionPoints.result c.from_residual-in_err-parse_single-in-CrlDistributionPoints.ensures.1 in
-    rw (named, p.1, p.2) c.in_err-parse_single-in-CrlDistributionPoints.ensures.exact
+pub returns-in-Ok-parse_single-5 : goal.returns-in-Ok-parse_single-5
+returns-in-Ok-parse_single-5 c =
+    rw (sym c.with_identifier.ensures ∙ c.in-Some.is ∙ ap Some c.in-CrlDistributionPoints.is) (c.in-Ok-parse_single-5.value, refl, c.in-Ok-parse_single-5.ensures.exact)
 
-pub returns-in_ok-parse_single-in-CrlDistributionPoints : goal.returns-in_ok-parse_single-in-CrlDistributionPoints
-returns-in_ok-parse_single-in-CrlDistributionPoints c =
-    let named = sym c.with_identifier.ensures ∙ c.in-Some.is ∙ ap Some c.in-CrlDistributionPoints.is in
-    rw named (c.in_ok-parse_single-in-CrlDistributionPoints.field-0, refl, c.in_ok-parse_single-in-CrlDistributionPoints.ensures.exact)
+pub returns-in-Err-parse_single-5 : goal.returns-in-Err-parse_single-5
+returns-in-Err-parse_single-5 c =
+    rw (sym c.with_identifier.ensures ∙ c.in-Some.is ∙ ap Some c.in-CrlDistributionPoints.is) c.in-Err-parse_single-5.ensures.exact
 
-pub returns-in_err-parse_single-in-CrlNumber : goal.returns-in_err-parse_single-in-CrlNumber
-returns-in_err-parse_single-in-CrlNumber c =
-    let named = sym c.with_identifier.ensures ∙ c.in-Some.is ∙ ap Some c.in-CrlNumber.is in
-    let p = err_from_is_err_and c.from_residual-in_err-parse_single-in-CrlNumber.result c.from_residual-in_err-parse_single-in-CrlNumber.ensures.1 in
-    rw (named, p.1, p.2) c.in_err-parse_single-in-CrlNumber.ensures.exact
+pub returns-in-Ok-parse_single-6 : goal.returns-in-Ok-parse_single-6
+returns-in-Ok-parse_single-6 c =
+    rw (sym c.with_identifier.ensures ∙ c.in-Some.is ∙ ap Some c.in-CrlNumber.is) (c.in-Ok-parse_single-6.value, refl, c.in-Ok-parse_single-6.ensures.exact)
 
-pub returns-in_ok-parse_single-in-CrlNumber : goal.returns-in_ok-parse_single-in-CrlNumber
-returns-in_ok-parse_single-in-CrlNumber c =
-    let named = sym c.with_identifier.ensures ∙ c.in-Some.is ∙ ap Some c.in-CrlNumber.is in
-    rw named (c.in_ok-parse_single-in-CrlNumber.field-0, refl, c.in_ok-parse_single-in-CrlNumber.ensures.exact)
+pub returns-in-Err-parse_single-6 : goal.returns-in-Err-parse_single-6
+returns-in-Err-parse_single-6 c =
+    rw (sym c.with_identifier.ensures ∙ c.in-Some.is ∙ ap Some c.in-CrlNumber.is) c.in-Err-parse_single-6.ensures.exact
 
-pub returns-in_err-parse_single-in-CrlReason : goal.returns-in_err-parse_single-in-CrlReason
-returns-in_err-parse_single-in-CrlReason c =
-    let named = sym c.with_identifier.ensures ∙ c.in-Some.is ∙ ap Some c.in-CrlReason.is in
-    let p = err_from_is_err_and c.from_residual-in_err-parse_single-in-CrlReason.result c.from_residual-in_err-parse_single-in-CrlReason.ensures.1 in
-    rw (named, p.1, p.2) c.in_err-parse_single-in-CrlReason.ensures.exact
+pub returns-in-Ok-parse_single-7 : goal.returns-in-Ok-parse_single-7
+returns-in-Ok-parse_single-7 c =
+    rw (sym c.with_identifier.ensures ∙ c.in-Some.is ∙ ap Some c.in-CrlReason.is) (c.in-Ok-parse_single-7.value, refl, c.in-Ok-parse_single-7.ensures.exact)
 
-pub returns-in_ok-parse_single-in-CrlReason : goal.returns-in_ok-parse_single-in-CrlReason
-returns-in_ok-parse_single-in-CrlReason c =
-    let named = sym c.with_identifier.ensures ∙ c.in-Some.is ∙ ap Some c.in-CrlReason.is in
-    rw named (c.in_ok-parse_single-in-CrlReason.field-0, refl, c.in_ok-parse_single-in-CrlReason.ensures.exact)
+pub returns-in-Err-parse_single-7 : goal.returns-in-Err-parse_single-7
+returns-in-Err-parse_single-7 c =
+    rw (sym c.with_identifier.ensures ∙ c.in-Some.is ∙ ap Some c.in-CrlReason.is) c.in-Err-parse_single-7.ensures.exact
 
-pub returns-in_err-parse_single-in-DeltaCrlIndicator : goal.returns-in_err-parse_single-in-DeltaCrlIndicator
-returns-in_err-parse_single-in-DeltaCrlIndicator c =
-    let named = sym c.with_identifier.ensures ∙ c.in-Some.is ∙ ap Some c.in-DeltaCrlIndicator.is in
-    let p = err_from_is_err_and c.from_residual-in_err-parse_single-in-DeltaCrlIndicator.result c.from_residual-in_err-parse_single-in-DeltaCrlIndicator.ensures.1 in
-    rw (named, p.1, p.2) c.in_err-parse_single-in-DeltaCrlIndicator.ensures.exact
+pub returns-in-Ok-parse_single-8 : goal.returns-in-Ok-parse_single-8
+returns-in-Ok-parse_single-8 c =
+    rw (sym c.with_identifier.ensures ∙ c.in-Some.is ∙ ap Some c.in-DeltaCrlIndicator.is) (c.in-Ok-parse_single-8.value, refl, c.in-Ok-parse_single-8.ensures.exact)
 
-pub returns-in_ok-parse_single-in-DeltaCrlIndicator : goal.returns-in_ok-parse_single-in-DeltaCrlIndicator
-returns-in_ok-parse_single-in-DeltaCrlIndicator c =
-    let named = sym c.with_identifier.ensures ∙ c.in-Some.is ∙ ap Some c.in-DeltaCrlIndicator.is in
-    rw named (c.in_ok-parse_single-in-DeltaCrlIndicator.field-0, refl, c.in_ok-parse_single-in-DeltaCrlIndicator.ensures.exact)
+pub returns-in-Err-parse_single-8 : goal.returns-in-Err-parse_single-8
+returns-in-Err-parse_single-8 c =
+    rw (sym c.with_identifier.ensures ∙ c.in-Some.is ∙ ap Some c.in-DeltaCrlIndicator.is) c.in-Err-parse_single-8.ensures.exact
 
-pub returns-in_err-parse_single-in-ExtendedKeyUsage : goal.returns-in_err-parse_single-in-ExtendedKeyUsage
-returns-in_err-parse_single-in-ExtendedKeyUsage c =
-    let named = sym c.with_identifier.ensures ∙ c.in-Some.is ∙ ap Some c.in-ExtendedKeyUsage.is in
-    let p = err_from_is_err_and c.from_residual-in_err-parse_single-in-ExtendedKeyUsage.result c.from_residual-in_err-parse_single-in-ExtendedKeyUsage.ensures.1 in
-    rw (named, p.1, p.2) c.in_err-parse_single-in-ExtendedKeyUsage.ensures.exact
+pub returns-in-Ok-parse_single-9 : goal.returns-in-Ok-parse_single-9
+returns-in-Ok-parse_single-9 c =
+    rw (sym c.with_identifier.ensures ∙ c.in-Some.is ∙ ap Some c.in-ExtendedKeyUsage.is) (c.in-Ok-parse_single-9.value, refl, c.in-Ok-parse_single-9.ensures.exact)
 
-pub returns-in_ok-parse_single-in-ExtendedKeyUsage : goal.returns-in_ok-parse_single-in-ExtendedKeyUsage
-returns-in_ok-parse_single-in-ExtendedKeyUsage c =
-    let named = sym c.with_identifier.ensures ∙ c.in-Some.is ∙ ap Some c.in-ExtendedKeyUsage.is in
-    rw named (c.in_ok-parse_single-in-ExtendedKeyUsage.field-0, refl, c.in_ok-parse_single-in-ExtendedKeyUsage.ensures.exact)
+pub returns-in-Err-parse_single-9 : goal.returns-in-Err-parse_single-9
+returns-in-Err-parse_single-9 c =
+    rw (sym c.with_identifier.ensures ∙ c.in-Some.is ∙ ap Some c.in-ExtendedKeyUsage.is) c.in-Err-parse_single-9.ensures.exact
 
-pub returns-in_err-parse_single-in-FreshestCrl : goal.returns-in_err-parse_single-in-FreshestCrl
-returns-in_err-parse_single-in-FreshestCrl c =
-    let named = sym c.with_identifier.ensures ∙ c.in-Some.is ∙ ap Some c.in-FreshestCrl.is in
-    let p = err_from_is_err_and c.from_residual-in_err-parse_single-in-FreshestCrl.result c.from_residual-in_err-parse_single-in-FreshestCrl.ensures.1 in
-    rw (named, p.1, p.2) c.in_err-parse_single-in-FreshestCrl.ensures.exact
+pub returns-in-Ok-parse_single-10 : goal.returns-in-Ok-parse_single-10
+returns-in-Ok-parse_single-10 c =
+    rw (sym c.with_identifier.ensures ∙ c.in-Some.is ∙ ap Some c.in-FreshestCrl.is) (c.in-Ok-parse_single-10.value, refl, c.in-Ok-parse_single-10.ensures.exact)
 
-pub returns-in_ok-parse_single-in-FreshestCrl : goal.returns-in_ok-parse_single-in-FreshestCrl
-returns-in_ok-parse_single-in-FreshestCrl c =
-    let named = sym c.with_identifier.ensures ∙ c.in-Some.is ∙ ap Some c.in-FreshestCrl.is in
-    rw named (c.in_ok-parse_single-in-FreshestCrl.field-0, refl, c.in_ok-parse_single-in-FreshestCrl.ensures.exact)
+pub returns-in-Err-parse_single-10 : goal.returns-in-Err-parse_single-10
+returns-in-Err-parse_single-10 c =
+    rw (sym c.with_identifier.ensures ∙ c.in-Some.is ∙ ap Some c.in-FreshestCrl.is) c.in-Err-parse_single-10.ensures.exact
 
-pub returns-in_err-parse_single-in-InhibitAnyPolicy : goal.returns-in_err-parse_single-in-InhibitAnyPolicy
-returns-in_err-parse_single-in-InhibitAnyPolicy c =
-    let named = sym c.with_identifier.ensures ∙ c.in-Some.is ∙ ap Some c.in-InhibitAnyPolicy.is in
-    let p = err_from_is_err_and c.from_residual-in_err-parse_single-in-InhibitAnyPolicy.result c.from_residual-in_err-parse_single-in-InhibitAnyPolicy.ensures.1 in
-    rw (named, p.1, p.2) c.in_err-parse_single-in-InhibitAnyPolicy.ensures.exact
+pub returns-in-Ok-parse_single-11 : goal.returns-in-Ok-parse_single-11
+returns-in-Ok-parse_single-11 c =
+    rw (sym c.with_identifier.ensures ∙ c.in-Some.is ∙ ap Some c.in-InhibitAnyPolicy.is) (c.in-Ok-parse_single-11.value, refl, c.in-Ok-parse_single-11.ensures.exact)
 
-pub returns-in_ok-parse_single-in-InhibitAnyPolicy : goal.returns-in_ok-parse_single-in-InhibitAnyPolicy
-returns-in_ok-parse_single-in-InhibitAnyPolicy c =
-    let named = sym c.with_identifier.ensures ∙ c.in-Some.is ∙ ap Some c.in-InhibitAnyPolicy.is in
-    rw named (c.in_ok-parse_single-in-InhibitAnyPolicy.field-0, refl, c.in_ok-parse_single-in-InhibitAnyPolicy.ensures.exact)
+pub returns-in-Err-parse_single-11 : goal.returns-in-Err-parse_single-11
+returns-in-Err-parse_single-11 c =
+    rw (sym c.with_identifier.ensures ∙ c.in-Some.is ∙ ap Some c.in-InhibitAnyPolicy.is) c.in-Err-parse_single-11.ensures.exact
 
-pub returns-in_err-parse_single-in-InvalidityDate : goal.returns-in_err-parse_single-in-InvalidityDate
-returns-in_err-parse_single-in-InvalidityDate c =
-    let named = sym c.with_identifier.ensures ∙ c.in-Some.is ∙ ap Some c.in-InvalidityDate.is in
-    let p = err_from_is_err_and c.from_residual-in_err-parse_single-in-InvalidityDate.result c.from_residual-in_err-parse_single-in-InvalidityDate.ensures.1 in
-    rw (named, p.1, p.2) c.in_err-parse_single-in-InvalidityDate.ensures.exact
+pub returns-in-Ok-parse_single-12 : goal.returns-in-Ok-parse_single-12
+returns-in-Ok-parse_single-12 c =
+    rw (sym c.with_identifier.ensures ∙ c.in-Some.is ∙ ap Some c.in-InvalidityDate.is) (c.in-Ok-parse_single-12.value, refl, c.in-Ok-parse_single-12.ensures.exact)
 
-pub returns-in_ok-parse_single-in-InvalidityDate : goal.returns-in_ok-parse_single-in-InvalidityDate
-returns-in_ok-parse_single-in-InvalidityDate c =
-    let named = sym c.with_identifier.ensures ∙ c.in-Some.is ∙ ap Some c.in-InvalidityDate.is in
-    rw named (c.in_ok-parse_single-in-InvalidityDate.field-0, refl, c.in_ok-parse_single-in-InvalidityDate.ensures.exact)
+pub returns-in-Err-parse_single-12 : goal.returns-in-Err-parse_single-12
+returns-in-Err-parse_single-12 c =
+    rw (sym c.with_identifier.ensures ∙ c.in-Some.is ∙ ap Some c.in-InvalidityDate.is) c.in-Err-parse_single-12.ensures.exact
 
-pub returns-in_err-parse_single-in-IssuerAltName : goal.returns-in_err-parse_single-in-IssuerAltName
-returns-in_err-parse_single-in-IssuerAltName c =
-    let named = sym c.with_identifier.ensures ∙ c.in-Some.is ∙ ap Some c.in-IssuerAltName.is in
-    let p = err_from_is_err_and c.from_residual-in_err-parse_single-in-IssuerAltName.result c.from_residual-in_err-parse_single-in-IssuerAltName.ensures.1 in
-    rw (named, p.1, p.2) c.in_err-parse_single-in-IssuerAltName.ensures.exact
+pub returns-in-Ok-parse_single-13 : goal.returns-in-Ok-parse_single-13
+returns-in-Ok-parse_single-13 c =
+    rw (sym c.with_identifier.ensures ∙ c.in-Some.is ∙ ap Some c.in-IssuerAltName.is) (c.in-Ok-parse_single-13.value, refl, c.in-Ok-parse_single-13.ensures.exact)
 
-pub returns-in_ok-parse_single-in-IssuerAltName : goal.returns-in_ok-parse_single-in-IssuerAltName
-returns-in_ok-parse_single-in-IssuerAltName c =
-    let named = sym c.with_identifier.ensures ∙ c.in-Some.is ∙ ap Some c.in-IssuerAltName.is in
-    rw named (c.in_ok-parse_single-in-IssuerAltName.field-0, refl, c.in_ok-parse_single-in-IssuerAltName.ensures.exact)
+pub returns-in-Err-parse_single-13 : goal.returns-in-Err-parse_single-13
+returns-in-Err-parse_single-13 c =
+    rw (sym c.with_identifier.ensures ∙ c.in-Some.is ∙ ap Some c.in-IssuerAltName.is) c.in-Err-parse_single-13.ensures.exact
 
-pub returns-in_err-parse_single-in-IssuingDistributionPoint : goal.returns-in_err-parse_single-in-IssuingDistributionPoint
-returns-in_err-parse_single-in-IssuingDistributionPoint c =
-    let named = sym c.with_identifier.ensures ∙ c.in-Some.is ∙ ap Some c.in-IssuingDistributionPoint.is in
-    let p = err_from_is_err_and c.from_residual-in_err-parse_single-in-IssuingDistributionPoint.result c.from_residual-in_err-parse_single-in-IssuingDistributionPoint.ensures.1 in
-    rw (named, p.1, p.2) c.in_err-parse_single-in-IssuingDistributionPoint.ensures.exact
+pub returns-in-Ok-parse_single-14 : goal.returns-in-Ok-parse_single-14
+returns-in-Ok-parse_single-14 c =
+    rw (sym c.with_identifier.ensures ∙ c.in-Some.is ∙ ap Some c.in-IssuingDistributionPoint.is) (c.in-Ok-parse_single-14.value, refl, c.in-Ok-parse_single-14.ensures.exact)
 
-pub returns-in_ok-parse_single-in-IssuingDistributionPoint : goal.returns-in_ok-parse_single-in-IssuingDistributionPoint
-returns-in_ok-parse_single-in-IssuingDistributionPoint c =
-    let named = sym c.with_identifier.ensures ∙ c.in-Some.is ∙ ap Some c.in-IssuingDistributionPoint.is in
-    rw named (c.in_ok-parse_single-in-IssuingDistributionPoint.field-0, refl, c.in_ok-parse_single-in-IssuingDistributionPoint.ensures.exact)
+pub returns-in-Err-parse_single-14 : goal.returns-in-Err-parse_single-14
+returns-in-Err-parse_single-14 c =
+    rw (sym c.with_identifier.ensures ∙ c.in-Some.is ∙ ap Some c.in-IssuingDistributionPoint.is) c.in-Err-parse_single-14.ensures.exact
 
-pub returns-in_err-parse_single-in-KeyUsage : goal.returns-in_err-parse_single-in-KeyUsage
-returns-in_err-parse_single-in-KeyUsage c =
-    let named = sym c.with_identifier.ensures ∙ c.in-Some.is ∙ ap Some c.in-KeyUsage.is in
-    let p = err_from_is_err_and c.from_residual-in_err-parse_single-in-KeyUsage.result c.from_residual-in_err-parse_single-in-KeyUsage.ensures.1 in
-    rw (named, p.1, p.2) c.in_err-parse_single-in-KeyUsage.ensures.exact
+pub returns-in-Ok-parse_single-15 : goal.returns-in-Ok-parse_single-15
+returns-in-Ok-parse_single-15 c =
+    rw (sym c.with_identifier.ensures ∙ c.in-Some.is ∙ ap Some c.in-KeyUsage.is) (c.in-Ok-parse_single-15.value, refl, c.in-Ok-parse_single-15.ensures.exact)
 
-pub returns-in_ok-parse_single-in-KeyUsage : goal.returns-in_ok-parse_single-in-KeyUsage
-returns-in_ok-parse_single-in-KeyUsage c =
-    let named = sym c.with_identifier.ensures ∙ c.in-Some.is ∙ ap Some c.in-KeyUsage.is in
-    rw named (c.in_ok-parse_single-in-KeyUsage.field-0, refl, c.in_ok-parse_single-in-KeyUsage.ensures.exact)
+pub returns-in-Err-parse_single-15 : goal.returns-in-Err-parse_single-15
+returns-in-Err-parse_single-15 c =
+    rw (sym c.with_identifier.ensures ∙ c.in-Some.is ∙ ap Some c.in-KeyUsage.is) c.in-Err-parse_single-15.ensures.exact
 
-pub returns-in_err-parse_single-in-NameConstraints : goal.returns-in_err-parse_single-in-NameConstraints
-returns-in_err-parse_single-in-NameConstraints c =
-    let named = sym c.with_identifier.ensures ∙ c.in-Some.is ∙ ap Some c.in-NameConstraints.is in
-    let p = err_from_is_err_and c.from_residual-in_err-parse_single-in-NameConstraints.result c.from_residual-in_err-parse_single-in-NameConstraints.ensures.1 in
-    rw (named, p.1, p.2) c.in_err-parse_single-in-NameConstraints.ensures.exact
+pub returns-in-Ok-parse_single-16 : goal.returns-in-Ok-parse_single-16
+returns-in-Ok-parse_single-16 c =
+    rw (sym c.with_identifier.ensures ∙ c.in-Some.is ∙ ap Some c.in-NameConstraints.is) (c.in-Ok-parse_single-16.value, refl, c.in-Ok-parse_single-16.ensures.exact)
 
-pub returns-in_ok-parse_single-in-NameConstraints : goal.returns-in_ok-parse_single-in-NameConstraints
-returns-in_ok-parse_single-in-NameConstraints c =
-    let named = sym c.with_identifier.ensures ∙ c.in-Some.is ∙ ap Some c.in-NameConstraints.is in
-    rw named (c.in_ok-parse_single-in-NameConstraints.field-0, refl, c.in_ok-parse_single-in-NameConstraints.ensures.exact)
+pub returns-in-Err-parse_single-16 : goal.returns-in-Err-parse_single-16
+returns-in-Err-parse_single-16 c =
+    rw (sym c.with_identifier.ensures ∙ c.in-Some.is ∙ ap Some c.in-NameConstraints.is) c.in-Err-parse_single-16.ensures.exact
 
-pub returns-in_err-parse_single-in-PolicyConstraints : goal.returns-in_err-parse_single-in-PolicyConstraints
-returns-in_err-parse_single-in-PolicyConstraints c =
-    let named = sym c.with_identifier.ensures ∙ c.in-Some.is ∙ ap Some c.in-PolicyConstraints.is in
-    let p = err_from_is_err_and c.from_residual-in_err-parse_single-in-PolicyConstraints.result c.from_residual-in_err-parse_single-in-PolicyConstraints.ensures.1 in
-    rw (named, p.1, p.2) c.in_err-parse_single-in-PolicyConstraints.ensures.exact
+pub returns-in-Ok-parse_single-17 : goal.returns-in-Ok-parse_single-17
+returns-in-Ok-parse_single-17 c =
+    rw (sym c.with_identifier.ensures ∙ c.in-Some.is ∙ ap Some c.in-PolicyConstraints.is) (c.in-Ok-parse_single-17.value, refl, c.in-Ok-parse_single-17.ensures.exact)
 
-pub returns-in_ok-parse_single-in-PolicyConstraints : goal.returns-in_ok-parse_single-in-PolicyConstraints
-returns-in_ok-parse_single-in-PolicyConstraints c =
-    let named = sym c.with_identifier.ensures ∙ c.in-Some.is ∙ ap Some c.in-PolicyConstraints.is in
-    rw named (c.in_ok-parse_single-in-PolicyConstraints.field-0, refl, c.in_ok-parse_single-in-PolicyConstraints.ensures.exact)
+pub returns-in-Err-parse_single-17 : goal.returns-in-Err-parse_single-17
+returns-in-Err-parse_single-17 c =
+    rw (sym c.with_identifier.ensures ∙ c.in-Some.is ∙ ap Some c.in-PolicyConstraints.is) c.in-Err-parse_single-17.ensures.exact
 
-pub returns-in_err-parse_single-in-PolicyMappings : goal.returns-in_err-parse_single-in-PolicyMappings
-returns-in_err-parse_single-in-PolicyMappings c =
-    let named = sym c.with_identifier.ensures ∙ c.in-Some.is ∙ ap Some c.in-PolicyMappings.is in
-    let p = err_from_is_err_and c.from_residual-in_err-parse_single-in-PolicyMappings.result c.from_residual-in_err-parse_single-in-PolicyMappings.ensures.1 in
-    rw (named, p.1, p.2) c.in_err-parse_single-in-PolicyMappings.ensures.exact
+pub returns-in-Ok-parse_single-18 : goal.returns-in-Ok-parse_single-18
+returns-in-Ok-parse_single-18 c =
+    rw (sym c.with_identifier.ensures ∙ c.in-Some.is ∙ ap Some c.in-PolicyMappings.is) (c.in-Ok-parse_single-18.value, refl, c.in-Ok-parse_single-18.ensures.exact)
 
-pub returns-in_ok-parse_single-in-PolicyMappings : goal.returns-in_ok-parse_single-in-PolicyMappings
-returns-in_ok-parse_single-in-PolicyMappings c =
-    let named = sym c.with_identifier.ensures ∙ c.in-Some.is ∙ ap Some c.in-PolicyMappings.is in
-    rw named (c.in_ok-parse_single-in-PolicyMappings.field-0, refl, c.in_ok-parse_single-in-PolicyMappings.ensures.exact)
+pub returns-in-Err-parse_single-18 : goal.returns-in-Err-parse_single-18
+returns-in-Err-parse_single-18 c =
+    rw (sym c.with_identifier.ensures ∙ c.in-Some.is ∙ ap Some c.in-PolicyMappings.is) c.in-Err-parse_single-18.ensures.exact
 
-pub returns-in_err-parse_single-in-SubjectAltName : goal.returns-in_err-parse_single-in-SubjectAltName
-returns-in_err-parse_single-in-SubjectAltName c =
-    let named = sym c.with_identifier.ensures ∙ c.in-Some.is ∙ ap Some c.in-SubjectAltName.is in
-    let p = err_from_is_err_and c.from_residual-in_err-parse_single-in-SubjectAltName.result c.from_residual-in_err-parse_single-in-SubjectAltName.ensures.1 in
-    rw (named, p.1, p.2) c.in_err-parse_single-in-SubjectAltName.ensures.exact
+pub returns-in-Ok-parse_single-19 : goal.returns-in-Ok-parse_single-19
+returns-in-Ok-parse_single-19 c =
+    rw (sym c.with_identifier.ensures ∙ c.in-Some.is ∙ ap Some c.in-SubjectAltName.is) (c.in-Ok-parse_single-19.value, refl, c.in-Ok-parse_single-19.ensures.exact)
 
-pub returns-in_ok-parse_single-in-SubjectAltName : goal.returns-in_ok-parse_single-in-SubjectAltName
-returns-in_ok-parse_single-in-SubjectAltName c =
-    let named = sym c.with_identifier.ensures ∙ c.in-Some.is ∙ ap Some c.in-SubjectAltName.is in
-    rw named (c.in_ok-parse_single-in-SubjectAltName.field-0, refl, c.in_ok-parse_single-in-SubjectAltName.ensures.exact)
+pub returns-in-Err-parse_single-19 : goal.returns-in-Err-parse_single-19
+returns-in-Err-parse_single-19 c =
+    rw (sym c.with_identifier.ensures ∙ c.in-Some.is ∙ ap Some c.in-SubjectAltName.is) c.in-Err-parse_single-19.ensures.exact
 
-pub returns-in_err-parse_single-in-SubjectInfoAccess : goal.returns-in_err-parse_single-in-SubjectInfoAccess
-returns-in_err-parse_single-in-SubjectInfoAccess c =
-    let named = sym c.with_identifier.ensures ∙ c.in-Some.is ∙ ap Some c.in-SubjectInfoAccess.is in
-    let p = err_from_is_err_and c.from_residual-in_err-parse_single-in-SubjectInfoAccess.result c.from_residual-in_err-parse_single-in-SubjectInfoAccess.ensures.1 in
-    rw (named, p.1, p.2) c.in_err-parse_single-in-SubjectInfoAccess.ensures.exact
+pub returns-in-Ok-parse_single-20 : goal.returns-in-Ok-parse_single-20
+returns-in-Ok-parse_single-20 c =
+    rw (sym c.with_identifier.ensures ∙ c.in-Some.is ∙ ap Some c.in-SubjectInfoAccess.is) (c.in-Ok-parse_single-20.value, refl, c.in-Ok-parse_single-20.ensures.exact)
 
-pub returns-in_ok-parse_single-in-SubjectInfoAccess : goal.returns-in_ok-parse_single-in-SubjectInfoAccess
-returns-in_ok-parse_single-in-SubjectInfoAccess c =
-    let named = sym c.with_identifier.ensures ∙ c.in-Some.is ∙ ap Some c.in-SubjectInfoAccess.is in
-    rw named (c.in_ok-parse_single-in-SubjectInfoAccess.field-0, refl, c.in_ok-parse_single-in-SubjectInfoAccess.ensures.exact)
+pub returns-in-Err-parse_single-20 : goal.returns-in-Err-parse_single-20
+returns-in-Err-parse_single-20 c =
+    rw (sym c.with_identifier.ensures ∙ c.in-Some.is ∙ ap Some c.in-SubjectInfoAccess.is) c.in-Err-parse_single-20.ensures.exact
 
-pub returns-in_err-parse_single-in-SubjectKeyIdentifier : goal.returns-in_err-parse_single-in-SubjectKeyIdentifier
-returns-in_err-parse_single-in-SubjectKeyIdentifier c =
-    let named = sym c.with_identifier.ensures ∙ c.in-Some.is ∙ ap Some c.in-SubjectKeyIdentifier.is in
-    let p = err_from_is_err_and c.from_residual-in_err-parse_single-in-SubjectKeyIdentifier.result c.from_residual-in_err-parse_single-in-SubjectKeyIdentifier.ensures.1 in
-    rw (named, p.1, p.2) c.in_err-parse_single-in-SubjectKeyIdentifier.ensures.exact
+pub returns-in-Ok-parse_single-21 : goal.returns-in-Ok-parse_single-21
+returns-in-Ok-parse_single-21 c =
+    rw (sym c.with_identifier.ensures ∙ c.in-Some.is ∙ ap Some c.in-SubjectKeyIdentifier.is) (c.in-Ok-parse_single-21.value, refl, c.in-Ok-parse_single-21.ensures.exact)
 
-pub returns-in_ok-parse_single-in-SubjectKeyIdentifier : goal.returns-in_ok-parse_single-in-SubjectKeyIdentifier
-returns-in_ok-parse_single-in-SubjectKeyIdentifier c =
-    let named = sym c.with_identifier.ensures ∙ c.in-Some.is ∙ ap Some c.in-SubjectKeyIdentifier.is in
-    rw named (c.in_ok-parse_single-in-SubjectKeyIdentifier.field-0, refl, c.in_ok-parse_single-in-SubjectKeyIdentifier.ensures.exact)
+pub returns-in-Err-parse_single-21 : goal.returns-in-Err-parse_single-21
+returns-in-Err-parse_single-21 c =
+    rw (sym c.with_identifier.ensures ∙ c.in-Some.is ∙ ap Some c.in-SubjectKeyIdentifier.is) c.in-Err-parse_single-21.ensures.exact
