@@ -34,7 +34,7 @@ FOLDERS = ["must-fail", "wrong-bodies/first", "wrong-bodies"]
 ALL_FOLDERS = [*FOLDERS, "canaries"]
 KEYS = {"function", "body", "first", "file", "old", "new", "clause", "test", "no test", "must"}
 PLANTED = TOP / "scripts/planted.txt"
-Wrong = namedtuple("Wrong", "function name changes clauses tests must reason", defaults=[None])
+Wrong = namedtuple("Wrong", "function name changes clauses tests must reason is_alone", defaults=[None, False])
 Change = namedtuple("Change", "file start end text")
 
 
@@ -76,6 +76,11 @@ def broken(clause, function):
     return words
 
 
+def is_in(change, function):
+    """Whether this is a change of the function's body."""
+    return change.file == function.file and function.start <= change.start and change.end <= function.end
+
+
 def blocks_of(file):
     """The wrong bodies of a file: the comment that says what each does, its own or the file's, and its lines."""
     of_file = ""
@@ -95,8 +100,10 @@ def wrong_body(text, name, crate, known):
     demand(KEYS.issuperset(values), "a line with another key")
     function = known[values["function"]]
     changes, clauses = changes_of(crate, said, function), broken(values["clause"], function)
-    name = values.get("body") or values.get("first") or name
-    return Wrong(function.name, name, changes, clauses, values["test"].split(), values["must"], values["no test"])
+    name, tests = values.get("body") or values.get("first") or name, values["test"].split()
+    # What isn't in a body, as a ghost member, may change the contracts of others.
+    is_alone = not all(any(is_in(change, body) for body in known.values()) for change in changes)
+    return Wrong(function.name, name, changes, clauses, tests, values["must"], values["no test"], is_alone)
 
 
 def wrong_bodies(crate, *folders):
