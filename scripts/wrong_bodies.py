@@ -28,6 +28,7 @@ from pathlib import Path
 from sources import CRATES, TOP, below, clauses_of, functions, functions_in, uses
 
 COMMENT = re.compile(r"^\s*(?://.*|--( .*)?)\n", re.MULTILINE)
+LITERAL = re.compile(r"""("(?:\\.|[^"\\])*"|'(?:\\.|[^'\\])')""")
 NAMED_TEST = re.compile(r"^test: .*", re.MULTILINE)
 LIST = re.compile(r"\{(\w+(?:,\w+)+)\}")
 FOLDERS = ["must-fail", "wrong-bodies/first", "wrong-bodies"]
@@ -134,6 +135,13 @@ def without_comments(file):
     return COMMENT.sub("", file.read_text())
 
 
+def without_layout(text):
+    """A source without what `rt fmt` decides: white space, and commas at the ends of lists."""
+    parts = LITERAL.split(text)
+    parts[::2] = [re.sub(r",(?=[])}>])", "", "".join(part.split())) for part in parts[::2]]
+    return "".join(parts)
+
+
 def without_bodies(file):
     """What a crate above sees of a source: its text without comments and without what the functions do."""
     text = file.read_text()
@@ -150,7 +158,8 @@ def state_of(name):
     found = hashlib.sha256()
     for crate, folder, text in places:
         for file in sorted((CRATES / crate / folder).glob("**/*.*")):
-            found.update(f"{file.relative_to(CRATES)}\n{text(file)}\n".encode())
+            said = without_layout(text(file)) if folder == "src" else text(file)
+            found.update(f"{file.relative_to(CRATES)}\n{said}\n".encode())
     files = [file for folder in ALL_FOLDERS for file in (CRATES / name / folder).glob("*.edit")]
     for text in sorted(NAMED_TEST.sub("test:", text) for file in files for _, text in blocks_of(file)):
         found.update(f"{text}\n".encode())

@@ -10,9 +10,7 @@ use crate::{
     Choice1, Choice2, Choice3, DefaultValue, Defaulted, ErrorInto, Explicit, Implicit, MeaningEq,
     OctetStringEncoded, SimpleMeaningEq,
 };
-use asn1_core::{
-    Asn1DefinedBy, Asn1DefinedByWritable, Asn1Type, Asn1Writable, SimpleAsn1Writable,
-};
+use asn1_core::{Asn1DefinedBy, Asn1DefinedByWritable, Asn1Type, Asn1Writable, SimpleAsn1Writable};
 
 /// Each wrapper of a lawful part is lawful: what is written is read back, and means the same. The part of an option
 /// has to be an element, since else nothing distinguishes an option with a value from one without. A part under an
