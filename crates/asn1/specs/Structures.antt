@@ -1,7 +1,9 @@
 -- Structures (X.690 8.9), seen as rows of fields.
 use Prim.Native.String.{String}
-use Rattle.std.specs.Prelude.{◌≡◌, ◌↔◌, ℕ, List, map, codes, ◌++◌}
+use Rattle.std.specs.Prelude.{◌≡◌, ◌↔◌, ℕ, List, map, codes, ◌++◌, Result}
 use Rattle.asn1_core.specs.Der.{Der, simple_der}
+use Rattle.asn1_core.specs.Fault.{Fault}
+use Rattle.asn1_core.specs.Reading.{Answers}
 use Rattle.asn1.specs.declared.fields.Names.{Names}
 use Rattle.asn1.specs.ItemsAndValues.{ItemAndValue}
 use Rattle.asn1.specs.Fields.{Fields, FieldsBy, field, last, no_fields, value_last, value_field, between, with_item, sequence}
@@ -50,6 +52,14 @@ first_field view d rest others = record {
   meaning = λ w. (d.meaning (view w), others.meaning (rest w));
   fields = field d others.fields;
 }
+
+-- What reading fields with these names from the octets returns.
+abbrev pub ReadsRow : {V : Type 0} → FieldList V → List (List ℕ) → List ℕ → Result V Fault → Type 0
+ReadsRow row names octets result = Answers row.meaning (row.fields.runs_out names octets) result (row.fields.read names octets)
+
+-- Reading returns the same as either of the two says.
+abbrev pub IsReadAs : {V : Type 0} → FieldList V → FieldList V → Type 0
+IsReadAs {V} a b = (names : List (List ℕ)) (octets : List ℕ) (result : Result V Fault) → ReadsRow a names octets result ↔ ReadsRow b names octets result
 
 -- one of these errors, for an item that defines this value
 abbrev pub ItemErrors : {T V E : Type 0} → ItemAndValue T V → V → (T → E → Type 0) → E → Type 0

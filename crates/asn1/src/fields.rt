@@ -3,10 +3,10 @@
 //! its fields.
 
 ghost use Rattle.std.specs.Prelude.{◌≡◌, List, ℕ};
-ghost use Rattle.asn1_core.specs.Reading.{Answers, rest_refused};
+ghost use Rattle.asn1_core.specs.Reading.{rest_refused};
 ghost use Rattle.asn1.specs.Fields.{first_name, other_names};
 ghost use Rattle.asn1.specs.FieldReads.{in_field, IsSum};
-ghost use Rattle.asn1.specs.Structures.{FieldList, empty_list, last_field, first_field, texts_of};
+ghost use Rattle.asn1.specs.Structures.{FieldList, ReadsRow, empty_list, last_field, first_field, texts_of};
 
 use asn1_core::{
     Asn1Readable, Asn1Type, ParseError, ParseErrorKind, ParseLocation, ParseResult, Parser,
@@ -67,13 +67,16 @@ pub trait Row: Sized {
     ghost list: { FieldList Self };
 }
 
-/// Fields that are read.
-pub trait RowReadable<'a>: Row + Sized + Drop {
+/// Fields that are read. If this trait had the supertrait [`Row`], the prover would compare what each row means in each
+/// structure. So `list` is stated here too, and the law [`crate::laws_wrappers::rows_are_read`] says that it is that of
+/// `Row`.
+pub trait RowReadable<'a>: Sized + Drop {
+    ghost list: { FieldList Self };
+
     /// Reads the fields, in order. Errors: the first error of a field, with the field's name as location;
     /// `ExtraData`, without a location, if octets remain after the last field.
     fn read<S: NameSource>(parser: Parser<'a>, names: S) -> ParseResult<Self>
-        ensures { Answers Self.list.meaning (Self.list.fields.runs_out (S.texts names) parser.entry)
-            result (Self.list.fields.read (S.texts names) parser.entry) };
+        ensures { ReadsRow list (S.texts names) parser.entry result };
 }
 
 /// Reads fields with these names from the contents octets of a structure. Errors are those of [`RowReadable::read`].
@@ -82,8 +85,7 @@ pub fn read_fields<'a, R: RowReadable<'a>, S: NameSource>(
     data: &'a [u8],
     names: S,
 ) -> ParseResult<R>
-    ensures { Answers R.list.meaning (R.list.fields.runs_out (S.texts names) «data».entry.now)
-        result (R.list.fields.read (S.texts names) «data».entry.now) }
+    ensures { ReadsRow R.list (S.texts names) «data».entry.now result }
 {
     R::read(Parser::new(alloc, data), names)
 }
@@ -203,6 +205,8 @@ impl Row for NoFields {
 }
 
 impl<'a> RowReadable<'a> for NoFields {
+    ghost list = { empty_list };
+
     fn read<S: NameSource>(parser: Parser<'a>, _names: S) -> ParseResult<NoFields> {
         finish(parser)?;
         Ok(NoFields)
@@ -214,6 +218,8 @@ impl<A: Asn1Type> Row for Last<A> {
 }
 
 impl<'a, A: Asn1Readable<'a>> RowReadable<'a> for Last<A> {
+    ghost list = { last_field (λ row. row.value) A.der };
+
     fn read<S: NameSource>(parser: Parser<'a>, names: S) -> ParseResult<Self> {
         let mut parser = parser;
         let value = placed(parser.read_element::<A>(), names.first())?;
@@ -227,6 +233,8 @@ impl<A: Asn1Type, R: Row> Row for Field<A, R> {
 }
 
 impl<'a, A: Asn1Readable<'a>, R: RowReadable<'a>> RowReadable<'a> for Field<A, R> {
+    ghost list = { first_field (λ row. row.value) A.der (λ row. row.rest) R.list };
+
     fn read<S: NameSource>(parser: Parser<'a>, names: S) -> ParseResult<Self> {
         let mut parser = parser;
         let value = placed(parser.read_element::<A>(), names.first())?;

@@ -3,14 +3,20 @@
 ghost use Rattle.std.specs.Prelude.{◌≡◌, true, false};
 ghost use Rattle.asn1_core.specs.Options.{option_meaning};
 ghost use Rattle.asn1.specs.Alternatives.{Disjoint};
-ghost use Rattle.asn1.specs.Structures.{defaulted, explicit, implicit, IsEncoded, IsWrittenAs};
+ghost use Rattle.asn1.specs.Structures.{defaulted, explicit, implicit, IsEncoded, IsReadAs, IsWrittenAs};
 
-use crate::fields::{DefinedField, FieldWritable, ItemOf, Plain, ValueOf};
+use crate::fields::{
+    Before, DefinedField, Field, FieldWritable, Item, ItemOf, Last, LastValue, NoFields, Plain,
+    Row, RowReadable, Value, ValueOf,
+};
 use crate::{
     Choice1, Choice2, Choice3, DefaultValue, Defaulted, ErrorInto, Explicit, Implicit, MeaningEq,
     OctetStringEncoded, SimpleMeaningEq,
 };
-use asn1_core::{Asn1DefinedBy, Asn1DefinedByWritable, Asn1Type, Asn1Writable, SimpleAsn1Writable};
+use asn1_core::{
+    Asn1DefinedBy, Asn1DefinedByReadable, Asn1DefinedByWritable, Asn1Readable, Asn1Type,
+    Asn1Writable, SimpleAsn1Writable,
+};
 
 /// Each wrapper of a lawful part is lawful: what is written is read back, and means the same. The part of an option
 /// has to be an element, since else nothing distinguishes an option with a value from one without. A part under an
@@ -115,4 +121,22 @@ pub fn items_are_encoded<T: Asn1Writable + Drop, C: DefinedField<T> + Asn1Define
         ⟦<ItemOf<T> as FieldWritable<C>>⟧.encodings ⟦<ItemOf<T> as FieldWritable<C>>⟧.owes }
     ensures value { IsWrittenAs C.both.value.texts C.both.value.closures C.both.value.meaning
         ⟦<ValueOf<T> as FieldWritable<C>>⟧.encodings ⟦<ValueOf<T> as FieldWritable<C>>⟧.owes }
+{}
+
+/// What [`RowReadable`] states of each kind of row, and so of the fields in it, is what [`Row`] states.
+pub fn rows_are_read<
+    'a,
+    A: Asn1Readable<'a>,
+    B: Asn1Readable<'a>,
+    T: Asn1Readable<'a>,
+    C: DefinedField<T> + Asn1DefinedByReadable<'a, T>,
+>()
+    ensures none { IsReadAs ⟦<NoFields as Row>⟧.list ⟦<NoFields as RowReadable<'a>>⟧.list }
+    ensures last { IsReadAs ⟦<Last<A> as Row>⟧.list ⟦<Last<A> as RowReadable<'a>>⟧.list }
+    ensures field { IsReadAs ⟦<Field<A, Last<B>> as Row>⟧.list
+        ⟦<Field<A, Last<B>> as RowReadable<'a>>⟧.list }
+    ensures last_value { IsReadAs ⟦<Item<T, LastValue<C>> as Row>⟧.list
+        ⟦<Item<T, LastValue<C>> as RowReadable<'a>>⟧.list }
+    ensures value { IsReadAs ⟦<Item<T, Before<A, Value<C, Last<B>>>> as Row>⟧.list
+        ⟦<Item<T, Before<A, Value<C, Last<B>>>> as RowReadable<'a>>⟧.list }
 {}

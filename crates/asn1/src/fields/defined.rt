@@ -40,14 +40,17 @@ pub trait RowBehind<T: Asn1Type>: Sized {
     ghost item_agrees: { ItemAgrees T.der behind.item };
 }
 
-/// Fields after an item, which are read.
-pub trait RowBehindReadable<'a, T: Asn1Readable<'a>>: RowBehind<T> + Sized + Drop {
+/// Fields after an item, which are read. Like [`RowReadable`], this states once more what they mean.
+pub trait RowBehindReadable<'a, T: Asn1Readable<'a>>: Sized + Drop {
+    ghost behind: { BehindItem T Self };
+
     /// Reads the fields after this item. Errors are those of [`RowReadable::read`].
     fn read<S: NameSource>(item: T, parser: Parser<'a>, names: S) -> ParseResult<Self>
-        ensures { Answers Self.behind.meaning (Self.behind.fields.runs_out (S.texts names)
-            (Self.behind.item.meaning item) parser.entry) result
-            (Self.behind.fields.read (S.texts names) (Self.behind.item.meaning item)
-            parser.entry) };
+        ensures { Answers behind.meaning (behind.fields.runs_out (S.texts names)
+            (behind.item.meaning item) parser.entry) result
+            (behind.fields.read (S.texts names) (behind.item.meaning item) parser.entry) };
+
+    ghost item_agrees: { ItemAgrees T.der behind.item };
 }
 
 /// An item, and the fields after it. The item isn't kept, since the value that it defines determines it.
@@ -85,7 +88,9 @@ pub struct LastValue<C> {
 }
 
 /// Reads the item, whose meaning is as `B.behind` states it.
-fn read_item<'a, T: Asn1Readable<'a>, B: RowBehind<T>>(parser: &mut Parser<'a>) -> ParseResult<T>
+fn read_item<'a, T: Asn1Readable<'a>, B: RowBehindReadable<'a, T>>(
+    parser: &mut Parser<'a>,
+) -> ParseResult<T>
     ensures { Answers (λ v. (B.behind.item.meaning v, parser.new))
         (B.behind.item.runs_out parser.old) result (B.behind.item.read parser.old) }
 {
@@ -109,6 +114,8 @@ impl<T: Asn1Type, B: RowBehind<T>> Row for Item<T, B> {
 }
 
 impl<'a, T: Asn1Readable<'a>, B: RowBehindReadable<'a, T>> RowReadable<'a> for Item<T, B> {
+    ghost list = { item_list (λ row. row.rest) B.behind };
+
     fn read<S: NameSource>(parser: Parser<'a>, names: S) -> ParseResult<Self> {
         let mut parser = parser;
         let item = placed(read_item::<T, B>(&mut parser), names.first())?;
@@ -130,6 +137,10 @@ impl<'a, T: Asn1Readable<'a>, A: Asn1Readable<'a>, B: RowBehindReadable<'a, T>> 
     'a,
     T,
 > for Before<A, B> {
+    ghost behind = { before_behind (λ row. row.value) A.der (λ row. row.rest) B.behind };
+
+    ghost item_agrees = { B.item_agrees };
+
     fn read<S: NameSource>(item: T, parser: Parser<'a>, names: S) -> ParseResult<Self> {
         let mut parser = parser;
         let value = placed(parser.read_element::<A>(), names.first())?;
@@ -150,6 +161,10 @@ impl<
     C: DefinedField<T> + Asn1DefinedByReadable<'a, T>,
     R: RowReadable<'a>,
 > RowBehindReadable<'a, T> for Value<C, R> {
+    ghost behind = { value_behind (λ row. row.value) C.both (λ row. row.rest) R.list };
+
+    ghost item_agrees = { C.agrees.0 };
+
     fn read<S: NameSource>(item: T, parser: Parser<'a>, names: S) -> ParseResult<Self> {
         let mut parser = parser;
         let value = placed(read_value::<T, C>(item, &mut parser), names.first())?;
@@ -159,7 +174,7 @@ impl<
 }
 
 impl<T: Asn1Type, C: DefinedField<T>> RowBehind<T> for LastValue<C> {
-    ghost behind = { value_last_behind (λ x. x.value) C.both };
+    ghost behind = { value_last_behind (λ row. row.value) C.both };
 
     ghost item_agrees = { C.agrees.0 };
 }
@@ -168,6 +183,10 @@ impl<'a, T: Asn1Readable<'a>, C: DefinedField<T> + Asn1DefinedByReadable<'a, T>>
     'a,
     T,
 > for LastValue<C> {
+    ghost behind = { value_last_behind (λ row. row.value) C.both };
+
+    ghost item_agrees = { C.agrees.0 };
+
     fn read<S: NameSource>(item: T, parser: Parser<'a>, names: S) -> ParseResult<Self> {
         let mut parser = parser;
         let value = placed(read_value::<T, C>(item, &mut parser), names.first())?;

@@ -6,4 +6,4 @@ pub returns-in_err-rest : goal.returns-in_err-rest
 returns-in_err-rest g c =
     let d = g.A.Asn1Type.der in
     exit _ _ _ _ _ c.from_residual-in_err-rest.ensures.1
-    (behind_between (g.S.NameSource.texts c.args.names) d (λ v. (d.meaning v, c.read_element.new.self)) _ _ c.read_element.result g.B.RowBehind.behind.fields _ _ c.read_element.ensures.answers (sym (rw c.first.ensures at c.placed.ensures) ∙ c.in_ok-value.was) (rw c.in_err-rest.was at rw c.others.ensures at c.read.ensures))
+    (behind_between (g.S.NameSource.texts c.args.names) d (λ v. (d.meaning v, c.read_element.new.self)) _ _ c.read_element.result g.B.RowBehindReadable.behind.fields _ _ c.read_element.ensures.answers (sym (rw c.first.ensures at c.placed.ensures) ∙ c.in_ok-value.was) (rw c.in_err-rest.was at rw c.others.ensures at c.read.ensures))
