@@ -7,7 +7,7 @@ ghost use Rattle.pkix_text.specs.declared.kinds.Kind.TheVariants as kinds;
 use crate::errors::{UNIVERSAL, in_words};
 use crate::kinds::Kind;
 use crate::pem::{Object, PemError, objects};
-use crate::show::{Show, lines_of, push_escaped};
+use crate::show::{Show, escaped, lines_of};
 use asn1::{
     Asn1Readable, Asn1Type, Asn1Writable, ParseError, ParseErrorKind, Tag, WriteError,
     parse_single, strip_tlv, write_readable,
@@ -81,7 +81,7 @@ impl fmt::Display for Refusal {
             Refusal::Pem(error) => write!(f, "{error}"),
             Refusal::Empty => f.write_str("the input has no octets"),
             Refusal::Der(error) => write!(f, "{error}"),
-            Refusal::Told(words) => write!(f, "{words}"),
+            Refusal::Told(words) => f.write_str(words.as_str()),
         }
     }
 }
@@ -106,9 +106,7 @@ fn shown<'a, T: Asn1Readable<'a> + Asn1Writable<Error = WriteError> + Show>(
         Ok(value) => value,
         Err(error) => return Ok(Answer::Rejected(Refusal::Der(error))),
     };
-    let Ok(written) = write_readable(alloc, &value) else {
-        return Err(Fault::Memory);
-    };
+    let written = write_readable(alloc, &value).or(Err(Fault::Memory))?;
     let digest = hex::encode(alloc, &Sha256::digest(written.as_slice()))?;
     let mut text = lines_of(alloc, &value)?;
     writeln!(text, "sha256: {digest}")?;
@@ -117,7 +115,7 @@ fn shown<'a, T: Asn1Readable<'a> + Asn1Writable<Error = WriteError> + Show>(
 }
 
 /// What tells one form from another.
-#[derive(Clone, Copy, Default)]
+#[derive(Default, Drop)]
 struct Start {
     /// The tag of the first element within an element, if there is one.
     first: Option<Tag>,
@@ -237,15 +235,21 @@ fn has_error(alloc: Global, kind: Kind, octets: &[u8], error: &ParseError) -> Re
     Ok(other == error || (is_of_tag && other.kind() == error.kind()))
 }
 
+/// The octets, of which only this many at the start stay, and each of the others is replaced by one octet.
+fn changed(alloc: Global, octets: &[u8], count: usize, other: u8) -> Result<Vec<u8>, AllocError> {
+    let mut changed = Vec::new(alloc);
+    changed.extend_from_slice(octets.get(..count).unwrap_or(octets))?;
+    changed.resize(octets.len(), other)?;
+    Ok(changed)
+}
+
 /// How many octets at the start decide this error: with any others after them, here 0xff, the error is the same.
 fn octets_of(alloc: Global, kind: Kind, octets: &[u8], error: &ParseError) -> Result<usize, Fault> {
     let (mut low, mut high) = (0usize, octets.len());
     // Each turn halves what is between.
     for _ in 0..usize::BITS {
         let middle = low.saturating_add(high.saturating_sub(low) / 2);
-        let mut changed = Vec::new(alloc);
-        changed.extend_from_slice(octets.get(..middle).unwrap_or(octets))?;
-        changed.resize(octets.len(), 0xff)?;
+        let changed = changed(alloc, octets, middle, 0xff)?;
         if has_error(alloc, kind, changed.as_slice(), error)? {
             high = middle;
         } else {
@@ -281,9 +285,7 @@ const CONTEXT: &[u8] = b"\x80\xa0\x81\xa1\x82\xa2\x83\xa3\x84\xa4\x85\xa5\x86\xa
 /// no type has, so that it isn't unexpected elsewhere.
 fn expected_at(alloc: Global, kind: Kind, octets: &[u8], start: usize) -> Result<Vec<Tag>, Fault> {
     let mut tags = Vec::new(alloc);
-    let mut changed = Vec::new(alloc);
-    changed.extend_from_slice(octets.get(..start).unwrap_or(octets))?;
-    changed.resize(octets.len(), 0x00)?;
+    let mut changed = changed(alloc, octets, start, 0x00)?;
     let identifiers = UNIVERSAL.iter().map(|row| row.0);
     for identifier in identifiers.chain(CONTEXT.iter().copied()) {
         if let Some(octet) = changed.get_mut(start) {
@@ -345,14 +347,13 @@ fn answer_to_any(alloc: Global, octets: &[u8]) -> Result<Answer, Fault> {
     let mut found = None;
     for kind in Kind::ALL.iter().copied() {
         match answer_to(alloc, kind, octets)? {
+            Answer::Rejected(Refusal::Encrypted) => {
+                return Ok(Answer::Rejected(Refusal::Encrypted));
+            }
+            Answer::Rejected(_refusal) => {}
             Answer::Shown(lines) => {
                 if found.replace(lines).is_some() {
                     return Ok(Answer::Rejected(Refusal::SeveralKinds));
-                }
-            }
-            Answer::Rejected(refusal) => {
-                if matches!(refusal, Refusal::Encrypted) {
-                    return Ok(Answer::Rejected(refusal));
                 }
             }
         }
@@ -360,11 +361,18 @@ fn answer_to_any(alloc: Global, octets: &[u8]) -> Result<Answer, Fault> {
     Ok(found.map_or(Answer::Rejected(Refusal::NoKind), Answer::Shown))
 }
 
+/// The result for an input that isn't in PEM.
+fn answer_to_der(alloc: Global, kind: Option<Kind>, input: &[u8]) -> Result<Answer, Fault> {
+    match kind {
+        _ if input.is_empty() => Ok(Answer::Rejected(Refusal::Empty)),
+        Some(kind) => told(alloc, kind, input),
+        None => answer_to_any(alloc, input),
+    }
+}
+
 /// The label as characters, with those escaped that can't be printed.
 fn text_of(alloc: Global, label: &[u8]) -> Result<String, AllocError> {
-    let mut text = String::new(alloc);
-    push_escaped(&mut text, str::from_utf8(label).unwrap_or("?"))?;
-    Ok(text)
+    escaped(alloc, str::from_utf8(label).unwrap_or("?"))
 }
 
 /// The lines of an object in PEM, of the kind that is asked for or that its label tells. A label that is not known may
@@ -389,11 +397,14 @@ fn answer_to_object(
     };
     match kind {
         Some(kind) => told(alloc, kind, octets.as_slice()),
-        None => {
-            let label = text_of(alloc, object.label)?;
-            Ok(Answer::Rejected(Refusal::Label(label)))
-        }
+        None => Ok(Answer::Rejected(Refusal::Label(text_of(alloc, object.label)?))),
     }
+}
+
+/// The name of one of several objects.
+fn heading(alloc: Global, number: usize, object: &Object<'_>) -> Result<String, AllocError> {
+    let label = text_of(alloc, object.label)?;
+    format!(in alloc; "object.{number}: {label}")
 }
 
 /// The result for an input.
@@ -424,23 +435,15 @@ pub fn report_on(alloc: Global, kind: Option<Kind>, input: &[u8]) -> Result<Repo
         lines: String::new(alloc),
         reasons: String::new(alloc),
     };
-    let objects = objects(alloc, input)?;
-    if objects.is_empty() {
-        let answer = match kind {
-            _ if input.is_empty() => Answer::Rejected(Refusal::Empty),
-            Some(kind) => told(alloc, kind, input)?,
-            None => answer_to_any(alloc, input)?,
-        };
-        report.add("", answer)?;
-        return Ok(report);
-    }
-    for (number, object) in objects.iter().enumerate() {
-        let mut name = String::new(alloc);
-        if objects.len() > 1 {
-            let label = text_of(alloc, object.label)?;
-            write!(name, "object.{number}: {label}")?;
+    match objects(alloc, input)?.as_slice() {
+        [] => report.add("", answer_to_der(alloc, kind, input)?)?,
+        [object] => report.add("", answer_to_object(alloc, kind, object)?)?,
+        several => {
+            for (number, object) in several.iter().enumerate() {
+                let name = heading(alloc, number, object)?;
+                report.add(name.as_str(), answer_to_object(alloc, kind, object)?)?;
+            }
         }
-        report.add(name.as_str(), answer_to_object(alloc, kind, object)?)?;
     }
     Ok(report)
 }

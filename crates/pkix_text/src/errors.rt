@@ -83,17 +83,18 @@ fn push_found(out: &mut String, found: Tag, expected: &[Tag]) -> Result<(), Allo
     push_tag(out, found, expected)
 }
 
-/// Appends the name of a field, as it is in the lines.
-fn push_field(out: &mut String, field: &str) -> Result<(), AllocError> {
+/// Appends the name of a field, as it is in the lines. An error has it in quotes, behind the names of its modules.
+fn push_field(out: &mut String, location: &str) -> Result<(), AllocError> {
+    let field = location.trim_matches('"').rsplit("::").next();
+    let field = field.unwrap_or(location);
     if let Some((_, name)) = NAMES.iter().find(|row| row.0 == field) {
         return out.push_str(name);
     }
     let mut is_next = false;
     for letter in field.chars() {
-        match letter {
-            '_' => {}
-            _ if is_next => out.push(letter.to_ascii_uppercase())?,
-            _ => out.push(letter)?,
+        if letter != '_' {
+            let upper = letter.to_ascii_uppercase();
+            out.push(if is_next { upper } else { letter })?;
         }
         is_next = letter == '_';
     }
@@ -102,20 +103,45 @@ fn push_field(out: &mut String, field: &str) -> Result<(), AllocError> {
 
 /// Appends the locations of the error, the outermost first, with a colon after them; nothing if there are none.
 fn push_location(alloc: Global, out: &mut String, error: &ParseError) -> Result<(), AllocError> {
-    // An error shows its locations in its `Debug` alone: names in quotes, and numbers of items.
+    // An error shows its locations in its `Debug` alone: names of fields, and numbers of items.
     let shown = format!(in alloc; "{error:?}")?;
     let Some((_, locations)) = shown.as_str().split_once(", location: [") else {
         return Ok(());
     };
     let locations = locations.trim_end_matches("] }").split(", ");
     for (number, location) in locations.enumerate() {
-        if number > 0 {
-            out.push('.')?;
-        }
-        let field = location.trim_matches('"').rsplit("::").next();
-        push_field(out, field.unwrap_or(location))?;
+        out.push_str(if number > 0 { "." } else { "" })?;
+        push_field(out, location)?;
     }
     out.push_str(": ")
+}
+
+/// Appends why octets aren't the encoding of a value.
+fn push_reason(out: &mut String, kind: ParseErrorKind, expected: &[Tag]) -> Result<(), AllocError> {
+    let words = match kind {
+        ParseErrorKind::InvalidValue => "the contents octets encode no value",
+        ParseErrorKind::InvalidTag => "the identifier octets are malformed",
+        ParseErrorKind::InvalidLength => {
+            "the length is indefinite, too large, or not in its fewest octets"
+        }
+        ParseErrorKind::InvalidSize { min, max, actual } => {
+            let than = if actual < min { "fewer" } else { "more" };
+            let bound = if actual < min { min } else { max };
+            return write!(out, "{actual} items are {than} than {bound}");
+        }
+        ParseErrorKind::UnexpectedTag { actual } => return push_found(out, actual, expected),
+        ParseErrorKind::ShortData { needed } => {
+            return write!(out, "octets are missing: at least {needed}");
+        }
+        ParseErrorKind::IntegerOverflow => "the number is out of range",
+        ParseErrorKind::ExtraData => "octets follow the value",
+        ParseErrorKind::InvalidSetOrdering => "the elements are out of order",
+        ParseErrorKind::EncodedDefault => "the default is encoded",
+        ParseErrorKind::OidTooLong => "the identifier has more than 63 octets",
+        ParseErrorKind::UnknownDefinedBy => "the identifier is unknown",
+        ParseErrorKind::AllocationError => "out of memory",
+    };
+    out.push_str(words)
 }
 
 /// Why octets aren't the encoding of a value, in words, after the location in the value. For a tag that isn't expected,
@@ -127,34 +153,6 @@ pub(crate) fn in_words(
 ) -> Result<String, AllocError> {
     let mut out = String::new(alloc);
     push_location(alloc, &mut out, error)?;
-    let words = match error.kind() {
-        ParseErrorKind::InvalidValue => "the contents octets encode no value",
-        ParseErrorKind::InvalidTag => "the identifier octets are malformed",
-        ParseErrorKind::InvalidLength => {
-            "the length is indefinite, too large, or not in its fewest octets"
-        }
-        ParseErrorKind::InvalidSize { min, max, actual } => {
-            let than = if actual < min { "fewer" } else { "more" };
-            let bound = if actual < min { min } else { max };
-            write!(out, "{actual} items are {than} than {bound}")?;
-            ""
-        }
-        ParseErrorKind::UnexpectedTag { actual } => {
-            push_found(&mut out, actual, expected)?;
-            ""
-        }
-        ParseErrorKind::ShortData { needed } => {
-            write!(out, "octets are missing: at least {needed}")?;
-            ""
-        }
-        ParseErrorKind::IntegerOverflow => "the number is out of range",
-        ParseErrorKind::ExtraData => "octets follow the value",
-        ParseErrorKind::InvalidSetOrdering => "the elements are out of order",
-        ParseErrorKind::EncodedDefault => "the default is encoded",
-        ParseErrorKind::OidTooLong => "the identifier has more than 63 octets",
-        ParseErrorKind::UnknownDefinedBy => "the identifier is unknown",
-        ParseErrorKind::AllocationError => "out of memory",
-    };
-    out.push_str(words)?;
+    push_reason(&mut out, error.kind(), expected)?;
     Ok(out)
 }

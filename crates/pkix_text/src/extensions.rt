@@ -1,6 +1,5 @@
 //! Extensions (RFC 5280, 4.2 and 5.2), the known ones with their values.
 
-use crate::common::short_name;
 use crate::show::{Lines, Show, with_name};
 use pkix::certificate::access::AccessDescription;
 use pkix::certificate::distribution::{
@@ -14,23 +13,22 @@ use pkix::certificate::policies::{
 use pkix::common::{Extension, NamedBits};
 use pkix::extension_values::ExtensionValue;
 use pkix::revocation::extensions::CrlReason;
-use std::alloc::AllocError;
 
 impl Show for BasicConstraints<'_> {
-    fn show(&self, lines: &mut Lines) -> Result<(), AllocError> {
-        lines.part("cA", &self.ca)?;
-        lines.part("pathLenConstraint", &self.path_len_constraint)
+    fn show(&self, lines: &mut Lines) {
+        lines.part("cA", &self.ca);
+        lines.part("pathLenConstraint", &self.path_len_constraint);
     }
 }
 
 impl Show for AuthorityKeyIdentifier<'_> {
-    fn show(&self, lines: &mut Lines) -> Result<(), AllocError> {
-        lines.part("keyIdentifier", &self.key_identifier)?;
-        lines.part("authorityCertIssuer", &self.authority_cert_issuer)?;
+    fn show(&self, lines: &mut Lines) {
+        lines.part("keyIdentifier", &self.key_identifier);
+        lines.part("authorityCertIssuer", &self.authority_cert_issuer);
         lines.part(
             "authorityCertSerialNumber",
             &self.authority_cert_serial_number,
-        )
+        );
     }
 }
 
@@ -42,28 +40,29 @@ const USAGES: &str = "digitalSignature nonRepudiation keyEncipherment dataEnciph
 const REASONS: &str = "unused keyCompromise cACompromise affiliationChanged superseded \
     cessationOfOperation certificateHold privilegeWithdrawn aACompromise";
 
-/// Bits, and the names of all in their order.
+/// Bits, if there are any, and the names of all in their order.
 #[derive(Drop)]
-struct Named<'a>(&'a NamedBits<'a>, &'a str);
+struct Named<'a>(Option<&'a NamedBits<'a>>, &'a str);
 
 /// The bits, and the name of each that is set.
 impl Show for Named<'_> {
-    fn show(&self, lines: &mut Lines) -> Result<(), AllocError> {
-        let Named(bits, names) = self;
-        bits.show(lines)?;
+    fn show(&self, lines: &mut Lines) {
+        let Named(Some(bits), names) = self else {
+            return;
+        };
+        bits.show(lines);
         for (bit, name) in names.split(' ').enumerate() {
             if bits.has_bit_set(bit) {
-                lines.part(name, &true)?;
+                lines.part(name, &true);
             }
         }
-        Ok(())
     }
 }
 
 impl Show for AccessDescription<'_> {
-    fn show(&self, lines: &mut Lines) -> Result<(), AllocError> {
-        lines.part("accessMethod", &self.access_method)?;
-        lines.part("accessLocation", &self.access_location)
+    fn show(&self, lines: &mut Lines) {
+        lines.part("accessMethod", &self.access_method);
+        lines.part("accessLocation", &self.access_location);
     }
 }
 
@@ -72,13 +71,13 @@ const ENTRY_REASONS: &str = "unspecified keyCompromise cACompromise affiliationC
     cessationOfOperation certificateHold unknown removeFromCRL privilegeWithdrawn aACompromise";
 
 impl Show for CrlReason {
-    fn show(&self, lines: &mut Lines) -> Result<(), AllocError> {
-        with_name(lines.alloc, self.value(), ENTRY_REASONS)?.show(lines)
+    fn show(&self, lines: &mut Lines) {
+        with_name(lines.alloc, self.value(), ENTRY_REASONS).show(lines);
     }
 }
 
 impl Show for DistributionPointName<'_> {
-    fn show(&self, lines: &mut Lines) -> Result<(), AllocError> {
+    fn show(&self, lines: &mut Lines) {
         match self {
             DistributionPointName::FullName(names) => lines.part("fullName", names),
             DistributionPointName::NameRelativeToCrlIssuer(set) => {
@@ -89,33 +88,32 @@ impl Show for DistributionPointName<'_> {
 }
 
 impl Show for DistributionPoint<'_> {
-    fn show(&self, lines: &mut Lines) -> Result<(), AllocError> {
-        lines.part("distributionPoint", &self.distribution_point)?;
-        if let Some(reasons) = &self.reasons {
-            lines.part("reasons", &Named(reasons, REASONS))?;
-        }
-        lines.part("cRLIssuer", &self.crl_issuer)
+    fn show(&self, lines: &mut Lines) {
+        lines.part("distributionPoint", &self.distribution_point);
+        lines.part("reasons", &Named(self.reasons.as_ref(), REASONS));
+        lines.part("cRLIssuer", &self.crl_issuer);
     }
 }
 
 impl Show for IssuingDistributionPoint<'_> {
-    fn show(&self, lines: &mut Lines) -> Result<(), AllocError> {
-        lines.part("distributionPoint", &self.distribution_point)?;
-        lines.part("onlyContainsUserCerts", &self.only_contains_user_certs)?;
-        lines.part("onlyContainsCACerts", &self.only_contains_ca_certs)?;
-        if let Some(reasons) = &self.only_some_reasons {
-            lines.part("onlySomeReasons", &Named(reasons, REASONS))?;
-        }
-        lines.part("indirectCRL", &self.indirect_crl)?;
+    fn show(&self, lines: &mut Lines) {
+        lines.part("distributionPoint", &self.distribution_point);
+        lines.part("onlyContainsUserCerts", &self.only_contains_user_certs);
+        lines.part("onlyContainsCACerts", &self.only_contains_ca_certs);
+        lines.part(
+            "onlySomeReasons",
+            &Named(self.only_some_reasons.as_ref(), REASONS),
+        );
+        lines.part("indirectCRL", &self.indirect_crl);
         lines.part(
             "onlyContainsAttributeCerts",
             &self.only_contains_attribute_certs,
-        )
+        );
     }
 }
 
 impl Show for ExtensionValue<'_> {
-    fn show(&self, lines: &mut Lines) -> Result<(), AllocError> {
+    fn show(&self, lines: &mut Lines) {
         match self {
             ExtensionValue::AuthorityInfoAccess(value) => value.show(lines),
             ExtensionValue::AuthorityKeyIdentifier(value) => value.show(lines),
@@ -132,7 +130,7 @@ impl Show for ExtensionValue<'_> {
             ExtensionValue::InvalidityDate(value) => value.show(lines),
             ExtensionValue::IssuerAltName(value) => value.show(lines),
             ExtensionValue::IssuingDistributionPoint(value) => value.show(lines),
-            ExtensionValue::KeyUsage(value) => Named(value, USAGES).show(lines),
+            ExtensionValue::KeyUsage(value) => Named(Some(value), USAGES).show(lines),
             ExtensionValue::NameConstraints(value) => value.show(lines),
             ExtensionValue::PolicyConstraints(value) => value.show(lines),
             ExtensionValue::PolicyMappings(value) => value.show(lines),
@@ -147,13 +145,13 @@ impl Show for ExtensionValue<'_> {
 /// The value of a known extension is shown under the extension's name. Other values are shown as octets, with the
 /// reason if they aren't the encoding of a value that the identifier names.
 impl Show for Extension<'_> {
-    fn show(&self, lines: &mut Lines) -> Result<(), AllocError> {
-        lines.part("extnID", &self.extn_id)?;
-        lines.part("critical", &self.critical)?;
+    fn show(&self, lines: &mut Lines) {
+        lines.part("extnID", &self.extn_id);
+        lines.part("critical", &self.critical);
         match self.value(lines.alloc) {
             Ok(value) if !matches!(value, ExtensionValue::Other(_)) => {
-                let name = short_name(lines.alloc, &self.extn_id)?;
-                lines.part(name.as_str(), &value)
+                let name = lines.short_name(&self.extn_id);
+                lines.part(name.as_str(), &value);
             }
             value => lines.read("extnValue", self.extn_value, value),
         }
@@ -161,44 +159,44 @@ impl Show for Extension<'_> {
 }
 
 impl Show for PolicyQualifierInfo<'_> {
-    fn show(&self, lines: &mut Lines) -> Result<(), AllocError> {
-        lines.part("policyQualifierId", &self.policy_qualifier_id)?;
-        lines.part("qualifier", &self.qualifier)
+    fn show(&self, lines: &mut Lines) {
+        lines.part("policyQualifierId", &self.policy_qualifier_id);
+        lines.part("qualifier", &self.qualifier);
     }
 }
 
 impl Show for PolicyInformation<'_> {
-    fn show(&self, lines: &mut Lines) -> Result<(), AllocError> {
-        lines.part("policyIdentifier", &self.policy_identifier)?;
-        lines.part("policyQualifiers", &self.policy_qualifiers)
+    fn show(&self, lines: &mut Lines) {
+        lines.part("policyIdentifier", &self.policy_identifier);
+        lines.part("policyQualifiers", &self.policy_qualifiers);
     }
 }
 
 impl Show for PolicyMapping {
-    fn show(&self, lines: &mut Lines) -> Result<(), AllocError> {
-        lines.part("issuerDomainPolicy", &self.issuer_domain_policy)?;
-        lines.part("subjectDomainPolicy", &self.subject_domain_policy)
+    fn show(&self, lines: &mut Lines) {
+        lines.part("issuerDomainPolicy", &self.issuer_domain_policy);
+        lines.part("subjectDomainPolicy", &self.subject_domain_policy);
     }
 }
 
 impl Show for GeneralSubtree<'_> {
-    fn show(&self, lines: &mut Lines) -> Result<(), AllocError> {
-        lines.part("base", &self.base)?;
-        lines.part("minimum", &self.minimum)?;
-        lines.part("maximum", &self.maximum)
+    fn show(&self, lines: &mut Lines) {
+        lines.part("base", &self.base);
+        lines.part("minimum", &self.minimum);
+        lines.part("maximum", &self.maximum);
     }
 }
 
 impl Show for NameConstraints<'_> {
-    fn show(&self, lines: &mut Lines) -> Result<(), AllocError> {
-        lines.part("permittedSubtrees", &self.permitted_subtrees)?;
-        lines.part("excludedSubtrees", &self.excluded_subtrees)
+    fn show(&self, lines: &mut Lines) {
+        lines.part("permittedSubtrees", &self.permitted_subtrees);
+        lines.part("excludedSubtrees", &self.excluded_subtrees);
     }
 }
 
 impl Show for PolicyConstraints<'_> {
-    fn show(&self, lines: &mut Lines) -> Result<(), AllocError> {
-        lines.part("requireExplicitPolicy", &self.require_explicit_policy)?;
-        lines.part("inhibitPolicyMapping", &self.inhibit_policy_mapping)
+    fn show(&self, lines: &mut Lines) {
+        lines.part("requireExplicitPolicy", &self.require_explicit_policy);
+        lines.part("inhibitPolicyMapping", &self.inhibit_policy_mapping);
     }
 }

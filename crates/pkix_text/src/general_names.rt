@@ -9,11 +9,9 @@ use std::alloc::{AllocError, Global};
 fn groups(alloc: Global, octets: &[u8]) -> Result<String, AllocError> {
     let mut groups = String::new(alloc);
     for group in octets.chunks(2) {
-        if !groups.is_empty() {
-            groups.push(':')?;
-        }
+        let colon = if groups.is_empty() { "" } else { ":" };
         let digits = hex::encode(alloc, group)?;
-        groups.push_str(digits.as_str())?;
+        write!(groups, "{colon}{digits}")?;
     }
     Ok(groups)
 }
@@ -31,31 +29,31 @@ fn address(alloc: Global, octets: &[u8]) -> Result<String, AllocError> {
 
 /// The octets of a sequence whose elements aren't read.
 impl Show for Sequence<'_> {
-    fn show(&self, lines: &mut Lines) -> Result<(), AllocError> {
-        let Ok(octets) = write_readable(lines.alloc, self) else {
-            return Err(AllocError);
-        };
-        marked(lines.alloc, octets.as_slice())?.show(lines)
+    fn show(&self, lines: &mut Lines) {
+        match write_readable(lines.alloc, self) {
+            Ok(octets) => marked(lines.alloc, octets.as_slice()).show(lines),
+            Err(_) => lines.is_out_of_memory = true,
+        }
     }
 }
 
 impl Show for OtherName<'_> {
-    fn show(&self, lines: &mut Lines) -> Result<(), AllocError> {
-        lines.part("type-id", &self.type_id)?;
-        lines.part("value", &self.value)
+    fn show(&self, lines: &mut Lines) {
+        lines.part("type-id", &self.type_id);
+        lines.part("value", &self.value);
     }
 }
 
 impl Show for EdiPartyName<'_> {
-    fn show(&self, lines: &mut Lines) -> Result<(), AllocError> {
-        lines.part("nameAssigner", &self.name_assigner)?;
-        lines.part("partyName", &self.party_name)
+    fn show(&self, lines: &mut Lines) {
+        lines.part("nameAssigner", &self.name_assigner);
+        lines.part("partyName", &self.party_name);
     }
 }
 
 /// The name, with its alternative as its location.
 impl Show for GeneralName<'_> {
-    fn show(&self, lines: &mut Lines) -> Result<(), AllocError> {
+    fn show(&self, lines: &mut Lines) {
         match self {
             GeneralName::OtherName(name) => lines.part("otherName", name),
             GeneralName::Rfc822Name(name) => lines.part("rfc822Name", name),
@@ -67,8 +65,7 @@ impl Show for GeneralName<'_> {
                 lines.part("uniformResourceIdentifier", name)
             }
             GeneralName::IpAddress(octets) => {
-                let address = address(lines.alloc, *octets)?;
-                lines.part("iPAddress", &address)
+                lines.part("iPAddress", &address(lines.alloc, *octets))
             }
             GeneralName::RegisteredId(name) => lines.part("registeredID", name),
         }

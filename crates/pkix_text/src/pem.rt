@@ -46,14 +46,14 @@ pub(crate) struct Object<'a> {
     pub(crate) is_encrypted: bool,
     /// The base64 between its lines.
     symbols: Vec<u8>,
-    /// Whether a line with its label ends it.
-    is_ended: bool,
+    /// The label in the line that ends it, if there is one.
+    end: Option<&'a [u8]>,
 }
 
-impl Object<'_> {
+impl<'a> Object<'a> {
     /// The octets that should be its encoding.
     pub(crate) fn octets(&self, alloc: Global) -> Result<Result<Vec<u8>, PemError>, AllocError> {
-        if !self.is_ended {
+        if self.end != Some(self.label) {
             return Ok(Err(PemError::NoEnd));
         }
         match STANDARD.decode(alloc, self.symbols.as_slice()) {
@@ -63,12 +63,14 @@ impl Object<'_> {
         }
     }
 
-    /// Takes a line between the first and the last one. A header has a colon, which base64 doesn't have.
-    fn take(&mut self, line: &[u8]) -> Result<(), AllocError> {
-        if !line.contains(&b':') {
-            return self.symbols.extend_from_slice(line);
+    /// Takes a line after the first one, unless it has ended. A header has a colon, which base64 doesn't have.
+    fn take(&mut self, line: &'a [u8]) -> Result<(), AllocError> {
+        match label_in(line, END) {
+            _ if self.end.is_some() => {}
+            None if line.contains(&b':') => self.is_encrypted |= line.ends_with(b"ENCRYPTED"),
+            None => self.symbols.extend_from_slice(line)?,
+            end => self.end = end,
         }
-        self.is_encrypted = self.is_encrypted || line.ends_with(b"ENCRYPTED");
         Ok(())
     }
 }
@@ -89,27 +91,17 @@ fn label_in<'a>(line: &'a [u8], start: &[u8]) -> Option<&'a [u8]> {
 pub(crate) fn objects<'a>(alloc: Global, input: &'a [u8]) -> Result<Vec<Object<'a>>, AllocError> {
     let text = input.strip_prefix(MARK).unwrap_or(input);
     let mut objects: Vec<Object<'a>> = Vec::new(alloc);
-    // Whether lines are those of the last object.
-    let mut is_open = false;
     for whole in text.split(|octet| matches!(*octet, b'\n' | b'\r')) {
         let line = whole.trim_ascii();
         if let Some(label) = label_in(line, BEGIN) {
-            is_open = true;
             objects.push(Object {
                 label,
                 is_encrypted: false,
                 symbols: Vec::new(alloc),
-                is_ended: false,
+                end: None,
             })?;
         } else if let Some(object) = objects.last_mut() {
-            match label_in(line, END) {
-                _ if !is_open => {}
-                None => object.take(line)?,
-                Some(label) => {
-                    object.is_ended = label == object.label;
-                    is_open = false;
-                }
-            }
+            object.take(line)?;
         } else if !is_text(whole) {
             break;
         }

@@ -1,5 +1,7 @@
 //! Lines of text, and how values of the simple types are shown.
 
+ghost use Rattle.std.specs.Iterator.{IsFinite};
+
 use crate::errors::in_words;
 use crate::identifiers::name_of;
 use asn1::{
@@ -14,15 +16,16 @@ use std::mem;
 
 /// What is shown as lines of text.
 pub(crate) trait Show {
-    /// Appends the lines of the value. Fails if out of memory.
-    fn show(&self, lines: &mut Lines) -> Result<(), AllocError>;
+    /// Appends the lines of the value.
+    fn show(&self, lines: &mut Lines);
 }
 
 /// The lines of an object, as they grow, and the location of the value that is shown next. The empty location is the
-/// whole.
+/// whole. They remember that memory ran out, and then show no more parts, so no call that shows a value has to fail.
 #[derive(Drop)]
 pub(crate) struct Lines {
     pub(crate) alloc: Global,
+    pub(crate) is_out_of_memory: bool,
     place: String,
     text: String,
 }
@@ -31,31 +34,54 @@ pub(crate) struct Lines {
 pub(crate) fn lines_of<T: Show>(alloc: Global, value: &T) -> Result<String, AllocError> {
     let mut lines = Lines {
         alloc,
+        is_out_of_memory: false,
         place: String::new(alloc),
         text: String::new(alloc),
     };
-    value.show(&mut lines)?;
+    value.show(&mut lines);
+    if lines.is_out_of_memory {
+        return Err(AllocError);
+    }
     Ok(lines.text)
 }
 
 impl Lines {
     /// Appends the lines of the value at this part of the location.
-    pub(crate) fn part<T: Show>(&mut self, name: &str, value: &T) -> Result<(), AllocError> {
-        let inner = if self.place.is_empty() {
-            format!(in self.alloc; "{name}")?
-        } else {
-            format!(in self.alloc; "{}.{name}", self.place)?
-        };
-        let outer = mem::replace(&mut self.place, inner);
-        value.show(self)?;
-        self.place = outer;
-        Ok(())
+    pub(crate) fn part<T: Show>(&mut self, name: &str, value: &T) {
+        let dot = if self.place.is_empty() { "" } else { "." };
+        let inner = format!(in self.alloc; "{}{dot}{name}", self.place);
+        let inner = self.kept(inner);
+        if !self.is_out_of_memory {
+            let outer = mem::replace(&mut self.place, inner);
+            value.show(self);
+            self.place = outer;
+        }
     }
 
-    /// Appends the lines of the item of a list at its number.
-    fn item<T: Show>(&mut self, number: usize, value: &T) -> Result<(), AllocError> {
-        let name = format!(in self.alloc; "{number}")?;
-        self.part(name.as_str(), value)
+    /// Appends the lines of each item of a list, with its number in its location, or else one for the empty list.
+    fn items<T: Show + Drop, I: Iterator<Item = ParseResult<T>> + Drop>(&mut self, items: I)
+        requires can { I.can_next items }
+        requires ends { IsFinite (I.remaining items) }
+    {
+        let mut count = 0usize;
+        for item in items {
+            let Some(item) = self.item(item) else { return };
+            let number = self.kept(format!(in self.alloc; "{count}"));
+            self.part(number.as_str(), &item);
+            count = count.saturating_add(1);
+        }
+        if count == 0 {
+            self.line("(empty)");
+        }
+    }
+
+    /// An item of a list, unless memory ran out: all items were read when the list was, so an error means just that.
+    pub(crate) fn item<T: Drop>(&mut self, item: ParseResult<T>) -> Option<T> {
+        self.is_out_of_memory |= item.is_err();
+        if self.is_out_of_memory {
+            return None;
+        }
+        item.ok()
     }
 
     /// Appends the lines of the value that was read from the octets, at this part of the location; if they were
@@ -65,57 +91,64 @@ impl Lines {
         name: &str,
         octets: &[u8],
         value: ParseResult<T>,
-    ) -> Result<(), AllocError> {
+    ) {
         match value {
             Ok(value) => self.part(name, &value),
             Err(error) => {
-                self.part(name, &octets)?;
-                let name = format!(in self.alloc; "{name}.rejected")?;
-                self.part(name.as_str(), &error)
+                self.part(name, &octets);
+                let name = self.kept(format!(in self.alloc; "{name}.rejected"));
+                self.part(name.as_str(), &error);
             }
         }
     }
 
     /// Appends the lines of the value whose encoding the octets should be, at this part of the location.
-    pub(crate) fn inner<'a, T: Asn1Readable<'a> + Show>(
-        &mut self,
-        name: &str,
-        octets: &'a [u8],
-    ) -> Result<(), AllocError> {
-        self.read(name, octets, parse_single::<T>(self.alloc, octets))
+    pub(crate) fn inner<'a, T: Asn1Readable<'a> + Show>(&mut self, name: &str, octets: &'a [u8]) {
+        self.read(name, octets, parse_single::<T>(self.alloc, octets));
     }
 
-    /// Appends the line of a list, if it is empty: it has no items whose lines would show it.
-    pub(crate) fn empty(&mut self, is_empty: bool) -> Result<(), AllocError> {
-        if is_empty {
-            writeln!(self.text, "{}: (empty)", self.place)?;
+    /// Appends the line of a text.
+    pub(crate) fn line(&mut self, text: &str) {
+        let appended = writeln!(self.text, "{}: {text}", self.place);
+        self.is_out_of_memory |= appended.is_err();
+    }
+
+    /// The text; if there was no memory for it, which is remembered, an empty one.
+    pub(crate) fn kept(&mut self, text: Result<String, AllocError>) -> String {
+        match text {
+            Ok(text) => text,
+            Err(_) => {
+                self.is_out_of_memory = true;
+                String::new(self.alloc)
+            }
         }
-        Ok(())
     }
 
-    /// Appends the line of a character string after its type. A `#` or `(` at the start of the characters is escaped,
-    /// since these begin octets in hex and a type.
-    fn characters(&mut self, string_type: &str, text: &str) -> Result<(), AllocError> {
-        write!(self.text, "{}: {string_type}", self.place)?;
-        if text.starts_with('#') || text.starts_with('(') {
-            self.text.push('\\')?;
+    /// The identifier's name if it is a known one, else its dotted form.
+    pub(crate) fn short_name(&mut self, identifier: &ObjectIdentifier) -> String {
+        let dotted = self.kept(format!(in self.alloc; "{identifier}"));
+        match name_of(dotted.as_str()) {
+            Some(name) => self.kept(format!(in self.alloc; "{name}")),
+            None => dotted,
         }
-        push_escaped(&mut self.text, text)?;
-        self.text.push('\n')
     }
-}
-
-/// An item of a list. All items were read when the list was, so an error means out of memory.
-pub(crate) fn read_again<T: Drop>(item: ParseResult<T>) -> Result<T, AllocError> {
-    item.or(Err(AllocError))
 }
 
 /// The value, if there is one.
 impl<T: Show> Show for Option<T> {
-    fn show(&self, lines: &mut Lines) -> Result<(), AllocError> {
+    fn show(&self, lines: &mut Lines) {
+        if let Some(value) = self {
+            value.show(lines);
+        }
+    }
+}
+
+/// Text as it is, if there was memory for it.
+impl Show for Result<String, AllocError> {
+    fn show(&self, lines: &mut Lines) {
         match self {
-            Some(value) => value.show(lines),
-            None => Ok(()),
+            Ok(text) => lines.line(text.as_str()),
+            Err(_) => lines.is_out_of_memory = true,
         }
     }
 }
@@ -123,58 +156,40 @@ impl<T: Show> Show for Option<T> {
 /// Each item, with its number in its location.
 impl<'a, T: Asn1Readable<'a> + Show, const MINIMUM_LEN: usize, const MAXIMUM_LEN: usize> Show
     for SequenceOf<'a, T, MINIMUM_LEN, MAXIMUM_LEN> {
-    fn show(&self, lines: &mut Lines) -> Result<(), AllocError> {
-        let mut count = 0usize;
-        for item in self.clone()? {
-            lines.item(count, &read_again(item)?)?;
-            count = count.saturating_add(1);
-        }
-        lines.empty(count == 0)
+    fn show(&self, lines: &mut Lines) {
+        lines.items(self.clone().unwrap());
     }
 }
 
-/// A set whose items are shown like those of a list.
+/// A set, if there is one, whose items are shown like those of a list.
 #[derive(Drop)]
-pub(crate) struct Numbered<'s, 'a, T: Asn1Type>(pub(crate) &'s SetOf<'a, T>);
+pub(crate) struct Numbered<'s, 'a, T: Asn1Type>(pub(crate) Option<&'s SetOf<'a, T>>);
 
 impl<'a, T: Asn1Readable<'a> + Show> Show for Numbered<'_, 'a, T> {
-    fn show(&self, lines: &mut Lines) -> Result<(), AllocError> {
-        let mut count = 0usize;
-        for item in self.0.clone()? {
-            lines.item(count, &read_again(item)?)?;
-            count = count.saturating_add(1);
+    fn show(&self, lines: &mut Lines) {
+        if let Some(set) = self.0 {
+            lines.items(set.clone().unwrap());
         }
-        lines.empty(count == 0)
-    }
-}
-
-/// Text as it is.
-impl Show for String {
-    fn show(&self, lines: &mut Lines) -> Result<(), AllocError> {
-        writeln!(lines.text, "{}: {self}", lines.place)
     }
 }
 
 impl Show for bool {
-    fn show(&self, lines: &mut Lines) -> Result<(), AllocError> {
-        writeln!(lines.text, "{}: {self}", lines.place)
+    fn show(&self, lines: &mut Lines) {
+        lines.line(if *self { "true" } else { "false" });
     }
 }
 
 /// In words.
 impl Show for ParseError {
-    fn show(&self, lines: &mut Lines) -> Result<(), AllocError> {
-        in_words(lines.alloc, self, &[])?.show(lines)
+    fn show(&self, lines: &mut Lines) {
+        in_words(lines.alloc, self, &[]).show(lines);
     }
 }
 
 /// A number in hex, by whole octets.
 fn whole_octets(alloc: Global, number: u32) -> Result<String, AllocError> {
-    let digits = format!(in alloc; "{number:02x}")?;
-    if digits.len() % 2 == 0 {
-        return Ok(digits);
-    }
-    format!(in alloc; "0{digits}")
+    let zeros = (number.leading_zeros() as usize / 8).min(3);
+    hex::encode(alloc, &number.to_be_bytes()[zeros..])
 }
 
 /// A number in hex, and its name among these, of which the first is that of 0.
@@ -185,85 +200,83 @@ pub(crate) fn with_name(alloc: Global, number: u32, names: &str) -> Result<Strin
 }
 
 impl Show for u8 {
-    fn show(&self, lines: &mut Lines) -> Result<(), AllocError> {
-        u32::from(*self).show(lines)
+    fn show(&self, lines: &mut Lines) {
+        u32::from(*self).show(lines);
     }
 }
 
 impl Show for u16 {
-    fn show(&self, lines: &mut Lines) -> Result<(), AllocError> {
-        u32::from(*self).show(lines)
+    fn show(&self, lines: &mut Lines) {
+        u32::from(*self).show(lines);
     }
 }
 
 /// In hex, by whole octets.
 impl Show for u32 {
-    fn show(&self, lines: &mut Lines) -> Result<(), AllocError> {
-        whole_octets(lines.alloc, *self)?.show(lines)
+    fn show(&self, lines: &mut Lines) {
+        whole_octets(lines.alloc, *self).show(lines);
     }
 }
 
 /// Octets in hex.
 impl Show for &[u8] {
-    fn show(&self, lines: &mut Lines) -> Result<(), AllocError> {
-        hex::encode(lines.alloc, *self)?.show(lines)
+    fn show(&self, lines: &mut Lines) {
+        hex::encode(lines.alloc, *self).show(lines);
     }
 }
 
 impl Show for BigInt<'_> {
-    fn show(&self, lines: &mut Lines) -> Result<(), AllocError> {
-        self.as_bytes().show(lines)
+    fn show(&self, lines: &mut Lines) {
+        self.as_bytes().show(lines);
     }
 }
 
 impl Show for BigUint<'_> {
-    fn show(&self, lines: &mut Lines) -> Result<(), AllocError> {
-        self.as_bytes().show(lines)
+    fn show(&self, lines: &mut Lines) {
+        self.as_bytes().show(lines);
     }
 }
 
 /// The octets in hex, and how many bits at their end are unused, if any.
 impl Show for BitString<'_> {
-    fn show(&self, lines: &mut Lines) -> Result<(), AllocError> {
-        self.as_bytes().show(lines)?;
-        match self.padding_bits() {
-            0 => Ok(()),
-            unused => lines.part("unusedBits", &unused),
+    fn show(&self, lines: &mut Lines) {
+        self.as_bytes().show(lines);
+        let unused = self.padding_bits();
+        if unused > 0 {
+            lines.part("unusedBits", &unused);
         }
     }
 }
 
 impl Show for NamedBits<'_> {
-    fn show(&self, lines: &mut Lines) -> Result<(), AllocError> {
-        self.as_bitstring().show(lines)
+    fn show(&self, lines: &mut Lines) {
+        self.as_bitstring().show(lines);
     }
 }
 
 /// Dotted, and with its name if it is a known one.
 impl Show for ObjectIdentifier {
-    fn show(&self, lines: &mut Lines) -> Result<(), AllocError> {
-        let dotted = format!(in lines.alloc; "{self}")?;
+    fn show(&self, lines: &mut Lines) {
+        let dotted = lines.kept(format!(in lines.alloc; "{self}"));
         match name_of(dotted.as_str()) {
-            Some(name) => writeln!(lines.text, "{}: {dotted} ({name})", lines.place),
-            None => dotted.show(lines),
+            Some(name) => format!(in lines.alloc; "{dotted} ({name})").show(lines),
+            None => lines.line(dotted.as_str()),
         }
     }
 }
 
 /// Appends the line of a date and time with this fraction of a second.
-fn date(lines: &mut Lines, time: &DateTime, fraction: &str) -> Result<(), AllocError> {
+fn date(lines: &mut Lines, time: &DateTime, fraction: &str) {
     let (year, month, day) = (time.year(), time.month(), time.day());
     let (hour, minute, second) = (time.hour(), time.minute(), time.second());
-    write!(
-        lines.text,
-        "{}: {year:04}-{month:02}-{day:02}T",
-        lines.place
-    )?;
-    writeln!(lines.text, "{hour:02}:{minute:02}:{second:02}{fraction}Z")
+    let text = format!(in lines.alloc;
+        "{year:04}-{month:02}-{day:02}T{hour:02}:{minute:02}:{second:02}{fraction}Z"
+    );
+    text.show(lines);
 }
 
 impl Show for Time {
-    fn show(&self, lines: &mut Lines) -> Result<(), AllocError> {
+    fn show(&self, lines: &mut Lines) {
         match self {
             Time::UtcTime(time) => date(lines, time.as_datetime(), ""),
             Time::GeneralTime(time) => time.show(lines),
@@ -272,41 +285,50 @@ impl Show for Time {
 }
 
 impl Show for X509GeneralizedTime {
-    fn show(&self, lines: &mut Lines) -> Result<(), AllocError> {
-        date(lines, self.as_datetime(), "")
+    fn show(&self, lines: &mut Lines) {
+        date(lines, self.as_datetime(), "");
     }
 }
 
 impl Show for GeneralizedTime {
-    fn show(&self, lines: &mut Lines) -> Result<(), AllocError> {
-        let Some(fraction) = self.nanoseconds() else {
-            return date(lines, self.as_datetime(), "");
+    fn show(&self, lines: &mut Lines) {
+        let fraction = match self.nanoseconds() {
+            Some(fraction) => lines.kept(format!(in lines.alloc; ".{fraction:09}")),
+            None => String::new(lines.alloc),
         };
-        let fraction = format!(in lines.alloc; ".{fraction:09}")?;
-        date(lines, self.as_datetime(), fraction.trim_end_matches('0'))
+        date(lines, self.as_datetime(), fraction.trim_end_matches('0'));
     }
 }
 
-/// Appends characters, with those escaped that can't be printed.
-pub(crate) fn push_escaped(out: &mut String, text: &str) -> Result<(), AllocError> {
+/// The characters, with those escaped that can't be printed.
+pub(crate) fn escaped(alloc: Global, text: &str) -> Result<String, AllocError> {
+    let mut out = String::new(alloc);
     for c in text.chars() {
         match c {
             '"' | '\'' => out.push(c)?,
             _ => write!(out, "{}", c.escape_debug())?,
         }
     }
-    Ok(())
+    Ok(out)
+}
+
+/// The characters after their type. A `#` or `(` at their start is escaped, since these begin octets in hex and a type.
+fn characters(alloc: Global, string_type: &str, text: &str) -> Result<String, AllocError> {
+    let is_marked = text.starts_with('#') || text.starts_with('(');
+    let mark = if is_marked { "\\" } else { "" };
+    let text = escaped(alloc, text)?;
+    format!(in alloc; "{string_type}{mark}{text}")
 }
 
 impl Show for Utf8String<'_> {
-    fn show(&self, lines: &mut Lines) -> Result<(), AllocError> {
-        lines.characters("", self.as_str())
+    fn show(&self, lines: &mut Lines) {
+        characters(lines.alloc, "", self.as_str()).show(lines);
     }
 }
 
 impl Show for IA5String<'_> {
-    fn show(&self, lines: &mut Lines) -> Result<(), AllocError> {
-        lines.characters("", self.as_str())
+    fn show(&self, lines: &mut Lines) {
+        characters(lines.alloc, "", self.as_str()).show(lines);
     }
 }
 
@@ -333,24 +355,28 @@ pub(crate) fn marked(alloc: Global, octets: &[u8]) -> Result<String, AllocError>
 
 /// A character string as its characters, with its type if that is neither PrintableString nor UTF8String; another
 /// element as its octets.
+fn element(alloc: Global, octets: &[u8]) -> Result<String, AllocError> {
+    if let Ok(text) = parse_single::<Utf8String<'_>>(alloc, octets) {
+        characters(alloc, "", text.as_str())
+    } else if let Ok(text) = parse_single::<PrintableString<'_>>(alloc, octets) {
+        characters(alloc, "", text.as_str())
+    } else if let Ok(text) = parse_single::<IA5String<'_>>(alloc, octets) {
+        characters(alloc, "(IA5String) ", text.as_str())
+    } else if let Ok(text) = parse_single::<VisibleString<'_>>(alloc, octets) {
+        characters(alloc, "(VisibleString) ", text.as_str())
+    } else if let Ok(text) = parse_single::<BMPString<'_>>(alloc, octets) {
+        characters(
+            alloc,
+            "(BMPString) ",
+            bmp_characters(alloc, &text)?.as_str(),
+        )
+    } else {
+        marked(alloc, octets)
+    }
+}
+
 impl Show for Tlv<'_> {
-    fn show(&self, lines: &mut Lines) -> Result<(), AllocError> {
-        let (alloc, octets) = (lines.alloc, self.full_data());
-        if let Ok(text) = parse_single::<Utf8String<'_>>(alloc, octets) {
-            return lines.characters("", text.as_str());
-        }
-        if let Ok(text) = parse_single::<PrintableString<'_>>(alloc, octets) {
-            return lines.characters("", text.as_str());
-        }
-        if let Ok(text) = parse_single::<IA5String<'_>>(alloc, octets) {
-            return lines.characters("(IA5String) ", text.as_str());
-        }
-        if let Ok(text) = parse_single::<VisibleString<'_>>(alloc, octets) {
-            return lines.characters("(VisibleString) ", text.as_str());
-        }
-        if let Ok(text) = parse_single::<BMPString<'_>>(alloc, octets) {
-            return lines.characters("(BMPString) ", bmp_characters(alloc, &text)?.as_str());
-        }
-        marked(alloc, octets)?.show(lines)
+    fn show(&self, lines: &mut Lines) {
+        element(lines.alloc, self.full_data()).show(lines);
     }
 }

@@ -4,23 +4,22 @@ use crate::show::{Lines, Show, with_name};
 use pkix::timestamps::{
     Accuracy, MessageImprint, PkiStatusInfo, TimeStampReq, TimeStampResp, TstInfo,
 };
-use std::alloc::AllocError;
 
 impl Show for MessageImprint<'_> {
-    fn show(&self, lines: &mut Lines) -> Result<(), AllocError> {
-        lines.part("hashAlgorithm", &self.hash_algorithm)?;
-        lines.part("hashedMessage", &self.hashed_message)
+    fn show(&self, lines: &mut Lines) {
+        lines.part("hashAlgorithm", &self.hash_algorithm);
+        lines.part("hashedMessage", &self.hashed_message);
     }
 }
 
 impl Show for TimeStampReq<'_> {
-    fn show(&self, lines: &mut Lines) -> Result<(), AllocError> {
-        lines.part("version", &self.version)?;
-        lines.part("messageImprint", &self.message_imprint)?;
-        lines.part("reqPolicy", &self.req_policy)?;
-        lines.part("nonce", &self.nonce)?;
-        lines.part("certReq", &self.cert_req)?;
-        lines.part("extensions", &self.extensions)
+    fn show(&self, lines: &mut Lines) {
+        lines.part("version", &self.version);
+        lines.part("messageImprint", &self.message_imprint);
+        lines.part("reqPolicy", &self.req_policy);
+        lines.part("nonce", &self.nonce);
+        lines.part("certReq", &self.cert_req);
+        lines.part("extensions", &self.extensions);
     }
 }
 
@@ -29,40 +28,39 @@ const STATUSES: &str = "granted grantedWithMods rejection waiting revocationWarn
     revocationNotification";
 
 impl Show for PkiStatusInfo<'_> {
-    fn show(&self, lines: &mut Lines) -> Result<(), AllocError> {
-        let status = with_name(lines.alloc, self.status, STATUSES)?;
-        lines.part("status", &status)?;
-        lines.part("statusString", &self.status_string)?;
-        lines.part("failInfo", &self.fail_info)
+    fn show(&self, lines: &mut Lines) {
+        lines.part("status", &with_name(lines.alloc, self.status, STATUSES));
+        lines.part("statusString", &self.status_string);
+        lines.part("failInfo", &self.fail_info);
     }
 }
 
 impl Show for TimeStampResp<'_> {
-    fn show(&self, lines: &mut Lines) -> Result<(), AllocError> {
-        lines.part("status", &self.status)?;
-        lines.part("timeStampToken", &self.time_stamp_token)
+    fn show(&self, lines: &mut Lines) {
+        lines.part("status", &self.status);
+        lines.part("timeStampToken", &self.time_stamp_token);
     }
 }
 
 impl Show for Accuracy<'_> {
-    fn show(&self, lines: &mut Lines) -> Result<(), AllocError> {
-        lines.part("seconds", &self.seconds)?;
-        lines.part("millis", &self.millis)?;
-        lines.part("micros", &self.micros)
+    fn show(&self, lines: &mut Lines) {
+        lines.part("seconds", &self.seconds);
+        lines.part("millis", &self.millis);
+        lines.part("micros", &self.micros);
     }
 }
 
 impl Show for TstInfo<'_> {
-    fn show(&self, lines: &mut Lines) -> Result<(), AllocError> {
-        lines.part("version", &self.version)?;
-        lines.part("policy", &self.policy)?;
-        lines.part("messageImprint", &self.message_imprint)?;
-        lines.part("serialNumber", &self.serial_number)?;
-        lines.part("genTime", &self.gen_time)?;
-        lines.part("accuracy", &self.accuracy)?;
-        lines.part("ordering", &self.ordering)?;
-        lines.part("nonce", &self.nonce)?;
-        lines.part("tsa", &self.tsa)?;
-        lines.part("extensions", &self.extensions)
+    fn show(&self, lines: &mut Lines) {
+        lines.part("version", &self.version);
+        lines.part("policy", &self.policy);
+        lines.part("messageImprint", &self.message_imprint);
+        lines.part("serialNumber", &self.serial_number);
+        lines.part("genTime", &self.gen_time);
+        lines.part("accuracy", &self.accuracy);
+        lines.part("ordering", &self.ordering);
+        lines.part("nonce", &self.nonce);
+        lines.part("tsa", &self.tsa);
+        lines.part("extensions", &self.extensions);
     }
 }
