@@ -1,7 +1,8 @@
 //! The result for an input.
 
-ghost use Rattle.std.specs.Prelude.{◌⊎◌, IfOk};
+ghost use Rattle.std.specs.Prelude.{◌≡◌, ◌⊎◌, IfErr, IfOk};
 ghost use Rattle.pkix_text.specs.Program.{IsRead, IsShownOnlyIf};
+ghost use Rattle.pkix_text.specs.declared.answers.Fault.TheVariants.{Memory};
 ghost use Rattle.pkix_text.specs.declared.kinds.Kind.TheVariants as kinds;
 
 use crate::errors::{UNIVERSAL, in_words};
@@ -45,6 +46,8 @@ impl fmt::Display for Fault {
 }
 
 impl From<AllocError> for Fault {
+    ghost from_gives = { λ _ fault. fault ≡ Memory };
+
     fn from(_error: AllocError) -> Fault {
         Fault::Memory
     }
@@ -100,7 +103,8 @@ fn shown<'a, T: Asn1Readable<'a> + Asn1Writable<Error = WriteError> + Show>(
     alloc: Global,
     octets: &'a [u8],
 ) -> Result<Answer, Fault>
-    ensures { IfOk result (IsShownOnlyIf (IsRead T.der octets.entry.now)) }
+    ensures shown { IfOk result (IsShownOnlyIf (IsRead T.der octets.entry.now)) }
+    ensures error { IfErr result (λ fault. fault ≡ Memory) }
 {
     let value = match parse_single::<T>(alloc, octets) {
         Ok(value) => value,
@@ -153,12 +157,13 @@ fn start_of(octets: &[u8]) -> Option<Start> {
 /// ECPrivateKey a version and octets, an RSAPublicKey two integers, an RSAPrivateKey more of them, a
 /// SubjectPublicKeyInfo begins with an algorithm.
 fn key<'a>(alloc: Global, start: Start, octets: &'a [u8]) -> Result<Answer, Fault>
-    ensures { IfOk result (IsShownOnlyIf (
+    ensures shown { IfOk result (IsShownOnlyIf (
         IsRead ⟦<SubjectPublicKeyInfo<'a> as Asn1Type>⟧.der octets.entry.now
         ⊎ IsRead ⟦<EcPrivateKey<'a> as Asn1Type>⟧.der octets.entry.now
         ⊎ IsRead ⟦<RsaPrivateKey<'a> as Asn1Type>⟧.der octets.entry.now
         ⊎ IsRead ⟦<RsaPublicKey<'a> as Asn1Type>⟧.der octets.entry.now
         ⊎ IsRead ⟦<OneAsymmetricKey<'a> as Asn1Type>⟧.der octets.entry.now)) }
+    ensures error { IfErr result (λ fault. fault ≡ Memory) }
 {
     if start.first == Some(Tag::constructed(0x10)) {
         shown::<SubjectPublicKeyInfo<'_>>(alloc, octets)
@@ -176,10 +181,11 @@ fn key<'a>(alloc: Global, start: Start, octets: &'a [u8]) -> Result<Answer, Faul
 /// The lines of a signature, whose first element tells its form: an ECDSA-Sig-Value begins with an integer, a
 /// DigestInfo with an algorithm, a ContentInfo with an identifier.
 fn signature<'a>(alloc: Global, start: Start, octets: &'a [u8]) -> Result<Answer, Fault>
-    ensures { IfOk result (IsShownOnlyIf (
+    ensures shown { IfOk result (IsShownOnlyIf (
         IsRead ⟦<EcdsaSigValue<'a> as Asn1Type>⟧.der octets.entry.now
         ⊎ IsRead ⟦<DigestInfo<'a> as Asn1Type>⟧.der octets.entry.now
         ⊎ IsRead ⟦<ContentInfo<'a> as Asn1Type>⟧.der octets.entry.now)) }
+    ensures error { IfErr result (λ fault. fault ≡ Memory) }
 {
     if start.first == Some(Tag::primitive(0x02)) {
         shown::<EcdsaSigValue<'_>>(alloc, octets)
@@ -193,7 +199,7 @@ fn signature<'a>(alloc: Global, start: Start, octets: &'a [u8]) -> Result<Answer
 /// The lines of the value of this kind whose encoding the octets are. An encrypted key is rejected as an encrypted key
 /// for each kind, and other octets with the first error of the kind's type. `Memory` if out of memory.
 pub fn answer_to<'a>(alloc: Global, kind: Kind, octets: &'a [u8]) -> Result<Answer, Fault>
-    ensures { IfOk result (IsShownOnlyIf (elim kind as (λ _. Type 0) [
+    ensures shown { IfOk result (IsShownOnlyIf (elim kind as (λ _. Type 0) [
       | kinds.Certificate ↦ IsRead ⟦<Certificate<'a> as Asn1Type>⟧.der octets.entry.now
       | kinds.Crl ↦ IsRead ⟦<CertificateList<'a> as Asn1Type>⟧.der octets.entry.now
       | kinds.Request ↦ IsRead ⟦<CertificationRequest<'a> as Asn1Type>⟧.der octets.entry.now
@@ -208,6 +214,7 @@ pub fn answer_to<'a>(alloc: Global, kind: Kind, octets: &'a [u8]) -> Result<Answ
       | kinds.TimestampRequest ↦ IsRead ⟦<TimeStampReq<'a> as Asn1Type>⟧.der octets.entry.now
       | kinds.TimestampResponse ↦ IsRead ⟦<TimeStampResp<'a> as Asn1Type>⟧.der octets.entry.now
     ])) }
+    ensures error { IfErr result (λ fault. fault ≡ Memory) }
 {
     let start = start_of(octets).unwrap_or_default();
     if start.is_encrypted {
@@ -226,7 +233,9 @@ pub fn answer_to<'a>(alloc: Global, kind: Kind, octets: &'a [u8]) -> Result<Answ
 
 /// Whether the octets are rejected with this error. One of a tag may be at another location: tags after it may tell the
 /// form of a key, whose fields have other names.
-fn has_error(alloc: Global, kind: Kind, octets: &[u8], error: &ParseError) -> Result<bool, Fault> {
+fn has_error(alloc: Global, kind: Kind, octets: &[u8], error: &ParseError) -> Result<bool, Fault>
+    ensures { IfErr result (λ fault. fault ≡ Memory) }
+{
     let answer = answer_to(alloc, kind, octets)?;
     let Answer::Rejected(Refusal::Der(other)) = &answer else {
         return Ok(false);
@@ -244,7 +253,9 @@ fn changed(alloc: Global, octets: &[u8], count: usize, other: u8) -> Result<Vec<
 }
 
 /// How many octets at the start decide this error: with any others after them, here 0xff, the error is the same.
-fn octets_of(alloc: Global, kind: Kind, octets: &[u8], error: &ParseError) -> Result<usize, Fault> {
+fn octets_of(alloc: Global, kind: Kind, octets: &[u8], error: &ParseError) -> Result<usize, Fault>
+    ensures { IfErr result (λ fault. fault ≡ Memory) }
+{
     let (mut low, mut high) = (0usize, octets.len());
     // Each turn halves what is between.
     for _ in 0..usize::BITS {
@@ -283,7 +294,9 @@ const CONTEXT: &[u8] = b"\x80\xa0\x81\xa1\x82\xa2\x83\xa3\x84\xa4\x85\xa5\x86\xa
 
 /// The tags of the elements that may start here. Each is tried with no contents octets, and before elements whose tag
 /// no type has, so that it isn't unexpected elsewhere.
-fn expected_at(alloc: Global, kind: Kind, octets: &[u8], start: usize) -> Result<Vec<Tag>, Fault> {
+fn expected_at(alloc: Global, kind: Kind, octets: &[u8], start: usize) -> Result<Vec<Tag>, Fault>
+    ensures { IfErr result (λ fault. fault ≡ Memory) }
+{
     let mut tags = Vec::new(alloc);
     let mut changed = changed(alloc, octets, start, 0x00)?;
     let identifiers = UNIVERSAL.iter().map(|row| row.0);
@@ -308,7 +321,9 @@ fn octet_of(
     kind: Kind,
     octets: &[u8],
     error: &ParseError,
-) -> Result<Option<usize>, Fault> {
+) -> Result<Option<usize>, Fault>
+    ensures { IfErr result (λ fault. fault ≡ Memory) }
+{
     match error.kind() {
         ParseErrorKind::ShortData { .. } => Ok(None),
         ParseErrorKind::ExtraData => match strip_tlv(octets) {
@@ -322,7 +337,9 @@ fn octet_of(
 }
 
 /// The result for an object in DER if this kind is asked for, with an error in words and its octet.
-fn told(alloc: Global, kind: Kind, octets: &[u8]) -> Result<Answer, Fault> {
+fn told(alloc: Global, kind: Kind, octets: &[u8]) -> Result<Answer, Fault>
+    ensures { IfErr result (λ fault. fault ≡ Memory) }
+{
     let answer = answer_to(alloc, kind, octets)?;
     let Answer::Rejected(Refusal::Der(error)) = &answer else {
         return Ok(answer);
@@ -343,7 +360,9 @@ fn told(alloc: Global, kind: Kind, octets: &[u8]) -> Result<Answer, Fault> {
 }
 
 /// The result for an object in DER if no kind is named: the lines of the only kind that reads it.
-fn answer_to_any(alloc: Global, octets: &[u8]) -> Result<Answer, Fault> {
+fn answer_to_any(alloc: Global, octets: &[u8]) -> Result<Answer, Fault>
+    ensures { IfErr result (λ fault. fault ≡ Memory) }
+{
     let mut found = None;
     for kind in Kind::ALL.iter().copied() {
         match answer_to(alloc, kind, octets)? {
@@ -362,7 +381,9 @@ fn answer_to_any(alloc: Global, octets: &[u8]) -> Result<Answer, Fault> {
 }
 
 /// The result for an input that isn't in PEM.
-fn answer_to_der(alloc: Global, kind: Option<Kind>, input: &[u8]) -> Result<Answer, Fault> {
+fn answer_to_der(alloc: Global, kind: Option<Kind>, input: &[u8]) -> Result<Answer, Fault>
+    ensures { IfErr result (λ fault. fault ≡ Memory) }
+{
     match kind {
         _ if input.is_empty() => Ok(Answer::Rejected(Refusal::Empty)),
         Some(kind) => told(alloc, kind, input),
@@ -381,7 +402,9 @@ fn answer_to_object(
     alloc: Global,
     asked: Option<Kind>,
     object: &Object<'_>,
-) -> Result<Answer, Fault> {
+) -> Result<Answer, Fault>
+    ensures { IfErr result (λ fault. fault ≡ Memory) }
+{
     if object.is_encrypted || object.label.starts_with(b"ENCRYPTED") {
         return Ok(Answer::Rejected(Refusal::Encrypted));
     }
@@ -430,7 +453,9 @@ impl Report {
 
 /// The lines of the objects of an input, and why others are rejected. The input is in PEM if it has a line that begins
 /// with `-----BEGIN ` and only text before that, and else one object in DER. `Memory` if out of memory.
-pub fn report_on(alloc: Global, kind: Option<Kind>, input: &[u8]) -> Result<Report, Fault> {
+pub fn report_on(alloc: Global, kind: Option<Kind>, input: &[u8]) -> Result<Report, Fault>
+    ensures { IfErr result (λ fault. fault ≡ Memory) }
+{
     let mut report = Report {
         lines: String::new(alloc),
         reasons: String::new(alloc),

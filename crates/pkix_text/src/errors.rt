@@ -83,7 +83,8 @@ fn push_found(out: &mut String, found: Tag, expected: &[Tag]) -> Result<(), Allo
     push_tag(out, found, expected)
 }
 
-/// Appends the name of a field, as it is in the lines. An error has it in quotes, behind the names of its modules.
+/// Appends a location, as it is in the lines: the number of an item, or the name of a field, which an error has in
+/// quotes and after that of its struct.
 fn push_field(out: &mut String, location: &str) -> Result<(), AllocError> {
     let field = location.trim_matches('"').rsplit("::").next();
     let field = field.unwrap_or(location);

@@ -21,7 +21,7 @@ pub(crate) trait Show {
 }
 
 /// The lines of an object, as they grow, and the location of the value that is shown next. The empty location is the
-/// whole. They remember that memory ran out, and then show no more parts, so no call that shows a value has to fail.
+/// whole. They remember that memory ran out, and then show no more parts, so that showing a value never fails.
 #[derive(Drop)]
 pub(crate) struct Lines {
     pub(crate) alloc: Global,
@@ -157,6 +157,7 @@ impl Show for Result<String, AllocError> {
 impl<'a, T: Asn1Readable<'a> + Show, const MINIMUM_LEN: usize, const MAXIMUM_LEN: usize> Show
     for SequenceOf<'a, T, MINIMUM_LEN, MAXIMUM_LEN> {
     fn show(&self, lines: &mut Lines) {
+        // The contract of `clone` says that it never fails, here and for sets.
         lines.items(self.clone().unwrap());
     }
 }
