@@ -190,7 +190,8 @@ class Choice(Form):
         if self.item.reads:
             arms = " ".join(f"{part.pattern.format('x')} => Ok({self.made(part, 'x')})," for part in self.parts)
             body = f"match parser.read_element::<{alias}>()? {{ {arms} }}"
-            parse = self.parse("", body, f"ReadsPrefix {self.means}", f"{self.means}.stops")
+            found = f"IfOk result (λ v. BeginsWithEncodingOf {self.means} v parser.old parser.new)"
+            parse = self.parse("", body, f"ReadsPrefix {self.means}", f"{self.means}.stops", found)
             text += self.impl(f"Asn1Readable<{self.life}>", parse, f"""
             fn can_parse(tag: Tag) -> bool
                 ensures value {{ result ≡ {self.means}.accepts tag }}
@@ -220,11 +221,12 @@ class Choice(Form):
         """A variant of a value that was read, maybe under a tag."""
         return f"{self.name}::{part.name}({value}{'.into_inner()' if part.tag else ''})"
 
-    def parse(self, known, body, reads, stops):
+    def parse(self, known, body, reads, stops, found=""):
         """The method that reads a value, of which this is known before."""
+        found = f"\n ensures found {{ {found} }}" if found else ""
         return f"""
             fn parse({known}parser: &mut Parser<{self.life}>) -> ParseResult<{self.item.own()}>
-                ensures answers {{ {reads} parser.old parser.new result }}
+                ensures answers {{ {reads} parser.old parser.new result }}{found}
                 ensures rest {{ EndsWith parser.old parser.new }}
                 ensures stops {{ OnErr result ({stops} parser.old parser.new) }}
             {{ {body} }}"""

@@ -77,7 +77,4 @@ is_set_content done last ordered short =
     record { elements = h.elements; readable = readable_all h.elements h.small (subst (λ (t : List ℕ). length t < 2 ^ 32) h.is short); ordered = h.ordered; is = h.is }
 
 pub writes_sets : {F E : Type 0} (calls : Once F (MutBor SetState × Unit {0}) (Result (Unit {0}) E × (MutBor SetState × Unit {0}))) → WritesSets calls
-writes_sets calls f keeps content may short =
-    let none : OrderedElements may.shown.now.done may.shown.now.last = subst (λ (t : List ℕ). OrderedElements t may.shown.now.last) (sym may.starts) (subst (OrderedElements []) (sym may.compares_none) no_element) in
-    let ordered = keeps may.shown may.left may.met none in
-    is_set_content content may.left.now.last (subst (λ (t : List ℕ). OrderedElements t may.left.now.last) may.is ordered) short
+writes_sets calls f content may short = is_set_content content may.left.now.last may.ordered short

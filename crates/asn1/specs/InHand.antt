@@ -102,5 +102,6 @@ closure_written calls = written (record {
   plain = ⊥;
   lawful = ⊥;
   one_text = λ p. absurd p;
+  has_text = λ p. absurd p;
   no_closures = λ p. absurd p;
 })

@@ -22,7 +22,7 @@ pub use Rattle.asn1_core.specs.Lemmas.Items
 pub use Rattle.asn1_core.specs.Lemmas.Listing
 pub use Rattle.asn1_core.specs.Lemmas.Sets
 pub use Rattle.asn1_core.specs.Lemmas.TagOrder
-pub mod Inside
+pub use Rattle.asn1_core.specs.Lemmas.Inside
 pub mod Choices
 pub mod Defined
 pub mod Variants

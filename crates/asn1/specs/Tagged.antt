@@ -4,7 +4,7 @@ use Rattle.asn1_core.specs.declared.tag.Tag.{Tag}
 use Rattle.asn1_core.specs.Reading.{whole}
 use Rattle.asn1_core.specs.Der.{Der, Content, simple_der}
 use Rattle.asn1_core.specs.Lemmas.Faults.{whole_faults}
-use Rattle.asn1.specs.Lemmas.Inside.{inside_takes, inside_again}
+use Rattle.asn1_core.specs.Lemmas.Inside.{inside_takes, inside_again}
 use Rattle.asn1_core.specs.declared.tag.TagClass.TheVariants.{Application, Private}
 use Rattle.asn1_core.specs.Tag.{tag_with}
 
@@ -21,9 +21,11 @@ one_inside tag d = record {
   plain = d.plain;
   lawful = d.lawful;
   takes_memory = d.takes_memory;
+  is_read = d.is_read;
   runs_out = d.runs_out;
   read = λ c. whole (d.read c);
   one_text = d.one_text;
+  has_text = d.has_text;
   no_closures = d.no_closures;
   takes = inside_takes d.text (λ m. d.valid m × d.allowed m) d.read d.takes;
   again = λ m l v a s. inside_again d.accepts d.text d.read m (d.shape m l v) (d.again m [] l v a) s;

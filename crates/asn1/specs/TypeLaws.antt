@@ -8,7 +8,7 @@ use Rattle.asn1.specs.Lists.{AreItems, left}
 use Rattle.asn1_core.specs.Reading.{Fits}
 use Rattle.std.specs.Fn.{Once}
 use Rattle.std.specs.Borrow.{MutBor}
-use Rattle.asn1_core.specs.SetWriting.{SetState, KeepsElements, MayWriteSet}
+use Rattle.asn1_core.specs.SetWriting.{SetState, MayWriteSet}
 
 -- The laws of reading back hold; a value has one encoding; reading doesn't allocate; and there are no bounds.
 pub record IsSound {V : Type 0} (d : Der V) : Type 0 where
@@ -21,6 +21,7 @@ pub record IsSound {V : Type 0} (d : Der V) : Type 0 where
 pub record IsSoundOwned {V : Type 0} (d : Der V) : Type 0 where
   pub lawful : d.lawful
   pub plain : d.plain
+  pub takes_some : d.takes_memory
   pub unbounded : d.bounded → ⊥
 
 -- A type has one encoding a value if its part has, allocates only if its part does, and has no bounds of its own.
@@ -73,9 +74,6 @@ SetsTellMultisets d set_text = (ms ns : List d.Meaning) → AreElements d ms →
 abbrev pub ValuesAreElements : {V : Type 0} → Der V → Type 0
 ValuesAreElements d = d.lawful → d.is_element → (m : d.Meaning) → d.valid m → Fits (d.text m) → IsElementText (d.text m)
 
--- A closure that keeps elements in order whenever it returns Ok writes the contents octets of a set, if these are short
--- enough to be read.
+-- What a closure writes as a set is the contents octets of a set, if these are short enough to be read.
 abbrev pub WritesSets : {F E : Type 0} → Once F (MutBor SetState × Unit {0}) (Result (Unit {0}) E × (MutBor SetState × Unit {0})) → Type 0
-WritesSets {F} calls = (f : F)
-    → ((shown left : MutBor SetState) → calls.post f (shown, tt) (Ok tt, (left, tt)) → KeepsElements shown.now left.now)
-    → (content : List ℕ) → MayWriteSet calls f content → length content < 2 ^ 32 → IsSetContent content
+WritesSets {F} calls = (f : F) (content : List ℕ) → MayWriteSet calls f content → length content < 2 ^ 32 → IsSetContent content

@@ -1,18 +1,20 @@
 //! Which types are lawful, have one encoding for each value, allocate and have bounds. Each law is the contract of a
 //! function that does nothing. A type with parts is as its parts are.
 
-ghost use Rattle.std.specs.Prelude.{◌≡◌, List, false, ℕ};
+ghost use Rattle.std.specs.Prelude.{◌≡◌, ◌<◌, ◌^◌, List, false, ℕ, length};
 ghost use Rattle.asn1_core.specs.declared.tag.Tag.{Tag};
+ghost use Rattle.asn1_core.specs.Reading.{Fits};
+ghost use Rattle.asn1_core.specs.SetWriting.{IsElementWritten};
 ghost use Rattle.asn1.specs.Structures.{structure};
 ghost use Rattle.asn1.specs.TypeLaws.{Inherits, InheritsBoth, IsSound, IsSoundOwned};
 
 use crate::fields::{Field, Last, Row};
 use crate::{
     BMPString, BigInt, BigUint, BitString, Choice1, Choice2, Choice3, DefaultValue, Defaulted,
-    Enumerated, ErrorInto, Explicit, GeneralizedTime, IA5String, MeaningEq, Null, ObjectIdentifier,
-    OctetStringEncoded, OwnedBigInt, OwnedBigUint, OwnedBitString, PrintableString, Sequence,
-    SequenceOf, SequenceOfWriter, Set, SetOf, SetOfWriter, Tlv, UniversalString, UtcTime,
-    Utf8String, VisibleString, X509GeneralizedTime,
+    Enumerated, ErrorInto, Explicit, GeneralizedTime, IA5String, Implicit, MeaningEq, Null,
+    ObjectIdentifier, OctetStringEncoded, OwnedBigInt, OwnedBigUint, OwnedBitString,
+    PrintableString, Sequence, SequenceOf, SequenceOfWriter, Set, SetOf, SetOfWriter, Tlv,
+    UniversalString, UtcTime, Utf8String, VisibleString, X509GeneralizedTime,
 };
 use asn1_core::Asn1Type;
 
@@ -57,17 +59,18 @@ pub fn elements_are_sound()
     ensures set { IsSound ⟦<Set<'static> as Asn1Type>⟧.der }
 {}
 
-/// The same of types that own memory, except that reading them allocates. So does reading boxes, whatever they hold.
+/// The same of types that own memory, except that reading them allocates.
 pub fn owned_types_are_sound()
     ensures big_int { IsSoundOwned ⟦<OwnedBigInt as Asn1Type>⟧.der }
     ensures big_uint { IsSoundOwned ⟦<OwnedBigUint as Asn1Type>⟧.der }
     ensures bits { IsSoundOwned ⟦<OwnedBitString as Asn1Type>⟧.der }
 {}
 
-/// Boxes and references are lawful if what they hold is, and have its encoding.
+/// Boxes and references are lawful if what they hold is, and have its encoding. Reading a box allocates.
 pub fn references_are_lawful<'a, T: Asn1Type + 'a>()
     ensures boxed { T.der.lawful → ⟦<Box<T> as Asn1Type>⟧.der.lawful }
     ensures box_plain { T.der.plain → ⟦<Box<T> as Asn1Type>⟧.der.plain }
+    ensures box_takes { ⟦<Box<T> as Asn1Type>⟧.der.takes_memory }
     ensures box_unbounded { (T.der.bounded → ⊥) → ⟦<Box<T> as Asn1Type>⟧.der.bounded → ⊥ }
     ensures reference { T.der.lawful → ⟦<&'a T as Asn1Type>⟧.der.lawful }
     ensures as_held { Inherits T.der ⟦<&'a T as Asn1Type>⟧.der }
@@ -91,10 +94,25 @@ pub fn lists_are_lawful<'a, T: Asn1Type + 'a, const MIN: usize, const MAX: usize
     ensures set_slice_plain { T.der.plain → ⟦<SetOfWriter<'a, T> as Asn1Type>⟧.der.plain }
 {}
 
+/// No two values that may be read back share an encoding. The encoding of a value may be written, if the type has one
+/// for each value; it can be read if it is shorter than 2^32 octets; and whatever is written of a value is nothing or one
+/// element.
+pub fn encodings_tell_values<T: Asn1Type>()
+    ensures one_value { T.der.lawful → (m n : T.der.Meaning) → T.der.valid m → T.der.valid n
+        → T.der.allowed m → T.der.allowed n → Fits (T.der.text m) → T.der.text m ≡ T.der.text n
+        → m ≡ n }
+    ensures has_text { T.der.plain → (m : T.der.Meaning) → T.der.valid m
+        → T.der.texts m (T.der.text m) }
+    ensures short { T.der.lawful → (m : T.der.Meaning) → T.der.valid m
+        → length (T.der.text m) < 2 ^ 32 → Fits (T.der.text m) }
+    ensures element { (m : T.der.Meaning) → IsElementWritten T.der m }
+{}
+
 /// Wrappers have one encoding for each value, allocate and have bounds as their parts do.
 pub fn wrappers_inherit<T: Asn1Type, const TAG: u32>()
     ensures option { Inherits T.der ⟦<Option<T> as Asn1Type>⟧.der }
     ensures explicit { Inherits T.der ⟦<Explicit<T, TAG> as Asn1Type>⟧.der }
+    ensures implicit { T.der.is_simple → Inherits T.der ⟦<Implicit<T, TAG> as Asn1Type>⟧.der }
     ensures octet_string { Inherits T.der ⟦<OctetStringEncoded<T> as Asn1Type>⟧.der }
     ensures choice { Inherits T.der ⟦<Choice1<T> as Asn1Type>⟧.der }
 {}

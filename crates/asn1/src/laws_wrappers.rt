@@ -67,7 +67,7 @@ pub fn choices_are_elements<T1: Asn1Type, T2: Asn1Type, T3: Asn1Type>()
 /// A type that an item defines is lawful under an explicit tag if the type is lawful and its encoding is an element.
 /// Its other properties are those without the tag.
 pub fn defined_types_are_lawful<T: Asn1Type, U: Asn1DefinedBy<T>, const TAG: u32>()
-    ensures lawful { U.by.means.lawful → U.by.means.is_element →
+    ensures lawful { U.by.means.lawful → ((item : U.by.Item) → U.by.means.is_element item) →
         ⟦<Explicit<U, TAG> as Asn1DefinedBy<T>>⟧.by.means.lawful }
     ensures plain { U.by.means.plain → ⟦<Explicit<U, TAG> as Asn1DefinedBy<T>>⟧.by.means.plain }
     ensures takes_none { (U.by.means.takes_memory → ⊥) →

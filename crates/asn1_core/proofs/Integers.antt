@@ -1,5 +1,5 @@
 -- Integers as the code reads and writes them: sixteen octets, of which the last are the contents octets.
-use Rattle.std.proofs.Common.{◌≡◌, ℕ, zero, suc, ◌+◌, ◌-◌, ◌*◌, ◌/◌, ◌%◌, ◌^◌, ◌<◌, ◌≤◌, ◌⊎◌, Bool, true, false, if◌then◌else◌, leb, Ok, Err, List, [], ◌∷◌, ◌++◌, length, get_or, take, drop, replicate, refl, sym, ap, subst, ◌∙◌, inl, inr, arith, lit<, lit≤}
+use Rattle.std.proofs.Common.{◌≡◌, ℕ, zero, suc, ◌+◌, ◌-◌, ◌*◌, ◌/◌, ◌%◌, ◌^◌, ◌<◌, ◌≤◌, ◌⊎◌, Bool, true, false, if◌then◌else◌, leb, Ok, Err, List, [], ◌∷◌, ◌++◌, length, get_or, take, drop, replicate, refl, sym, ap, subst, ◌∙◌, inl, inr, ⊎_elim, arith, lit<, lit≤}
 use Rattle.std.specs.Prelude.{ℤ, pos, negsuc, neg_ℤ, ◌≤ℤ◌, ◌<ℤ◌, int_lt, unsigned_abs, FitsSigned}
 use Rattle.std.specs.Int.Digits.{digits_of}
 use Rattle.std.specs.Int.{w128, to_be_bytes, from_be_bytes, bytes_high_first, byte_worth, sum_through, cast_unsigned, cast_signed}
@@ -52,6 +52,22 @@ long_below c low is e l h least =
     let n : 2 ^ 71 ≤ number (turned c) = long_low (turned c) (turned_shortest c is e) (omega (arith, turned_length c)) in
     omega (arith, ints)
     )
+
+beyond_itself : {z : ℤ} → (z <ℤ z) ⊎ (z <ℤ z) → ⊥
+beyond_itself (inl h) = omega (arith, ints)
+beyond_itself (inr h) = omega (arith, ints)
+
+-- a number of fixed width has at most nine contents octets
+pub content_few : (z : ℤ) → neg_ℤ (pos (2 ^ 71)) ≤ℤ z → z <ℤ pos (2 ^ 71) → length (integer_content z) ≤ 9
+content_few z least most =
+    let c : List ℕ = integer_content z in
+    ⊎_elim
+    (λ (long : 9 < length c). ⊎_elim
+    (λ (h : get_or c 0 0 < 128). absurd (beyond_itself (inl (subst (λ (x : ℤ). z <ℤ x) (content_value z) (long_above c z (content_shortest z) long h most)))))
+    (λ (h : 128 ≤ get_or c 0 0). absurd (beyond_itself (inr (subst (λ (x : ℤ). x <ℤ z) (content_value z) (long_below c z (content_text z) (content_shortest z) long h least)))))
+    (cases_lt (get_or c 0 0) 128))
+    (λ (few : length c ≤ 9). few)
+    (cases_lt 9 (length c))
 
 -- ---- the sixteen octets of a number
 

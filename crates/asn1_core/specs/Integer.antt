@@ -1,5 +1,5 @@
 -- Integers and their contents octets (X.690 8.3).
-use Rattle.std.specs.Prelude.{ℕ, ◌+◌, ◌-◌, ◌*◌, ◌/◌, ◌<◌, ◌≡◌, ◌↔◌, ℤ, pos, negsuc, Bool, true, false, not, ◌||◌, ◌==◌, if◌then◌else◌, nat_le, int_lt, List, [], ◌∷◌, length, map, Result, Ok, Err}
+use Rattle.std.specs.Prelude.{ℕ, zero, suc, ◌+◌, ◌-◌, ◌*◌, ◌/◌, ◌<◌, ◌≡◌, ◌↔◌, ℤ, pos, negsuc, Bool, true, false, not, ◌||◌, ◌==◌, if◌then◌else◌, nat_le, int_lt, List, [], ◌∷◌, length, map, Result, Ok, Err}
 use Rattle.std.specs.Int.Digits.{digits_of}
 use Rattle.asn1_core.specs.declared.parser.ParseErrorKind.{ParseErrorKind}
 use Rattle.asn1_core.specs.declared.parser.ParseErrorKind.TheVariants.{InvalidValue, IntegerOverflow}
@@ -70,3 +70,9 @@ ReadsContentsAlone = (c : List ℕ) (z : ℤ) → IsText c → (read_integer c �
 abbrev pub NineBitsTell : Type 0
 NineBitsTell = (octet next : ℕ) (octets : List ℕ) → IsText (octet ∷ next ∷ octets)
     → (is_minimal (octet ∷ next ∷ octets) ≡ false) ↔ (signed_number (octet ∷ next ∷ octets) ≡ signed_number (next ∷ octets))
+
+-- Rejects 0, for a type without it.
+abbrev pub unless_zero : ℤ → Result ℤ Fault
+unless_zero (pos zero) = Err (fault InvalidValue)
+unless_zero (pos (suc n)) = Ok (pos (suc n))
+unless_zero (negsuc n) = Ok (negsuc n)

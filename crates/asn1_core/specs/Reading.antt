@@ -33,6 +33,10 @@ whole read = read >>= λ x. all_taken x.0 x.1
 abbrev pub Fits : List ℕ → Type 0
 Fits text = (text ≡ []) ⊎ ((e : Element) × IsReadable e × (text ≡ element_text e))
 
+-- Nothing, or the encoding of one element.
+abbrev pub IsNothingOrElement : List ℕ → Type 0
+IsNothingOrElement text = (text ≡ []) ⊎ ((e : Element) × (text ≡ element_text e))
+
 -- What is consumed at the start of `t` is `text`, which is nothing or one readable element.
 pub record Takes (t text rest : List ℕ) : Type 0 where
   pub is : t ≡ text ++ rest

@@ -1,5 +1,8 @@
 -- What calls that read return, a relation for each: the value, the first error, or out of memory.
-use Rattle.std.specs.Prelude.{ℕ, ◌≡◌, List, Result}
+use Rattle.std.specs.Prelude.{ℕ, ◌≡◌, ◌++◌, List, Result, Ok}
+use Rattle.asn1_core.specs.declared.tag.Tag.{Tag}
+use Rattle.asn1_core.specs.declared.parser.Place.{Place}
+use Rattle.asn1_core.specs.Element.{element, element_text}
 use Rattle.asn1_core.specs.Fault.{Fault}
 use Rattle.asn1_core.specs.Tag.{implicit_tag_of, explicit_tag_of}
 use Rattle.asn1_core.specs.Reading.{Answers, simple, simple_out, whole}
@@ -39,6 +42,23 @@ ReadsDefined by item octets remaining result =
 abbrev pub IsEncodingOf : {V : Type 0} → Der V → V → List ℕ → Type 0
 IsEncodingOf d v octets = (octets ≡ d.text (d.meaning v)) × (d.valid (d.meaning v) × d.allowed (d.meaning v))
 
--- Each value of the type has one encoding, which is read back as that value, and nothing else is read.
+-- The octets begin with the encoding of this value, which is valid and within the type's bounds; these remain.
+abbrev pub BeginsWithEncodingOf : {V : Type 0} → Der V → V → List ℕ → List ℕ → Type 0
+BeginsWithEncodingOf d v octets remaining = (octets ≡ d.text (d.meaning v) ++ remaining) × (d.valid (d.meaning v) × d.allowed (d.meaning v))
+
+-- The octets begin with an element with this tag and these contents octets; these remain.
+abbrev pub BeginsWithElement : Tag → List ℕ → List ℕ → List ℕ → Type 0
+BeginsWithElement tag content octets remaining = octets ≡ element_text (element tag content) ++ remaining
+
+-- A call returned this value and left these octets, or memory ran out at one of the locations.
+abbrev pub ReturnsValue : {V : Type 0} → (d : Der V) → (List Place → Type 0) → Result V Fault → List ℕ → d.Meaning → List ℕ → Type 0
+ReturnsValue d out result remaining m rest = Answers {M = d.Meaning × List ℕ} (λ v. (d.meaning v, remaining)) out result (Ok (m, rest))
+
+-- Each value of the type has one encoding, and values are read: the encoding of a value within the type's bounds is read
+-- back as that value, and nothing else is read.
 abbrev pub HasOneEncoding : {V : Type 0} → Der V → Type 0
-HasOneEncoding d = d.lawful × d.plain
+HasOneEncoding d = d.lawful × d.plain × d.is_read
+
+-- Each value of the type has one encoding, whether the type is read or only written.
+abbrev pub IsWrittenInOneWay : {V : Type 0} → Der V → Type 0
+IsWrittenInOneWay d = d.lawful × d.plain

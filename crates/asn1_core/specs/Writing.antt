@@ -67,6 +67,14 @@ module _ {F E : Type 0} (calls : Once F (MutBor Writer × Unit {0}) (Result (Uni
     pub front : List ℕ
     pub called : WriterCall front (Ok tt) (front ++ text)
 
+  -- the closure appends these octets whenever it returns Ok
+  abbrev pub AlwaysAppends : List ℕ → Type 0
+  AlwaysAppends text = (shown left : MutBor Writer) → calls.post f (shown, tt) (Ok tt, (left, tt)) → left.now.buf.now.bytes ≡ shown.now.buf.now.bytes ++ text
+
+  -- the closure may return that error, with these octets in the buffer
+  abbrev pub MayAnswerAfter : List ℕ → E → Type 0
+  MayAnswerAfter old e = (new : List ℕ) × WriterCall old (Err e) new
+
   -- the closure may return that error
   pub record MayAnswer (e : E) : Type 0 where
     pub old : List ℕ

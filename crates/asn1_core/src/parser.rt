@@ -1,17 +1,17 @@
 //! Reading: errors with their locations, framing, and the parser.
 
-ghost use Rattle.std.specs.Prelude.{◌≡◌, ◌↔◌, ℕ, ◌*◌, ◌^◌, ◌<◌, ◌≤◌, ◌==◌, ◌++◌, [], List, Result, length, IsTrue, IfOk, IfErr, IfSome, OnErr, Ok};
+ghost use Rattle.std.specs.Prelude.{◌≡◌, ◌↔◌, ℕ, ◌*◌, ◌^◌, ◌<◌, ◌≤◌, ◌==◌, ◌++◌, [], List, Result, length, IsTrue, IfOk, IfErr, IfSome, OnErr, Ok, false};
 ghost use Rattle.std.specs.Fn.{FnOnceReturnsAtMut};
 ghost use Rattle.asn1_core.specs.declared.parser.ParseErrorKind.{ParseErrorKind};
 ghost use Rattle.asn1_core.specs.declared.parser.ParseErrorKind.TheVariants.{ShortData};
 ghost use Rattle.asn1_core.specs.Text.{IsText, number};
-ghost use Rattle.asn1_core.specs.Tag.{tag_front, found_tag};
+ghost use Rattle.asn1_core.specs.Tag.{tag_front, found_tag, explicit_tag_of, implicit_tag_of};
 ghost use Rattle.asn1_core.specs.Length.{length_front};
 ghost use Rattle.asn1_core.specs.Element.{Element, IsFront, content_front, front, element_text};
 ghost use Rattle.asn1_core.specs.Tlv.{element_of, full_octets, stripped};
 ghost use Rattle.asn1_core.specs.Fault.{fault, within, framed, AnswersError, AnswersKind, IsOfText, place_of, error_text, kind_eq, place_eq, fault_eq};
-ghost use Rattle.asn1_core.specs.Reading.{Answers, EndsWith, IsHandedOn, Fits, rest_refused, expected_front, simple_stops};
-ghost use Rattle.asn1_core.specs.Reads.{IsEncodingOf, ReadsExplicit, ReadsImplicit, ReadsPrefix, ReadsWhole};
+ghost use Rattle.asn1_core.specs.Reading.{Answers, EndsWith, IsHandedOn, Fits, rest_refused, expected_front, simple_out, simple_stops, stands};
+ghost use Rattle.asn1_core.specs.Reads.{BeginsWithElement, BeginsWithEncodingOf, IsEncodingOf, ReadsExplicit, ReadsImplicit, ReadsPrefix, ReadsWhole, ReturnsValue};
 ghost use Rattle.asn1_core.specs.Laws.{IsShort, with_more};
 ghost use Rattle.std.specs.Cmp.{decided, partial_equiv_from_equiv};
 ghost use Rattle.asn1_core.specs.Lemmas.Same.{place_eq-decides, fault_eq-decides};
@@ -19,7 +19,7 @@ ghost use Rattle.asn1_core.specs.Lemmas.Same.{place_eq-decides, fault_eq-decides
 mod name;
 
 use crate::tag::{LONG_FORM, Tag, explicit_tag, implicit_tag};
-use crate::types::{Asn1Readable, SimpleAsn1Readable, Tlv};
+use crate::types::{Asn1Readable, Asn1Type, SimpleAsn1Readable, Tlv};
 use name::Name;
 use std::alloc::Global;
 use std::error::Error;
@@ -315,8 +315,10 @@ impl<'a> Parser<'a> {
     /// The remaining octets: those that aren't read yet.
     #[inline]
     pub fn rest(&self) -> &'a [u8]
-        ensures { result.now ≡ self.now }
+        ensures same { result.now ≡ self.now }
+        ensures octets { IsText self.now }
     {
+        self.are_octets();
         self.data
     }
 
@@ -338,6 +340,14 @@ impl<'a> Parser<'a> {
             Ok((tag, _rest)) => Some(tag),
             Err(_) => None,
         }
+    }
+
+    /// States that the remaining octets are octets.
+    #[inline(always)]
+    pub(crate) fn are_octets(&self)
+        ensures { IsText self.now }
+    {
+        self.data.known()
     }
 
     /// Rejects remaining octets with `ExtraData`.
@@ -402,6 +412,20 @@ impl<'a> Parser<'a> {
     #[inline(always)]
     pub fn read_element<T: Asn1Readable<'a>>(&mut self) -> ParseResult<T>
         ensures answers { ReadsPrefix T.der self.old self.new result }
+
+        // The octets that were there are the value's encoding and the octets that remain.
+        ensures found { IfOk result (λ v. BeginsWithEncodingOf T.der v self.old self.new) }
+
+        // The encoding of a value is read as that value.
+        ensures only { (m : T.der.Meaning) (rest : List ℕ) → T.der.lawful → T.der.valid m
+            → T.der.allowed m → Fits (T.der.text m)
+            → (T.der.text m ≡ [] → stands T.der.accepts rest ≡ false)
+            → self.old ≡ T.der.text m ++ rest
+            → ReturnsValue T.der (T.der.runs_out self.old) result self.new m rest }
+
+        // A value that is one element is not empty, so fewer octets remain.
+        ensures progress { T.der.lawful → T.der.is_element
+            → IfOk result (λ _. length self.new < length self.old) }
         ensures rest { EndsWith self.old self.new }
         ensures stops { OnErr result (T.der.stops self.old self.new) }
 
@@ -418,9 +442,33 @@ impl<'a> Parser<'a> {
     /// `UnexpectedTag`, the first error of the value in the contents octets, and `ExtraData` if octets remain there.
     pub fn read_explicit_element<T: Asn1Readable<'a>>(&mut self, tag: u32) -> ParseResult<T>
         ensures answers { ReadsExplicit tag T.der self.old self.new result }
+
+        // The octets that were there are the element of the value's encoding and the octets that remain.
+        ensures found { IfOk result (λ v. BeginsWithElement (explicit_tag_of tag)
+            (T.der.text (T.der.meaning v)) self.old self.new
+            × (T.der.valid (T.der.meaning v) × T.der.allowed (T.der.meaning v))) }
+
+        // Such an element is read as that value.
+        ensures only { (m : T.der.Meaning) (rest : List ℕ) → T.der.lawful → T.der.valid m
+            → T.der.allowed m → length (T.der.text m) < 2 ^ 32
+            → BeginsWithElement (explicit_tag_of tag) (T.der.text m) self.old rest
+            → ReturnsValue T.der (simple_out (explicit_tag_of tag) T.der.runs_out self.old) result
+            self.new m rest }
+        ensures progress { IfOk result (λ _. length self.new < length self.old) }
         ensures rest { EndsWith self.old self.new }
         ensures stops { OnErr result (simple_stops self.old self.new) }
         ensures no_want { ¬ T.der.takes_memory → IfErr result IsOfText }
+    {
+        self.are_octets();
+        self.read_explicit(tag)
+    }
+
+    /// The same, in a function of its own so that the further clauses are proved at one return.
+    #[inline(always)]
+    fn read_explicit<T: Asn1Readable<'a>>(&mut self, tag: u32) -> ParseResult<T>
+        ensures answers { ReadsExplicit tag T.der self.old self.new result }
+        ensures rest { EndsWith self.old self.new }
+        ensures stops { OnErr result (simple_stops self.old self.new) }
     {
         let content = kind_as_error(self.read_expected(explicit_tag(tag)))?;
         parse_single::<T>(self.alloc, content)
@@ -432,9 +480,35 @@ impl<'a> Parser<'a> {
     /// `UnexpectedTag`, and the first error of the contents octets.
     pub fn read_implicit_element<T: SimpleAsn1Readable<'a>>(&mut self, tag: u32) -> ParseResult<T>
         ensures answers { ReadsImplicit tag T.der self.old self.new result }
+
+        // The octets that were there are the element of the value's contents octets and the octets that remain.
+        ensures found { IfOk result (λ v. BeginsWithElement
+            (implicit_tag_of tag T.der.content.tag) (T.der.content.text (T.der.meaning v))
+            self.old self.new × (T.der.content.valid (T.der.meaning v)
+            × T.der.content.allowed (T.der.meaning v))) }
+
+        // Such an element is read as that value.
+        ensures only { (m : T.der.Meaning) (rest : List ℕ) → T.der.content.lawful
+            → T.der.content.valid m → T.der.content.allowed m
+            → length (T.der.content.text m) < 2 ^ 32
+            → BeginsWithElement (implicit_tag_of tag T.der.content.tag) (T.der.content.text m)
+            self.old rest → ReturnsValue T.der (simple_out (implicit_tag_of tag
+            T.der.content.tag) T.der.content.runs_out self.old) result self.new m rest }
+        ensures progress { IfOk result (λ _. length self.new < length self.old) }
         ensures rest { EndsWith self.old self.new }
         ensures stops { OnErr result (simple_stops self.old self.new) }
-        ensures no_want { ¬ T.der.content.takes_memory → IfErr result IsOfText }
+        ensures no_want { ¬ T.der.takes_memory → IfErr result IsOfText }
+    {
+        self.are_octets();
+        self.read_implicit(tag)
+    }
+
+    /// The same, in a function of its own so that the further clauses are proved at one return.
+    #[inline(always)]
+    fn read_implicit<T: SimpleAsn1Readable<'a>>(&mut self, tag: u32) -> ParseResult<T>
+        ensures answers { ReadsImplicit tag T.der self.old self.new result }
+        ensures rest { EndsWith self.old self.new }
+        ensures stops { OnErr result (simple_stops self.old self.new) }
     {
         let content = kind_as_error(self.read_expected(implicit_tag(tag, T::tag())))?;
         T::parse_data(self.alloc, content)

@@ -1,10 +1,10 @@
 //! Writing: the buffer, and the writer of elements.
 
-ghost use Rattle.std.specs.Prelude.{◌≡◌, ◌+◌, ◌-◌, ◌^◌, ◌<◌, ◌≤◌, ◌++◌, [], ◌∷◌, length, take, drop, Some, IfOk, SomeIff, IfErr, OnOk, OnErr, IsOk, IsOkUnless};
+ghost use Rattle.std.specs.Prelude.{◌≡◌, ◌+◌, ◌-◌, ◌^◌, ◌<◌, ◌≤◌, ◌++◌, [], ◌∷◌, length, take, drop, List, ℕ, Ok, Some, IfOk, SomeIff, IfErr, OnOk, OnErr, IsOk, IsOkUnless};
 ghost use Rattle.asn1_core.specs.Tag.{explicit_tag_of, implicit_tag_of};
 ghost use Rattle.asn1_core.specs.Length.{length_text};
 ghost use Rattle.asn1_core.specs.Fault.{write_error_text};
-ghost use Rattle.asn1_core.specs.Writing.{IsWriter, WriterCall, MayAnswer, buffer_name, buffer_of, octets_of, Refuses, IsElementOf, full_count};
+ghost use Rattle.asn1_core.specs.Writing.{AlwaysAppends, IsWriter, WriterCall, MayAnswerAfter, buffer_name, buffer_of, octets_of, Refuses, IsElementOf, full_count};
 ghost use Rattle.asn1_core.specs.Der.{IsWritable, IsWritableContent};
 ghost use Rattle.asn1_core.specs.declared.writer.WriteError.TheVariants.{AllocationError};
 
@@ -535,7 +535,11 @@ pub fn write<E: From<WriteError>, F: Fn(&mut Writer<'_>) -> Result<(), E> + Drop
 ) -> Result<Vec<u8>, E>
     requires { IsWriter F.FnOnce f }
     ensures ok { IfOk result (λ v. WriterCall F.FnOnce f [] (Ok tt) v.items) }
-    ensures error { IfErr result (MayAnswer F.FnOnce f) }
+
+    // What `f` appends whenever it returns `Ok` is returned.
+    ensures appends { (text : List ℕ) → AlwaysAppends F.FnOnce f text
+        → IfOk result (λ v. v.items ≡ text) }
+    ensures error { IfErr result (MayAnswerAfter F.FnOnce f []) }
 {
     let mut buf = WriteBuf::new(Vec::new(alloc));
     let mut writer = Writer::new(&mut buf);

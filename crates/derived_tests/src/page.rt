@@ -1,11 +1,11 @@
 //! Structures and choices: each attribute of the original's derives for them, once.
-// Printed by scripts/derive from declarations/page.rs, with the sum 7e8196dc.
+// Printed by scripts/derive from declarations/page.rs, with the sum 99124563.
 
-ghost use Rattle.std.specs.Prelude.{◌≡◌, ◌∷◌, [], negsuc, OnErr};
+ghost use Rattle.std.specs.Prelude.{◌≡◌, ◌∷◌, [], negsuc, OnErr, IfOk};
 ghost use Rattle.std.proofs.Common.{inl, inr};
 ghost use Rattle.asn1.specs.Choices.{choice_der, only, or};
 ghost use Rattle.asn1.specs.Reading.{EndsWith};
-ghost use Rattle.asn1.specs.Reads.{HasOneEncoding, ReadsContents, ReadsPrefix};
+ghost use Rattle.asn1.specs.Reads.{BeginsWithEncodingOf, HasOneEncoding, ReadsContents, ReadsPrefix};
 ghost use Rattle.asn1.specs.Structures.{defaulted, explicit, field_names, implicit, structure, fields0, fields1, fields2, fields4};
 
 use asn1::fields::{Fields2, Fields4, Last, NoFields, Row, plain_length, write_plain};
@@ -241,6 +241,8 @@ impl<'a> Asn1Readable<'a> for ResponderId<'a> {
     fn parse(parser: &mut Parser<'a>) -> ParseResult<ResponderId<'a>>
         ensures answers { ReadsPrefix ⟦<ResponderId<'a> as Asn1Type>⟧.der parser.old parser.new
             result }
+        ensures found { IfOk result (λ v. BeginsWithEncodingOf ⟦<ResponderId<'a> as Asn1Type>⟧.der v
+            parser.old parser.new) }
         ensures rest { EndsWith parser.old parser.new }
         ensures stops { OnErr result (⟦<ResponderId<'a> as Asn1Type>⟧.der.stops parser.old
             parser.new) }

@@ -6,7 +6,7 @@ use Rattle.asn1_core.specs.declared.parser.ParseErrorKind.TheVariants.{EncodedDe
 use Rattle.asn1_core.specs.Text.{IsText}
 use Rattle.asn1_core.specs.Element.{Element, element_text, ◌>>=◌}
 use Rattle.asn1_core.specs.Fault.{Fault, fault, IsOfText}
-use Rattle.asn1_core.specs.Reading.{Takes, Fits, IsOneElement, stands}
+use Rattle.asn1_core.specs.Reading.{Takes, Fits, IsOneElement, IsNothingOrElement, stands}
 use Rattle.asn1_core.specs.Options.{option_read}
 use Rattle.asn1_core.specs.Lemmas.Elements.{element_some}
 use Rattle.asn1_core.specs.Lemmas.Results.{ok_is, bind_ok}
@@ -98,6 +98,19 @@ default_faults text default accepts read law t =
 pub default_one : (b : Bool) (text : List ℕ) (texts : List ℕ → Type 0) → ((t : List ℕ) → texts t → t ≡ text) → (t : List ℕ) → unless b texts t → t ≡ unless_text b text
 default_one true text texts law t e = e
 default_one false text texts law t e = law t e
+
+has_unless : (b : Bool) (text : List ℕ) (texts : List ℕ → Type 0) → (b ≡ false → texts text) → unless b texts (unless_text b text)
+has_unless true text texts law = refl
+has_unless false text texts law = law refl
+
+pub default_has : {M : Type 0} (text : M → List ℕ) (default : M) (texts : M → List ℕ → Type 0) (valid : M → Type 0) → ((m : M) → valid m → texts m (text m)) →
+    (m : M) → (m ≡ default) ⊎ (valid m × (same_text text m default ≡ false)) → unless (same_text text m default) (texts m) (default_text text default m)
+default_has {M} text default texts valid law m (inl e) = has_unless (same_text text m default) (text m) (texts m) (λ other. apart_is (same_text text m default) (ap (λ (x : M). same_text text x default) e ∙ same_itself text default) other)
+default_has text default texts valid law m (inr v) = has_unless (same_text text m default) (text m) (texts m) (λ other. law m v.0)
+
+pub default_at_most_one : (b : Bool) (texts : List ℕ → Type 0) → ((t : List ℕ) → texts t → IsNothingOrElement t) → (t : List ℕ) → unless b texts t → IsNothingOrElement t
+default_at_most_one true texts law t e = inl e
+default_at_most_one false texts law t e = law t e
 
 -- a value that is valid and allowed, taken apart
 pub default_both : {M : Type 0} (default : M) (P Q : M → Type 0) (R : M → Type 0) (m : M) → (m ≡ default) ⊎ ((P m × Q m) × R m) → ((m ≡ default) ⊎ (P m × R m)) × ((m ≡ default) ⊎ Q m)

@@ -122,6 +122,8 @@ pub(crate) fn is_default<T: MeaningEq + Drop, D: DefaultValue<T>>(inner: &T) -> 
 
 impl<'a, T: Asn1Readable<'a> + MeaningEq, D: DefaultValue<T>> Asn1Readable<'a> for Defaulted<T, D> {
     fn parse(parser: &mut Parser<'a>) -> ParseResult<Self> {
+        // This tells that the parser holds octets.
+        let _octets = parser.rest();
         let read = parser.read_element::<Option<T>>();
         or_default(read, D::value())
     }

@@ -1,6 +1,6 @@
 -- Each number has one encoding in contents octets. The first nine bits tell whether octets are contents octets.
 use Rattle.std.proofs.Common.{◌≡◌, ℕ, zero, suc, ◌+◌, ◌-◌, ◌*◌, ◌^◌, ◌<◌, ◌≤◌, ◌⊎◌, ◌↔◌, Bool, true, false, if◌then◌else◌, eqb, ◌||◌, List, [], ◌∷◌, length, get_or, Result, Ok, Err, IfErr, refl, sym, ap, subst, ◌∙◌, inl, inr, arith, lit<, lit≤}
-use Rattle.std.specs.Prelude.{ℤ, pos, negsuc, ◌-ℤ◌, ◌≤ℤ◌, ◌<ℤ◌, int_lt}
+use Rattle.std.specs.Prelude.{◌≢◌, ℤ, pos, negsuc, ◌-ℤ◌, ◌≤ℤ◌, ◌<ℤ◌, int_lt}
 use Rattle.std.specs.Int.Digits.{digits_of}
 use Rattle.std.proofs.lemmas.Int.{ints}
 use Rattle.std.proofs.lemmas.Int.Digits.{number_digits_of, all_below_base_digits_of, first_digits_of}
@@ -8,10 +8,11 @@ use Rattle.std.proofs.lemmas.Bool.{le-leb, lt-leb, ne_eqb, eqb-true, eqb-false, 
 use Rattle.std.proofs.lemmas.List.{length-map}
 use Rattle.std.proofs.Math.Nat.{pow-suc, add-mul}
 use Rattle.asn1_core.specs.Text.{IsText, number, signed_number}
-use Rattle.asn1_core.specs.Integer.{IsIntegerContent, nine_bits, is_minimal, with_sign, turned, integer_content, read_integer, below, within_range, read_sized}
+use Rattle.asn1_core.specs.Integer.{IsIntegerContent, nine_bits, is_minimal, with_sign, turned, integer_content, read_integer, below, within_range, read_sized, unless_zero}
+use Rattle.asn1_core.specs.Element.{◌>>=◌}
 use Rattle.asn1_core.specs.Fault.{Fault, fault, IsOfText}
 use Rattle.asn1_core.specs.Lemmas.Digits.{digits_back, number_by_digits, Leads}
-use Rattle.asn1_core.specs.Lemmas.Results.{ok_is, passed, bind_ok}
+use Rattle.asn1_core.specs.Lemmas.Results.{done, ok_is, passed, bind_ok}
 use Rattle.asn1_core.specs.Lemmas.Faults.{bind_faults, passed_faults, missed_faults}
 use Rattle.asn1_core.specs.declared.parser.ParseErrorKind.TheVariants.{AllocationError, InvalidValue, IntegerOverflow}
 
@@ -327,3 +328,39 @@ below_kind (negsuc n) = λ e. cc
 pub sized_faults : (low high : ℤ) (c : List ℕ) → IfErr (read_sized low high c) IsOfText
 unfolding read_sized
 sized_faults low high c = bind_faults (read_integer c) (within_range low high) (integer_faults c) (λ z. missed_faults (int_lt z low) (below low) _ (below_kind low) (missed_faults (int_lt high z) IntegerOverflow (Ok z) (λ e. cc) tt))
+
+-- ---- the same without 0
+
+some_number : (n : ℕ) → pos (suc n) ≡ pos 0 → ⊥
+some_number n e = cc
+
+negative_number : (n : ℕ) → negsuc n ≡ pos 0 → ⊥
+negative_number n e = cc
+
+unless_zero_is : (z m : ℤ) → unless_zero z ≡ Ok m → (z ≡ m) × (m ≡ pos 0 → ⊥)
+unless_zero_is (pos zero) m e = absurd cc
+unless_zero_is (pos (suc n)) m e = let same : pos (suc n) ≡ m = ok_is _ _ e in (same, λ none. absurd (some_number n (same ∙ none)))
+unless_zero_is (negsuc n) m e = let same : negsuc n ≡ m = ok_is _ _ e in (same, λ none. absurd (negative_number n (same ∙ none)))
+
+kept_unless_zero : (m : ℤ) → (m ≡ pos 0 → ⊥) → unless_zero m ≡ Ok m
+kept_unless_zero (pos zero) some = absurd (some refl)
+kept_unless_zero (pos (suc n)) some = refl
+kept_unless_zero (negsuc n) some = refl
+
+zero_faults : (z : ℤ) → IfErr (unless_zero z) IsOfText
+zero_faults (pos zero) = λ e. cc
+zero_faults (pos (suc n)) = tt
+zero_faults (negsuc n) = tt
+
+pub non_zero_takes : (low high : ℤ) (c : List ℕ) (m : ℤ) → IsText c → (read_sized low high c >>= unless_zero) ≡ Ok m → (c ≡ integer_content m) × (((low ≤ℤ m) × (m ≤ℤ high)) × (m ≢ pos 0))
+non_zero_takes low high c m is e =
+    let p = bind_ok (read_sized low high c) unless_zero m e in
+    let q = unless_zero_is p.0 m p.2 in
+    let got = sized_takes low high c m is (p.1 ∙ ap done q.0) in
+    (got.0, (got.1, q.1))
+
+pub non_zero_again : (low high : ℤ) (m : ℤ) → (low ≤ℤ m) × (m ≤ℤ high) → m ≢ pos 0 → (read_sized low high (integer_content m) >>= unless_zero) ≡ Ok m
+non_zero_again low high m within some = ap (λ (r : Result ℤ Fault). r >>= unless_zero) (sized_again low high m within) ∙ kept_unless_zero m some
+
+pub non_zero_faults : (low high : ℤ) (c : List ℕ) → IfErr (read_sized low high c >>= unless_zero) IsOfText
+non_zero_faults low high c = bind_faults (read_sized low high c) unless_zero (sized_faults low high c) zero_faults

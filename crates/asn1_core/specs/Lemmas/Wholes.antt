@@ -1,5 +1,5 @@
 -- Inputs that are read to their end.
-use Rattle.std.proofs.Common.{◌≡◌, ℕ, ◌<◌, ◌^◌, Bool, true, false, List, [], ◌∷◌, ◌++◌, length, Result, Ok, Err, IfErr, refl, ap, subst, ◌∙◌, ◌⊎◌, inl, inr, arith}
+use Rattle.std.proofs.Common.{◌≡◌, ℕ, ◌<◌, ◌^◌, Bool, true, false, List, [], ◌∷◌, ◌++◌, length, Result, Ok, Err, IfErr, refl, sym, ap, subst, ◌∙◌, ◌⊎◌, inl, inr, arith}
 use Rattle.std.specs.Prelude.{IfOk}
 use Rattle.std.proofs.lemmas.List.{append-nil}
 use Rattle.asn1_core.specs.declared.parser.Place.{Place}
@@ -40,6 +40,15 @@ whole_is {M} text valid read law t m is e =
     let p = bind_ok (read t) (λ x. all_taken x.0 x.1) m e in
     let q = taken_is p.0.0 m p.0.1 p.2 in
     law t [] m is (p.1 ∙ (ap (λ (x : M). gave x p.0.1) q.1 ∙ ap (λ (r : List ℕ). gave m r) q.0))
+
+-- values with the same encoding are the same, if each is read from its encoding
+pub one_value : {M : Type 0} (accepts : Tag → Bool) (text : M → List ℕ) (read : List ℕ → Result (M × List ℕ) Fault) (good : M → Type 0) →
+    ((m : M) → good m → Fits (text m) → (text m ≡ [] → stands accepts [] ≡ false) → read (text m ++ []) ≡ Ok (m, [])) →
+    (m n : M) → good m → good n → Fits (text m) → text m ≡ text n → m ≡ n
+one_value {M} accepts text read good law m n p q fits same =
+    let first = law m p fits (λ e. stands-nil accepts) in
+    let second = law n q (subst Fits same fits) (λ e. stands-nil accepts) in
+    ap (λ (x : M × List ℕ). x.0) (ok_is (m, []) (n, []) (sym first ∙ (ap (λ (t : List ℕ). read (t ++ [])) same ∙ second)))
 
 -- and an encoding is read to its end
 pub whole_again : {M : Type 0} (text : M → List ℕ) (read : List ℕ → Result (M × List ℕ) Fault) (m : M) (t : List ℕ) →

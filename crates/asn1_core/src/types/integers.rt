@@ -4,7 +4,8 @@ ghost use Rattle.std.specs.Prelude.{◌≡◌, ℕ, ◌+◌, ◌-◌, ◌^◌, �
 ghost use Rattle.asn1_core.specs.Text.{signed_number};
 ghost use Rattle.asn1_core.specs.Integer.{nine_bits, is_minimal, integer_content, below, read_sized};
 ghost use Rattle.asn1_core.specs.Fault.{framed};
-ghost use Rattle.asn1_core.specs.Reading.{Answers};
+ghost use Rattle.asn1_core.specs.Reading.{Answers, Fits};
+ghost use Rattle.asn1_core.specs.Sized.{integer_text};
 ghost use Rattle.asn1_core.specs.declared.writer.WriteError.TheVariants.{AllocationError};
 ghost use Rattle.asn1_core.specs.declared.parser.ParseErrorKind.TheVariants.{IntegerOverflow};
 
@@ -163,6 +164,14 @@ pub(crate) fn length(number: i128) -> usize
     let bits = 128 - zeros;
     (bits / 8) as usize + 1
 }
+
+/// States that the encoding of a number of fixed width is short enough to be read. The call does nothing at run time.
+#[inline(always)]
+fn is_short(number: i128)
+    requires least { neg_ℤ (pos (2 ^ 71)) ≤ℤ number }
+    requires greatest { number <ℤ pos (2 ^ 71) }
+    ensures { Fits (integer_text number) }
+{}
 
 /// The number n itself, or -n - 1 if n is negative; both have the same number of contents octets.
 #[inline]

@@ -6,7 +6,7 @@ ghost use Rattle.asn1_core.specs.Buffer.{Appends, KeepsFront};
 ghost use Rattle.asn1_core.specs.Writing.{Refuses, set_closure, set_items};
 ghost use Rattle.asn1_core.specs.Der.{IsWritable, simple_der};
 ghost use Rattle.asn1_core.specs.Listing.{Each, AnyNames, set_tag, join, ListingOf};
-ghost use Rattle.asn1_core.specs.SetWriting.{StandsBehind, AddsTo, IsElementWritten, IsOutOfOrder, KeepsElements, SetContent, MayRefuseSet, set_closure_written, part_of, first_number, span_cmp, IsBefore, IsWithin, NotesFirst, NotesTexts, listing_written};
+ghost use Rattle.asn1_core.specs.SetWriting.{StandsBehind, AddsTo, IsOutOfOrder, KeepsElements, OrderedElements, MayRefuseSet, set_closure_written, part_of, first_number, span_cmp, IsBefore, IsWithin, NotesFirst, NotesTexts, listing_written};
 ghost use Rattle.asn1_core.specs.Tag.{tag_in_front, before_tag};
 ghost use Rattle.asn1_core.specs.declared.writer.WriteError.TheVariants.{AllocationError, InvalidSetOrdering};
 
@@ -247,7 +247,7 @@ impl<'a> SetElementWriter<'a> {
     /// The buffer, with the elements of the set at its end.
     pub(crate) fn into_buf(self) -> WriteBuf
         ensures octets { result.bytes ≡ self.entry.front ++ self.entry.done }
-        ensures ordered { SetContent self.entry.done self.entry.last }
+        ensures ordered { OrderedElements self.entry.done self.entry.last }
     {
         let SetElementWriter {
             buf,
@@ -271,8 +271,7 @@ impl<'a> SetElementWriter<'a> {
         ensures ok { OnOk result (AddsTo (T.der.texts (T.der.meaning val.now)) self.old self.new) }
 
         // Elements in the order of their tags stay in that order.
-        ensures elements { IsElementWritten T.der (T.der.meaning val.now)
-            → OnOk result (KeepsElements self.old self.new) }
+        ensures elements { OnOk result (KeepsElements self.old self.new) }
         ensures err { OnErr result (self.new ≡ self.old) }
         ensures error { IfErr result (λ e. Refuses T.Error.from_gives (T.write_errors val.now) e
             ⊎ (IsOutOfOrder (T.der.texts (T.der.meaning val.now)) self.old

@@ -3,6 +3,8 @@
 ghost use Rattle.std.specs.Prelude.{◌≡◌, ◌-ℤ◌, ◌^◌, pos, length, Some};
 ghost use Rattle.asn1_core.specs.Tag.{universal};
 ghost use Rattle.asn1_core.specs.Integer.{integer_content};
+ghost use Rattle.asn1_core.specs.Element.{element, element_text};
+ghost use Rattle.asn1_core.specs.Reading.{Fits};
 ghost use Rattle.asn1_core.specs.Sized.{sized_content};
 ghost use Rattle.asn1_core.specs.Der.{simple_der};
 
@@ -42,9 +44,13 @@ impl Asn1Type for Enumerated {
     ghost der = { simple_der (λ e. pos (enumerated_value e))
         (sized_content (universal 10) (pos 0) (pos (2 ^ 32) -ℤ pos 1)) };
 
-    fn known(&self) {
-        // Reading the number tells the prover that the number is in the range of its type.
-        let _value = self.0;
+    fn known(&self)
+        ensures valid { (sized_content (universal 10) (pos 0) (pos (2 ^ 32) -ℤ pos 1)).valid
+            (pos (enumerated_value self.now)) }
+        ensures fits { Fits (element_text (element (universal 10)
+            (integer_content (pos (enumerated_value self.now))))) }
+    {
+        self.0.known()
     }
 }
 

@@ -1,12 +1,12 @@
 //! Where revocation lists are found, and what they have (RFC 5280, 4.2.1.13 and 5.2.5).
-// Printed by scripts/derive from declarations/certificate/distribution.rs, with the sum 91427d39.
+// Printed by scripts/derive from declarations/certificate/distribution.rs, with the sum 83d08ddb.
 
-ghost use Rattle.std.specs.Prelude.{◌≡◌, ◌∷◌, [], false, OnErr};
+ghost use Rattle.std.specs.Prelude.{◌≡◌, ◌∷◌, [], false, OnErr, IfOk};
 ghost use Rattle.std.proofs.Common.{inl, inr};
 ghost use Rattle.asn1.specs.Choices.{choice_der, only, or};
 ghost use Rattle.asn1.specs.Options.{option_meaning};
 ghost use Rattle.asn1.specs.Reading.{EndsWith};
-ghost use Rattle.asn1.specs.Reads.{HasOneEncoding, ReadsContents, ReadsPrefix};
+ghost use Rattle.asn1.specs.Reads.{BeginsWithEncodingOf, HasOneEncoding, ReadsContents, ReadsPrefix};
 ghost use Rattle.asn1.specs.Structures.{defaulted, explicit, field_names, implicit, structure, fields3, fields6};
 
 use crate::common::{
@@ -60,6 +60,8 @@ impl<'a> Asn1Readable<'a> for DistributionPointName<'a> {
     fn parse(parser: &mut Parser<'a>) -> ParseResult<DistributionPointName<'a>>
         ensures answers { ReadsPrefix ⟦<DistributionPointName<'a> as Asn1Type>⟧.der parser.old
             parser.new result }
+        ensures found { IfOk result (λ v. BeginsWithEncodingOf
+            ⟦<DistributionPointName<'a> as Asn1Type>⟧.der v parser.old parser.new) }
         ensures rest { EndsWith parser.old parser.new }
         ensures stops { OnErr result (⟦<DistributionPointName<'a> as Asn1Type>⟧.der.stops parser.old
             parser.new) }

@@ -1,12 +1,12 @@
 //! General names (RFC 5280, 4.2.1.6).
-// Printed by scripts/derive from declarations/common/general_name.rs, with the sum e3ed1166.
+// Printed by scripts/derive from declarations/common/general_name.rs, with the sum ca4f860e.
 
-ghost use Rattle.std.specs.Prelude.{◌≡◌, ◌∷◌, [], OnErr};
+ghost use Rattle.std.specs.Prelude.{◌≡◌, ◌∷◌, [], OnErr, IfOk};
 ghost use Rattle.std.proofs.Common.{inl, inr};
 ghost use Rattle.asn1.specs.Choices.{choice_der, only, or};
 ghost use Rattle.asn1.specs.Options.{option_meaning};
 ghost use Rattle.asn1.specs.Reading.{EndsWith};
-ghost use Rattle.asn1.specs.Reads.{HasOneEncoding, ReadsContents, ReadsPrefix};
+ghost use Rattle.asn1.specs.Reads.{BeginsWithEncodingOf, HasOneEncoding, ReadsContents, ReadsPrefix};
 ghost use Rattle.asn1.specs.Structures.{explicit, field_names, structure, fields2};
 
 use crate::common::{Name, name_is_lawful};
@@ -235,6 +235,8 @@ impl<'a> Asn1Readable<'a> for GeneralName<'a> {
     fn parse(parser: &mut Parser<'a>) -> ParseResult<GeneralName<'a>>
         ensures answers { ReadsPrefix ⟦<GeneralName<'a> as Asn1Type>⟧.der parser.old parser.new
             result }
+        ensures found { IfOk result (λ v. BeginsWithEncodingOf ⟦<GeneralName<'a> as Asn1Type>⟧.der v
+            parser.old parser.new) }
         ensures rest { EndsWith parser.old parser.new }
         ensures stops { OnErr result (⟦<GeneralName<'a> as Asn1Type>⟧.der.stops parser.old
             parser.new) }

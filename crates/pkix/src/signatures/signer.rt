@@ -1,12 +1,12 @@
 //! Who signed (RFC 5652, 5.3).
-// Printed by scripts/derive from declarations/signatures/signer.rs, with the sum a7d3bdbc.
+// Printed by scripts/derive from declarations/signatures/signer.rs, with the sum e8a020c6.
 
-ghost use Rattle.std.specs.Prelude.{◌≡◌, ◌∷◌, [], OnErr};
+ghost use Rattle.std.specs.Prelude.{◌≡◌, ◌∷◌, [], OnErr, IfOk};
 ghost use Rattle.std.proofs.Common.{inl, inr};
 ghost use Rattle.asn1.specs.Choices.{choice_der, only, or};
 ghost use Rattle.asn1.specs.Options.{option_meaning};
 ghost use Rattle.asn1.specs.Reading.{EndsWith};
-ghost use Rattle.asn1.specs.Reads.{HasOneEncoding, ReadsContents, ReadsPrefix};
+ghost use Rattle.asn1.specs.Reads.{BeginsWithEncodingOf, HasOneEncoding, ReadsContents, ReadsPrefix};
 ghost use Rattle.asn1.specs.Structures.{field_names, implicit, structure, fields2, fields7};
 
 use crate::common::{
@@ -113,6 +113,8 @@ impl<'a> Asn1Readable<'a> for SignerIdentifier<'a> {
     fn parse(parser: &mut Parser<'a>) -> ParseResult<SignerIdentifier<'a>>
         ensures answers { ReadsPrefix ⟦<SignerIdentifier<'a> as Asn1Type>⟧.der parser.old parser.new
             result }
+        ensures found { IfOk result (λ v. BeginsWithEncodingOf
+            ⟦<SignerIdentifier<'a> as Asn1Type>⟧.der v parser.old parser.new) }
         ensures rest { EndsWith parser.old parser.new }
         ensures stops { OnErr result (⟦<SignerIdentifier<'a> as Asn1Type>⟧.der.stops parser.old
             parser.new) }

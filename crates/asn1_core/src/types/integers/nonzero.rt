@@ -3,7 +3,7 @@
 ghost use Rattle.std.specs.Prelude.{◌≡◌, length, pos, Some};
 ghost use Rattle.std.specs.Int.NonZero.{non_zero_i8_get, non_zero_i16_get, non_zero_i32_get, non_zero_i64_get, non_zero_u8_get, non_zero_u16_get, non_zero_u32_get, non_zero_u64_get};
 ghost use Rattle.asn1_core.specs.Integer.{integer_content};
-ghost use Rattle.asn1_core.specs.Sized.{signed_der, unsigned_der};
+ghost use Rattle.asn1_core.specs.Sized.{non_zero_signed_der, non_zero_unsigned_der};
 
 use crate::tag::Tag;
 use crate::types::{Asn1Type, SimpleAsn1Writable};
@@ -13,7 +13,7 @@ use std::num::{
 };
 
 impl Asn1Type for NonZeroI8 {
-    ghost der = { signed_der 8 non_zero_i8_get };
+    ghost der = { non_zero_signed_der 8 non_zero_i8_get };
 
     fn known(&self) {
         self.get().known()
@@ -41,7 +41,7 @@ impl SimpleAsn1Writable for NonZeroI8 {
 }
 
 impl Asn1Type for NonZeroI16 {
-    ghost der = { signed_der 16 non_zero_i16_get };
+    ghost der = { non_zero_signed_der 16 non_zero_i16_get };
 
     fn known(&self) {
         self.get().known()
@@ -69,7 +69,7 @@ impl SimpleAsn1Writable for NonZeroI16 {
 }
 
 impl Asn1Type for NonZeroI32 {
-    ghost der = { signed_der 32 non_zero_i32_get };
+    ghost der = { non_zero_signed_der 32 non_zero_i32_get };
 
     fn known(&self) {
         self.get().known()
@@ -97,7 +97,7 @@ impl SimpleAsn1Writable for NonZeroI32 {
 }
 
 impl Asn1Type for NonZeroI64 {
-    ghost der = { signed_der 64 non_zero_i64_get };
+    ghost der = { non_zero_signed_der 64 non_zero_i64_get };
 
     fn known(&self) {
         self.get().known()
@@ -125,7 +125,7 @@ impl SimpleAsn1Writable for NonZeroI64 {
 }
 
 impl Asn1Type for NonZeroU8 {
-    ghost der = { unsigned_der 8 non_zero_u8_get };
+    ghost der = { non_zero_unsigned_der 8 non_zero_u8_get };
 
     fn known(&self) {
         self.get().known()
@@ -153,7 +153,7 @@ impl SimpleAsn1Writable for NonZeroU8 {
 }
 
 impl Asn1Type for NonZeroU16 {
-    ghost der = { unsigned_der 16 non_zero_u16_get };
+    ghost der = { non_zero_unsigned_der 16 non_zero_u16_get };
 
     fn known(&self) {
         self.get().known()
@@ -181,7 +181,7 @@ impl SimpleAsn1Writable for NonZeroU16 {
 }
 
 impl Asn1Type for NonZeroU32 {
-    ghost der = { unsigned_der 32 non_zero_u32_get };
+    ghost der = { non_zero_unsigned_der 32 non_zero_u32_get };
 
     fn known(&self) {
         self.get().known()
@@ -209,7 +209,7 @@ impl SimpleAsn1Writable for NonZeroU32 {
 }
 
 impl Asn1Type for NonZeroU64 {
-    ghost der = { unsigned_der 64 non_zero_u64_get };
+    ghost der = { non_zero_unsigned_der 64 non_zero_u64_get };
 
     fn known(&self) {
         self.get().known()

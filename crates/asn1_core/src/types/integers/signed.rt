@@ -1,12 +1,13 @@
 //! The signed integers of fixed width, `i8` to `i64`: INTEGER (X.690 8.3), within the range of the type.
 
-ghost use Rattle.std.specs.Prelude.{◌≡◌, length, Some};
+ghost use Rattle.std.specs.Prelude.{◌≡◌, ℤ, length, Some};
 ghost use Rattle.asn1_core.specs.Integer.{integer_content};
-ghost use Rattle.asn1_core.specs.Sized.{signed_der};
+ghost use Rattle.asn1_core.specs.Reading.{Fits};
+ghost use Rattle.asn1_core.specs.Sized.{integer_text, signed_der};
 
 use crate::parser::{ParseError, ParseResult};
 use crate::tag::Tag;
-use crate::types::integers::{length, read, write};
+use crate::types::integers::{is_short, length, read, write};
 use crate::types::{Asn1Type, SimpleAsn1Readable, SimpleAsn1Writable};
 use crate::writer::{WriteBuf, WriteError, WriteResult};
 use std::alloc::Global;
@@ -16,9 +17,12 @@ use std::alloc::Global;
 impl Asn1Type for i8 {
     ghost der = { signed_der 8 (λ number. number) };
 
-    fn known(&self) {
+    fn known(&self)
+        ensures valid { (signed_der 8 (λ (z : ℤ). z)).valid self.now }
+        ensures fits { Fits (integer_text self.now) }
+    {
         // Reading the number tells that it is in its type's range.
-        let _number = *self;
+        is_short(i128::from(*self))
     }
 }
 
@@ -60,9 +64,12 @@ impl SimpleAsn1Writable for i8 {
 impl Asn1Type for i16 {
     ghost der = { signed_der 16 (λ number. number) };
 
-    fn known(&self) {
+    fn known(&self)
+        ensures valid { (signed_der 16 (λ (z : ℤ). z)).valid self.now }
+        ensures fits { Fits (integer_text self.now) }
+    {
         // Reading the number tells that it is in its type's range.
-        let _number = *self;
+        is_short(i128::from(*self))
     }
 }
 
@@ -104,9 +111,12 @@ impl SimpleAsn1Writable for i16 {
 impl Asn1Type for i32 {
     ghost der = { signed_der 32 (λ number. number) };
 
-    fn known(&self) {
+    fn known(&self)
+        ensures valid { (signed_der 32 (λ (z : ℤ). z)).valid self.now }
+        ensures fits { Fits (integer_text self.now) }
+    {
         // Reading the number tells that it is in its type's range.
-        let _number = *self;
+        is_short(i128::from(*self))
     }
 }
 
@@ -148,9 +158,12 @@ impl SimpleAsn1Writable for i32 {
 impl Asn1Type for i64 {
     ghost der = { signed_der 64 (λ number. number) };
 
-    fn known(&self) {
+    fn known(&self)
+        ensures valid { (signed_der 64 (λ (z : ℤ). z)).valid self.now }
+        ensures fits { Fits (integer_text self.now) }
+    {
         // Reading the number tells that it is in its type's range.
-        let _number = *self;
+        is_short(i128::from(*self))
     }
 }
 

@@ -1,12 +1,13 @@
 //! The unsigned integers of fixed width, `u8` to `u64`: INTEGER (X.690 8.3), within the range of the type.
 
-ghost use Rattle.std.specs.Prelude.{◌≡◌, length, pos, Some};
+ghost use Rattle.std.specs.Prelude.{◌≡◌, ℕ, length, pos, Some};
 ghost use Rattle.asn1_core.specs.Integer.{integer_content};
-ghost use Rattle.asn1_core.specs.Sized.{unsigned_der};
+ghost use Rattle.asn1_core.specs.Reading.{Fits};
+ghost use Rattle.asn1_core.specs.Sized.{integer_text, unsigned_der};
 
 use crate::parser::{ParseError, ParseResult};
 use crate::tag::Tag;
-use crate::types::integers::{length, read, write};
+use crate::types::integers::{is_short, length, read, write};
 use crate::types::{Asn1Type, SimpleAsn1Readable, SimpleAsn1Writable};
 use crate::writer::{WriteBuf, WriteError, WriteResult};
 use std::alloc::Global;
@@ -16,9 +17,12 @@ use std::alloc::Global;
 impl Asn1Type for u8 {
     ghost der = { unsigned_der 8 (λ number. number) };
 
-    fn known(&self) {
+    fn known(&self)
+        ensures valid { (unsigned_der 8 (λ (n : ℕ). n)).valid (pos self.now) }
+        ensures fits { Fits (integer_text (pos self.now)) }
+    {
         // Reading the number tells that it is in its type's range.
-        let _number = *self;
+        is_short(i128::from(*self))
     }
 }
 
@@ -60,9 +64,12 @@ impl SimpleAsn1Writable for u8 {
 impl Asn1Type for u16 {
     ghost der = { unsigned_der 16 (λ number. number) };
 
-    fn known(&self) {
+    fn known(&self)
+        ensures valid { (unsigned_der 16 (λ (n : ℕ). n)).valid (pos self.now) }
+        ensures fits { Fits (integer_text (pos self.now)) }
+    {
         // Reading the number tells that it is in its type's range.
-        let _number = *self;
+        is_short(i128::from(*self))
     }
 }
 
@@ -104,9 +111,12 @@ impl SimpleAsn1Writable for u16 {
 impl Asn1Type for u32 {
     ghost der = { unsigned_der 32 (λ number. number) };
 
-    fn known(&self) {
+    fn known(&self)
+        ensures valid { (unsigned_der 32 (λ (n : ℕ). n)).valid (pos self.now) }
+        ensures fits { Fits (integer_text (pos self.now)) }
+    {
         // Reading the number tells that it is in its type's range.
-        let _number = *self;
+        is_short(i128::from(*self))
     }
 }
 
@@ -148,9 +158,12 @@ impl SimpleAsn1Writable for u32 {
 impl Asn1Type for u64 {
     ghost der = { unsigned_der 64 (λ number. number) };
 
-    fn known(&self) {
+    fn known(&self)
+        ensures valid { (unsigned_der 64 (λ (n : ℕ). n)).valid (pos self.now) }
+        ensures fits { Fits (integer_text (pos self.now)) }
+    {
         // Reading the number tells that it is in its type's range.
-        let _number = *self;
+        is_short(i128::from(*self))
     }
 }
 

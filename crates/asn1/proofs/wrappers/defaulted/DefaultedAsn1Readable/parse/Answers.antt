@@ -1,3 +1,6 @@
+use Rattle.asn1_core.specs.Lemmas.Inside.{taken}
+use Rattle.asn1.specs.Defaulted.{default_der}
+use Rattle.asn1.specs.InHand.{defaulted_inner}
 use Rattle.asn1.specs.Lemmas.DefaultSteps.{answers_default, stops_default}
 use Rattle.asn1.proofs.wrappers.defaulted.DefaultedAsn1Readable.parse.Goals as goal
 
@@ -5,6 +8,11 @@ pub returns-clause-answers : goal.returns-clause-answers
 returns-clause-answers g c =
     let d = g.T.Asn1Type.der in
     answers_default d.meaning d.text g.T.PartialEq.eq _ _ c.value.ensures (λ a. g.met.T.MeaningEq.tells a _) (λ w. w.inner) d.accepts d.read _ _ _ _ _ c.read_element-read.ensures.answers c.or_default.ensures
+
+pub returns-clause-found : goal.returns-clause-found
+returns-clause-found g c =
+    let d = default_der defaulted_inner g.T.Asn1Type.der (g.T.Asn1Type.der.meaning g.D.DefaultValue.default) in
+    taken d.meaning _ d.text (λ m. d.valid m × d.allowed m) d.read d.takes c.args.parser.now _ _ c.rest-octets.ensures.octets (returns-clause-answers g c)
 
 pub returns-clause-stops : goal.returns-clause-stops
 returns-clause-stops g c =

@@ -1,0 +1,42 @@
+use Rattle.std.proofs.Common.{arith}
+use Rattle.asn1_core.specs.Tag.{implicit_tag_of}
+use Rattle.asn1_core.specs.Element.{element, element_text}
+use Rattle.asn1_core.specs.Reading.{simple, simple_out}
+use Rattle.asn1_core.specs.Lemmas.Contents.{simple_takes, simple_read}
+use Rattle.asn1_core.specs.Lemmas.Elements.{element_some}
+use Rattle.asn1_core.specs.Lemmas.Faults.{simple_faults}
+use Rattle.asn1_core.specs.Lemmas.Inside.{taken, shorter, returns_as}
+use Rattle.asn1_core.specs.Lemmas.Wholes.{of_text}
+use Rattle.asn1_core.proofs.parser.Parser.read_implicit_element.Goals as goal
+
+pub returns-clause-found : goal.returns-clause-found
+returns-clause-found g c =
+    let d = g.T.Asn1Type.der in
+    let k = d.content in
+    let tag = implicit_tag_of c.args.tag k.tag in
+    let good : d.Meaning → Type 0 = λ m. k.valid m × k.allowed m in
+    taken d.meaning _ (λ m. element_text (element tag (k.text m))) good (simple tag k.read)
+    (simple_takes tag k.text good k.read k.takes) c.args.self.now _ _ c.are_octets.ensures c.read_implicit.ensures.answers
+
+pub returns-clause-only : goal.returns-clause-only
+returns-clause-only g c m rest lawful valid allowed short is =
+    let d = g.T.Asn1Type.der in
+    let k = d.content in
+    let tag = implicit_tag_of c.args.tag k.tag in
+    returns_as d _ c.read_implicit.result _ m rest (simple tag k.read c.args.self.now) c.read_implicit.ensures.answers
+    (simple_read tag k.text k.read m c.args.self.now rest (omega arith) short (k.again m lawful valid allowed short) is)
+
+pub returns-clause-progress : goal.returns-clause-progress
+returns-clause-progress g c =
+    let d = g.T.Asn1Type.der in
+    let k = d.content in
+    let tag = implicit_tag_of c.args.tag k.tag in
+    shorter d.meaning (λ m. element_text (element tag (k.text m))) (λ m. k.valid m × k.allowed m) c.args.self.now _ c.read_implicit.result (λ m good none. element_some (element tag (k.text m)) none) (returns-clause-found g c)
+
+pub returns-clause-no_want : goal.returns-clause-no_want
+returns-clause-no_want g c none =
+    let d = g.T.Asn1Type.der in
+    let k = d.content in
+    let tag = implicit_tag_of c.args.tag k.tag in
+    let t = c.args.self.now in
+    of_text _ (simple_out tag k.runs_out t) c.read_implicit.result (simple tag k.read t) c.read_implicit.ensures.answers (simple_faults tag k.read k.faults t) (λ places out. none (d.as_memory (k.memory _ places out.3)))

@@ -1,0 +1,15 @@
+use Rattle.std.proofs.Common.{rules}
+use Rattle.asn1_core.specs.Element.{Element, element_text}
+use Rattle.asn1_core.specs.Reading.{Answers, element_front}
+use Rattle.asn1_core.specs.Tlv.{element_of}
+use Rattle.asn1_core.specs.Der.{Der, tlv_der}
+use Rattle.asn1_core.specs.declared.types.Tlv.{Tlv}
+use Rattle.asn1_core.specs.Lemmas.Inside.{taken}
+use Rattle.asn1_core.proofs.types.TlvAsn1Readable.parse.Goals as goal
+
+pub returns-clause-found : goal.returns-clause-found
+returns-clause-found c =
+    let d : Der Tlv = tlv_der element_of in
+    let t = c.args.parser.now in
+    let answers : Answers (λ v. (element_of v, c.read_tlv.new.self)) (λ places. ⊥) c.kind_as_error.result (element_front t) = search rules in
+    taken element_of (λ places. ⊥) element_text (λ (e : Element). d.valid e × d.allowed e) element_front d.takes t _ _ c.are_octets.ensures answers
