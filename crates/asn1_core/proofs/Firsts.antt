@@ -13,7 +13,7 @@ use Rattle.std.specs.declared.cmp.Ordering.{Ordering}
 use Rattle.std.specs.Cmp.Lexicographic.{slice_cmp}
 use Rattle.asn1_core.specs.declared.writer.sets.Span.{Span}
 use Rattle.asn1_core.specs.Lemmas.Listing.{less_once}
-use Rattle.asn1_core.specs.SetWriting.{part_of, first_number, span_cmp, IsBefore, NotesFirst}
+use Rattle.asn1_core.specs.SetSteps.{part_of, first_number, span_cmp, IsBefore, NotesFirst}
 use Rattle.asn1_core.specs.Lemmas.Lengths.{number_lt}
 use Rattle.asn1_core.specs.Lemmas.Texts.{IsText-both}
 use Rattle.asn1_core.proofs.Ordered.{less_below, less_same}

@@ -3,12 +3,11 @@ use Rattle.std.proofs.Common.{◌≡◌, List, ◌∷◌, [], length, sym, ap}
 use Rattle.std.proofs.lemmas.List.{take_at}
 use Rattle.asn1_core.specs.declared.parser.ParseErrorKind.{ParseErrorKind}
 use Rattle.asn1_core.specs.declared.parser.Place.{Place}
-use Rattle.asn1_core.specs.declared.parser.TheConstants.{MAX_PLACES}
 use Rattle.asn1_core.specs.Fault.{Fault, within}
 
 abbrev at : ParseErrorKind → List Place → Fault
 at kind places = record { kind = kind; places = places }
 
 -- if as many locations as possible are kept, one more is dropped
-pub kept_all : (kind : ParseErrorKind) (places : List Place) (place : Place) → length places ≡ MAX_PLACES → at kind places ≡ within place (at kind places)
-kept_all kind places place full = ap (at kind) (sym (take_at places (place ∷ []) MAX_PLACES full))
+pub kept_all : (kind : ParseErrorKind) (places : List Place) (place : Place) → length places ≡ 8 → at kind places ≡ within place (at kind places)
+kept_all kind places place full = ap (at kind) (sym (take_at places (place ∷ []) 8 full))

@@ -3,7 +3,6 @@ use Rattle.std.specs.Prelude.{◌≡◌, List, [], ◌∷◌, ◌++◌, take, Re
 use Rattle.asn1_core.specs.declared.parser.ParseErrorKind.{ParseErrorKind}
 use Rattle.asn1_core.specs.declared.parser.ParseErrorKind.TheVariants.{AllocationError, InvalidValue, InvalidTag, InvalidLength, InvalidSize, UnexpectedTag, ShortData, IntegerOverflow, ExtraData, InvalidSetOrdering, EncodedDefault, OidTooLong, UnknownDefinedBy}
 use Rattle.asn1_core.specs.declared.parser.Place.{Place}
-use Rattle.asn1_core.specs.declared.parser.TheConstants.{MAX_PLACES}
 use Rattle.asn1_core.specs.declared.parser.ParseLocation.{ParseLocation}
 use Rattle.asn1_core.specs.declared.parser.Place.TheVariants.{Field, Index}
 use Rattle.asn1_core.specs.declared.parser.ParseLocation.TheVariants as locations
@@ -20,9 +19,9 @@ pub record Fault : Type 0 where
 abbrev pub fault : ParseErrorKind → Fault
 fault kind = record { kind = kind; places = [] }
 
--- One more location around those that are there, of which the innermost are kept.
+-- One more location around those that are there, of which the innermost eight are kept.
 abbrev pub add : Place → List Place → List Place
-add place places = take MAX_PLACES (places ++ place ∷ [])
+add place places = take 8 (places ++ place ∷ [])
 
 -- The error, with one more location around it.
 abbrev pub within : Place → Fault → Fault

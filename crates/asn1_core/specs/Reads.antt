@@ -58,7 +58,3 @@ ReturnsValue d out result remaining m rest = Answers {M = d.Meaning × List ℕ}
 -- back as that value, and nothing else is read.
 abbrev pub HasOneEncoding : {V : Type 0} → Der V → Type 0
 HasOneEncoding d = d.lawful × d.plain × d.is_read
-
--- Each value of the type has one encoding, whether the type is read or only written.
-abbrev pub IsWrittenInOneWay : {V : Type 0} → Der V → Type 0
-IsWrittenInOneWay d = d.lawful × d.plain

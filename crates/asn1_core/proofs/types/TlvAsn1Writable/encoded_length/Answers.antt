@@ -1,4 +1,4 @@
-use Rattle.std.proofs.Common.{◌≡◌, ◌<◌, ◌^◌, length, Some, ap, sym, arith, ◌∙◌}
+use Rattle.std.proofs.Common.{◌≡◌, ◌<◌, ◌^◌, length, Some, arith}
 use Rattle.asn1_core.specs.Element.{element_text}
 use Rattle.asn1_core.specs.Tlv.{element_of}
 use Rattle.asn1_core.specs.Lemmas.Bodies.{one_length, gives_one}

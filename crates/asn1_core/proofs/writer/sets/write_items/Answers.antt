@@ -1,6 +1,6 @@
 use Rattle.std.proofs.Common.{rules, ◌∙◌, ◌≡◌, ◌-◌, ◌++◌, ◌∷◌, [], length, take, drop, List, ℕ, ap, refl, arith, inr}
 use Rattle.std.proofs.lemmas.List.{length-drop, take_all}
-use Rattle.asn1_core.specs.SetWriting.{first_number}
+use Rattle.asn1_core.specs.SetSteps.{first_number}
 use Rattle.asn1_core.specs.declared.writer.sets.Span.{Span}
 use Rattle.asn1_core.specs.Listing.{AnyNames}
 use Rattle.asn1_core.specs.Lemmas.Bodies.{keeps_front_by, keeps_front_on}
