@@ -11,7 +11,8 @@ use Rattle.asn1_core.specs.Text.{IsText, number, signed_number}
 use Rattle.asn1_core.specs.Integer.{turned}
 use Rattle.asn1_core.specs.Lemmas.Lengths.{number_lt as text_lt}
 use Rattle.asn1_core.specs.Lemmas.Integers.{shortest_nine, signed_low, signed_high, turned_number}
-use Rattle.asn1_values.specs.Big.{IsSigned, IsMagnitude, bit_count, magnitude}
+use Rattle.asn1_values.specs.Big.{IsSigned, bit_count}
+use Rattle.asn1_values.specs.BigSteps.{IsMagnitude, magnitude}
 use Rattle.asn1_values.specs.Lemmas.Big.{test_by_signed, sign_test}
 
 -- ---- the highest digits

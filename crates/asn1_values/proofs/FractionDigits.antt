@@ -1,13 +1,17 @@
 -- The nine digits of a number of nanoseconds, without the trailing zeros, are the digits of its fraction.
-use Rattle.std.proofs.Common.{rules, ◌≡◌, ℕ, zero, suc, ◌+◌, ◌-◌, ◌*◌, ◌^◌, ◌<◌, ◌≤◌, true, List, [], ◌∷◌, ◌++◌, length, take, drop, replicate, refl, sym, ap, subst, ◌∙◌, arith}
-use Rattle.std.specs.Prelude.{decimal, slice_index_or}
+use Rattle.std.proofs.Common.{rules, ◌≡◌, ℕ, zero, suc, ◌+◌, ◌-◌, ◌*◌, ◌/◌, ◌%◌, ◌^◌, ◌<◌, ◌≤◌, true, List, [], ◌∷◌, ◌++◌, length, take, drop, replicate, refl, sym, ap, subst, ◌∙◌, inl, inr, arith}
+use Rattle.std.specs.Prelude.{decimal, slice_index, slice_index_or}
+use Rattle.std.proofs.Math.Nat.{pow-succ'}
+use Rattle.std.proofs.lemmas.Bool.{cases_eq}
+use Rattle.std.proofs.lemmas.Nat.{div-add-mod', mod_below, div_below}
+use Rattle.std.proofs.lemmas.Str.{digit_value_digit}
 use Rattle.std.specs.Str.{all_ascii_digits}
 use Rattle.std.specs.Str.Parse.{AllDigits}
 use Rattle.std.proofs.lemmas.Fmt.{decimal_is_IsNumeral, length-decimal-le}
 use Rattle.std.proofs.lemmas.Str.Parse.{IsNumeralModel, numerals_by_weight, digit_from_value}
 use Rattle.std.proofs.lemmas.Int.Digits.{digits_value-lt}
 use Rattle.std.proofs.lemmas.List.{append-nil, length-append, length-replicate, length-take, take-append-drop}
-use Rattle.asn1_values.specs.Times.{fraction}
+use Rattle.asn1_values.specs.Times.{fraction, IsFraction}
 use Rattle.asn1_values.specs.Lemmas.Fractions.{at, fraction_zero, fraction_step, parts_zero, power_some}
 
 -- the number that digits encode, by their positions
@@ -149,3 +153,96 @@ digits_done octets n count few is some most last zeros =
 -- or with no digit
 pub no_digits : (octets : List ℕ) (n count : ℕ) → n ≤ 999999999 → octets ≡ replicate (9 - length (decimal n)) 48 ++ decimal n → count ≡ 0 → drop count octets ≡ replicate (9 - count) 48 → take count octets ≡ fraction 9 n []
 no_digits octets n count few is none zeros = front_is octets n count few is (omega (arith, none)) (subst (λ (x : ℕ). IsEnded (take x octets)) (sym none) tt) zeros
+
+-- ---- the digits of a fraction, as the relation says
+
+ended_last : (ds : List ℕ) (k : ℕ) → length ds ≡ suc k → (slice_index ds k ≡ 48 → ⊥) → IsEnded ds
+ended_last [] k long last = tt
+ended_last (c ∷ []) zero long last = last
+ended_last (c ∷ []) (suc k) long last = absurd (omega (arith, long))
+ended_last (c ∷ d ∷ ds) zero long last = absurd (omega (arith, long))
+ended_last (c ∷ d ∷ ds) (suc k) long last = ended_last (d ∷ ds) k (omega (arith, long)) last
+
+last_ended : (ds : List ℕ) (k : ℕ) → length ds ≡ suc k → IsEnded ds → slice_index ds k ≡ 48 → ⊥
+last_ended [] k long ended e = absurd (omega (arith, long))
+last_ended (c ∷ []) zero long ended e = ended e
+last_ended (c ∷ []) (suc k) long ended e = absurd (omega (arith, long))
+last_ended (c ∷ d ∷ ds) zero long ended e = absurd (omega (arith, long))
+last_ended (c ∷ d ∷ ds) (suc k) long ended e = last_ended (d ∷ ds) k (omega (arith, long)) ended e
+
+pub fraction_of_digits : (digits : List ℕ) (n : ℕ) → IsFraction digits n → digits ≡ fraction 9 n []
+fraction_of_digits digits n h =
+    let j = 9 - length digits in
+    let few = h.few in
+    let long : length digits + j ≡ 9 = omega (arith, few) in
+    let value : weighed (digits ++ replicate j 48) ≡ n = by_places.same (digits ++ replicate j 48) (digits_and_zeros digits j h.numeral.1) ∙ h.value in
+    sym (ap (λ (k : ℕ). fraction k n []) (sym long) ∙ ap (λ (m : ℕ). fraction (length digits + j) m []) (sym value) ∙ without_zeros digits j h.numeral.1 (ended_last digits (length digits - 1) (let some = h.numeral.0 in omega (arith, some)) h.last))
+
+-- the digits that `fraction` gives
+record IsFractionIn (k n : ℕ) (digits : List ℕ) : Type 0 where
+  all : AllDigits 10 digits
+  few : length digits ≤ k
+  value : weighed (digits ++ replicate (k - length digits) 48) ≡ n
+  ended : IsEnded digits
+  none : length digits ≡ 0 → n ≡ 0
+
+no_fraction : (k : ℕ) → IsFractionIn k 0 []
+no_fraction k =
+    let zeros : weighed (replicate k 48) ≡ 0 = ap weighed (sym (append-nil (replicate k 48))) ∙ zeros_in_front k [] in
+    let whole : k - 0 ≡ k = omega arith in
+    record { all = tt; few = omega arith; value = ap (λ (x : ℕ). weighed (replicate x 48)) whole ∙ zeros; ended = tt; none = λ e. refl }
+
+before_ended : (c : ℕ) (ds : List ℕ) → (length ds ≡ 0 → c ≡ 48 → ⊥) → IsEnded ds → IsEnded (c ∷ ds)
+before_ended c [] some ended = some refl
+before_ended c (d ∷ ds) some ended = ended
+
+one_before : (k d m : ℕ) (ds : List ℕ) → d < 10 → (d * 10 ^ k + m ≡ 0 → ⊥) → IsFractionIn k m ds → IsFractionIn (suc k) (d * 10 ^ k + m) ((48 + d) ∷ ds)
+one_before k d m ds few some h =
+    let behind = ds ++ replicate (k - length ds) 48 in
+    let short = h.few in
+    let long : length behind ≡ k = size ds (k - length ds) ∙ omega (arith, short) in
+    let digit : 48 + d - 48 ≡ d = omega arith in
+    let left : suc k - length ((48 + d) ∷ ds) ≡ k - length ds = omega arith in
+    let ascii = digit_value_digit (48 + d) (omega arith, omega (arith, few)) in
+    record {
+      all = (omega (arith, ascii, few), h.all);
+      few = omega (arith, short);
+      value = ap (λ (x : ℕ). weighed ((48 + d) ∷ ds ++ replicate x 48)) left ∙ ap (λ (x : ℕ). x * 10 ^ length behind + weighed behind) digit ∙ ap (λ (x : ℕ). d * 10 ^ x + weighed behind) long ∙ ap (λ (x : ℕ). d * 10 ^ k + x) h.value;
+      ended = before_ended (48 + d) ds (λ e i. some (let zero = h.none e in let first : d ≡ 0 = omega (arith, i) in rw first (omega (arith, zero)))) h.ended;
+      none = λ e. absurd (omega (arith, e));
+    }
+
+fraction_is : (k n : ℕ) → n < 10 ^ k → IsFractionIn k n (fraction k n [])
+fraction_is zero n h =
+    let none : n ≡ 0 = omega (arith, h) in
+    rw (none, fraction_zero 0 []) (no_fraction 0)
+fraction_is (suc k) n h = elim (cases_eq n 0) [
+  | inl none ↦ rw (none, fraction_zero (suc k) []) (no_fraction (suc k))
+  | inr more ↦
+      let p = 10 ^ k in
+      let d = n / p in
+      let m = n % p in
+      let whole : d * p + m ≡ n = div-add-mod' n p in
+      let below : m < p = mod_below n p (power_some k) in
+      let power = pow-succ' 10 k in
+      let few : d < 10 = div_below n p 10 (power_some k) (omega (arith, power, h)) in
+      let some : d * p + m ≡ 0 → ⊥ = λ e. more (sym whole ∙ e) in
+      subst (λ (x : ℕ). IsFractionIn (suc k) x (fraction (suc k) x [])) whole
+      (subst (IsFractionIn (suc k) (d * p + m)) (sym (fraction_step k d m [] below some)) (one_before k d m (fraction k m []) few some (fraction_is k m below)))
+]
+
+pub digits_of_fraction : (n : ℕ) → 1 ≤ n → n ≤ 999999999 → IsFraction (fraction 9 n []) n
+digits_of_fraction n from to =
+    let h = fraction_is 9 n (omega (arith, to)) in
+    let digits = fraction 9 n [] in
+    let j = 9 - length digits in
+    let some : 0 < length digits = elim (cases_eq (length digits) 0) [
+      | inl e ↦ let none = h.none e in absurd (omega (arith, none, from))
+      | inr e ↦ omega (arith, e)
+    ] in
+    record {
+      numeral = (some, h.all);
+      few = h.few;
+      value = sym (by_places.same (digits ++ replicate j 48) (digits_and_zeros digits j h.all)) ∙ h.value;
+      last = last_ended digits (length digits - 1) (omega (arith, some)) h.ended;
+    }

@@ -1,3 +1,4 @@
 mod Bits
 mod PlainTexts
 mod FractionDigits
+mod TimeTexts

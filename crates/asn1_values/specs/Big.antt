@@ -1,8 +1,8 @@
 -- Integers of any length (X.690 8.3).
-use Rattle.std.specs.Prelude.{ℕ, ◌-◌, ◌^◌, ◌<◌, ◌≡◌, ◌⊎◌, Bool, true, false, ℤ, pos, ◌≤ℤ◌, int_lt, unsigned_abs, if◌then◌else◌, List, length, slice_index, Result, Ok, Err}
+use Rattle.std.specs.Prelude.{ℕ, ◌<◌, ◌≡◌, true, ℤ, pos, ◌≤ℤ◌, int_lt, unsigned_abs, if◌then◌else◌, List, length, slice_index, Result, Ok, Err}
 use Rattle.std.specs.Int.Digits.{digits_of}
 use Rattle.asn1_core.specs.declared.parser.ParseErrorKind.TheVariants.{InvalidValue}
-use Rattle.asn1_core.specs.Text.{IsText, number, signed_number}
+use Rattle.asn1_core.specs.Text.{signed_number}
 use Rattle.asn1_core.specs.Element.{◌>>=◌}
 use Rattle.asn1_core.specs.Fault.{Fault, fault}
 use Rattle.asn1_core.specs.Integer.{IsIntegerContent, is_minimal, read_integer}
@@ -32,15 +32,3 @@ not_negative z = if int_lt z (pos 0) then Err (fault InvalidValue) else Ok z
 
 unfoldable pub read_unsigned : List ℕ → Result ℤ Fault
 read_unsigned c = read_integer c >>= not_negative
-
--- The absolute value of the number that octets encode: a negative one in two's complement, or an unsigned one.
-abbrev pub magnitude : Bool → List ℕ → ℕ
-magnitude true octets = 256 ^ length octets - number octets
-magnitude false octets = number octets
-
--- These octets encode the absolute value of the number of contents octets, and the first of these octets adds to that
--- value. Whether the number is negative is given.
-pub record IsMagnitude (content octets : List ℕ) (is_negative : Bool) : Type 0 where
-  pub value : unsigned_abs (signed_number content) ≡ magnitude is_negative octets
-  pub text : IsText octets
-  pub counts : 0 < length octets → ((is_negative ≡ false) × (0 < slice_index octets 0)) ⊎ ((is_negative ≡ true) × (slice_index octets 0 < 0xff))

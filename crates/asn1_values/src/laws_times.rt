@@ -1,11 +1,29 @@
-//! Laws of times: how they compare, and what clones are. Each is the contract of a function that does nothing.
+//! Laws of times: which octets are read and written, how times compare, and what clones are. Each is the contract of a
+//! function that does nothing.
 
 ghost use Rattle.asn1_values.specs.Comparisons.{ClonesAreEqual, HashesAlike, IsEqualityOf, IsOrderOf, IsTieOf, NeverFails};
+ghost use Rattle.asn1_values.specs.TimeValues.{TimesAreRead, TimesAreWritten};
+ghost use Rattle.asn1_values.specs.TimeValues.{instant_content, utc_content, x509_content};
 ghost use Rattle.asn1_values.specs.TimeValues.{moment, instant_of, utc_moment, x509_moment};
+ghost use Rattle.asn1_values.specs.Times.{IsInstantText, IsUtcText, IsX509Text};
 ghost use Rattle.asn1_values.specs.Times.{instant_order, moment_order};
 
 use crate::values::{DateTime, GeneralizedTime, UtcTime, X509GeneralizedTime};
 use std::hash::Hash;
+
+/// Reading returns the time of contents octets, and rejects all other octets with `InvalidValue`.
+pub fn times_are_read()
+    ensures utc { TimesAreRead utc_content IsUtcText }
+    ensures x509 { TimesAreRead x509_content IsX509Text }
+    ensures general { TimesAreRead instant_content IsInstantText }
+{}
+
+/// Each valid time has its contents octets, which are written, and no others.
+pub fn times_are_written()
+    ensures utc { TimesAreWritten utc_content IsUtcText }
+    ensures x509 { TimesAreWritten x509_content IsX509Text }
+    ensures general { TimesAreWritten instant_content IsInstantText }
+{}
 
 /// A `DateTime` is ordered by year, month, day, hour, minute and second, in turn. Two are equal exactly if these are
 /// the same, and then their hashes are equal too. A clone never fails, and equals its source.

@@ -6,7 +6,8 @@ ghost use Rattle.asn1_core.specs.Base128.{number_front, number_text};
 ghost use Rattle.asn1_core.specs.Tag.{universal};
 ghost use Rattle.asn1_core.specs.Reading.{Answers};
 ghost use Rattle.asn1_core.specs.Der.{simple_der};
-ghost use Rattle.asn1_values.specs.Identifier.{identifier_content, identifier_numbers, numbers_in, read_identifier, IsIdentifierForm, IsIdentifier, dotted_text, first_text, part_number, text_numbers, left_numbers, left_size, first_of, and_then, if_few, read_dotted};
+ghost use Rattle.asn1_values.specs.Identifier.{identifier_content, identifier_numbers, numbers_in, read_identifier, IsIdentifierForm, IsIdentifier, dotted_text, part_number, text_numbers, first_of, and_then, if_few, read_dotted};
+ghost use Rattle.asn1_values.specs.IdentifierSteps.{first_text, left_numbers, left_size};
 ghost use Rattle.std.specs.Fmt.{DisplaysOnOk};
 
 use asn1_core::{

@@ -1,5 +1,5 @@
 -- The equality of a type tells its values by their encodings. This is proved once for each kind of type.
-use Rattle.std.proofs.Common.{◌≡◌, ℕ, ℤ, pos, Bool, true, false, List, [], ◌∷◌, ◌++◌, length, drop, Option, Some, None, Result, Ok, refl, sym, ap, ◌∙◌, inl, inr, arith}
+use Rattle.std.proofs.Common.{◌≡◌, ℕ, ℤ, pos, Bool, true, false, List, ◌∷◌, ◌++◌, length, drop, Option, Some, None, Result, Ok, refl, sym, ap, ◌∙◌, inl, inr, arith}
 use Rattle.std.specs.Prelude.{nat_eq, ◌&&◌}
 use Rattle.std.specs.Option.{option_eq}
 use Rattle.std.specs.Cmp.Lexicographic.{pointwise}
@@ -31,7 +31,8 @@ use Rattle.asn1_values.specs.declared.values.times.X509GeneralizedTime.{X509Gene
 use Rattle.asn1_values.specs.declared.values.generalized_time.GeneralizedTime.{GeneralizedTime}
 use Rattle.asn1_values.specs.Identifier.{identifier_content, read_identifier}
 use Rattle.asn1_values.specs.IdentifierValues.{identifier_of}
-use Rattle.asn1_values.specs.Times.{Moment, Instant, instant, utc_text, general_text, instant_text, read_utc, read_x509, read_instant}
+use Rattle.asn1_values.specs.Times.{Moment, Instant, instant, utc_text, x509_text, instant_text}
+use Rattle.asn1_values.specs.TimeSteps.{read_utc, read_x509, read_instant}
 use Rattle.asn1_values.specs.TimeValues.{utc_moment, x509_moment, instant_of}
 use Rattle.asn1_values.specs.Lemmas.Identifier.{identifier_again, form_in_hand}
 use Rattle.asn1_values.specs.Lemmas.SameIdentifiers.{equal_identifiers}
@@ -211,9 +212,6 @@ utc_times_content_tells = read_back_content_tells utc_moment utc_text read_utc s
 
 pub utc_times_tell : (a b : UtcTime) → EqualityTells utc_moment (λ m. element_text (element (universal 23) (utc_text m))) same_utc_times a b
 utc_times_tell = read_back_tells utc_moment utc_text read_utc same_utc_times utc_back (λ a b. moments_decide (utc_moment a) (utc_moment b)) (universal 23)
-
-abbrev x509_text : Moment → List ℕ
-x509_text m = general_text m (0x5a ∷ [])
 
 x509_back : (t : X509GeneralizedTime) → read_x509 (x509_text (x509_moment t)) ≡ Ok (x509_moment t)
 x509_back t = x509_again (x509_moment t) (t.datetime.is_date, t.in_range)

@@ -7,7 +7,8 @@ ghost use Rattle.asn1_core.specs.Integer.{integer_content, read_integer};
 ghost use Rattle.asn1_core.specs.Reading.{Answers};
 ghost use Rattle.asn1_core.specs.Writing.{GivesLength};
 ghost use Rattle.asn1_core.specs.Der.{simple_der};
-ghost use Rattle.asn1_values.specs.Big.{IsSigned, IsUnsigned, IsSignedForm, IsUnsignedForm, IsMagnitude, bit_count, magnitude, read_unsigned};
+ghost use Rattle.asn1_values.specs.Big.{IsSigned, IsUnsigned, IsSignedForm, IsUnsignedForm, bit_count, read_unsigned};
+ghost use Rattle.asn1_values.specs.BigSteps.{IsMagnitude, magnitude};
 
 use asn1_core::types::is_integer_content;
 use asn1_core::{

@@ -1,5 +1,5 @@
 use Rattle.std.proofs.Common.{◌-◌, Bool, get_or, take, drop, length, sym, subst, arith}
-use Rattle.asn1_values.specs.Big.{IsMagnitude}
+use Rattle.asn1_values.specs.BigSteps.{IsMagnitude}
 use Rattle.asn1_values.proofs.Bits.{small_log, counts_some, some_counted, first_and_others, others_fewer}
 use Rattle.asn1_values.proofs.values.big.bit_length.Goals as goal
 

@@ -1,0 +1,22 @@
+-- What the code keeps while it reads and displays the dotted form of an object identifier. No public contract uses it.
+use Rattle.std.specs.Prelude.{ℕ, ◌-◌, ◌/◌, ◌%◌, ◌+◌, ◌++◌, nat_lt, if◌then◌else◌, List, [], length, Option, None, Some, codes, decimal}
+use Rattle.std.specs.Borrow.{Bor}
+use Rattle.std.specs.List.{flat_map}
+use Rattle.asn1_values.specs.Identifier.{text_numbers}
+
+-- What is displayed for the first number, and for the others.
+abbrev pub first_text : ℕ → List ℕ
+first_text n = if nat_lt n 80 then decimal (n / 40) ++ (codes "." ++ decimal (n % 40)) else codes "2." ++ decimal (n - 80)
+
+abbrev pub others_text : List ℕ → List ℕ
+others_text numbers = flat_map (λ n. codes "." ++ decimal n) numbers
+
+-- The remaining numbers: those of the text after a dot, or none if there is no dot.
+abbrev pub left_numbers : Option (Bor (List ℕ)) → Option (List ℕ)
+left_numbers None = Some []
+left_numbers (Some text) = text_numbers text.now
+
+-- The length of the remaining text, with its dot.
+abbrev pub left_size : Option (Bor (List ℕ)) → ℕ
+left_size None = 0
+left_size (Some text) = length text.now + 1
