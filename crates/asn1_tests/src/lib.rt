@@ -12,6 +12,8 @@ mod examples;
 #[cfg(test)]
 mod headline;
 #[cfg(test)]
+mod laws;
+#[cfg(test)]
 mod lengths;
 #[cfg(test)]
 mod lifetimes;
