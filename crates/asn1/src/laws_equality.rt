@@ -1,13 +1,15 @@
-//! How elements, wrappers and choices compare. Lists and sets of items compare by the remaining octets (see
-//! [`crate::laws::equal_items`]). Each law is the contract of a function that does nothing.
+//! How elements, lists, wrappers, choices, tags and errors compare. Each law is the contract of a function that does
+//! nothing.
 
+ghost use Rattle.asn1_core.specs.Fault.{place_of};
 ghost use Rattle.asn1_core.specs.Tlv.{element_of};
 ghost use Rattle.asn1_values.specs.Comparisons.{ClonesAreEqual, HashesAlike, IsEqualityOf, NeverFails};
 ghost use Rattle.asn1.specs.InHand.{octets_of_set, sequence_octets};
 
 use crate::{
-    Choice1, Choice2, Choice3, Defaulted, ErrorInto, Explicit, Implicit, OctetStringEncoded,
-    Sequence, Set, Tlv,
+    Choice1, Choice2, Choice3, DefaultValue, Defaulted, DefinedByMarker, ErrorInto, Explicit,
+    Implicit, MeaningEq, OctetStringEncoded, ParseErrorKind, ParseLocation, Sequence, SequenceOf,
+    SequenceOfWriter, Set, SetOf, SetOfWriter, Tag, TagClass, Tlv, WriteError,
 };
 use asn1_core::Asn1Type;
 use std::hash::Hash;
@@ -22,12 +24,42 @@ pub fn elements_compare()
         ⟦<Tlv<'static> as PartialEq>⟧.eq }
 {}
 
-/// Values of `Sequence`, and of `Set`, are equal exactly if their contents octets are, and then have the same hash.
+/// Values of `Sequence`, and of `Set`, are equal exactly if their contents octets are, and then have the same hash. A
+/// clone never fails, and equals its source.
 pub fn contents_compare()
     ensures sequence { IsEqualityOf sequence_octets ⟦<Sequence<'static> as PartialEq>⟧.eq }
     ensures sequence_hash { HashesAlike sequence_octets ⟦<Sequence<'static> as Hash>⟧.hash_input }
+    ensures sequence_infallible { NeverFails ⟦<Sequence<'static> as Clone>⟧.is_infallible }
+    ensures sequence_clone { ClonesAreEqual ⟦<Sequence<'static> as Clone>⟧.is_clone
+        ⟦<Sequence<'static> as PartialEq>⟧.eq }
     ensures set { IsEqualityOf octets_of_set ⟦<Set<'static> as PartialEq>⟧.eq }
     ensures set_hash { HashesAlike octets_of_set ⟦<Set<'static> as Hash>⟧.hash_input }
+    ensures set_infallible { NeverFails ⟦<Set<'static> as Clone>⟧.is_infallible }
+    ensures set_clone { ClonesAreEqual ⟦<Set<'static> as Clone>⟧.is_clone
+        ⟦<Set<'static> as PartialEq>⟧.eq }
+{}
+
+/// Two lists are equal exactly if their remaining items mean the same, and then have the same hash. A clone never
+/// fails, and equals its source. So lists may be the parts of wrappers and choices in the laws below.
+pub fn lists_compare<'a, T: Asn1Type + 'a, const MIN: usize, const MAX: usize>()
+    ensures equality { IsEqualityOf ⟦<SequenceOf<'a, T, MIN, MAX> as Asn1Type>⟧.der.meaning
+        ⟦<SequenceOf<'a, T, MIN, MAX> as PartialEq>⟧.eq }
+    ensures hash { HashesAlike ⟦<SequenceOf<'a, T, MIN, MAX> as Asn1Type>⟧.der.meaning
+        ⟦<SequenceOf<'a, T, MIN, MAX> as Hash>⟧.hash_input }
+    ensures infallible { NeverFails ⟦<SequenceOf<'a, T, MIN, MAX> as Clone>⟧.is_infallible }
+    ensures clone { ClonesAreEqual ⟦<SequenceOf<'a, T, MIN, MAX> as Clone>⟧.is_clone
+        ⟦<SequenceOf<'a, T, MIN, MAX> as PartialEq>⟧.eq }
+{}
+
+/// The same of sets of items.
+pub fn sets_compare<'a, T: Asn1Type + 'a>()
+    ensures equality { IsEqualityOf ⟦<SetOf<'a, T> as Asn1Type>⟧.der.meaning
+        ⟦<SetOf<'a, T> as PartialEq>⟧.eq }
+    ensures hash { HashesAlike ⟦<SetOf<'a, T> as Asn1Type>⟧.der.meaning
+        ⟦<SetOf<'a, T> as Hash>⟧.hash_input }
+    ensures infallible { NeverFails ⟦<SetOf<'a, T> as Clone>⟧.is_infallible }
+    ensures clone { ClonesAreEqual ⟦<SetOf<'a, T> as Clone>⟧.is_clone
+        ⟦<SetOf<'a, T> as PartialEq>⟧.eq }
 {}
 
 /// If the equality of a type compares what values mean, so does the equality of its wrappers.
@@ -156,4 +188,81 @@ pub fn error_into_is_cloned<T: Clone + PartialEq, E>()
         ⟦<ErrorInto<T, E> as PartialEq>⟧.eq }
     ensures infallible { NeverFails T.is_infallible
         → NeverFails ⟦<ErrorInto<T, E> as Clone>⟧.is_infallible }
+{}
+
+/// If the equality of a type compares what values mean, so does the equality of slices of it that are written.
+pub fn slices_compare<'a, T: Asn1Type + PartialEq + 'a>()
+    ensures sequence { IsEqualityOf T.der.meaning T.eq
+        → IsEqualityOf ⟦<SequenceOfWriter<'a, T> as Asn1Type>⟧.der.meaning
+        ⟦<SequenceOfWriter<'a, T> as PartialEq>⟧.eq }
+    ensures set { IsEqualityOf T.der.meaning T.eq
+        → IsEqualityOf ⟦<SetOfWriter<'a, T> as Asn1Type>⟧.der.meaning
+        ⟦<SetOfWriter<'a, T> as PartialEq>⟧.eq }
+{}
+
+/// If values of a type that mean the same have the same hash, so do slices of it that are written.
+pub fn slices_hash<'a, T: Asn1Type + Hash + 'a>()
+    ensures sequence { HashesAlike T.der.meaning T.hash_input
+        → HashesAlike ⟦<SequenceOfWriter<'a, T> as Asn1Type>⟧.der.meaning
+        ⟦<SequenceOfWriter<'a, T> as Hash>⟧.hash_input }
+    ensures set { HashesAlike T.der.meaning T.hash_input
+        → HashesAlike ⟦<SetOfWriter<'a, T> as Asn1Type>⟧.der.meaning
+        ⟦<SetOfWriter<'a, T> as Hash>⟧.hash_input }
+{}
+
+/// A clone of a slice that is written never fails, and equals its source if each item equals itself.
+pub fn slices_are_cloned<'a, T: Clone + Eq + 'a>()
+    ensures sequence { ClonesAreEqual ⟦<SequenceOfWriter<'a, T> as Clone>⟧.is_clone
+        ⟦<SequenceOfWriter<'a, T> as PartialEq>⟧.eq }
+    ensures sequence_infallible { NeverFails
+        ⟦<SequenceOfWriter<'a, T> as Clone>⟧.is_infallible }
+    ensures set { ClonesAreEqual ⟦<SetOfWriter<'a, T> as Clone>⟧.is_clone
+        ⟦<SetOfWriter<'a, T> as PartialEq>⟧.eq }
+    ensures set_infallible { NeverFails ⟦<SetOfWriter<'a, T> as Clone>⟧.is_infallible }
+{}
+
+/// If the equality of a type compares what values mean, and if these hash alike, the same holds of a field of the type
+/// with a default.
+pub fn defaults_compare<T: MeaningEq + PartialEq + Hash, D: DefaultValue<T>>()
+    ensures equality { IsEqualityOf T.der.meaning T.eq
+        → IsEqualityOf ⟦<Defaulted<T, D> as Asn1Type>⟧.der.meaning
+        ⟦<Defaulted<T, D> as PartialEq>⟧.eq }
+    ensures hash { HashesAlike T.der.meaning T.hash_input
+        → HashesAlike ⟦<Defaulted<T, D> as Asn1Type>⟧.der.meaning
+        ⟦<Defaulted<T, D> as Hash>⟧.hash_input }
+{}
+
+/// All markers of a type are equal, and hash alike. A clone never fails, and equals its source.
+pub fn markers_compare<T: Clone + PartialEq + Hash>()
+    ensures equality { IsEqualityOf (λ marker. tt {0}) ⟦<DefinedByMarker<T> as PartialEq>⟧.eq }
+    ensures hash { HashesAlike (λ marker. tt {0}) ⟦<DefinedByMarker<T> as Hash>⟧.hash_input }
+    ensures infallible { NeverFails ⟦<DefinedByMarker<T> as Clone>⟧.is_infallible }
+    ensures clone { ClonesAreEqual ⟦<DefinedByMarker<T> as Clone>⟧.is_clone
+        ⟦<DefinedByMarker<T> as PartialEq>⟧.eq }
+{}
+
+/// Tags are equal exactly if class, constructed bit and number are the same, and then have the same hash; classes if
+/// they are the same. A clone never fails, and equals its source.
+pub fn tags_compare()
+    ensures equality { IsEqualityOf (λ tag. tag) ⟦<Tag as PartialEq>⟧.eq }
+    ensures hash { HashesAlike (λ tag. tag) ⟦<Tag as Hash>⟧.hash_input }
+    ensures infallible { NeverFails ⟦<Tag as Clone>⟧.is_infallible }
+    ensures clone { ClonesAreEqual ⟦<Tag as Clone>⟧.is_clone ⟦<Tag as PartialEq>⟧.eq }
+    ensures class { IsEqualityOf (λ class. class) ⟦<TagClass as PartialEq>⟧.eq }
+    ensures class_hash { HashesAlike (λ class. class) ⟦<TagClass as Hash>⟧.hash_input }
+    ensures class_infallible { NeverFails ⟦<TagClass as Clone>⟧.is_infallible }
+    ensures class_clone { ClonesAreEqual ⟦<TagClass as Clone>⟧.is_clone
+        ⟦<TagClass as PartialEq>⟧.eq }
+{}
+
+/// Kinds of errors are equal exactly if they are the same kind with the same numbers or the same tag, and errors of
+/// writes if they are the same. A clone of a kind never fails, and equals its source. Locations are equal exactly if
+/// they are the same index, or the same name.
+pub fn errors_compare()
+    ensures kind { IsEqualityOf (λ kind. kind) ⟦<ParseErrorKind as PartialEq>⟧.eq }
+    ensures infallible { NeverFails ⟦<ParseErrorKind as Clone>⟧.is_infallible }
+    ensures clone { ClonesAreEqual ⟦<ParseErrorKind as Clone>⟧.is_clone
+        ⟦<ParseErrorKind as PartialEq>⟧.eq }
+    ensures location { IsEqualityOf place_of ⟦<ParseLocation as PartialEq>⟧.eq }
+    ensures write_error { IsEqualityOf (λ error. error) ⟦<WriteError as PartialEq>⟧.eq }
 {}

@@ -95,8 +95,8 @@ pub fn lists_are_lawful<'a, T: Asn1Type + 'a, const MIN: usize, const MAX: usize
 {}
 
 /// No two values that may be read back share an encoding. The encoding of a value may be written, if the type has one
-/// for each value; it can be read if it is shorter than 2^32 octets; and whatever is written of a value is nothing or one
-/// element.
+/// for each value; it can be read if it is shorter than 2^32 octets; and whatever is written of a value is nothing or
+/// one element.
 pub fn encodings_tell_values<T: Asn1Type>()
     ensures one_value { T.der.lawful → (m n : T.der.Meaning) → T.der.valid m → T.der.valid n
         → T.der.allowed m → T.der.allowed n → Fits (T.der.text m) → T.der.text m ≡ T.der.text n

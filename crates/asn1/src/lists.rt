@@ -4,6 +4,7 @@
 ghost use Rattle.std.specs.Prelude.{◌≡◌};
 ghost use Rattle.asn1_core.specs.declared.parser.Place.TheVariants.{Index};
 ghost use Rattle.asn1_core.specs.Fault.{within};
+ghost use Rattle.asn1.specs.Lists.{AreOctets};
 
 mod sequence;
 mod sequence_of;
@@ -22,4 +23,12 @@ pub(crate) fn at_item(error: ParseError, index: usize) -> ParseError
     ensures { result ≡ within (Index index) error }
 {
     error.add_location(ParseLocation::Index(index))
+}
+
+/// States that a slice holds octets. The body looks at the slice, whose type says so.
+#[inline(always)]
+pub(crate) fn are_octets(octets: &[u8])
+    ensures { AreOctets octets.now }
+{
+    let _count = octets.len();
 }

@@ -4,6 +4,7 @@
 ghost use Rattle.std.specs.Prelude.{◌≡◌, Ok, IfOk, IfErr};
 ghost use Rattle.asn1_core.specs.Reading.{Answers, Fits, IsRefusal, whole};
 ghost use Rattle.asn1_core.specs.Writing.{Refuses};
+ghost use Rattle.asn1_core.specs.Listing.{OneNames};
 
 use asn1_core::{Asn1Readable, Asn1Writable, ParseResult, Tag, parse_single, write_single};
 use std::alloc::Global;
@@ -31,6 +32,8 @@ pub fn read_and_write_back<'a, T: Asn1Readable<'a> + Asn1Writable>(
     ensures written { IfOk result (λ written. IfOk written (λ v. v.items ≡ «data».entry.now)) }
     ensures refused { IfErr result (IsRefusal (T.der.runs_out «data».entry.now)
         (whole (T.der.read «data».entry.now))) }
+    ensures error { IfOk result (λ written. IfErr written
+        (Refuses T.Error.from_gives (OneNames T.write_errors))) }
 {
     let value = parse_single::<T>(alloc, data)?;
     Ok(write_readable(alloc, &value))
@@ -49,9 +52,10 @@ pub fn write_and_read_back<'a, T: Asn1Readable<'a> + Asn1Writable>(
     requires lawful { T.der.lawful }
     requires allowed { T.der.allowed (T.der.meaning value.now) }
     requires fits { Fits (T.der.text (T.der.meaning value.now)) }
-    ensures { IfOk result (λ read. Answers T.der.meaning
+    ensures read { IfOk result (λ read. Answers T.der.meaning
         (T.der.runs_out (T.der.text (T.der.meaning value.now))) read
         (Ok (T.der.meaning value.now))) }
+    ensures error { IfErr result (Refuses T.Error.from_gives (T.write_errors value.now)) }
 {
     value.known();
     *store = write_readable(alloc, value)?;

@@ -10,6 +10,10 @@ mod defaults;
 #[cfg(test)]
 mod examples;
 #[cfg(test)]
+mod headline;
+#[cfg(test)]
+mod laws;
+#[cfg(test)]
 mod lengths;
 #[cfg(test)]
 mod lifetimes;

@@ -1,6 +1,6 @@
 //! SEQUENCE OF (X.690 8.10).
 
-ghost use Rattle.std.specs.Prelude.{◌≡◌, ◌<◌, ◌-◌, ◌==◌, List, ℕ, length, nat_eq, Ok, OnOk, OnErr, IfErr, IsSome, Some};
+ghost use Rattle.std.specs.Prelude.{◌≡◌, ◌↔◌, IsTrue, ◌<◌, ◌≤◌, ◌-◌, ◌==◌, List, ℕ, length, nat_eq, Ok, OnOk, OnErr, IfErr, IsSome, Some};
 ghost use Rattle.std.specs.Iterator.{at_most};
 ghost use Rattle.std.specs.Hash as fed;
 ghost use Rattle.std.specs.Cmp.{partial_equiv_from_equiv, on_per, on_equiv};
@@ -13,10 +13,10 @@ ghost use Rattle.asn1_core.specs.Reading.{Answers, EndsWith};
 ghost use Rattle.asn1_core.specs.Der.{simple_der};
 ghost use Rattle.asn1_core.specs.Listing.{Each, Joins, OneNames, sequence_tag};
 ghost use Rattle.asn1_core.specs.Writing.{buffer_name, octets_of, GivesLength, Refuses};
-ghost use Rattle.asn1.specs.Lists.{AreItems, left, item, counted, item_out, items_out, sequence_read, NextItem};
+ghost use Rattle.asn1.specs.Lists.{AreItems, AreOctets, left, item, counted, item_out, items_out, sequence_read, NextItem};
 ghost use Rattle.asn1.specs.ListTypes.{items_inside};
 
-use crate::lists::at_item;
+use crate::lists::{are_octets, at_item};
 use asn1_core::{
     Asn1Readable, Asn1Type, Asn1Writable, ParseError, ParseErrorKind, ParseResult, Parser,
     SimpleAsn1Readable, SimpleAsn1Writable, Tag, Tlv, WriteBuf, WriteError, Writer,
@@ -59,6 +59,7 @@ pub struct SequenceOf<'a, T: Asn1Type, const MINIMUM_LEN: usize, const MAXIMUM_L
     alloc: Global,
     count: usize,
     of: PhantomData<T>,
+    pub ghost are_octets: { AreOctets content.now },
     pub ghost are_items: { AreItems T.der.read content.now count },
 }
 
@@ -68,9 +69,13 @@ impl<'a, T: Asn1Readable<'a>, const MINIMUM_LEN: usize, const MAXIMUM_LEN: usize
     MINIMUM_LEN,
     MAXIMUM_LEN,
 > {
-    /// How many items remain. The count is kept: no item is read.
+    /// How many items remain. The count is kept: no item is read. If it is within the bounds, the list may be read
+    /// back: each item was read, so it is within its own.
     pub fn len(&self) -> usize
-        ensures { result ≡ length
+        ensures count { result ≡ length
+            (⟦<SequenceOf<'a, T, MINIMUM_LEN, MAXIMUM_LEN> as Asn1Type>⟧.der.meaning self.now) }
+        ensures allowed { MINIMUM_LEN ≤ result → result ≤ MAXIMUM_LEN
+            → ⟦<SequenceOf<'a, T, MINIMUM_LEN, MAXIMUM_LEN> as Asn1Type>⟧.der.allowed
             (⟦<SequenceOf<'a, T, MINIMUM_LEN, MAXIMUM_LEN> as Asn1Type>⟧.der.meaning self.now) }
     {
         self.count
@@ -84,6 +89,13 @@ impl<'a, T: Asn1Readable<'a>, const MINIMUM_LEN: usize, const MAXIMUM_LEN: usize
     {
         self.count == 0
     }
+
+    /// States that each item that remains may be read back: it was read, so it is within its bounds. The call does
+    /// nothing at run time.
+    pub fn known_items(&self)
+        ensures { Each T.der.allowed
+            (⟦<SequenceOf<'a, T, MINIMUM_LEN, MAXIMUM_LEN> as Asn1Type>⟧.der.meaning self.now) }
+    {}
 }
 
 impl<'a, T: Asn1Type, const MINIMUM_LEN: usize, const MAXIMUM_LEN: usize> Clone
@@ -127,7 +139,11 @@ impl<'a, T: Asn1Type, const MINIMUM_LEN: usize, const MAXIMUM_LEN: usize> Partia
 
     ghost laws = { on_per (λ x. x.content.now) (partial_equiv_from_equiv nat_list_eq_equiv) };
 
-    fn eq(&self, other: &Self) -> bool {
+    fn eq(&self, other: &Self) -> bool
+        ensures value { result ≡ pointwise nat_eq self.now.content.now other.now.content.now }
+        ensures items { IsTrue result ↔ (left T.der.read self.now.content.now
+            ≡ left T.der.read other.now.content.now) }
+    {
         self.content == other.content
     }
 }
@@ -153,9 +169,7 @@ impl<'a, T: Asn1Type, const MINIMUM_LEN: usize, const MAXIMUM_LEN: usize> Asn1Ty
     ghost der = { simple_der (λ s. left T.der.read s.content.now)
         (items_inside MINIMUM_LEN MAXIMUM_LEN T.der) };
 
-    fn known(&self) {
-        self.content.known();
-    }
+    fn known(&self) {}
 }
 
 impl<
@@ -279,7 +293,9 @@ impl<'a, T: Asn1Readable<'a>, const MINIMUM_LEN: usize, const MAXIMUM_LEN: usize
         }
         let mut parser = Parser::new(self.alloc, self.content);
         let answer = read_first::<T>(&mut parser, self.count);
-        self.content = parser.rest();
+        let rest = parser.rest();
+        are_octets(rest);
+        self.content = rest;
         self.count -= 1;
         // An error is large. If an item was read, only the item is moved.
         match answer {
@@ -345,7 +361,6 @@ impl<
             (Joins T.der.texts (left T.der.read self.now.content.now)) result }
         ensures known { IsSome result }
     {
-        self.content.known();
         // By this call's contract each item has one encoding, which is the octets that it was read from.
         let _accepted = T::can_parse(Tag::constructed(0x10));
         Some(self.content.len())

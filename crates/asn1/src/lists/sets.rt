@@ -1,7 +1,7 @@
 //! SET and SET OF (X.690 8.11, 8.12): SET as it is encoded, its elements in the order of their tags (10.3), and SET OF
 //! as an iterator, its items in the order of their encodings (11.6).
 
-ghost use Rattle.std.specs.Prelude.{◌≡◌, ◌<◌, List, ℕ, [], length, Result, Some, OnOk, OnErr, IfErr, IsSome, nat_eq};
+ghost use Rattle.std.specs.Prelude.{◌≡◌, ◌↔◌, ◌<◌, IsTrue, List, ℕ, [], length, Result, Some, OnOk, OnErr, IfErr, IsSome, nat_eq};
 ghost use Rattle.std.specs.Fn.{FnOnceReturnsAtMut};
 ghost use Rattle.std.specs.Iterator.{at_most};
 ghost use Rattle.std.specs.Hash as fed;
@@ -16,11 +16,11 @@ ghost use Rattle.asn1_core.specs.Tlv.{element_of};
 ghost use Rattle.asn1_core.specs.Reading.{Answers, EndsWith, IsHandedOn, element_front};
 ghost use Rattle.asn1_core.specs.Der.{simple_der};
 ghost use Rattle.asn1_core.specs.Writing.{buffer_name, octets_of, GivesLength, Refuses};
-ghost use Rattle.asn1.specs.Lists.{NextItem};
+ghost use Rattle.asn1.specs.Lists.{AreOctets, NextItem};
 ghost use Rattle.asn1.specs.Sets.{AreOrdered, set_left, set_item, checked, set_item_out, set_out, first_out, set_read, set_octets, element_behind};
 ghost use Rattle.asn1.specs.SetTypes.{set_inside, set_content};
 
-use crate::lists::at_item;
+use crate::lists::{are_octets, at_item};
 use asn1_core::{
     Asn1Readable, Asn1Type, Asn1Writable, ParseError, ParseErrorKind, ParseResult, Parser,
     SimpleAsn1Readable, SimpleAsn1Writable, Tag, Tlv, WriteBuf, WriteError, WriteResult, Writer,
@@ -244,7 +244,16 @@ pub struct SetOf<'a, T: Asn1Type> {
     content: &'a [u8],
     alloc: Global,
     of: PhantomData<T>,
+    pub ghost are_octets: { AreOctets content.now },
     pub ghost are_ordered: { AreOrdered text_less T.der.read content.now },
+}
+
+impl<'a, T: Asn1Readable<'a>> SetOf<'a, T> {
+    /// States that each item that remains may be read back: it was read, so it is within its bounds. The call does
+    /// nothing at run time.
+    pub fn known_items(&self)
+        ensures { Each T.der.allowed (⟦<SetOf<'a, T> as Asn1Type>⟧.der.meaning self.now) }
+    {}
 }
 
 impl<'a, T: Asn1Type> Clone for SetOf<'a, T> {
@@ -280,7 +289,11 @@ impl<'a, T: Asn1Type> PartialEq for SetOf<'a, T> {
 
     ghost laws = { on_per (λ x. x.content.now) (partial_equiv_from_equiv nat_list_eq_equiv) };
 
-    fn eq(&self, other: &Self) -> bool {
+    fn eq(&self, other: &Self) -> bool
+        ensures value { result ≡ pointwise nat_eq self.now.content.now other.now.content.now }
+        ensures items { IsTrue result ↔ (set_left text_less T.der.read self.now.content.now
+            ≡ set_left text_less T.der.read other.now.content.now) }
+    {
         self.content == other.content
     }
 }
@@ -303,9 +316,7 @@ impl<'a, T: Asn1Type> Asn1Type for SetOf<'a, T> {
     ghost der = { simple_der (λ s. set_left text_less T.der.read s.content.now)
         (set_inside T.der) };
 
-    fn known(&self) {
-        self.content.known();
-    }
+    fn known(&self) {}
 }
 
 impl<'a, T: Asn1Readable<'a>> SimpleAsn1Readable<'a> for SetOf<'a, T> {
@@ -368,7 +379,9 @@ impl<'a, T: Asn1Readable<'a>> Iterator for SetOf<'a, T> {
         }
         let mut parser = Parser::new(self.alloc, self.content);
         let answer = read_first::<T>(&mut parser);
-        self.content = parser.rest();
+        let rest = parser.rest();
+        are_octets(rest);
+        self.content = rest;
         // An error is large. If an item was read, only the item is moved.
         match answer {
             Ok(value) => Some(Ok(value)),
@@ -425,7 +438,6 @@ impl<'a, T: Asn1Readable<'a> + Asn1Writable> SimpleAsn1Writable for SetOf<'a, T>
             (Joins T.der.texts (set_left text_less T.der.read self.now.content.now)) result }
         ensures known { IsSome result }
     {
-        self.content.known();
         // By this call's contract each item has one encoding, which is the octets that it was read from.
         let _accepted = T::can_parse(Tag::constructed(0x11));
         Some(self.content.len())

@@ -1,0 +1,16 @@
+-- Two lists whose items mean the same, item for item.
+use Rattle.std.proofs.Common.{◌≡◌, List, [], ◌∷◌, ap}
+
+abbrev head_or : {M : Type 0} → M → List M → M
+head_or m [] = m
+head_or m (n ∷ ms) = n
+
+abbrev others : {M : Type 0} → List M → List M
+others [] = []
+others (m ∷ ms) = ms
+
+pub same_first : {M : Type 0} (m n : M) (ms ns : List M) → (m ∷ ms) ≡ (n ∷ ns) → m ≡ n
+same_first m n ms ns e = ap (head_or m) e
+
+pub same_others : {M : Type 0} (m n : M) (ms ns : List M) → (m ∷ ms) ≡ (n ∷ ns) → ms ≡ ns
+same_others m n ms ns e = ap others e

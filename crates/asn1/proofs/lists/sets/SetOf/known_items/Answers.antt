@@ -1,0 +1,15 @@
+use Rattle.asn1_core.specs.Listing.{text_less}
+use Rattle.asn1_core.specs.Lemmas.Items.{each_both}
+use Rattle.asn1_core.specs.Lemmas.Texts.{IsText-from_reads}
+use Rattle.asn1.specs.Sets.{set_left}
+use Rattle.asn1.specs.Lemmas.SetItems.{set_left_is}
+use Rattle.asn1.proofs.lists.sets.SetOf.known_items.Goals as goal
+
+pub returns : goal.returns
+returns g c =
+    let d = g.T.Asn1Type.der in
+    let self = c.args.self.now in
+    let content = self.content.now in
+    let is = IsText-from_reads content self.are_octets in
+    let items = set_left_is text_less d.read d.text (λ m. d.valid m × d.allowed m) d.takes content is self.are_ordered in
+    (each_both d.valid d.allowed (set_left text_less d.read content) items.1).1
