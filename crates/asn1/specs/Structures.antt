@@ -1,11 +1,12 @@
 -- Structures (X.690 8.9), seen as rows of fields.
 use Prim.Native.String.{String}
 use Rattle.std.specs.Prelude.{◌≡◌, ◌↔◌, ℕ, List, map, codes, ◌++◌, Result}
+use Rattle.asn1_core.specs.declared.parser.Place.{Place}
 use Rattle.asn1_core.specs.Der.{Der, simple_der}
 use Rattle.asn1_core.specs.Fault.{Fault}
 use Rattle.asn1_core.specs.Reading.{Answers}
 use Rattle.asn1.specs.declared.fields.Names.{Names}
-use Rattle.asn1.specs.ItemsAndValues.{ItemAndValue}
+use Rattle.asn1.specs.ItemsAndValues.{ItemAndValue, seen_front}
 use Rattle.asn1.specs.Fields.{Fields, FieldsBy, field, last, no_fields, value_last, value_field, between, with_item, sequence}
 use Rattle.asn1_core.specs.declared.tag.Tag.{Tag}
 use Rattle.asn1.specs.Tagged.{retagged}
@@ -95,6 +96,20 @@ before_behind view d rest behind = record {
   meaning = λ w. (d.meaning (view w), behind.meaning (rest w));
   fields = between d behind.fields;
 }
+
+-- Reading an item and the fields after it returns the same as either of the two says. Each abstract value of an item is
+-- mapped from the first to the second.
+pub record IsReadBehind {T V : Type 0} (a b : BehindItem T V) : Type 0 where
+  pub stands_for : a.item.Meaning → b.item.Meaning
+  pub item : (octets : List ℕ) → b.item.read octets ≡ seen_front stands_for (a.item.read octets)
+  pub item_runs_out : (octets : List ℕ) (places : List Place) → a.item.runs_out octets places ↔ b.item.runs_out octets places
+  pub fields : (names : List (List ℕ)) (m : a.item.Meaning) (octets : List ℕ) (result : Result V Fault) →
+      Answers a.meaning (a.fields.runs_out names m octets) result (a.fields.read names m octets)
+      ↔ Answers b.meaning (b.fields.runs_out names (stands_for m) octets) result (b.fields.read names (stands_for m) octets)
+
+-- An item and the fields after it have one encoding for each value.
+abbrev pub IsPlainBehind : {T V : Type 0} → BehindItem T V → Type 0
+IsPlainBehind behind = behind.item.plain × behind.fields.plain
 
 -- An item, and the fields after it.
 abbrev pub item_list : {T U W : Type 0} → (W → U) → BehindItem T U → FieldList W

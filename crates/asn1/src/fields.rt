@@ -68,8 +68,9 @@ pub trait Row: Sized {
 }
 
 /// Fields that are read. If this trait had the supertrait [`Row`], the prover would compare what each row means in each
-/// structure. So `list` is stated here too, and the law [`crate::laws_wrappers::rows_are_read`] says that it is that of
-/// `Row`.
+/// structure. So `list` is stated here too, and the laws [`crate::laws_wrappers::rows_are_read`] and
+/// [`crate::laws_wrappers::rows_behind_items_are_read`] say that reading returns what `Row` says. By
+/// [`crate::laws_wrappers::rows_are_plain`] a row that is read has one encoding for each value.
 pub trait RowReadable<'a>: Sized + Drop {
     ghost list: { FieldList Self };
 

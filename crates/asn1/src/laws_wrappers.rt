@@ -1,13 +1,16 @@
 //! Laws of options, wrappers, choices and fields, each the contract of a function that does nothing.
 
 ghost use Rattle.std.specs.Prelude.{◌≡◌, true, false};
+ghost use Rattle.std.specs.Borrow.{Bor};
 ghost use Rattle.asn1_core.specs.Options.{option_meaning};
+ghost use Rattle.asn1.specs.declared.fields.Field.{Field};
+ghost use Rattle.asn1.specs.declared.fields.Last.{Last};
 ghost use Rattle.asn1.specs.Alternatives.{Disjoint};
-ghost use Rattle.asn1.specs.Structures.{defaulted, explicit, implicit, IsEncoded, IsReadAs, IsWrittenAs};
+ghost use Rattle.asn1.specs.Structures.{defaulted, explicit, implicit, IsEncoded, IsPlainBehind, IsReadAs, IsReadBehind, IsWrittenAs};
 
 use crate::fields::{
     Before, DefinedField, Field, FieldWritable, Item, ItemOf, Last, LastValue, NoFields, Plain,
-    Row, RowReadable, Value, ValueOf,
+    Row, RowBehind, RowBehindReadable, RowReadable, RowWritable, Value, ValueOf,
 };
 use crate::{
     Choice1, Choice2, Choice3, DefaultValue, Defaulted, ErrorInto, Explicit, Implicit, MeaningEq,
@@ -15,7 +18,7 @@ use crate::{
 };
 use asn1_core::{
     Asn1DefinedBy, Asn1DefinedByReadable, Asn1DefinedByWritable, Asn1Readable, Asn1Type,
-    Asn1Writable, SimpleAsn1Writable,
+    Asn1Writable, SimpleAsn1Writable, Tag,
 };
 
 /// Each wrapper of a lawful part is lawful: what is written is read back, and means the same. The part of an option
@@ -123,20 +126,147 @@ pub fn items_are_encoded<T: Asn1Writable + Drop, C: DefinedField<T> + Asn1Define
         ⟦<ValueOf<T> as FieldWritable<C>>⟧.encodings ⟦<ValueOf<T> as FieldWritable<C>>⟧.owes }
 {}
 
-/// What [`RowReadable`] states of each kind of row, and so of the fields in it, is what [`Row`] states.
-pub fn rows_are_read<
-    'a,
-    A: Asn1Readable<'a>,
-    B: Asn1Readable<'a>,
-    T: Asn1Readable<'a>,
-    C: DefinedField<T> + Asn1DefinedByReadable<'a, T>,
->()
+/// What [`RowReadable`] states of a row is what [`Row`] states: of no fields, of the last field, and of a field with
+/// those after it, if it holds of these. So it holds of rows of any length.
+pub fn rows_are_read<'a, A: Asn1Readable<'a>, R: Row + RowReadable<'a>>()
     ensures none { IsReadAs ⟦<NoFields as Row>⟧.list ⟦<NoFields as RowReadable<'a>>⟧.list }
     ensures last { IsReadAs ⟦<Last<A> as Row>⟧.list ⟦<Last<A> as RowReadable<'a>>⟧.list }
-    ensures field { IsReadAs ⟦<Field<A, Last<B>> as Row>⟧.list
-        ⟦<Field<A, Last<B>> as RowReadable<'a>>⟧.list }
-    ensures last_value { IsReadAs ⟦<Item<T, LastValue<C>> as Row>⟧.list
-        ⟦<Item<T, LastValue<C>> as RowReadable<'a>>⟧.list }
-    ensures value { IsReadAs ⟦<Item<T, Before<A, Value<C, Last<B>>>> as Row>⟧.list
-        ⟦<Item<T, Before<A, Value<C, Last<B>>>> as RowReadable<'a>>⟧.list }
+    ensures field { IsReadAs R.Row.list R.RowReadable.list
+        → IsReadAs ⟦<Field<A, R> as Row>⟧.list ⟦<Field<A, R> as RowReadable<'a>>⟧.list }
 {}
+
+/// The same of an item and the fields after it, if it holds of these: of the value that the item defines as the last
+/// field, of that value with the fields after it, and of a field before it.
+pub fn rows_behind_items_are_read<
+    'a,
+    A: Asn1Readable<'a>,
+    T: Asn1Readable<'a>,
+    C: DefinedField<T> + Asn1DefinedByReadable<'a, T>,
+    R: Row + RowReadable<'a>,
+    B: RowBehind<T> + RowBehindReadable<'a, T>,
+>()
+    ensures last_value { IsReadBehind ⟦<LastValue<C> as RowBehind<T>>⟧.behind
+        ⟦<LastValue<C> as RowBehindReadable<'a, T>>⟧.behind }
+    ensures value { IsReadAs R.Row.list R.RowReadable.list
+        → IsReadBehind ⟦<Value<C, R> as RowBehind<T>>⟧.behind
+        ⟦<Value<C, R> as RowBehindReadable<'a, T>>⟧.behind }
+    ensures before { IsReadBehind B.RowBehind.behind B.RowBehindReadable.behind
+        → IsReadBehind ⟦<Before<A, B> as RowBehind<T>>⟧.behind
+        ⟦<Before<A, B> as RowBehindReadable<'a, T>>⟧.behind }
+    ensures item { IsReadBehind B.RowBehind.behind B.RowBehindReadable.behind
+        → IsReadAs ⟦<Item<T, B> as Row>⟧.list ⟦<Item<T, B> as RowReadable<'a>>⟧.list }
+{}
+
+/// What [`RowWritable`] states of a row of values is what [`Row`] states: of the last field, and of a field with those
+/// after it, if it holds of the field and of these. [`fields_are_encoded`] says it of each kind of field.
+pub fn rows_are_written<
+    'a,
+    V,
+    P: 'a,
+    A: Asn1Type,
+    K: FieldWritable<P>,
+    R: Row,
+    KR,
+    W: RowWritable<KR, Error = K::Error>,
+>()
+    ensures last { (row : V → Last (Bor P)) (m : V → A.der.Meaning)
+        → IsWrittenAs A.der.texts A.der.closures m (λ v. K.encodings (row v).value.now)
+        (λ v. K.owes (row v).value.now)
+        → IsWrittenAs ⟦<Last<A> as Row>⟧.list.fields.texts ⟦<Last<A> as Row>⟧.list.fields.closures
+        m (λ v. ⟦<Last<&'a P> as RowWritable<Last<K>>>⟧.encodings (row v))
+        (λ v. ⟦<Last<&'a P> as RowWritable<Last<K>>>⟧.owes (row v)) }
+    ensures field { (row : V → Field (Bor P) W) (m : V → A.der.Meaning) (n : V → R.list.Meaning)
+        → IsWrittenAs A.der.texts A.der.closures m (λ v. K.encodings (row v).value.now)
+        (λ v. K.owes (row v).value.now)
+        → IsWrittenAs R.list.fields.texts R.list.fields.closures n (λ v. W.encodings (row v).rest)
+        (λ v. W.owes (row v).rest)
+        → IsWrittenAs ⟦<Field<A, R> as Row>⟧.list.fields.texts
+        ⟦<Field<A, R> as Row>⟧.list.fields.closures (λ v. (m v, n v))
+        (λ v. ⟦<Field<&'a P, W> as RowWritable<Field<K, KR>>>⟧.encodings (row v))
+        (λ v. ⟦<Field<&'a P, W> as RowWritable<Field<K, KR>>>⟧.owes (row v)) }
+{}
+
+/// The same of an item and the fields after it, if it holds of these: of the value that the item defines as the last
+/// field, of that value with the fields after it, and of a field before it. The item is written from that value.
+pub fn rows_behind_items_are_written<
+    'a,
+    V,
+    P: 'a,
+    A: Asn1Type,
+    T: Asn1Type,
+    C: DefinedField<T>,
+    K: FieldWritable<P>,
+    R: Row,
+    B: RowBehind<T>,
+    KR,
+    W: RowWritable<KR, Error = K::Error>,
+>()
+    ensures last_value { (row : V → Last (Bor P)) (m : V → C.both.value.Meaning)
+        → IsWrittenAs C.both.value.texts C.both.value.closures m
+        (λ v. K.encodings (row v).value.now) (λ v. K.owes (row v).value.now)
+        → IsWrittenAs ⟦<LastValue<C> as RowBehind<T>>⟧.behind.fields.texts
+        ⟦<LastValue<C> as RowBehind<T>>⟧.behind.fields.closures m
+        (λ v. ⟦<Last<&'a P> as RowWritable<Last<K>>>⟧.encodings (row v))
+        (λ v. ⟦<Last<&'a P> as RowWritable<Last<K>>>⟧.owes (row v)) }
+    ensures value { (row : V → Field (Bor P) W) (m : V → C.both.value.Meaning)
+        → (n : V → R.list.Meaning)
+        → IsWrittenAs C.both.value.texts C.both.value.closures m
+        (λ v. K.encodings (row v).value.now) (λ v. K.owes (row v).value.now)
+        → IsWrittenAs R.list.fields.texts R.list.fields.closures n
+        (λ v. W.encodings (row v).rest) (λ v. W.owes (row v).rest)
+        → IsWrittenAs ⟦<Value<C, R> as RowBehind<T>>⟧.behind.fields.texts
+        ⟦<Value<C, R> as RowBehind<T>>⟧.behind.fields.closures (λ v. (m v, n v))
+        (λ v. ⟦<Field<&'a P, W> as RowWritable<Field<K, KR>>>⟧.encodings (row v))
+        (λ v. ⟦<Field<&'a P, W> as RowWritable<Field<K, KR>>>⟧.owes (row v)) }
+    ensures before { (row : V → Field (Bor P) W) (m : V → A.der.Meaning) (n : V → B.behind.Meaning)
+        → IsWrittenAs A.der.texts A.der.closures m
+        (λ v. K.encodings (row v).value.now) (λ v. K.owes (row v).value.now)
+        → IsWrittenAs B.behind.fields.texts B.behind.fields.closures n
+        (λ v. W.encodings (row v).rest) (λ v. W.owes (row v).rest)
+        → IsWrittenAs ⟦<Before<A, B> as RowBehind<T>>⟧.behind.fields.texts
+        ⟦<Before<A, B> as RowBehind<T>>⟧.behind.fields.closures (λ v. (m v, n v))
+        (λ v. ⟦<Field<&'a P, W> as RowWritable<Field<K, KR>>>⟧.encodings (row v))
+        (λ v. ⟦<Field<&'a P, W> as RowWritable<Field<K, KR>>>⟧.owes (row v)) }
+    ensures item { (row : V → Field (Bor P) W) (n : V → B.behind.Meaning)
+        → IsWrittenAs B.behind.item.texts B.behind.item.closures (λ v. B.behind.fields.item (n v))
+        (λ v. K.encodings (row v).value.now) (λ v. K.owes (row v).value.now)
+        → IsWrittenAs B.behind.fields.texts B.behind.fields.closures n
+        (λ v. W.encodings (row v).rest) (λ v. W.owes (row v).rest)
+        → IsWrittenAs ⟦<Item<T, B> as Row>⟧.list.fields.texts
+        ⟦<Item<T, B> as Row>⟧.list.fields.closures n
+        (λ v. ⟦<Field<&'a P, W> as RowWritable<Field<K, KR>>>⟧.encodings (row v))
+        (λ v. ⟦<Field<&'a P, W> as RowWritable<Field<K, KR>>>⟧.owes (row v)) }
+{}
+
+/// A row that is read has one encoding for each value: no fields, a last field, and a field with those after it, if
+/// these have.
+pub fn rows_are_plain<'a, A: Asn1Readable<'a>, R: RowReadable<'a>>()
+    ensures none { ⟦<NoFields as RowReadable<'a>>⟧.list.fields.plain }
+    ensures last { ⟦<Last<A> as RowReadable<'a>>⟧.list.fields.plain }
+    ensures field { R.list.fields.plain → ⟦<Field<A, R> as RowReadable<'a>>⟧.list.fields.plain }
+{
+    // By this call's contract each value of the type has one encoding.
+    let _accepted = A::can_parse(Tag::primitive(0));
+}
+
+/// The same of an item and the fields after it, by what their row states.
+pub fn rows_behind_items_are_plain<
+    'a,
+    A: Asn1Readable<'a>,
+    T: Asn1Readable<'a>,
+    C: DefinedField<T> + Asn1DefinedByReadable<'a, T>,
+    R: RowReadable<'a>,
+    B: RowBehindReadable<'a, T>,
+>()
+    ensures last_value { IsPlainBehind ⟦<LastValue<C> as RowBehindReadable<'a, T>>⟧.behind }
+    ensures value { R.list.fields.plain
+        → IsPlainBehind ⟦<Value<C, R> as RowBehindReadable<'a, T>>⟧.behind }
+    ensures before { IsPlainBehind B.behind
+        → IsPlainBehind ⟦<Before<A, B> as RowBehindReadable<'a, T>>⟧.behind }
+    ensures item { IsPlainBehind B.behind
+        → ⟦<Item<T, B> as RowReadable<'a>>⟧.list.fields.plain }
+{
+    let _accepted = A::can_parse(Tag::primitive(0));
+    let _item_accepted = T::can_parse(Tag::primitive(0));
+    C::one_text();
+}

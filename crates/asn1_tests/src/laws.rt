@@ -12,10 +12,13 @@ ghost use Rattle.asn1.specs.Alternatives.{Disjoint};
 ghost use Rattle.asn1.specs.Sets.{set_read};
 ghost use Rattle.asn1.specs.InHand.{octets_of_set, sequence_octets};
 ghost use Rattle.asn1.specs.TypeLaws.{IsListingOf};
-ghost use Rattle.asn1.specs.Structures.{structure};
+ghost use Rattle.asn1.specs.Structures.{structure, IsReadAs, IsWrittenAs};
 
 use crate::headline::Holder;
-use asn1::fields::{Field, FieldWritable, Plain, Row};
+use asn1::fields::{
+    DefinedField, Field, FieldWritable, Fields2, Item, ItemOf, Last, LastValue, NoFields, Plain,
+    Row, RowBehind, RowReadable, RowWritable, ValueOf,
+};
 use asn1::laws::{equal_items, equal_multisets, sets_read_listings};
 use asn1::laws_equality::{
     choices_are_cloned, choices_compare, choices_hash, contents_compare, defaults_compare,
@@ -30,13 +33,15 @@ use asn1::laws_types::{
 };
 use asn1::laws_wrappers::{
     choices_are_elements, choices_are_lawful, defaults_are_lawful, defined_types_are_lawful,
-    error_into_is_lawful, fields_are_encoded, wrappers_are_elements, wrappers_are_lawful,
+    error_into_is_lawful, fields_are_encoded, items_are_encoded, rows_are_plain, rows_are_read,
+    rows_are_written, rows_behind_items_are_plain, rows_behind_items_are_read,
+    rows_behind_items_are_written, wrappers_are_elements, wrappers_are_lawful,
 };
 use asn1::{
-    Asn1DefinedBy, Asn1Readable, Asn1Type, Choice2, DefaultValue, Defaulted, DefinedByMarker,
-    ErrorInto, Explicit, Implicit, MeaningEq, OwnedBigInt, ParseErrorKind, ParseLocation, Sequence,
-    SequenceOf, SequenceOfWriter, Set, SetOf, SetOfWriter, SimpleAsn1Writable, SimpleMeaningEq,
-    Tag, Tlv, WriteError,
+    Asn1DefinedBy, Asn1DefinedByReadable, Asn1DefinedByWritable, Asn1Readable, Asn1Type,
+    Asn1Writable, Choice2, DefaultValue, Defaulted, DefinedByMarker, ErrorInto, Explicit, Implicit,
+    MeaningEq, OwnedBigInt, ParseErrorKind, ParseLocation, Sequence, SequenceOf, SequenceOfWriter,
+    Set, SetOf, SetOfWriter, SimpleAsn1Writable, SimpleMeaningEq, Tag, Tlv, WriteError,
 };
 use std::hash::Hash;
 use std::test::Fail;
@@ -142,6 +147,76 @@ pub fn plain_fields<
         ↔ T.der.texts (T.der.meaning v) octets }
 {
     fields_are_encoded::<T, D, E, I, TAG>();
+}
+
+pub fn items_that_are_written<
+    T: Asn1Writable + Drop,
+    C: DefinedField<T> + Asn1DefinedByWritable<T>,
+>()
+    ensures { (v : C) (octets : List ℕ) → ⟦<ItemOf<T> as FieldWritable<C>>⟧.encodings v octets
+        → C.both.item.texts (C.both.value.item (C.both.value.meaning v)) octets }
+{
+    items_are_encoded::<T, C>();
+}
+
+pub fn rows_of_two_are_read<'a, A: Asn1Readable<'a>, B: Asn1Readable<'a>>()
+    ensures read { IsReadAs ⟦<Fields2<A, B> as Row>⟧.list
+        ⟦<Fields2<A, B> as RowReadable<'a>>⟧.list }
+    ensures plain { ⟦<Fields2<A, B> as RowReadable<'a>>⟧.list.fields.plain }
+{
+    rows_are_read::<B, NoFields>();
+    rows_are_read::<A, Last<B>>();
+    rows_are_plain::<B, NoFields>();
+    rows_are_plain::<A, Last<B>>();
+}
+
+pub fn values_behind_items_are_read<
+    'a,
+    T: Asn1Readable<'a>,
+    C: DefinedField<T> + Asn1DefinedByReadable<'a, T>,
+>()
+    ensures read { IsReadAs ⟦<Item<T, LastValue<C>> as Row>⟧.list
+        ⟦<Item<T, LastValue<C>> as RowReadable<'a>>⟧.list }
+    ensures plain { ⟦<Item<T, LastValue<C>> as RowReadable<'a>>⟧.list.fields.plain }
+{
+    rows_behind_items_are_read::<T, T, C, NoFields, LastValue<C>>();
+    rows_behind_items_are_plain::<T, T, C, NoFields, LastValue<C>>();
+}
+
+/// A row of two plain fields is written as the encoding of the one and then that of the other.
+pub fn rows_of_two_are_written<'a, A: Asn1Writable + 'a, B: Asn1Writable<Error = A::Error> + 'a>()
+    ensures { IsWrittenAs ⟦<Fields2<A, B> as Row>⟧.list.fields.texts
+        ⟦<Fields2<A, B> as Row>⟧.list.fields.closures
+        (λ row. (A.der.meaning row.value.now, B.der.meaning row.rest.value.now))
+        ⟦<Field<&'a A, Last<&'a B>> as RowWritable<Field<Plain, Last<Plain>>>>⟧.encodings
+        ⟦<Field<&'a A, Last<&'a B>> as RowWritable<Field<Plain, Last<Plain>>>>⟧.owes }
+{
+    rows_are_written::<Field<&'a A, Last<&'a B>>, A, A, Plain, Last<B>, Last<Plain>, Last<&'a B>>();
+}
+
+pub fn values_behind_items_are_written<
+    'a,
+    T: Asn1Writable,
+    C: DefinedField<T> + Asn1DefinedByWritable<T> + 'a,
+>()
+    ensures { IsWrittenAs ⟦<LastValue<C> as RowBehind<T>>⟧.behind.fields.texts
+        ⟦<LastValue<C> as RowBehind<T>>⟧.behind.fields.closures
+        (λ row. C.both.value.meaning row.value.now)
+        ⟦<Last<&'a C> as RowWritable<Last<ValueOf<T>>>>⟧.encodings
+        ⟦<Last<&'a C> as RowWritable<Last<ValueOf<T>>>>⟧.owes }
+{
+    rows_behind_items_are_written::<
+        Last<&'a C>,
+        C,
+        T,
+        T,
+        C,
+        ValueOf<T>,
+        NoFields,
+        LastValue<C>,
+        Last<ValueOf<T>>,
+        Last<&'a C>,
+    >();
 }
 
 // ---- lists and sets
