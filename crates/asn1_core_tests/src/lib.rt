@@ -8,6 +8,8 @@ mod errors;
 #[cfg(test)]
 mod integers;
 #[cfg(test)]
+mod known_octets;
+#[cfg(test)]
 mod octets;
 #[cfg(test)]
 mod reading;

@@ -29,7 +29,7 @@ pub trait Wraps<P>: Asn1Type {
 /// How a value of a struct's field, a `P`, is written: as it is ([`Plain`]), or as the type in the encoding that
 /// implements this trait. A supertrait would say what that type means, and the prover would compare this in each
 /// structure. So `encodings` and `owes` are stated here, and the law [`crate::laws_wrappers::fields_are_encoded`] says
-/// that they are those of the type.
+/// of each kind of field of this library that they are those of the type.
 pub trait FieldWritable<P>: Sized {
     /// The error of a write that fails.
     type Error: From<WriteError>;
