@@ -10,6 +10,8 @@ mod defaults;
 #[cfg(test)]
 mod examples;
 #[cfg(test)]
+mod large;
+#[cfg(test)]
 mod lengths;
 #[cfg(test)]
 mod lifetimes;
