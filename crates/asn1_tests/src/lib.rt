@@ -14,6 +14,8 @@ mod examples;
 #[cfg(test)]
 mod headline;
 #[cfg(test)]
+mod large;
+#[cfg(test)]
 mod laws;
 #[cfg(test)]
 mod lengths;

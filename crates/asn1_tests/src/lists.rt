@@ -17,7 +17,8 @@ use asn1::{
 use std::alloc::Global;
 use std::test::Fail;
 use testing::{
-    are_equal_or_not, error_of, hash_of, is_refusal, is_shown, is_written, same, same_at,
+    all_different, are_equal_or_not, error_of, hash_of, is_refusal, is_shown, is_written, same,
+    same_at,
 };
 
 /// An error at the item of this index.
@@ -227,6 +228,25 @@ fn lists_of_a_slice(rt: HostRuntime) -> Result<(), Fail> {
     same(SequenceOfWriter::new(&items[..2]).data_length(), Some(6))?;
     assert!(rt; list.clone()? == list && list != SequenceOfWriter::new(&items[1..]));
     Ok(())
+}
+
+/// Each of these has two items, whose encodings have three octets.
+#[test]
+fn unequal_lists_of_as_many_items() -> Result<(), Fail> {
+    all_different(&[
+        (
+            SequenceOfWriter::new(&[1u8, 2]),
+            SequenceOfWriter::new(&[1, 3]),
+        ),
+        (
+            SequenceOfWriter::new(&[1u8, 2]),
+            SequenceOfWriter::new(&[3, 2]),
+        ),
+        (
+            SequenceOfWriter::new(&[1u8, 2]),
+            SequenceOfWriter::new(&[2, 1]),
+        ),
+    ])
 }
 
 /// A list of one sequence that the closure writes is written as these octets, and its length isn't known before. A list

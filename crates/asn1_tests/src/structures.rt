@@ -1,4 +1,4 @@
-//! Structures whose fields have tags and are always there.
+//! Structures whose fields have tags and are always there. Numbers of tags from 31 on have octets of their own.
 
 ghost use Rattle.std.specs.Prelude.{◌∷◌, []};
 ghost use Rattle.asn1.specs.Reads.{HasOneEncoding};
@@ -32,9 +32,9 @@ pub struct Tagged {
     pub flag: bool,
 }
 
-type Number = Implicit<u64, 0>;
+type Number = Implicit<u64, 31>;
 
-type Flag = Explicit<bool, 1>;
+type Flag = Explicit<bool, 128>;
 
 type Fields = Fields2<Number, Flag>;
 
@@ -94,21 +94,21 @@ fn fields_with_tags(rt: HostRuntime) -> Result<(), Fail> {
     both_ways(
         rt.alloc(),
         value,
-        &[0x30, 8, 0x80, 1, 5, 0xa1, 3, 1, 1, 0xff],
+        &[0x30, 11, 0x9f, 0x1f, 1, 5, 0xbf, 0x81, 0x00, 3, 1, 1, 0xff],
     )
 }
 
 #[test]
 fn fields_with_tags_that_are_missing(rt: HostRuntime) -> Result<(), Fail> {
     let alloc = rt.alloc();
-    let actual = explicit_tag(1);
+    let actual = explicit_tag(128);
     let number = at("Tagged::number", ParseErrorKind::UnexpectedTag { actual });
-    is_refused::<Tagged>(alloc, &[0x30, 5, 0xa1, 3, 1, 1, 0xff], number)?;
+    is_refused::<Tagged>(alloc, &[0x30, 7, 0xbf, 0x81, 0x00, 3, 1, 1, 0xff], number)?;
     let actual = Tag::primitive(1);
     let untagged = at("Tagged::flag", ParseErrorKind::UnexpectedTag { actual });
-    is_refused::<Tagged>(alloc, &[0x30, 6, 0x80, 1, 5, 1, 1, 0xff], untagged)?;
+    is_refused::<Tagged>(alloc, &[0x30, 7, 0x9f, 0x1f, 1, 5, 1, 1, 0xff], untagged)?;
     let flag = at("Tagged::flag", ParseErrorKind::ShortData { needed: 1 });
-    is_refused::<Tagged>(alloc, &[0x30, 3, 0x80, 1, 5], flag)
+    is_refused::<Tagged>(alloc, &[0x30, 4, 0x9f, 0x1f, 1, 5], flag)
 }
 
 /// What each field is if it is left out.
@@ -122,18 +122,18 @@ impl DefaultValue<u64> for Three {
     }
 }
 
-impl DefaultValue<Explicit<u64, 0>> for Three {
+impl DefaultValue<Explicit<u64, 31>> for Three {
     ghost default = { record { inner = 3 } };
 
-    fn value() -> Explicit<u64, 0> {
+    fn value() -> Explicit<u64, 31> {
         Explicit::new(3)
     }
 }
 
-impl DefaultValue<Implicit<u64, 1>> for Three {
+impl DefaultValue<Implicit<u64, 127>> for Three {
     ghost default = { record { inner = 3 } };
 
-    fn value() -> Implicit<u64, 1> {
+    fn value() -> Implicit<u64, 127> {
         Implicit::new(3)
     }
 }
@@ -146,9 +146,9 @@ pub struct Defaults {
     pub plain: u64,
 }
 
-type ExplicitThree = Defaulted<Explicit<u64, 0>, Three>;
+type ExplicitThree = Defaulted<Explicit<u64, 31>, Three>;
 
-type ImplicitThree = Defaulted<Implicit<u64, 1>, Three>;
+type ImplicitThree = Defaulted<Implicit<u64, 127>, Three>;
 
 type PlainThree = Defaulted<u64, Three>;
 
@@ -211,7 +211,7 @@ fn defaults_under_tags(rt: HostRuntime) -> Result<(), Fail> {
     both_ways(
         alloc,
         others,
-        &[0x30, 11, 0xa0, 3, 2, 1, 1, 0x81, 1, 2, 2, 1, 4],
+        &[0x30, 13, 0xbf, 0x1f, 3, 2, 1, 1, 0x9f, 0x7f, 1, 2, 2, 1, 4],
     )?;
     let all = Defaults {
         explicit: 3,
@@ -220,11 +220,11 @@ fn defaults_under_tags(rt: HostRuntime) -> Result<(), Fail> {
     };
     both_ways(alloc, all, &[0x30, 0])?;
     let kind = ParseErrorKind::EncodedDefault;
-    let explicit: &[u8] = &[0x30, 5, 0xa0, 3, 2, 1, 3];
+    let explicit: &[u8] = &[0x30, 6, 0xbf, 0x1f, 3, 2, 1, 3];
     is_refused::<Defaults>(alloc, explicit, at("Defaults::explicit", kind))?;
     is_refused::<Defaults>(
         alloc,
-        &[0x30, 3, 0x81, 1, 3],
+        &[0x30, 4, 0x9f, 0x7f, 1, 3],
         at("Defaults::implicit", kind),
     )?;
     is_refused::<Defaults>(alloc, &[0x30, 3, 2, 1, 3], at("Defaults::plain", kind))
