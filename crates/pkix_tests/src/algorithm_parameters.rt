@@ -69,7 +69,8 @@ fn identifiers_of_algorithms(rt: HostRuntime) -> Result<(), Fail> {
         )?;
         same(format!(in alloc; "{identifier}")?.as_str(), *dotted)?;
     }
-    Ok(())
+    // Each was found in `ALL`, so each is in it once.
+    same(KnownAlgorithm::ALL.len(), IDENTIFIERS.len())
 }
 
 /// The identifier of the curve P-256 (RFC 5480, 2.1.1.1).

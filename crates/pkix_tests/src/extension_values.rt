@@ -47,7 +47,8 @@ fn identifiers_of_extensions(rt: HostRuntime) -> Result<(), Fail> {
         )?;
         same(format!(in alloc; "{identifier}")?.as_str(), *dotted)?;
     }
-    Ok(())
+    // Each was found in `ALL`, so each is in it once.
+    same(KnownExtension::ALL.len(), IDENTIFIERS.len())
 }
 
 /// The extension that this is a value of.

@@ -6,7 +6,7 @@ use pkix::certificate::extensions::KeyUsage;
 use pkix::common::NamedBits;
 use pkix::timestamps::PkiStatusInfo;
 use std::test::Fail;
-use testing::{are_invalid, are_written_back, same};
+use testing::{are_invalid, are_written_back, is_written_back, same};
 
 #[test]
 fn encodings_of_named_bits(rt: HostRuntime) -> Result<(), Fail> {
@@ -21,6 +21,9 @@ fn encodings_of_named_bits(rt: HostRuntime) -> Result<(), Fail> {
             b"\x03\x03\x07\x00\x80",
         ],
     )?;
+    let mut long = [0x80; 305];
+    long[..5].copy_from_slice(b"\x03\x82\x01\x2d\x07");
+    is_written_back::<NamedBits<'_>>(alloc, &long)?;
     are_invalid::<NamedBits<'_>>(
         alloc,
         &[
