@@ -4,7 +4,7 @@ use asn1_core::parser::{ParseError, ParseErrorKind, ParseLocation, strip_tlv};
 use asn1_core::tag::{Tag, TagClass, explicit_tag};
 use asn1_core::writer::WriteError;
 use std::test::Fail;
-use testing::{are_shown, is_shown, same};
+use testing::{all_different, are_shown, is_shown, same};
 
 /// Kinds of errors, each with what `Debug` and `Display` show.
 pub const KINDS: &[(ParseErrorKind, &str, &str)] = &[
@@ -121,6 +121,16 @@ fn tags_and_elements_are_shown(rt: HostRuntime) -> Result<(), Fail> {
         &tlv,
         "Tlv { tag: Tag { value: 1, constructed: false, class: Universal }, data: [255], full_data: [1, 1, 255] }",
     )
+}
+
+#[test]
+fn unequal_places() -> Result<(), Fail> {
+    all_different(&[
+        (ParseLocation::Field("a"), ParseLocation::Field("b")),
+        (ParseLocation::Field("a"), ParseLocation::Field("ab")),
+        (ParseLocation::Field("0"), ParseLocation::Index(0)),
+        (ParseLocation::Index(1), ParseLocation::Index(2)),
+    ])
 }
 
 /// Returns the value, which another thread may take over or see.

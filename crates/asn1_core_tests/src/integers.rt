@@ -8,7 +8,9 @@ use std::num::{
     TryFromIntError,
 };
 use std::test::Fail;
-use testing::{are_both_ways, are_refused, both_ways, is_refusal, is_written, same, same_at};
+use testing::{
+    are_both_ways, are_refused, both_ways, is_refusal, is_written, repeated, same, same_at,
+};
 
 const INVALID: ParseErrorKind = ParseErrorKind::InvalidValue;
 
@@ -273,6 +275,14 @@ fn boxes_hold_values(rt: HostRuntime) -> Result<(), Fail> {
     both_ways(alloc, Box::new(alloc, 0u8)?, &[0x02, 0x01, 0x00])?;
     both_ways(alloc, Box::new(alloc, true)?, &[0x01, 0x01, 0xff])?;
     are_refused::<Box<u8>>(alloc, &[(&[0x02, 0x01, 0x80], INVALID)])
+}
+
+/// A box of 300 contents octets.
+#[test]
+fn boxes_hold_large_values(rt: HostRuntime) -> Result<(), Fail> {
+    let alloc = rt.alloc();
+    let octets = repeated(alloc, &[0x04, 0x82, 0x01, 0x2c], &[0x61], 300)?;
+    both_ways(alloc, Box::new(alloc, [0x61u8; 300])?, octets.as_slice())
 }
 
 /// The lengths are known before a value in a box, or behind a reference, is written.

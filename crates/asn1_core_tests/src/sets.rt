@@ -14,7 +14,9 @@ use asn1_core::writer::{
 };
 use std::alloc::Global;
 use std::test::Fail;
-use testing::{closure_writes_set, is_written, same, same_owned, written_set};
+use testing::{
+    all_different, closure_writes_set, is_written, repeated, same, same_owned, written_set,
+};
 
 /// Numbers, and the sets of these.
 const SETS: &[(&[u8], &[u8])] = &[
@@ -40,6 +42,23 @@ fn sets_of_a_slice(rt: HostRuntime) -> Result<(), Fail> {
     same(SetOfWriter::new(&longer).data_length(), Some(14))
 }
 
+/// The set of the octet strings is written as these octets.
+fn is_set_of(alloc: Global, items: &[&[u8]], octets: &[u8]) -> Result<(), Fail> {
+    is_written(alloc, &SetOfWriter::new(items), octets)
+}
+
+/// An octet string of 300 octets in front of 1000 without any, which come before it in the set.
+#[test]
+fn large_sets_of_a_slice(rt: HostRuntime) -> Result<(), Fail> {
+    let alloc = rt.alloc();
+    let mut items: [&[u8]; 1001] = [&[]; 1001];
+    items[0] = &[0x61; 300];
+    let mut octets = repeated(alloc, &[0x31, 0x82, 0x09, 0x00], &[4, 0], 1000)?;
+    octets.extend_from_slice(&[4, 0x82, 0x01, 0x2c])?;
+    octets.extend_from_slice(&[0x61; 300])?;
+    is_set_of(alloc, &items, octets.as_slice())
+}
+
 #[test]
 fn sets_of_sets(rt: HostRuntime) -> Result<(), Fail> {
     let two = [2u8, 1];
@@ -59,6 +78,16 @@ fn sets_of_a_slice_are_copied() -> Result<(), Fail> {
     let copy = set.clone()?;
     let found = (copy == set, copy != SetOfWriter::new(&items[1..]));
     same(found, (true, true))
+}
+
+/// Each of these has two items, whose encodings have three octets.
+#[test]
+fn unequal_sets_of_as_many_items() -> Result<(), Fail> {
+    all_different(&[
+        (SetOfWriter::new(&[1u8, 2]), SetOfWriter::new(&[1, 3])),
+        (SetOfWriter::new(&[1u8, 2]), SetOfWriter::new(&[3, 2])),
+        (SetOfWriter::new(&[1u8, 2]), SetOfWriter::new(&[2, 1])),
+    ])
 }
 
 /// The set of the value, as a closure writes it.
@@ -91,6 +120,13 @@ fn long_sets_of_a_closure(rt: HostRuntime) -> Result<(), Fail> {
     compare_parts(
         octets.as_slice(),
         &[0x31, 0x81, 0x84, 4, 0x81, 0x81],
+        letters,
+    )?;
+    let letters: &[u8] = &[0x61; 1100];
+    let octets = written_alone(rt.alloc(), &letters)?;
+    compare_parts(
+        octets.as_slice(),
+        &[0x31, 0x82, 0x04, 0x50, 4, 0x82, 0x04, 0x4c],
         letters,
     )
 }

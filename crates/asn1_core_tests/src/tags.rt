@@ -3,7 +3,7 @@ use asn1_core::base128;
 use asn1_core::parser::ParseErrorKind;
 use asn1_core::tag::{Tag, TagClass};
 use std::test::Fail;
-use testing::{kind_of, same, same_at};
+use testing::{all_different, kind_of, same, same_at};
 
 const INVALID: ParseErrorKind = ParseErrorKind::InvalidTag;
 
@@ -92,6 +92,25 @@ fn tags_of_several_octets() -> Result<(), Fail> {
     same((tag, rest.len()), (Tag::primitive(4294967295), 0))?;
     let found = (tag.class(), tag.is_constructed(), tag.value(), tag.as_u8());
     same(found, (TagClass::Universal, false, 4294967295, None))
+}
+
+/// Tags that differ in the number, in the form or in the class.
+#[test]
+fn unequal_tags() -> Result<(), Fail> {
+    let tag = Tag::new(1, TagClass::Private, true);
+    all_different(&[
+        (tag, Tag::new(2, TagClass::Private, true)),
+        (tag, Tag::new(1, TagClass::Private, false)),
+        (tag, Tag::new(1, TagClass::Universal, true)),
+        (tag, Tag::new(1, TagClass::Application, true)),
+        (tag, Tag::new(1, TagClass::ContextSpecific, true)),
+    ])?;
+    all_different(&[
+        (TagClass::Universal, TagClass::Application),
+        (TagClass::Universal, TagClass::ContextSpecific),
+        (TagClass::Application, TagClass::ContextSpecific),
+        (TagClass::ContextSpecific, TagClass::Private),
+    ])
 }
 
 const FAULTS: &[(&[u8], ParseErrorKind)] = &[

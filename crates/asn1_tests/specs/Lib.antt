@@ -1,2 +1,4 @@
--- Values that tests name in contracts.
+-- Values and types that tests name in contracts.
 pub mod Identifiers
+pub mod Encodings
+pub mod Mixed

@@ -48,6 +48,7 @@ use std::test::Fail;
 
 // ---- types with one encoding for each value
 
+/// Types without parts have one encoding for each value.
 pub fn types_without_parts<const N: usize>()
     ensures number { HasOneEncoding ⟦<u64 as Asn1Type>⟧.der }
     ensures octets { HasOneEncoding ⟦<[u8; N] as Asn1Type>⟧.der }
@@ -60,6 +61,7 @@ pub fn types_without_parts<const N: usize>()
     owned_types_are_sound();
 }
 
+/// An option under a tag has one encoding for each value, if its part is an element and has.
 pub fn options_under_a_tag<T: Asn1Type, const TAG: u32>()
     requires one { HasOneEncoding T.der }
     requires element { T.der.is_element }
@@ -73,6 +75,7 @@ pub fn options_under_a_tag<T: Asn1Type, const TAG: u32>()
     wrappers_are_elements::<Option<T>, TAG>();
 }
 
+/// So has a field with a default, and a value whose writes fail with another error.
 pub fn fields_with_a_default<T: MeaningEq, D: DefaultValue<T>, E>()
     requires one { HasOneEncoding T.der }
     requires element { T.der.is_element }
@@ -85,6 +88,7 @@ pub fn fields_with_a_default<T: MeaningEq, D: DefaultValue<T>, E>()
     error_into_inherits::<T, E>();
 }
 
+/// So has an option of a choice, whose alternatives accept no tag in common.
 pub fn optional_choices<T: Asn1Type, U: Asn1Type>()
     requires one { HasOneEncoding T.der }
     requires element { T.der.is_element }
@@ -100,6 +104,7 @@ pub fn optional_choices<T: Asn1Type, U: Asn1Type>()
     wrappers_inherit::<Choice2<T, U>, 1>();
 }
 
+/// So has a list, a set and a box.
 pub fn lists_of_elements<'a, T: Asn1Type + 'a, const MIN: usize, const MAX: usize>()
     requires one { HasOneEncoding T.der }
     requires element { T.der.is_element }
@@ -111,6 +116,7 @@ pub fn lists_of_elements<'a, T: Asn1Type + 'a, const MIN: usize, const MAX: usiz
     references_are_lawful::<T>();
 }
 
+/// So has a row of one field more, and a structure of a row.
 pub fn rows_and_structures<V, A: Asn1Type, R: Row>()
     requires one { HasOneEncoding A.der }
     requires element { A.der.is_element }
@@ -126,6 +132,7 @@ pub fn rows_and_structures<V, A: Asn1Type, R: Row>()
     structures_inherit::<V, R>();
 }
 
+/// A type that an item defines is lawful under a tag.
 pub fn defined_under_a_tag<T: Asn1Type, U: Asn1DefinedBy<T>, const TAG: u32>()
     requires lawful { U.by.means.lawful }
     requires element { U.by.means.is_element }
@@ -136,6 +143,7 @@ pub fn defined_under_a_tag<T: Asn1Type, U: Asn1DefinedBy<T>, const TAG: u32>()
     defined_types_are_lawful::<T, U, TAG>();
 }
 
+/// A plain field appends the encodings of its type.
 pub fn plain_fields<
     T: SimpleAsn1Writable + SimpleMeaningEq + Drop,
     D: DefaultValue<T>,
@@ -149,6 +157,7 @@ pub fn plain_fields<
     fields_are_encoded::<T, D, E, I, TAG>();
 }
 
+/// An item is written as its type says, from the value that it defines.
 pub fn items_that_are_written<
     T: Asn1Writable + Drop,
     C: DefinedField<T> + Asn1DefinedByWritable<T>,
@@ -159,6 +168,7 @@ pub fn items_that_are_written<
     items_are_encoded::<T, C>();
 }
 
+/// A row of two fields is read as `Row` says, and has one encoding for each value.
 pub fn rows_of_two_are_read<'a, A: Asn1Readable<'a>, B: Asn1Readable<'a>>()
     ensures read { IsReadAs ⟦<Fields2<A, B> as Row>⟧.list
         ⟦<Fields2<A, B> as RowReadable<'a>>⟧.list }
@@ -170,6 +180,7 @@ pub fn rows_of_two_are_read<'a, A: Asn1Readable<'a>, B: Asn1Readable<'a>>()
     rows_are_plain::<A, Last<B>>();
 }
 
+/// So is a value with the item before it.
 pub fn values_behind_items_are_read<
     'a,
     T: Asn1Readable<'a>,
@@ -194,6 +205,7 @@ pub fn rows_of_two_are_written<'a, A: Asn1Writable + 'a, B: Asn1Writable<Error =
     rows_are_written::<Field<&'a A, Last<&'a B>>, A, A, Plain, Last<B>, Last<Plain>, Last<&'a B>>();
 }
 
+/// A value that an item before it defines appends its own encoding.
 pub fn values_behind_items_are_written<
     'a,
     T: Asn1Writable,
@@ -221,6 +233,7 @@ pub fn values_behind_items_are_written<
 
 // ---- lists and sets
 
+/// What a set reads is a listing of encodings in ascending order.
 pub fn what_sets_read<T: Asn1Type>()
     requires lawful { T.der.lawful }
     requires element { T.der.is_element }
@@ -230,6 +243,7 @@ pub fn what_sets_read<T: Asn1Type>()
     sets_read_listings::<T>();
 }
 
+/// The encoding of a value of an element type is one element.
 pub fn encodings_are_elements<'a, T: Asn1Type + 'a>()
     requires lawful { T.der.lawful }
     requires element { T.der.is_element }

@@ -4,6 +4,8 @@
 #[cfg(test)]
 mod application;
 #[cfg(test)]
+mod callers;
+#[cfg(test)]
 mod changed;
 #[cfg(test)]
 mod defaults;

@@ -1,6 +1,6 @@
 //! Bit strings: the original's cases, encodings from outside, and what is rejected.
 
-use crate::made::is_hashed;
+use crate::made::{is_hashed, is_made};
 use asn1_core::{ParseErrorKind, Tag, parse_single};
 use asn1_values::bit_string::{BitString, OwnedBitString};
 use std::alloc::Global;
@@ -145,6 +145,16 @@ fn owned_bit_strings_are_shown_cloned_and_hashed(rt: HostRuntime) -> Result<(), 
     let copy = owned.clone()?;
     same(hash_of(&copy), hash_of(&owned))?;
     same(&copy, &owned)
+}
+
+/// A bit string of 300 octets.
+#[test]
+fn long_bit_strings_are_cloned(rt: HostRuntime) -> Result<(), Fail> {
+    let alloc = rt.alloc();
+    let mut text = [0x61; 305];
+    text[..5].copy_from_slice(&[0x03, 0x82, 0x01, 0x2d, 0x00]);
+    let owned = OwnedBitString::new(Vec::from_slice(alloc, &[0x61; 300])?, 0).ok_or(PADDING)?;
+    is_made(alloc, owned, &text)
 }
 
 #[test]

@@ -1,4 +1,4 @@
-use crate::made::is_hashed;
+use crate::made::{is_hashed, is_made};
 use asn1_core::{ParseErrorKind, parse_single};
 use asn1_values::values::{BigInt, BigUint, Enumerated, OwnedBigInt, OwnedBigUint};
 use std::alloc::Global;
@@ -211,6 +211,18 @@ fn copies_are_equal(rt: HostRuntime) -> Result<(), Fail> {
 fn copies_of_unsigned_integers_are_equal(rt: HostRuntime) -> Result<(), Fail> {
     let unsigned = parse_single::<OwnedBigUint>(rt.alloc(), &[0x02, 0x02, 0x00, 0x80])?;
     same(&unsigned.clone()?, &unsigned)
+}
+
+/// Integers of 300 octets.
+#[test]
+fn long_integers_are_cloned(rt: HostRuntime) -> Result<(), Fail> {
+    let alloc = rt.alloc();
+    let mut text = [0x61; 304];
+    text[..4].copy_from_slice(&[0x02, 0x82, 0x01, 0x2c]);
+    let signed = OwnedBigInt::new(Vec::from_slice(alloc, &[0x61; 300])?).ok_or(NONE)?;
+    is_made(alloc, signed, &text)?;
+    let unsigned = OwnedBigUint::new(Vec::from_slice(alloc, &[0x61; 300])?).ok_or(NONE)?;
+    is_made(alloc, unsigned, &text)
 }
 
 #[test]

@@ -193,6 +193,15 @@ pub fn closure_writes_set<F: Fn(&mut SetElementWriter<'_>) -> WriteResult<()>>(
     same(written_set(alloc, closure)?.as_slice(), octets)
 }
 
+/// The first octets, and then the others so many times.
+pub fn repeated(alloc: Global, first: &[u8], others: &[u8], count: usize) -> Result<Vec<u8>, Fail> {
+    let mut octets = Vec::from_slice(alloc, first)?;
+    for _ in 0..count {
+        octets.extend_from_slice(others)?;
+    }
+    Ok(octets)
+}
+
 /// The failure of a read: the error itself if out of memory, and else the error with the octets.
 fn unread(octets: &[u8], error: ParseError) -> Fail {
     if error.kind() == ParseErrorKind::AllocationError {
@@ -201,7 +210,7 @@ fn unread(octets: &[u8], error: ParseError) -> Fail {
     Fail::new(format_args!("{octets:?}: {error:?}"))
 }
 
-/// The octets are read as the type, and written again as they were.
+/// The octets are read as the type, with their length, and written again as they were.
 pub fn is_written_back<'a, T: Asn1Readable<'a> + Asn1Writable<Error = WriteError>>(
     alloc: Global,
     octets: &'a [u8],
@@ -209,7 +218,10 @@ pub fn is_written_back<'a, T: Asn1Readable<'a> + Asn1Writable<Error = WriteError
     requires { T.der.plain }
 {
     match parse_single::<T>(alloc, octets) {
-        Ok(value) => same(write_single(alloc, &value)?.as_slice(), octets),
+        Ok(value) => {
+            same_at(octets, value.encoded_length(), Some(octets.len()))?;
+            same(write_single(alloc, &value)?.as_slice(), octets)
+        }
         Err(error) => Err(unread(octets, error)),
     }
 }

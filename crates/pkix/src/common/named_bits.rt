@@ -102,6 +102,8 @@ impl<'a> SimpleAsn1Readable<'a> for NamedBits<'a> {
 impl<'a> SimpleAsn1Writable for NamedBits<'a> {
     type Error = WriteError;
 
+    ghost length_known = { λ _. Unit {0} };
+
     fn tag() -> Tag
         ensures value { result ≡ ⟦<NamedBits<'a> as Asn1Type>⟧.der.content.tag }
         ensures simple { ⟦<NamedBits<'a> as Asn1Type>⟧.der.is_simple }

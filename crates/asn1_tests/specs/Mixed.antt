@@ -1,0 +1,37 @@
+-- A value that a Boolean defines, which is always there after true and may be missing after false; a Boolean follows. For
+-- each item by itself the tags tell what is there.
+use Rattle.std.specs.Prelude.{◌≡◌, ◌⊎◌, Bool, true, false, not, Option}
+use Rattle.std.proofs.Common.{refl}
+use Rattle.asn1.specs.Der.{Der, simple_der, option_der}
+use Rattle.asn1.specs.BooleanContent.{bool_content}
+use Rattle.asn1.specs.OctetContents.{null_content}
+use Rattle.asn1.specs.DefinedReads.{Known}
+use Rattle.asn1.specs.DefinedBy.{DefinedBy}
+use Rattle.asn1.specs.Variants.{variant, or_variant}
+use Rattle.asn1.specs.Fields.{FieldsBy, last, value_field}
+
+pub true_alone : (i : Bool) → i ≡ true → true ≡ i
+true_alone true e = refl
+true_alone false e = absurd cc
+
+pub false_alone : (i : Bool) → not i ≡ true → false ≡ i
+false_alone true e = absurd cc
+false_alone false e = refl
+
+abbrev pub on_true : Known Bool
+on_true = record { item = true; is = λ i. i; itself = refl; alone = true_alone }
+
+abbrev pub on_false : Known Bool
+on_false = record { item = false; is = λ i. not i; itself = refl; alone = false_alone }
+
+abbrev pub bool_der : Der Bool
+bool_der = simple_der (λ b. b) bool_content
+
+abbrev pub null_der : Der (Unit {0})
+null_der = simple_der (λ u. u) null_content
+
+abbrev pub mixed_by : DefinedBy Bool (Bool ⊎ Option (Unit {0}))
+mixed_by = or_variant on_true bool_der (variant on_false (option_der null_der) (λ w. w)) (λ w. w)
+
+abbrev pub mixed : FieldsBy Bool ((Bool ⊎ Option (Unit {0})) × Bool)
+mixed = value_field mixed_by (last bool_der)
