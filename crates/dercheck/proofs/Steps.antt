@@ -40,13 +40,13 @@ stands_unfinished p text stands = short_at (front text) p.needed (stands_short p
 
 -- ---- one step
 
-pub taken_none : (p : Pending) (text : List ℕ) → Stands p text → Taken p (text ++ []) []
-taken_none p text stands = record {
+pub taken_none : (p : Pending) (text before : List ℕ) → Stands p text → Taken p (text ++ []) before before
+taken_none p text before stands = record {
   elements = [];
   rest = text;
   framing = rw (append-nil text) (framing_short text (stands_unfinished p text stands));
   stands = stands;
-  made_lines = refl;
+  made_lines = sym (append-nil before);
 }
 
 -- remaining octets with more after them, which are no element yet
@@ -57,8 +57,8 @@ framing_more a b es p framing stops = record {
   stops = stops;
 }
 
-pub goes_on : (p q : Pending) (a octets made : List ℕ) → Taken p a made → Advances p q GoesOn octets → Taken q (a ++ octets) made
-goes_on p q a octets made taken step =
+pub goes_on : (p q : Pending) (a octets before made : List ℕ) → Taken p a before made → Advances p q GoesOn octets → Taken q (a ++ octets) before made
+goes_on p q a octets before made taken step =
     let rest = taken.rest ++ octets in
     let stands : Stands q rest = step taken.rest taken.stands in
     record {
@@ -76,10 +76,11 @@ complete_line q text is = ap (λ (l : List ℕ). line_of l q.content_length) is.
 lines_push : (es : List Element) (e : Element) → flat_map element_line (es ++ e ∷ []) ≡ flat_map element_line es ++ element_line e
 lines_push es e = flat_map-append element_line es (e ∷ []) ∙ ap (λ (l : List ℕ). flat_map element_line es ++ l) (append-nil (element_line e))
 
-pub completes : (p q s : Pending) (a octets made made' : List ℕ) → Taken p a made → Advances p q Completes octets → Stands s []
-    → made' ≡ made ++ line_of (take q.count q.octets) q.content_length → Taken s (a ++ octets) made'
-completes p q s a octets made made' taken step fresh line =
+pub completes : (p q s : Pending) (a octets before made made' : List ℕ) → Taken p a before made → Advances p q Completes octets → Stands s []
+    → made' ≡ made ++ line_of (take q.count q.octets) q.content_length → Taken s (a ++ octets) before made'
+completes p q s a octets before made made' taken step fresh line =
     let is : IsComplete q (taken.rest ++ octets) = step taken.rest taken.stands in
+    let done = flat_map element_line taken.elements in
     record {
       elements = taken.elements ++ is.element ∷ [];
       rest = [];
@@ -87,8 +88,9 @@ completes p q s a octets made made' taken step fresh line =
       stands = fresh;
       made_lines = line
           ∙ ap (λ (l : List ℕ). l ++ line_of (take q.count q.octets) q.content_length) taken.made_lines
-          ∙ ap (λ (l : List ℕ). flat_map element_line taken.elements ++ l) (complete_line q (taken.rest ++ octets) is)
-          ∙ sym (lines_push taken.elements is.element);
+          ∙ append_assoc before done (line_of (take q.count q.octets) q.content_length)
+          ∙ ap (λ (l : List ℕ). before ++ (done ++ l)) (complete_line q (taken.rest ++ octets) is)
+          ∙ ap (λ (l : List ℕ). before ++ l) (sym (lines_push taken.elements is.element));
     }
 
 answer_fault : (kind : ParseErrorKind) → ¬ IsShort {A = Element × List ℕ} (Err kind) → answer_line (Err kind) ≡ fault_line kind
@@ -104,9 +106,9 @@ fault_end (x ∷ xs) kind e long = ap answer_line e ∙ answer_fault kind (subst
 fault_more : (text more : List ℕ) (kind : ParseErrorKind) → IsFault text kind → IsText more → ¬ IsUnfinished (text ++ more)
 fault_more text more kind fault is short = fault.long (subst (λ (a : ElementFront). IsShort a) (fault.stands more is ∙ sym fault.here) short)
 
-pub fails : (p q : Pending) (a octets more made made' : List ℕ) (kind : ParseErrorKind) → Taken p a made → Advances p q (Fails kind) octets → IsText more
-    → made' ≡ made ++ fault_line kind → TakenToFault ((a ++ octets) ++ more) made'
-fails p q a octets more made made' kind taken step is line =
+pub fails : (p q : Pending) (a octets more before made made' : List ℕ) (kind : ParseErrorKind) → Taken p a before made → Advances p q (Fails kind) octets → IsText more
+    → made' ≡ made ++ fault_line kind → TakenToFault ((a ++ octets) ++ more) before made'
+fails p q a octets more before made made' kind taken step is line =
     let rest = taken.rest ++ octets in
     let fault : IsFault rest kind = step taken.rest taken.stands in
     let long : ¬ IsUnfinished (rest ++ more) = fault_more rest more kind fault is in
@@ -118,7 +120,8 @@ fails p q a octets more made made' kind taken step is line =
       long = long;
       made_lines = line
           ∙ ap (λ (l : List ℕ). l ++ fault_line kind) taken.made_lines
-          ∙ ap (λ (l : List ℕ). flat_map element_line taken.elements ++ l) (sym (fault_end (rest ++ more) kind (fault.stands more is) long));
+          ∙ append_assoc before (flat_map element_line taken.elements) (fault_line kind)
+          ∙ ap (λ (l : List ℕ). before ++ (flat_map element_line taken.elements ++ l)) (sym (fault_end (rest ++ more) kind (fault.stands more is) long));
     }
 
 -- ---- where the octets are
@@ -149,7 +152,7 @@ stands_some p text (inr h) some = omega (arith, ap length h.begun.text, length-a
 
 -- ---- the whole stream
 
-pub framed_none : (p : Pending) (left held : Option (List ℕ)) → Stands p [] → FramedTo p left left held held
+pub framed_none : (p : Pending) (left held : Option (List ℕ)) → Stands p [] → FramedTo p left left held held []
 framed_none p left held stands = record {
   text = [];
   elements = [];
@@ -157,12 +160,23 @@ framed_none p left held stands = record {
   read = Consumes-nil left;
   framing = framing_short [] (stands_unfinished p [] stands);
   stands = stands;
+  sent = [];
   written = Appends-nil held;
+  made_lines = refl;
 }
 
-pub framed_more : (p q : Pending) (l0 l1 l2 h0 h1 h2 : Option (List ℕ)) (octets made : List ℕ) → FramedTo p l0 l1 h0 h1 → Consumes l1 l2 octets
-    → ((text : List ℕ) → Stands p text → Taken q (text ++ octets) made) → Appends h1 h2 made → FramedTo q l0 l2 h0 h2
-framed_more p q l0 l1 l2 h0 h1 h2 octets made framed read takes put =
+-- the lines of a pull behind those that were kept
+lines_more : (sent kept made : List ℕ) (es fs : List Element) (rest : List ℕ) → sent ++ kept ≡ flat_map element_line es → made ≡ kept ++ lines fs rest
+    → sent ++ made ≡ lines (es ++ fs) rest
+lines_more sent kept made es fs rest before more =
+    ap (λ (l : List ℕ). sent ++ l) more
+    ∙ sym (append_assoc sent kept (lines fs rest))
+    ∙ ap (λ (l : List ℕ). l ++ lines fs rest) before
+    ∙ sym (lines_join es fs rest)
+
+pub framed_more : (p q : Pending) (l0 l1 l2 h0 h1 : Option (List ℕ)) (octets kept made : List ℕ) → FramedTo p l0 l1 h0 h1 kept → Consumes l1 l2 octets
+    → ((text : List ℕ) → Stands p text → Taken q (text ++ octets) kept made) → FramedTo q l0 l2 h0 h1 made
+framed_more p q l0 l1 l2 h0 h1 octets kept made framed read takes =
     let taken = takes framed.rest framed.stands in
     record {
       text = framed.text ++ octets;
@@ -171,11 +185,33 @@ framed_more p q l0 l1 l2 h0 h1 h2 octets made framed read takes put =
       read = Consumes-trans l0 l1 l2 framed.text octets framed.read read;
       framing = framing_join framed.text octets framed.elements taken.elements framed.rest taken.rest framed.framing taken.framing;
       stands = taken.stands;
-      written = subst (Appends h0 h2) (sym (flat_map-append element_line framed.elements taken.elements))
-          (Appends-trans h0 h1 h2 (flat_map element_line framed.elements) (flat_map element_line taken.elements) framed.written (subst (Appends h1 h2) taken.made_lines put));
+      sent = framed.sent;
+      written = framed.written;
+      made_lines = ap (λ (l : List ℕ). framed.sent ++ l) taken.made_lines
+          ∙ sym (append_assoc framed.sent kept (flat_map element_line taken.elements))
+          ∙ ap (λ (l : List ℕ). l ++ flat_map element_line taken.elements) framed.made_lines
+          ∙ sym (flat_map-append element_line framed.elements taken.elements);
     }
 
-pub framed_so_far : (p : Pending) (l0 l1 l2 h0 h1 : Option (List ℕ)) → FramedTo p l0 l1 h0 h1 → Keeps l1 l2 → FramedSoFar l0 l2 h0 h1
+-- the lines that were kept are written
+pub framed_put : (p : Pending) (l0 l1 h0 h1 h2 : Option (List ℕ)) (kept : List ℕ) → FramedTo p l0 l1 h0 h1 kept → Appends h1 h2 kept → FramedTo p l0 l1 h0 h2 []
+framed_put p l0 l1 h0 h1 h2 kept framed put = record {
+  text = framed.text;
+  elements = framed.elements;
+  rest = framed.rest;
+  read = framed.read;
+  framing = framed.framing;
+  stands = framed.stands;
+  sent = framed.sent ++ kept;
+  written = Appends-trans h0 h1 h2 framed.sent kept framed.written put;
+  made_lines = append-nil (framed.sent ++ kept) ∙ framed.made_lines;
+}
+
+-- nothing is kept
+all_written : (p : Pending) (l0 l1 h0 h1 : Option (List ℕ)) (framed : FramedTo p l0 l1 h0 h1 []) → Appends h0 h1 (flat_map element_line framed.elements)
+all_written p l0 l1 h0 h1 framed = subst (Appends h0 h1) (sym (append-nil framed.sent) ∙ framed.made_lines) framed.written
+
+pub framed_so_far : (p : Pending) (l0 l1 l2 h0 h1 : Option (List ℕ)) → FramedTo p l0 l1 h0 h1 [] → Keeps l1 l2 → FramedSoFar l0 l2 h0 h1
 framed_so_far p l0 l1 l2 h0 h1 framed kept = record {
   text = framed.text;
   elements = framed.elements;
@@ -183,12 +219,12 @@ framed_so_far p l0 l1 l2 h0 h1 framed kept = record {
   read = Consumes-kept l0 l1 l2 framed.text framed.read kept;
   framing = framed.framing;
   unfinished = stands_unfinished p framed.rest framed.stands;
-  written = framed.written;
+  written = all_written p l0 l1 h0 h1 framed;
 }
 
-pub framed_fault : (p : Pending) (l0 l1 l2 h0 h1 h2 : Option (List ℕ)) (octets made : List ℕ) → FramedTo p l0 l1 h0 h1 → Consumes l1 l2 octets → length octets ≤ 256
-    → ((text : List ℕ) → Stands p text → TakenToFault (text ++ octets) made) → Appends h1 h2 made → Framed l0 l2 h0 h2 false
-framed_fault p l0 l1 l2 h0 h1 h2 octets made framed read few takes put =
+pub framed_fault : (p : Pending) (l0 l1 l2 h0 h1 h2 : Option (List ℕ)) (octets kept made : List ℕ) → FramedTo p l0 l1 h0 h1 kept → Consumes l1 l2 octets → length octets ≤ 256
+    → ((text : List ℕ) → Stands p text → TakenToFault (text ++ octets) kept made) → Appends h1 h2 made → Framed l0 l2 h0 h2 false
+framed_fault p l0 l1 l2 h0 h1 h2 octets kept made framed read few takes put =
     let taken = takes framed.rest framed.stands in
     record {
       text = framed.text ++ octets;
@@ -197,42 +233,45 @@ framed_fault p l0 l1 l2 h0 h1 h2 octets made framed read few takes put =
       read = Consumes-trans l0 l1 l2 framed.text octets framed.read read;
       framing = framing_join framed.text octets framed.elements taken.elements framed.rest taken.rest framed.framing taken.framing;
       ends = inr (taken.long, (framed.text, octets, refl, few, (framed.elements, framed.rest, framed.framing, stands_unfinished p framed.rest framed.stands)));
-      written = subst (Appends h0 h2) (sym (lines_join framed.elements taken.elements taken.rest))
-          (Appends-trans h0 h1 h2 (flat_map element_line framed.elements) (lines taken.elements taken.rest) framed.written (subst (Appends h1 h2) taken.made_lines put));
+      written = subst (Appends h0 h2) (lines_more framed.sent kept made framed.elements taken.elements taken.rest framed.made_lines taken.made_lines)
+          (Appends-trans h0 h1 h2 framed.sent made framed.written put);
       answer = (λ (w : IsTrue false). absurd cc, λ (none : taken.rest ≡ []). absurd (taken.long (short_at (front taken.rest) 1 (ap front none ∙ front_nothing))));
     }
 
--- the lines of a pull, which were written in part
-in_part : (l0 l1 l2 h0 h1 h2 : Option (List ℕ)) (p : Pending) (octets : List ℕ) (framed : FramedTo p l0 l1 h0 h1) → Consumes l1 l2 octets
-    → (elements : List Element) (rest : List ℕ) → IsFraming (framed.rest ++ octets) elements rest → AppendsInPart h1 h2 (lines elements rest) → FramedInPart l0 l2 h0 h2
-in_part l0 l1 l2 h0 h1 h2 p octets framed read elements rest framing put = record {
-  text = framed.text ++ octets;
-  elements = framed.elements ++ elements;
-  rest = rest;
-  read = Consumes-trans l0 l1 l2 framed.text octets framed.read read;
-  framing = framing_join framed.text octets framed.elements elements framed.rest rest framed.framing framing;
-  written = subst (AppendsInPart h0 h2) (sym (lines_join framed.elements elements rest))
-      (in_part_behind h0 h1 h2 (flat_map element_line framed.elements) (lines elements rest) framed.written put);
-}
-
-pub framed_in_part : (p q : Pending) (l0 l1 l2 h0 h1 h2 : Option (List ℕ)) (octets made : List ℕ) (goes_on : Bool) → FramedTo p l0 l1 h0 h1 → Consumes l1 l2 octets
-    → (IsTrue goes_on → (text : List ℕ) → Stands p text → Taken q (text ++ octets) made)
-    → (goes_on ≡ false → (text : List ℕ) → Stands p text → TakenToFault (text ++ octets) made)
+-- the lines that were made, which were written in part
+pub framed_in_part : (p q : Pending) (l0 l1 l2 h0 h1 h2 : Option (List ℕ)) (octets kept made : List ℕ) (goes_on : Bool) → FramedTo p l0 l1 h0 h1 kept → Consumes l1 l2 octets
+    → (IsTrue goes_on → (text : List ℕ) → Stands p text → Taken q (text ++ octets) kept made)
+    → (goes_on ≡ false → (text : List ℕ) → Stands p text → TakenToFault (text ++ octets) kept made)
     → AppendsInPart h1 h2 made → FramedInPart l0 l2 h0 h2
-framed_in_part p q l0 l1 l2 h0 h1 h2 octets made true framed read takes faults put =
-    let taken = takes refl framed.rest framed.stands in
-    in_part l0 l1 l2 h0 h1 h2 p octets framed read taken.elements taken.rest taken.framing
-    (in_part_of_more h1 h2 (flat_map element_line taken.elements) (end_line taken.rest) (subst (AppendsInPart h1 h2) taken.made_lines put))
-framed_in_part p q l0 l1 l2 h0 h1 h2 octets made false framed read takes faults put =
+framed_in_part p q l0 l1 l2 h0 h1 h2 octets kept made true framed read takes faults put =
+    let more = framed_more p q l0 l1 l2 h0 h1 octets kept made framed read (takes refl) in
+    record {
+      text = more.text;
+      elements = more.elements;
+      rest = more.rest;
+      read = more.read;
+      framing = more.framing;
+      written = in_part_of_more h0 h2 (flat_map element_line more.elements) (end_line more.rest)
+          (subst (AppendsInPart h0 h2) more.made_lines (in_part_behind h0 h1 h2 more.sent made more.written put));
+    }
+framed_in_part p q l0 l1 l2 h0 h1 h2 octets kept made false framed read takes faults put =
     let taken = faults refl framed.rest framed.stands in
-    in_part l0 l1 l2 h0 h1 h2 p octets framed read taken.elements taken.rest taken.framing (subst (AppendsInPart h1 h2) taken.made_lines put)
+    record {
+      text = framed.text ++ octets;
+      elements = framed.elements ++ taken.elements;
+      rest = taken.rest;
+      read = Consumes-trans l0 l1 l2 framed.text octets framed.read read;
+      framing = framing_join framed.text octets framed.elements taken.elements framed.rest taken.rest framed.framing taken.framing;
+      written = subst (AppendsInPart h0 h2) (lines_more framed.sent kept made framed.elements taken.elements taken.rest framed.made_lines taken.made_lines)
+          (in_part_behind h0 h1 h2 framed.sent made framed.written put);
+    }
 
 -- a pull of no octets
 read_none : (a b c : Option (List ℕ)) (text octets : List ℕ) → Consumes a b text → Consumes b c octets → length octets ≡ 0 → Consumes a c text
 read_none a b c text octets first next none =
     subst (Consumes a c) (ap (λ (l : List ℕ). text ++ l) (nil_from_length octets none) ∙ append-nil text) (Consumes-trans a b c text octets first next)
 
-framed_end : (p : Pending) (l0 l1 l2 h0 h1 h2 : Option (List ℕ)) (octets : List ℕ) (whole : Bool) → FramedTo p l0 l1 h0 h1 → Consumes l1 l2 octets → length octets ≡ 0 → IsAtEnd l2
+framed_end : (p : Pending) (l0 l1 l2 h0 h1 h2 : Option (List ℕ)) (octets : List ℕ) (whole : Bool) → FramedTo p l0 l1 h0 h1 [] → Consumes l1 l2 octets → length octets ≡ 0 → IsAtEnd l2
     → ((text : List ℕ) → Stands p text → (IsTrue whole ↔ (text ≡ []))) → ((text : List ℕ) → Stands p text → Appends h1 h2 (end_line text)) → Framed l0 l2 h0 h2 whole
 framed_end p l0 l1 l2 h0 h1 h2 octets whole framed read none end answer line = record {
   text = framed.text;
@@ -241,17 +280,17 @@ framed_end p l0 l1 l2 h0 h1 h2 octets whole framed read none end answer line = r
   read = read_none l0 l1 l2 framed.text octets framed.read read none;
   framing = framed.framing;
   ends = inl (end, stands_unfinished p framed.rest framed.stands);
-  written = Appends-trans h0 h1 h2 (flat_map element_line framed.elements) (end_line framed.rest) framed.written (line framed.rest framed.stands);
+  written = Appends-trans h0 h1 h2 (flat_map element_line framed.elements) (end_line framed.rest) (all_written p l0 l1 h0 h1 framed) (line framed.rest framed.stands);
   answer = answer framed.rest framed.stands;
 }
 
-pub finish_ok : (p : Pending) (l0 l1 l2 h0 h1 h2 : Option (List ℕ)) (octets : List ℕ) (r : Result Bool Fault) → FramedTo p l0 l1 h0 h1 → Consumes l1 l2 octets → length octets ≡ 0 → IsAtEnd l2
+pub finish_ok : (p : Pending) (l0 l1 l2 h0 h1 h2 : Option (List ℕ)) (octets : List ℕ) (r : Result Bool Fault) → FramedTo p l0 l1 h0 h1 [] → Consumes l1 l2 octets → length octets ≡ 0 → IsAtEnd l2
     → IfOk r (λ whole. (text : List ℕ) → Stands p text → (IsTrue whole ↔ (text ≡ []))) → OnOk r ((text : List ℕ) → Stands p text → Appends h1 h2 (end_line text))
     → IfOk r (λ whole. Framed l0 l2 h0 h2 whole)
 finish_ok p l0 l1 l2 h0 h1 h2 octets (Ok whole) framed read none end answer line = framed_end p l0 l1 l2 h0 h1 h2 octets whole framed read none end answer line
 finish_ok p l0 l1 l2 h0 h1 h2 octets (Err e) framed read none end answer line = tt
 
-pub finish_cut : (p : Pending) (l0 l1 l2 h0 h1 h2 : Option (List ℕ)) (octets : List ℕ) (r : Result Bool Fault) (e : Fault) → FramedTo p l0 l1 h0 h1 → Consumes l1 l2 octets → length octets ≡ 0
+pub finish_cut : (p : Pending) (l0 l1 l2 h0 h1 h2 : Option (List ℕ)) (octets : List ℕ) (r : Result Bool Fault) (e : Fault) → FramedTo p l0 l1 h0 h1 [] → Consumes l1 l2 octets → length octets ≡ 0
     → OnErr r ((text : List ℕ) → Stands p text → AppendsInPart h1 h2 (end_line text)) → r ≡ Err e → FramedInPart l0 l2 h0 h2
 finish_cut p l0 l1 l2 h0 h1 h2 octets (Ok whole) e framed read none cut is = absurd cc
 finish_cut p l0 l1 l2 h0 h1 h2 octets (Err x) e framed read none cut is = record {
@@ -260,5 +299,5 @@ finish_cut p l0 l1 l2 h0 h1 h2 octets (Err x) e framed read none cut is = record
   rest = framed.rest;
   read = read_none l0 l1 l2 framed.text octets framed.read read none;
   framing = framed.framing;
-  written = in_part_behind h0 h1 h2 (flat_map element_line framed.elements) (end_line framed.rest) framed.written (cut framed.rest framed.stands);
+  written = in_part_behind h0 h1 h2 (flat_map element_line framed.elements) (end_line framed.rest) (all_written p l0 l1 h0 h1 framed) (cut framed.rest framed.stands);
 }

@@ -205,28 +205,30 @@ Reaches p (Fails kind) text = IsFault text kind
 abbrev pub Advances : Pending → Pending → Progress → List ℕ → Type 0
 Advances old new progress octets = (text : List ℕ) → Stands old text → Reaches new progress (text ++ octets)
 
--- Octets after those that were pending were taken, and the lines of their elements were made.
-pub record Taken (p : Pending) (text made : List ℕ) : Type 0 where
+-- Octets after those that were pending were taken, and the lines of their elements were made behind `before`.
+pub record Taken (p : Pending) (text before made : List ℕ) : Type 0 where
   pub elements : List Element
   pub rest : List ℕ
   pub framing : IsFraming text elements rest
   pub stands : Stands p rest
-  pub made_lines : made ≡ flat_map element_line elements
+  pub made_lines : made ≡ before ++ flat_map element_line elements
 
--- The octets held an error, and all the lines were made.
-pub record TakenToFault (text made : List ℕ) : Type 0 where
+-- The octets held an error, and all the lines were made behind `before`.
+pub record TakenToFault (text before made : List ℕ) : Type 0 where
   pub elements : List Element
   pub rest : List ℕ
   pub framing : IsFraming text elements rest
   pub long : ¬ IsUnfinished rest
-  pub made_lines : made ≡ lines elements rest
+  pub made_lines : made ≡ before ++ lines elements rest
 
--- Octets were read, and all except those that are pending were taken.
-pub record FramedTo (p : Pending) (left left' held held' : Option (List ℕ)) : Type 0 where
+-- Octets were read, and all except those that are pending were taken. Of the lines, `kept` aren't yet written.
+pub record FramedTo (p : Pending) (left left' held held' : Option (List ℕ)) (kept : List ℕ) : Type 0 where
   pub text : List ℕ
   pub elements : List Element
   pub rest : List ℕ
   pub read : Consumes left left' text
   pub framing : IsFraming text elements rest
   pub stands : Stands p rest
-  pub written : Appends held held' (flat_map element_line elements)
+  pub sent : List ℕ
+  pub written : Appends held held' sent
+  pub made_lines : sent ++ kept ≡ flat_map element_line elements

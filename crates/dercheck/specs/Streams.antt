@@ -1,6 +1,6 @@
 -- What a pull takes from a source and what a put leaves in a sink, if these state their octets.
-use Rattle.std.specs.Prelude.{◌≡◌, ℕ, ◌<◌, Bool, true, false, List, length, take, MatchOption, Option, ◌-◌, ◌++◌}
-use Rattle.std.specs.Io.KnownBytes.{Keeps, Appends, Consumes, IsAtEnd}
+use Rattle.std.specs.Prelude.{◌≡◌, ℕ, ◌<◌, Bool, true, false, List, length, take, slice_range, nat_lt, IsTrue, IsSomeAnd, MatchOption, Option, ◌+◌, ◌-◌, ◌++◌}
+use Rattle.std.specs.Io.KnownBytes.{Keeps, Appends, Consumes, IsAtEnd, prepend_known}
 use Rattle.dercheck.specs.declared.memory.Pieces.{Pieces}
 use Rattle.dercheck.specs.declared.memory.Held.{Held}
 use Rattle.dercheck.specs.declared.system.Input.{Input}
@@ -11,6 +11,10 @@ use Rattle.dercheck.specs.declared.system.Output.{Output}
 abbrev pub PullTakes : Option (List ℕ) → Option (List ℕ) → Option ℕ → List ℕ → Type 0
 PullTakes old new r buf =
     MatchOption r (Keeps old new) (λ n. Consumes old new (take n buf) × (n ≡ 0 → 0 < length buf → IsAtEnd new))
+
+-- a pull into `buf` returned `r`: if the source was ready and `buf` has room, it gave some
+abbrev pub GivesIfReady : Bool → Option ℕ → List ℕ → Type 0
+GivesIfReady ready r buf = IsTrue ready → 0 < length buf → IsSomeAnd r (λ n. 0 < n)
 
 -- a put of `octets` returned `r`: at `Some n` the first n were appended; at `None` nothing was
 abbrev pub PutAppends : Option (List ℕ) → Option (List ℕ) → Option ℕ → List ℕ → Type 0
@@ -31,10 +35,13 @@ Puts false old new had_failed has_failed octets = AppendsInPart old new octets �
 
 -- ---- what the streams over memory state
 
--- the octets that the pieces have left, how many a pull gives at most, whether a pull fails after them, and whether one
--- has failed
+-- the octets that the pieces have left, which are never at hand, how many a pull gives at most, whether a pull fails
+-- after them, and whether one has failed
 abbrev pub pieces_left : Pieces → List ℕ
 pieces_left s = s.first.now ++ s.second.now
+
+abbrev pub pieces_ready : Pieces → Bool
+pieces_ready s = false
 
 abbrev pub piece_of : Pieces → ℕ
 piece_of s = s.piece
@@ -57,12 +64,22 @@ held_failed s = s.has_failed
 
 -- ---- what the streams over a reader and a writer state
 
--- the reader, how many octets the source still gives at most, and whether a pull has failed
+-- the reader, the octets at hand, whether there are any, the octets left, how many octets the source still gives at
+-- most, and whether a pull has failed
 abbrev pub input_reader : {R : Type 0} → Input R → R
 input_reader s = s.reader
 
+abbrev pub input_at_hand : {R : Type 0} → Input R → List ℕ
+input_at_hand s = slice_range s.octets s.start s.end
+
+abbrev pub input_ready : {R : Type 0} → Input R → Bool
+input_ready s = nat_lt s.start s.end
+
+abbrev pub input_left : {R : Type 0} → (R → Option (List ℕ)) → Input R → Option (List ℕ)
+input_left remaining s = prepend_known (input_at_hand s) (remaining s.reader)
+
 abbrev pub input_bound : {R : Type 0} → Input R → ℕ
-input_bound s = s.count
+input_bound s = s.count + (s.end - s.start)
 
 abbrev pub input_failed : {R : Type 0} → Input R → Bool
 input_failed s = s.has_failed

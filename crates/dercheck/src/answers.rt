@@ -1,6 +1,7 @@
 //! The replies to the lines of an input.
 
 ghost use Rattle.std.specs.Prelude.{◌≡◌, ◌++◌, IfOk, OnOk, OnErr, IsOkUnless};
+ghost use Rattle.std.specs.Io.{StartsWith};
 ghost use Rattle.std.specs.List.{list_all};
 ghost use Rattle.dercheck.specs.Lines.{lines_of};
 ghost use Rattle.dercheck.specs.Replies.{answers, is_ok_line};
@@ -29,22 +30,23 @@ impl From<AllocError> for Fault {
     }
 }
 
-/// The replies to the lines, each with a line feed, and whether each is `ok`.
-fn answered(alloc: Global, input: &[u8]) -> Result<(Vec<u8>, bool), Fault>
-    ensures ok { IfOk result (λ found. found.0.items ≡ answers input.now) }
-    ensures all_ok { IfOk result (λ found. found.1 ≡ list_all is_ok_line (lines_of input.now)) }
+/// Appends one reply for each line of the input to `out`, each with a line feed, and returns whether each is `ok`. At
+/// an error some of them may have been appended.
+fn push_replies(alloc: Global, input: &[u8], out: &mut Vec<u8>) -> Result<bool, Fault>
+    ensures ok { OnOk result (out.new.items ≡ out.old.items ++ answers input.now) }
+    ensures all_ok { IfOk result (λ all_ok. all_ok ≡ list_all is_ok_line (lines_of input.now)) }
+    ensures kept { StartsWith out.new.items out.old.items }
     ensures error { IsOkUnless result Fault.Memory }
 {
-    let mut out = Vec::new(alloc);
     let mut all_ok = true;
     let mut rest = input;
     while let Some((line, after)) = next_line(rest) {
         let reply = reply_to_line(alloc, line)?;
         all_ok = all_ok && matches!(reply, Reply::Written(_));
-        push_reply(alloc, &mut out, &reply)?;
+        push_reply(alloc, out, &reply)?;
         rest = after;
     }
-    Ok((out, all_ok))
+    Ok(all_ok)
 }
 
 /// Appends one reply for each line of the input to `out`, each with a line feed, and returns whether each is `ok`.
@@ -56,7 +58,10 @@ pub fn check(alloc: Global, input: &[u8], out: &mut Vec<u8>) -> Result<bool, Fau
     ensures err { OnErr result (out.new.items ≡ out.old.items) }
     ensures error { IsOkUnless result Fault.Memory }
 {
-    let (answers, all_ok) = answered(alloc, input)?;
-    out.extend_from_slice(&answers)?;
-    Ok(all_ok)
+    let before = out.len();
+    let all_ok = push_replies(alloc, input, out);
+    if all_ok.is_err() {
+        out.truncate(before);
+    }
+    all_ok
 }

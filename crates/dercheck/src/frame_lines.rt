@@ -1,8 +1,8 @@
 //! The lines of elements, of what is missing, and of errors. They are made in an array, and put together.
 
-ghost use Rattle.std.specs.Prelude.{◌≡◌, ◌+◌, ◌≤◌, ◌*◌, ◌++◌, [], length, codes, decimal};
+ghost use Rattle.std.specs.Prelude.{◌≡◌, ◌+◌, ◌≤◌, ◌*◌, ◌++◌, [], length, nat_le, codes, decimal};
 ghost use Rattle.hex.specs.Hex.{encode_lower};
-ghost use Rattle.dercheck.specs.declared.frame_lines.TheConstants.{MAX_LINES};
+ghost use Rattle.dercheck.specs.declared.frame_lines.TheConstants.{MAX_LINES, MAX_PULL_LINES};
 ghost use Rattle.dercheck.specs.Streams.{Puts};
 
 use crate::header::MAX_HEADER;
@@ -17,7 +17,10 @@ const MAX_DIGITS: usize = 20;
 pub const MAX_LINE: usize = 2 * MAX_HEADER + MAX_DIGITS + 2;
 
 /// How many octets the lines of a pull have at most: each of its octets completes one element at most.
-pub const MAX_LINES: usize = MAX_PULL * MAX_LINE;
+pub const MAX_PULL_LINES: usize = MAX_PULL * MAX_LINE;
+
+/// How many octets of lines are kept at most.
+pub const MAX_LINES: usize = 2 * MAX_PULL_LINES;
 
 /// Lines, one after another.
 #[derive(Drop)]
@@ -47,6 +50,13 @@ impl Lines {
         ensures count { self.new.count ≡ 0 }
     {
         self.count = 0;
+    }
+
+    /// Whether the lines of a pull have room.
+    pub fn has_room(&self) -> bool
+        ensures { result ≡ nat_le (self.now.count + MAX_PULL_LINES) MAX_LINES }
+    {
+        self.count + MAX_PULL_LINES <= MAX_LINES
     }
 
     /// Appends octets.

@@ -12,10 +12,9 @@ use crate::stream::{MAX_PULL, Sink, Source};
 /// Writes a line for each element of the stream: its identifier octets in hex, and the number of its contents octets in
 /// decimal.
 ///
-/// The lines of what a pull gave are put together, before the next octets are asked for. If octets remain at the end, a
-/// last line says how many more they need. At an error of framing a last line names the error, and no more is read. Of
-/// what was read then, all but the last 256 octets hold no error. The result is whether the stream is a concatenation
-/// of whole elements.
+/// Lines are put together, and before a pull that may wait. If octets remain at the end, a last line says how many more
+/// they need. At an error of framing a last line names the error, and no more is read. Of what was read then, all but
+/// the last 256 octets hold no error. The result is whether the stream is a concatenation of whole elements.
 ///
 /// Errors: `Read` if the source fails: the lines of the elements that the source gave are written, and nothing else.
 /// `Write` if the sink fails: the sink has a prefix of the lines. Never `Memory`: nothing is allocated.
@@ -46,13 +45,16 @@ pub fn frames<R: Source, W: Sink>(r: &mut R, w: &mut W) -> Result<bool, Fault>
         if count == 0 {
             return pending.finish(w);
         }
-        lines.clear();
         let goes_on = pending.take_octets(&buffer[..count], &mut lines);
+        if goes_on && lines.has_room() && r.is_ready() {
+            continue 'pulls;
+        }
         if !put_all(w, lines.octets()) {
             return Err(Fault::Write);
         }
         if !goes_on {
             return Ok(false);
         }
+        lines.clear();
     }
 }

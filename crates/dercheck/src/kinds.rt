@@ -1,6 +1,7 @@
 //! The kinds of errors, as words in a line.
 
 ghost use Rattle.std.specs.Prelude.{◌≡◌, ◌++◌, ◌∷◌, codes, decimal, OnOk};
+ghost use Rattle.std.specs.Io.{StartsWith};
 ghost use Rattle.dercheck.specs.Replies.{kind_name, kind_text, class_text, form_text};
 
 use asn1::{ParseErrorKind, TagClass};
@@ -53,7 +54,8 @@ fn form_text(constructed: bool) -> &'static [u8]
 
 /// Appends a space and the word.
 fn push_word(out: &mut Vec<u8>, word: &[u8]) -> Result<(), AllocError>
-    ensures { OnOk result (out.new.items ≡ out.old.items ++ 32 ∷ word.now) }
+    ensures ok { OnOk result (out.new.items ≡ out.old.items ++ 32 ∷ word.now) }
+    ensures kept { StartsWith out.new.items out.old.items }
 {
     out.push(b' ')?;
     out.extend_from_slice(word)
@@ -61,15 +63,18 @@ fn push_word(out: &mut Vec<u8>, word: &[u8]) -> Result<(), AllocError>
 
 /// Appends a space and the number in decimal.
 fn push_number(out: &mut Vec<u8>, number: usize) -> Result<(), AllocError>
-    ensures { OnOk result (out.new.items ≡ out.old.items ++ 32 ∷ decimal number) }
+    ensures ok { OnOk result (out.new.items ≡ out.old.items ++ 32 ∷ decimal number) }
+    ensures kept { StartsWith out.new.items out.old.items }
 {
     let mut buffer = Buffer::new();
     push_word(out, buffer.format(number).as_bytes())
 }
 
-/// Appends the kind's name and its details, with a space before each. `AllocError` if out of memory.
+/// Appends the kind's name and its details, with a space before each. `AllocError` if out of memory; then some of this
+/// may have been appended.
 pub fn push_kind(out: &mut Vec<u8>, kind: ParseErrorKind) -> Result<(), AllocError>
-    ensures { OnOk result (out.new.items ≡ out.old.items ++ kind_text kind) }
+    ensures ok { OnOk result (out.new.items ≡ out.old.items ++ kind_text kind) }
+    ensures kept { StartsWith out.new.items out.old.items }
 {
     out.extend_from_slice(kind_name(kind))?;
     match kind {

@@ -3,11 +3,13 @@
 ghost use Rattle.std.specs.Prelude.{◌≡◌, ◌∷◌, ◌<◌, ◌==◌, [], length, position, IfNone, IfSome};
 ghost use Rattle.dercheck.specs.Lines.{split_once, lines_of, option_split};
 
+use memchr::memchr;
+
 /// The index of the first octet of that value.
 fn place_of(text: &[u8], octet: u8) -> Option<usize>
     ensures { result ≡ position (λ next. next == octet) text.now }
 {
-    text.iter().position(|next| *next == octet)
+    memchr(octet, text)
 }
 
 /// What is before and after the first octet of that value, if there is one.

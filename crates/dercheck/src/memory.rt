@@ -38,13 +38,15 @@ impl<'a> Pieces<'a> {
 }
 
 impl Source for Pieces<'_> {
-    ghost use Rattle.dercheck.specs.Streams.{FlagFollows, PullTakes, pieces_left, piece_of, fails_at_end, pieces_failed};
+    ghost use Rattle.dercheck.specs.Streams.{FlagFollows, GivesIfReady, PullTakes, pieces_left, pieces_ready, piece_of, fails_at_end, pieces_failed};
 
     ghost left = { λ s. Some (pieces_left s) };
 
     ghost has_failed = { λ s. pieces_failed s };
 
     ghost bound = { λ s. length s.first.now + length s.second.now };
+
+    ghost ready = { λ s. pieces_ready s };
 
     fn pull(&mut self, buf: &mut [u8]) -> Option<usize>
         ensures within { IfSome result (λ n. n ≤ length buf.new) }
@@ -54,6 +56,7 @@ impl Source for Pieces<'_> {
             ≤ length self.old.first.now + length self.old.second.now)
             (λ n. length self.new.first.now + length self.new.second.now + n
             ≤ length self.old.first.now + length self.old.second.now) }
+        ensures ready { GivesIfReady (pieces_ready self.old) result buf.new }
         ensures flag { FlagFollows (pieces_failed self.old) (pieces_failed self.new) result }
         ensures most { IfSome result (λ n. n ≤ piece_of self.old) }
         ensures end { IsNone result
@@ -79,6 +82,10 @@ impl Source for Pieces<'_> {
             return None;
         }
         Some(0)
+    }
+
+    fn is_ready(&self) -> bool {
+        false
     }
 
     fn failed(&self) -> bool {

@@ -1,6 +1,7 @@
 //! The element that is being read.
 
 ghost use Rattle.std.specs.Prelude.{◌≡◌, ◌+◌, ◌<◌, ◌≤◌, ◌∷◌, ◌++◌, ◌↔◌, [], List, ℕ, IsTrue, true, false, length, take, IfOk, IfErr, OnOk, OnErr};
+ghost use Rattle.dercheck.specs.declared.frame_lines.TheConstants.{MAX_LINES, MAX_PULL_LINES};
 ghost use Rattle.dercheck.specs.declared.header.TheConstants.{MAX_HEADER};
 
 use crate::answers::Fault;
@@ -113,14 +114,14 @@ impl Pending {
 
     /// Takes the octets of a pull, and makes the lines of the elements that they complete. False if they hold an error
     /// of framing, whose line is then made too. The caller has to prove that the octets are at most those of one pull,
-    /// and that there are no lines yet (`requires`).
+    /// and that their lines have room (`requires`).
     pub fn take_octets(&mut self, octets: &[u8], lines: &mut Lines) -> bool
         requires few { length octets.now ≤ MAX_PULL }
-        requires room { lines.old.count ≡ 0 }
+        requires room { lines.old.count + MAX_PULL_LINES ≤ MAX_LINES }
         ensures goes_on { IsTrue result → (text : List ℕ) → Stands self.old text
-            → Taken self.new (text ++ octets.now) (line_octets lines.new) }
+            → Taken self.new (text ++ octets.now) (line_octets lines.old) (line_octets lines.new) }
         ensures fault { result ≡ false → (text : List ℕ) → Stands self.old text
-            → TakenToFault (text ++ octets.now) (line_octets lines.new) }
+            → TakenToFault (text ++ octets.now) (line_octets lines.old) (line_octets lines.new) }
     {
         let mut rest = octets;
         while !rest.is_empty() {

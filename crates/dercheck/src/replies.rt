@@ -1,6 +1,7 @@
 //! The reply to a line.
 
 ghost use Rattle.std.specs.Prelude.{◌≡◌, ◌++◌, ◌∷◌, [], OnOk, IfOk, IsOkUnless};
+ghost use Rattle.std.specs.Io.{StartsWith};
 ghost use Rattle.asn1.specs.Reading.{whole};
 ghost use Rattle.dercheck.specs.Replies.{IsReply, reply_text, is_written, answer, is_ok_line, reading};
 
@@ -96,9 +97,10 @@ pub(crate) fn reply_to_line(alloc: Global, line: &[u8]) -> Result<Reply, Fault>
     }
 }
 
-/// Appends the reply's line, with its line feed.
+/// Appends the reply's line, with its line feed. At an error some of it may have been appended.
 pub(crate) fn push_reply(alloc: Global, out: &mut Vec<u8>, reply: &Reply) -> Result<(), AllocError>
-    ensures { OnOk result (out.new.items ≡ out.old.items ++ (reply_text reply.now ++ 10 ∷ [])) }
+    ensures ok { OnOk result (out.new.items ≡ out.old.items ++ (reply_text reply.now ++ 10 ∷ [])) }
+    ensures kept { StartsWith out.new.items out.old.items }
 {
     match reply {
         Reply::BadLine => out.extend_from_slice(b"bad line")?,

@@ -1,7 +1,7 @@
 //! Streams of octets to read and to write.
 
-ghost use Rattle.std.specs.Prelude.{◌≡◌, ◌+◌, ◌<◌, ◌≤◌, List, ℕ, Bool, Option, length, take, IfSome, MatchOption};
-ghost use Rattle.dercheck.specs.Streams.{PullTakes, PutAppends, FlagFollows};
+ghost use Rattle.std.specs.Prelude.{◌≡◌, ◌+◌, ◌<◌, ◌≤◌, List, ℕ, Bool, Option, false, length, take, IfSome, MatchOption};
+ghost use Rattle.dercheck.specs.Streams.{PullTakes, GivesIfReady, PutAppends, FlagFollows};
 
 /// How many octets are asked for at a time.
 pub(crate) const MAX_PULL: usize = 256;
@@ -17,6 +17,9 @@ pub trait Source {
     // At least as many octets as it can still give.
     ghost bound: { Self → ℕ };
 
+    // Whether the next octets are at hand.
+    ghost ready: { Self → Bool } = { λ _. false };
+
     /// Puts the next octets at the start of `buf`, and returns how many. If `buf` has room, 0 means the end. `None` is
     /// a failure; then no octet of the stream was taken.
     fn pull(&mut self, buf: &mut [u8]) -> Option<usize>
@@ -24,7 +27,12 @@ pub trait Source {
         ensures octets { PullTakes (left self.old) (left self.new) result buf.new }
         ensures bound { MatchOption result (bound self.new ≤ bound self.old)
             (λ n. bound self.new + n ≤ bound self.old) }
+        ensures ready { GivesIfReady (ready self.old) result buf.new }
         ensures flag { FlagFollows (has_failed self.old) (has_failed self.new) result };
+
+    /// Whether the next octets are at hand: then a pull with room gives some, and doesn't wait.
+    fn is_ready(&self) -> bool
+        ensures { result ≡ ready self.now };
 
     /// Whether a pull has failed.
     fn failed(&self) -> bool

@@ -173,7 +173,11 @@ fn reads_more_than_a_pull() -> Result<(), Fail> {
     let mut source = Pieces::new(&octets[..518], &[], 600, false);
     check(&mut source, b"04 514\n", Ok(true))?;
     check_each(&octets, false, lines, Ok(false))?;
-    check_each(&octets[..518], false, b"04 514\n", Ok(true))
+    check_each(&octets[..518], false, b"04 514\n", Ok(true))?;
+    let mut source = Input::new(octets.as_slice());
+    let mut sink = Held::new(256);
+    same(frames(&mut source, &mut sink), Ok(false))?;
+    same(sink.held(), lines)
 }
 
 #[test]
@@ -186,6 +190,18 @@ fn puts_the_lines_of_a_pull_at_once() -> Result<(), Fail> {
         same_at(piece, sink.puts, puts)?;
     }
     Ok(())
+}
+
+#[test]
+fn puts_the_lines_of_a_read_at_once() -> Result<(), Fail> {
+    let mut octets = [0u8; 1200];
+    for i in 0..600 {
+        octets[2 * i] = 0x05;
+    }
+    let mut source = Input::new(octets.as_slice().chain(octets.as_slice()));
+    let mut sink = Counted { puts: 0 };
+    same(frames(&mut source, &mut sink), Ok(true))?;
+    same(sink.puts, 2)
 }
 
 #[test]

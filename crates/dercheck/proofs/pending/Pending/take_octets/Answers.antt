@@ -1,5 +1,5 @@
-use Rattle.std.proofs.Common.{◌<◌, ◌≤◌, ◌+◌, ◌-◌, ◌*◌, List, ℕ, [], ◌++◌, length, take, drop, refl, sym, subst, append_assoc, arith}
-use Rattle.std.proofs.lemmas.List.{length-drop, length-take, nil_from_length}
+use Rattle.std.proofs.Common.{◌<◌, ◌≤◌, ◌+◌, ◌-◌, ◌*◌, List, ℕ, [], ◌++◌, length, take, drop, refl, subst, append_assoc, arith}
+use Rattle.std.proofs.lemmas.List.{length-drop, length-take}
 use Rattle.asn1.specs.Text.{IsText}
 use Rattle.asn1.specs.Lemmas.Texts.{IsText-from_reads}
 use Rattle.dercheck.specs.declared.pending.Progress.{Progress}
@@ -10,15 +10,15 @@ use Rattle.dercheck.proofs.Steps.{taken_none, goes_on, completes, fails, around,
 use Rattle.dercheck.proofs.pending.Pending.take_octets.Goals as goal
 
 -- the lines of the remaining octets still fit
-room : (rest : List ℕ) (count count' n : ℕ) → 0 < n → n ≤ length rest → count' ≤ count + 62 → count + 62 * length rest ≤ 62 * 256
-    → count' + 62 * length (take (length rest - n) (drop n rest)) ≤ 62 * 256
+room : (rest : List ℕ) (count count' n : ℕ) → 0 < n → n ≤ length rest → count' ≤ count + 62 → count + 62 * length rest ≤ 62 * 512
+    → count' + 62 * length (take (length rest - n) (drop n rest)) ≤ 62 * 512
 room rest count count' n some within more fits = omega (arith, length-take (length rest - n) (drop n rest), length-drop n rest)
 
 pub loop-rest-init : goal.loop-rest-init
 loop-rest-init c = (
   [],
   refl,
-  λ text stands. subst (Taken c.args.self.now (text ++ [])) (sym (nil_from_length (line_octets c.args.lines.now) (omega (arith, length-take c.args.lines.now.count c.args.lines.now.octets)))) (taken_none c.args.self.now text stands),
+  λ text stands. taken_none c.args.self.now text (line_octets c.args.lines.now) stands,
   omega arith,
 )
 
@@ -29,11 +29,12 @@ loop-rest-preserved-in-GoesOn c =
     let n = c.advance-count.result.0 in
     let old = c.loop-rest.self in
     let new = c.advance-count.new.self in
+    let before = line_octets c.args.lines.now in
     let made = line_octets c.loop-rest.lines in
     let step : Advances old new GoesOn (take n rest) = subst (λ (p : Progress). Advances old new p (take n rest)) c.in-GoesOn.is c.advance-count.ensures.advances in (
       done ++ take n rest,
       moves_front c.args.octets.now done rest n split,
-      λ text stands. subst (λ (l : List ℕ). Taken new l made) (append_assoc text done (take n rest)) (goes_on old new (text ++ done) (take n rest) made (taken text stands) step),
+      λ text stands. subst (λ (l : List ℕ). Taken new l before made) (append_assoc text done (take n rest)) (goes_on old new (text ++ done) (take n rest) before made (taken text stands) step),
       room rest c.loop-rest.lines.count c.loop-rest.lines.count n c.advance-count.ensures.some c.advance-count.ensures.within (omega arith) fits,
     )
 
@@ -45,13 +46,14 @@ loop-rest-preserved c =
     let old = c.loop-rest.self in
     let new = c.advance-count.new.self in
     let fresh = c.new.result in
+    let before = line_octets c.args.lines.now in
     let made = line_octets c.loop-rest.lines in
     let made' = line_octets c.push_element.new.self in
     let step : Advances old new Completes (take n rest) = subst (λ (p : Progress). Advances old new p (take n rest)) c.in-Completes.is c.advance-count.ensures.advances in (
       done ++ take n rest,
       moves_front c.args.octets.now done rest n split,
-      λ text stands. subst (λ (l : List ℕ). Taken fresh l made') (append_assoc text done (take n rest))
-          (completes old new fresh (text ++ done) (take n rest) made made' (taken text stands) step c.new.ensures c.push_element.ensures.octets),
+      λ text stands. subst (λ (l : List ℕ). Taken fresh l before made') (append_assoc text done (take n rest))
+          (completes old new fresh (text ++ done) (take n rest) before made made' (taken text stands) step c.new.ensures c.push_element.ensures.octets),
       room rest c.loop-rest.lines.count c.push_element.new.self.count n c.advance-count.ensures.some c.advance-count.ensures.within c.push_element.ensures.count fits,
     )
 
@@ -63,10 +65,11 @@ returns-in-Fails-clause-fault c =
     let old = c.loop-rest.self in
     let new = c.advance-count.new.self in
     let kind = c.in-Fails.kind in
+    let before = line_octets c.args.lines.now in
     let made = line_octets c.loop-rest.lines in
     let made' = line_octets c.push_fault.new.self in
     let octets = c.args.octets.now in
     let is : IsText (drop n rest) = text_left octets done rest n split (IsText-from_reads octets (λ i. omega (arith, c.type_inv.octets i))) in
     let step : Advances old new (Fails kind) (take n rest) = subst (λ (p : Progress). Advances old new p (take n rest)) c.in-Fails.is c.advance-count.ensures.advances in
-    λ _ text stands. subst (λ (l : List ℕ). TakenToFault l made') (around text octets done rest n split)
-    (fails old new (text ++ done) (take n rest) (drop n rest) made made' kind (taken text stands) step is c.push_fault.ensures)
+    λ _ text stands. subst (λ (l : List ℕ). TakenToFault l before made') (around text octets done rest n split)
+    (fails old new (text ++ done) (take n rest) (drop n rest) before made made' kind (taken text stands) step is c.push_fault.ensures)

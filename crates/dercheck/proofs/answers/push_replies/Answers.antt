@@ -4,7 +4,7 @@ use Rattle.std.proofs.lemmas.List.{append-nil}
 use Rattle.dercheck.specs.Lines.{lines_of}
 use Rattle.dercheck.specs.Replies.{answers, is_ok_line}
 use Rattle.dercheck.proofs.Cuts.{lines_of-none}
-use Rattle.dercheck.proofs.answers.answered.Goals as goal
+use Rattle.dercheck.proofs.answers.push_replies.Goals as goal
 
 answers-none : (text : List ℕ) → text ≡ [] → answers text ≡ []
 answers-none text none = rw (none, lines_of-none) refl
