@@ -98,6 +98,17 @@ pub enum Answer {
     Rejected(Refusal),
 }
 
+/// The SHA-256, in hex, of what the value is written back as.
+fn digest_of<'a, T: Asn1Readable<'a> + Asn1Writable<Error = WriteError>>(
+    alloc: Global,
+    value: &T,
+) -> Result<String, Fault>
+    ensures { IfErr result (λ fault. fault ≡ Memory) }
+{
+    let written = write_readable(alloc, value).or(Err(Fault::Memory))?;
+    Ok(hex::encode(alloc, &Sha256::digest(written.as_slice()))?)
+}
+
 /// The lines of the value whose encoding the octets are. The value has one encoding, so these octets are written back.
 fn shown<'a, T: Asn1Readable<'a> + Asn1Writable<Error = WriteError> + Show>(
     alloc: Global,
@@ -110,8 +121,7 @@ fn shown<'a, T: Asn1Readable<'a> + Asn1Writable<Error = WriteError> + Show>(
         Ok(value) => value,
         Err(error) => return Ok(Answer::Rejected(Refusal::Der(error))),
     };
-    let written = write_readable(alloc, &value).or(Err(Fault::Memory))?;
-    let digest = hex::encode(alloc, &Sha256::digest(written.as_slice()))?;
+    let digest = digest_of(alloc, &value)?;
     let mut text = lines_of(alloc, &value)?;
     writeln!(text, "sha256: {digest}")?;
     text.push_str("same\n")?;
@@ -444,7 +454,11 @@ impl Report {
     fn add(&mut self, name: &str, answer: Answer) -> Result<(), AllocError> {
         let dots = if name.is_empty() { "" } else { ": " };
         match answer {
-            Answer::Shown(lines) if name.is_empty() => self.lines.push_str(lines.as_str()),
+            // The only object: its lines can be many, and aren't copied.
+            Answer::Shown(lines) if name.is_empty() => {
+                self.lines = lines;
+                Ok(())
+            }
             Answer::Shown(lines) => write!(self.lines, "{name}\n{lines}"),
             Answer::Rejected(refusal) => writeln!(self.reasons, "pkix: {name}{dots}{refusal}"),
         }
