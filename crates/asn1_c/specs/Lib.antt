@@ -1,0 +1,4 @@
+pub mod Errors
+pub mod Elements
+pub mod Types
+pub mod Values
