@@ -47,6 +47,7 @@ pub trait NameSource: Copy {
 impl NameSource for Names {
     ghost texts = { texts_of };
 
+    #[inline(always)]
     fn first(self) -> &'static str {
         match self.list {
             [] => "",
@@ -54,6 +55,7 @@ impl NameSource for Names {
         }
     }
 
+    #[inline(always)]
     fn others(self) -> Names {
         match self.list {
             [] => self,
@@ -81,6 +83,7 @@ pub trait RowReadable<'a>: Sized + Drop {
 }
 
 /// Reads fields with these names from the contents octets of a structure. Errors are those of [`RowReadable::read`].
+#[inline(always)]
 pub fn read_fields<'a, R: RowReadable<'a>, S: NameSource>(
     alloc: Global,
     data: &'a [u8],
@@ -175,6 +178,7 @@ pub type Fields16<A, B, C, D, E, F, G, H, I, J, K, L, M, N, O, P> = Field<
 >;
 
 /// The result of reading a field: the value, or the field's error with the field's name as a further location.
+#[inline(always)]
 pub fn placed<T: Drop>(answer: ParseResult<T>, name: &'static str) -> ParseResult<T>
     ensures { result ≡ in_field name.now answer }
 {
@@ -185,6 +189,7 @@ pub fn placed<T: Drop>(answer: ParseResult<T>, name: &'static str) -> ParseResul
 }
 
 /// Rejects octets that remain after the last field, with `ExtraData` without a location.
+#[inline(always)]
 pub fn finish(parser: Parser<'_>) -> ParseResult<()>
     ensures { result ≡ rest_refused parser.entry }
 {
@@ -195,6 +200,7 @@ pub fn finish(parser: Parser<'_>) -> ParseResult<()>
 }
 
 /// The sum of two lengths, if both are known and the sum fits in a `usize`.
+#[inline(always)]
 pub fn sum(a: Option<usize>, b: Option<usize>) -> Option<usize>
     ensures { IsSum a b result }
 {
@@ -208,6 +214,7 @@ impl Row for NoFields {
 impl<'a> RowReadable<'a> for NoFields {
     ghost list = { empty_list };
 
+    #[inline(always)]
     fn read<S: NameSource>(parser: Parser<'a>, _names: S) -> ParseResult<NoFields> {
         finish(parser)?;
         Ok(NoFields)
@@ -221,6 +228,7 @@ impl<A: Asn1Type> Row for Last<A> {
 impl<'a, A: Asn1Readable<'a>> RowReadable<'a> for Last<A> {
     ghost list = { last_field (λ row. row.value) A.der };
 
+    #[inline(always)]
     fn read<S: NameSource>(parser: Parser<'a>, names: S) -> ParseResult<Self> {
         let mut parser = parser;
         let value = placed(parser.read_element::<A>(), names.first())?;
@@ -236,6 +244,7 @@ impl<A: Asn1Type, R: Row> Row for Field<A, R> {
 impl<'a, A: Asn1Readable<'a>, R: RowReadable<'a>> RowReadable<'a> for Field<A, R> {
     ghost list = { first_field (λ row. row.value) A.der (λ row. row.rest) R.list };
 
+    #[inline(always)]
     fn read<S: NameSource>(parser: Parser<'a>, names: S) -> ParseResult<Self> {
         let mut parser = parser;
         let value = placed(parser.read_element::<A>(), names.first())?;
