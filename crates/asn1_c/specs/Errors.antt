@@ -22,6 +22,10 @@ kind_number OidTooLong = 11
 kind_number UnknownDefinedBy = 12
 kind_number AllocationError = 13
 
+-- The number of the error that memory ran out.
+abbrev pub memory_number : ℕ
+memory_number = 13
+
 -- The numbers of this library's own errors: a number that no type has, and a buffer that is too small.
 abbrev pub unknown_type : ℕ
 unknown_type = 64

@@ -4,10 +4,17 @@
 
 mod elements;
 mod errors;
+mod objects;
+mod texts;
 mod types;
 mod values;
 
 pub use elements::{Asn1Element, asn1_strip_tlv};
 pub use errors::Asn1Error;
+pub use objects::pkix_check;
+pub use texts::{asn1_error_text, asn1_version};
 pub use types::asn1_check;
-pub use values::{asn1_read_bool, asn1_read_signed};
+pub use values::{
+    Asn1Bits, Asn1Time, asn1_read_bits, asn1_read_bool, asn1_read_generalized_time, asn1_read_oid,
+    asn1_read_signed, asn1_read_unsigned, asn1_read_utc_time,
+};
