@@ -1,16 +1,17 @@
 /* DER (X.690) for C and C++: elements, whether octets are the one encoding of a value, and values.
  *
- * Each function reads octets where they are, and copies and allocates nothing: that is tested. docs/C.md says what is proved of each,
- * how a program is linked, and what this header trusts.
+ * Each function reads octets where they are, and copies and allocates nothing: that is tested. docs/C.md says what is
+ * proved of each, how a program is linked, and what this header trusts.
  *
  * What the caller owes, of which nothing is checked:
  * - A pointer to octets or to a buffer is valid for the count behind it, and isn't null, not even if the count is 0.
  * - A count is at most PTRDIFF_MAX.
  * - Each other pointer points to one object of its type.
- * - What a function sets overlaps neither the octets nor anything else that it is given, and no other thread reads or
- *   writes it during the call. The octets stay as they are during the call.
+ * - What a function sets overlaps neither the octets nor anything else that it is given, and no other thread reads
+ *   or writes it during the call. The octets stay as they are during the call.
  *
- * The library keeps nothing from one call to the next, so several threads may call it at the same time.
+ * The library keeps nothing from one call to the next, so several threads may call it at the same time. A signal
+ * handler may not.
  *
  * Counts and lengths are in octets. Texts are ASCII, and have no zero octet after them.
  */
@@ -140,8 +141,8 @@ uint32_t asn1_check(uint32_t type, const uint8_t *octets, size_t count, struct a
 /* Read the value of which the octets are the one encoding: a BOOLEAN; an INTEGER in the range of `int8_t`, `int16_t`,
  * `int32_t` or `int64_t`, if `bits` is 8, 16, 32 or 64.
  *
- * ASN1_OK: `value` is set. Else the errors of `asn1_check` of the type, or ASN1_UNKNOWN_TYPE for another number of bits,
- * and `value` stays as it was. `error` is set in each case. */
+ * ASN1_OK: `value` is set. Else the errors of `asn1_check` of the type, or ASN1_UNKNOWN_TYPE for another number of
+ * bits, and `value` stays as it was. `error` is set in each case. */
 uint32_t asn1_read_bool(const uint8_t *octets, size_t count, bool *value, struct asn1_error *error);
 uint32_t asn1_read_signed(uint32_t bits, const uint8_t *octets, size_t count, int64_t *value,
                           struct asn1_error *error);
@@ -174,20 +175,20 @@ uint32_t asn1_read_generalized_time(const uint8_t *octets, size_t count, struct 
 
 /* The same for an OBJECT IDENTIFIER, whose dotted text, such as `2.5.4.3`, is left in `text`, which has `size` octets.
  *
- * ASN1_OK: the text is there, and `text_length` is how many octets it has. ASN1_BUFFER_TOO_SMALL: `text_length` is above
- * `size`, and `text` stays as it was. Else the errors of `asn1_check`, `text` stays as it was, and `text_length` is 0.
- * A text has up to 252 octets. */
+ * ASN1_OK: the text is there, and `text_length` is how many octets it has. ASN1_BUFFER_TOO_SMALL: `text_length` is
+ * above `size`, and `text` stays as it was. Else the errors of `asn1_check`, `text` stays as it was, and `text_length`
+ * is 0. A buffer of 256 octets has room for each text. */
 uint32_t asn1_read_oid(const uint8_t *octets, size_t count, char *text, size_t size, size_t *text_length,
                        struct asn1_error *error);
 
 /* Whether the octets are the one encoding of the object, a PKIX_ number.
  *
- * ASN1_OK: they are. Else the first error in the order of the octets; the header of the error's list says which there
- * are. ASN1_UNKNOWN_TYPE: no object has this number. `error` is set in each case.
+ * ASN1_OK: they are. Else the first error in the order of the octets, with ASN1_EXTRA_DATA if octets follow the object:
+ * any but ASN1_BUFFER_TOO_SMALL. ASN1_UNKNOWN_TYPE: no object has this number. `error` is set in each case.
  *
- * The location of the error, such as `tbsCertificate.validity.notAfter`, is left in `place`, which has `size` octets, if
- * it has room for it; and `place_length` is set to how many octets the location has. It has none if there is no error,
- * or if the error is that of the whole. If `place_length` is above `size`, then `place` stays as it was. */
+ * The location of the error, such as `tbsCertificate.validity.notAfter`, is left in `place`, which has `size` octets,
+ * if it has room for it; and `place_length` is set to how many octets the location has. It has none if there is no
+ * error, or if the error is that of the whole. If `place_length` is above `size`, then `place` stays as it was. */
 uint32_t pkix_check(uint32_t object, const uint8_t *octets, size_t count, char *place, size_t size,
                     size_t *place_length, struct asn1_error *error);
 

@@ -1,5 +1,5 @@
-/* Checks each file that is named: whether it is the one DER encoding of a certificate, and which elements it begins with.
-   docs/C.md says how it is built. */
+/* Checks each file that is named: whether it is the one DER encoding of a certificate, and how many elements it begins
+   with. docs/C.md says how it is built. */
 #include "asn1.h"
 #include <stdio.h>
 #include <stdlib.h>

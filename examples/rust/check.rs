@@ -1,5 +1,5 @@
-//! The library for C in safe Rust, without dependencies; and a program that checks files by it. docs/C.md says how it is
-//! built.
+//! The library for C in safe Rust, without dependencies; and a program that checks files by it. docs/C.md says how it
+//! is built.
 
 use std::{env, fmt, fs, process};
 

@@ -1,5 +1,5 @@
 -- What is told of a result says whether it is `ShortData`, and how many octets an element has.
-use Rattle.std.proofs.Common.{◌≡◌, ℕ, ◌+◌, ◌≤◌, ◌-◌, ◌++◌, List, length, Result, Ok, Err, sym, ap, subst, ◌∙◌, arith, refl}
+use Rattle.std.proofs.Common.{◌≡◌, ℕ, ◌+◌, ◌≤◌, ◌-◌, ◌++◌, List, length, Result, Ok, Err, sym, ap, ◌∙◌, arith, refl}
 use Rattle.std.proofs.lemmas.List.{length-append}
 use Rattle.asn1.specs.declared.ParseErrorKind.{ParseErrorKind}
 use Rattle.asn1.specs.declared.ParseErrorKind.TheVariants.{InvalidValue, InvalidTag, InvalidLength, InvalidSize, UnexpectedTag, ShortData, IntegerOverflow, ExtraData, InvalidSetOrdering, EncodedDefault, OidTooLong, UnknownDefinedBy, AllocationError}
@@ -10,7 +10,7 @@ use Rattle.asn1.specs.Tag.{tag_text}
 use Rattle.asn1_c.specs.declared.elements.Asn1Element.{Asn1Element}
 use Rattle.asn1_c.specs.declared.errors.Asn1Error.{Asn1Error}
 use Rattle.asn1_c.specs.Errors.{told}
-use Rattle.asn1_c.specs.Elements.{Leaves, shown_element}
+use Rattle.asn1_c.specs.Elements.{Leaves}
 
 -- A result is `ShortData` only if its number says so.
 pub not_short : {A : Type 0} (r : Result A ParseErrorKind) → ¬ ((told r).number ≡ 6) → ¬ IsShort r

@@ -1,5 +1,5 @@
 -- The elements of include/asn1.h.
-use Rattle.std.specs.Prelude.{ℕ, ◌≡◌, ◌-◌, List, length, Result, Ok, Err}
+use Rattle.std.specs.Prelude.{ℕ, ◌≡◌, ◌-◌, List, length, Result}
 use Rattle.asn1.specs.declared.ParseErrorKind.{ParseErrorKind}
 use Rattle.asn1.specs.Tag.{tag_class, tag_constructed, tag_number, class_number}
 use Rattle.asn1.specs.Element.{Element, element_text}

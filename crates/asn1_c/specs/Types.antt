@@ -1,5 +1,5 @@
 -- The types of include/asn1.h, by their numbers, and what their values and encodings are.
-use Rattle.std.specs.Prelude.{ℕ, ◌-◌, ◌^◌, ◌==◌, ℤ, pos, ◌-ℤ◌, List, Option, ◌≡◌, ◌⊎◌, Some, None, Result, Ok, Err, IsErr}
+use Rattle.std.specs.Prelude.{ℕ, ◌-◌, ◌^◌, ◌==◌, ℤ, pos, ◌-ℤ◌, List, Option, ◌≡◌, Some, None, Result, Ok, IsErr}
 use Rattle.std.specs.List.{find}
 use Rattle.asn1.specs.Tag.{universal}
 use Rattle.asn1.specs.BooleanContent.{bool_content}

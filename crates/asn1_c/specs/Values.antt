@@ -8,7 +8,7 @@ use Rattle.asn1.specs.declared.ParseErrorKind.TheVariants.{AllocationError}
 use Rattle.asn1_c.specs.declared.errors.Asn1Error.{Asn1Error}
 use Rattle.asn1_c.specs.declared.values.Asn1Bits.{Asn1Bits}
 use Rattle.asn1_c.specs.declared.values.Asn1Time.{Asn1Time}
-use Rattle.asn1_c.specs.Errors.{told_read, error_of, without_details, buffer_too_small}
+use Rattle.asn1_c.specs.Errors.{error_of, without_details, buffer_too_small}
 use Rattle.asn1_c.specs.Texts.{LeavesText}
 
 -- How many bits an integer of C may have.

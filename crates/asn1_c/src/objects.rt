@@ -1,6 +1,6 @@
 //! Whether octets are the one encoding of an object of `pkix`, such as a certificate, and where it has an error.
 
-ghost use Rattle.std.specs.Prelude.{◌≡◌, List, ℕ, IfSome, IfNone, IsOk};
+ghost use Rattle.std.specs.Prelude.{◌≡◌, List, ℕ, IfSome, IfNone};
 ghost use Rattle.asn1_c.specs.Errors.{unknown_type, without_details};
 ghost use Rattle.asn1_c.specs.Objects.{ChecksObject, object_number, object_numbered};
 ghost use Rattle.asn1_c.specs.Texts.{LeavesText};

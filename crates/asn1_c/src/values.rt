@@ -60,8 +60,8 @@ pub extern "C" fn asn1_read_bool(
     error.number
 }
 
-/// Reads an integer of this many bits with a sign: 8, 16, 32 or 64. Returns 0 and sets `value`; or returns the number of
-/// the error and leaves `value`.
+/// Reads an integer of this many bits with a sign: 8, 16, 32 or 64. Returns 0 and sets `value`; or returns the number
+/// of the error and leaves `value`.
 #[unsafe(no_mangle)]
 pub extern "C" fn asn1_read_signed(
     alloc: Global,
@@ -92,8 +92,8 @@ pub extern "C" fn asn1_read_signed(
     error.number
 }
 
-/// Reads an integer of this many bits without a sign: 8, 16, 32 or 64. Returns 0 and sets `value`; or returns the number
-/// of the error and leaves `value`.
+/// Reads an integer of this many bits without a sign: 8, 16, 32 or 64. Returns 0 and sets `value`; or returns the
+/// number of the error and leaves `value`.
 #[unsafe(no_mangle)]
 pub extern "C" fn asn1_read_unsigned(
     alloc: Global,
@@ -212,8 +212,8 @@ pub extern "C" fn asn1_read_utc_time(
     error.number
 }
 
-/// Reads a GeneralizedTime, with a fraction of a second or without. Returns 0 and sets `value`; or returns the number of
-/// the error and leaves `value`.
+/// Reads a GeneralizedTime, with a fraction of a second or without. Returns 0 and sets `value`; or returns the number
+/// of the error and leaves `value`.
 #[unsafe(no_mangle)]
 pub extern "C" fn asn1_read_generalized_time(
     alloc: Global,
@@ -237,7 +237,8 @@ const MAX_DOTTED: usize = 256;
 
 /// The dotted text. `None` if it has more octets than any has.
 fn dotted(identifier: &ObjectIdentifier) -> Option<InlineText<MAX_DOTTED>>
-    ensures { IfSome result (λ text. inline_text text ≡ dotted_text (identifier_of identifier.now)) }
+    ensures { IfSome result
+        (λ text. inline_text text ≡ dotted_text (identifier_of identifier.now)) }
 {
     let mut text = InlineText::<MAX_DOTTED>::new();
     match write!(text, "{identifier}") {
@@ -247,8 +248,8 @@ fn dotted(identifier: &ObjectIdentifier) -> Option<InlineText<MAX_DOTTED>>
 }
 
 /// Reads an object identifier, and leaves its dotted text, such as `2.5.4.3`, in `text` if it has room for it. Sets
-/// `count` to how many octets the text has. Returns 0, or the number of a buffer that is too small; or the number of the
-/// error, and then leaves `text`, and sets `count` to 0.
+/// `count` to how many octets the text has. Returns 0, or the number of a buffer that is too small; or the number of
+/// the error, and then leaves `text`, and sets `count` to 0.
 #[unsafe(no_mangle)]
 pub extern "C" fn asn1_read_oid(
     alloc: Global,

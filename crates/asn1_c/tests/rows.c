@@ -1,7 +1,7 @@
-/* Rows of octets and what the library has to answer, from X.690 and from the definitions' worked examples. Each row lies
-   once right before a page that can't be read and once right behind one, so that an octet read outside of it is a fault.
-   Each buffer comes with the size that is needed, and with one octet less, before such a page. No call may ask for memory:
-   built with -Wl,--wrap=malloc,--wrap=realloc,--wrap=calloc, requests during calls are counted, and refused. */
+/* Rows of octets and what the library has to answer, from X.690 and from the definitions' worked examples. Each row
+   lies once right before a page that can't be read and once right behind one, so that an octet read outside of it is a
+   fault. Each buffer comes with the size that is needed, and with one octet less, before such a page. No call may ask
+   for memory: by the linker's --wrap for malloc, realloc and calloc requests during calls are counted, and refused. */
 #define _DEFAULT_SOURCE
 #include "asn1.h"
 #include <stdio.h>
@@ -211,7 +211,7 @@ static const struct {
     {"020200ff", 8, ASN1_OK, 255},
     {"02020100", 8, ASN1_INTEGER_OVERFLOW, 0},
     {"02020100", 16, ASN1_OK, 256},
-    {"0201ff", 64, ASN1_INTEGER_OVERFLOW, 0},
+    {"0201ff", 64, ASN1_INVALID_VALUE, 0},
     {"020500ffffffff", 32, ASN1_OK, UINT32_MAX},
     {"020900ffffffffffffffff", 64, ASN1_OK, UINT64_MAX},
     {"020101", 128, ASN1_UNKNOWN_TYPE, 0},
@@ -299,11 +299,11 @@ static const struct {
     {"06032a0304", "1.2.3.4"},
     {"0603550403", "2.5.4.3"},
     {"060127", "0.39"},
-    {"063f7f7f7f7f7f7f7f7f7f7f7f7f7f7f7f7f7f7f7f7f7f7f7f7f7f7f7f7f7f7f7f7f7f7f7f7f7f7f7f7f7f7f7f7f7f7f7f7f7f7f7f7f7f7f7f7f7f7f"
-     "7f7f7f7f",
-     "2.47.127.127.127.127.127.127.127.127.127.127.127.127.127.127.127.127.127.127.127.127.127.127.127.127.127.127.127."
-     "127.127.127.127.127.127.127.127.127.127.127.127.127.127.127.127.127.127.127.127.127.127.127.127.127.127.127.127."
-     "127.127.127.127.127.127.127"},
+    {"063f7f7f7f7f7f7f7f7f7f7f7f7f7f7f7f7f7f7f7f7f7f7f7f7f7f7f7f7f7f7f7f7f7f7f7f7f7f7f7f7f7f7f7f7f7f7f7f7f7f7f"
+     "7f7f7f7f7f7f7f7f7f7f7f7f7f",
+     "2.47.127.127.127.127.127.127.127.127.127.127.127.127.127.127.127.127.127.127.127.127.127.127.127.127.127"
+     ".127.127.127.127.127.127.127.127.127.127.127.127.127.127.127.127.127.127.127.127.127.127.127.127.127.127"
+     ".127.127.127.127.127.127.127.127.127.127.127"},
 };
 
 static void identifiers(struct pages at, struct pages buffer) {
@@ -338,8 +338,8 @@ static void identifiers(struct pages at, struct pages buffer) {
     }
 }
 
-/* A file is the one encoding of that object, of no other; cut anywhere it lacks octets, and with an octet more it has one
-   too many. With each octet changed in turn the library answers, within the file. */
+/* A file is the one encoding of that object, of no other; cut anywhere it lacks octets, and with an octet more it has
+   one too many. With each octet changed in turn the library answers, within the file. */
 static void object(const char *name, uint32_t number) {
     uint8_t *octets = malloc(1 << 16);
     FILE *file = fopen(name, "rb");
@@ -401,7 +401,7 @@ int main(int argc, char **argv) {
     times(at);
     identifiers(at, buffer);
     for (int i = 1; i + 1 < argc; i += 2) object(argv[i + 1], (uint32_t)atoi(argv[i]));
-    if (argc > 2) place(argv[2], 9, 0x04, "tbsCertificate.version", buffer);
+    if (argc > 2) place(argv[2], 10, 0x04, "tbsCertificate.version", buffer);
     expect(asn1_version() == ASN1_VERSION, "another version", "asn1_version");
     expect(requests == 0, "a call asked for memory", "malloc");
     printf("%lu passed, %lu failed\n", passed, failed);

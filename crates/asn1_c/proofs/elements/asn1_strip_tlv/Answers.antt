@@ -1,10 +1,9 @@
-use Rattle.std.proofs.Common.{◌≡◌, ℕ, ◌<◌, length, ◌++◌, List, Result, Ok, Err, sym, ap, subst, ◌∙◌}
+use Rattle.std.proofs.Common.{◌≡◌, ℕ, ◌<◌, length, List, Result, sym, ap, subst, ◌∙◌}
 use Rattle.asn1.specs.declared.ParseErrorKind.{ParseErrorKind}
-use Rattle.asn1.specs.Element.{Element, front}
+use Rattle.asn1.specs.Element.{Element}
 use Rattle.asn1.specs.Tlv.{stripped}
 use Rattle.asn1_c.specs.declared.errors.Asn1Error.{Asn1Error}
 use Rattle.asn1_c.specs.Errors.{told}
-use Rattle.asn1_c.specs.Elements.{Leaves}
 use Rattle.asn1_c.proofs.Told.{not_short, short_told, leaves_more, element_within}
 use Rattle.asn1_c.proofs.elements.asn1_strip_tlv.Goals as goal
 
