@@ -1,7 +1,7 @@
 /* DER (X.690) for C and C++: elements, whether octets are the one encoding of a value, and values.
  *
- * Each function reads octets where they are, and copies and allocates nothing: that is tested. docs/C.md says what is
- * proved of each, how a program is linked, and what this header trusts.
+ * Each function reads octets where they are, and allocates nothing: that is tested. docs/C.md says what is proved of
+ * each, how a program is linked, and what this header trusts.
  *
  * What the caller owes, of which nothing is checked:
  * - A pointer to octets or to a buffer is valid for the count behind it, and isn't null, not even if the count is 0.
