@@ -15,7 +15,7 @@ Function = namedtuple("Function", "name file is_public trait clauses start end i
 # to end: the status and both outputs.
 Run = namedtuple("Run", "crate name command stdin end")
 KINDS = "fn|struct|enum|trait|impl|mod|type|const|static|ghost|use"
-START = rf"(pub )?(?:pub\(\w+\) )?(?:const |unsafe )*({KINDS})\b ?(\w*)"
+START = rf"(pub )?(?:pub\(\w+\) )?(?:const |unsafe |extern \"C\" )*({KINDS})\b ?(\w*)"
 CLAUSE = re.compile(r"\b(?:requires|(ensures))(?:\s+(\w+))?\s+\{|\bghost (\w+)(?: =|:)\s+\{")
 TYPE = re.compile(r"^(?:pub )?(?:struct|enum) (\w+)", re.MULTILINE)
 # What is in angle brackets, with up to three pairs in one another.
@@ -48,7 +48,7 @@ def report(results, tells_all=False):
 @cache
 def uses():
     """The repository's crates, and what each uses."""
-    lines = re.findall(r"^(\w+):(.*)", (TOP / "crates.txt").read_text(), re.MULTILINE)
+    lines = re.findall(r"^(\w+)(?: staticlib)?:(.*)", (TOP / "crates.txt").read_text(), re.MULTILINE)
     return {name: used.split() for name, used in lines}
 
 

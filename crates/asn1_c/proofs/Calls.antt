@@ -1,0 +1,21 @@
+-- What several writes leave in an `InlineText`.
+use Rattle.std.proofs.Common.{◌≡◌, ℕ, List, [], ◌∷◌, ◌++◌, sym, ap, subst, ◌∙◌, append_assoc}
+use Rattle.std.proofs.lemmas.List.{append-nil}
+use Rattle.std.specs.Fmt.{WritesInCalls}
+use Rattle.std.specs.Fmt.InlineText.{inline_text, IsIntact, AppendsIfIntact}
+use Rattle.std.specs.List.{FoldsTo, concat}
+use Rattle.std.specs.declared.fmt.InlineText.{InlineText}
+
+module _ {n : ℕ} where
+  text_after_calls : (s : InlineText n) (parts : List (List ℕ)) (t : InlineText n) → FoldsTo AppendsIfIntact s parts t → AppendsIfIntact s (concat parts) t
+  text_after_calls s [] t same intact = (subst IsIntact same intact, ap inline_text (sym same) ∙ sym (append-nil (inline_text s)))
+  text_after_calls s (x ∷ parts) t calls intact =
+      let first = calls.1 intact in
+      let rest = text_after_calls calls.0 parts t calls.2 first.0 in
+      (rest.0, rest.1 ∙ ap (λ l. l ++ concat parts) first.1 ∙ append_assoc (inline_text s) x (concat parts))
+
+  -- Several writes append what they wrote together.
+  pub appended : (s : InlineText n) (text : List ℕ) (t : InlineText n) → WritesInCalls AppendsIfIntact s text t → IsIntact s → inline_text s ≡ [] → inline_text t ≡ text
+  appended s text t wrote intact none =
+      let all = subst (λ l. AppendsIfIntact s l t) wrote.whole (text_after_calls s wrote.parts t wrote.calls) intact in
+      all.1 ∙ ap (λ l. l ++ text) none

@@ -1,0 +1,6 @@
+pub mod Errors
+pub mod Elements
+pub mod Types
+pub mod Texts
+pub mod Values
+pub mod Objects

@@ -1,0 +1,20 @@
+//! The library for C, and for each language that calls C: elements, whether octets are the one encoding of a value, and
+//! values. `include/asn1.h` declares it. Each call states the clauses of the call of `asn1` that it makes.
+#![tactic(auto)]
+
+mod elements;
+mod errors;
+mod objects;
+mod texts;
+mod types;
+mod values;
+
+pub use elements::{Asn1Element, asn1_strip_tlv};
+pub use errors::Asn1Error;
+pub use objects::pkix_check;
+pub use texts::{asn1_error_text, asn1_version};
+pub use types::asn1_check;
+pub use values::{
+    Asn1Bits, Asn1Time, asn1_read_bits, asn1_read_bool, asn1_read_generalized_time, asn1_read_oid,
+    asn1_read_signed, asn1_read_unsigned, asn1_read_utc_time,
+};

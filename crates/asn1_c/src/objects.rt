@@ -1,0 +1,304 @@
+//! Whether octets are the one encoding of an object of `pkix`, such as a certificate, and where it has an error.
+
+ghost use Rattle.std.specs.Prelude.{◌≡◌, List, ℕ, IfSome, IfNone};
+ghost use Rattle.asn1_c.specs.Errors.{unknown_type, without_details};
+ghost use Rattle.asn1_c.specs.Objects.{ChecksObject, object_number, object_numbered};
+ghost use Rattle.asn1_c.specs.Texts.{LeavesText};
+ghost use Rattle.asn1_c.specs.declared.errors.Asn1Error.{Asn1Error};
+ghost use Rattle.asn1_c.specs.declared.objects.Object.TheVariants as objects;
+
+use crate::errors::{Asn1Error, UNKNOWN_TYPE, error_of};
+use crate::texts::leave_text;
+use asn1::{Asn1Readable, Asn1Type, ParseError, parse_single};
+use pkix::certificate::{Certificate, certificate_is_lawful};
+use pkix::common::{SubjectPublicKeyInfo, subject_public_key_info_is_lawful};
+use pkix::keys::{
+    EcPrivateKey, OneAsymmetricKey, RsaPrivateKey, RsaPublicKey, ec_private_key_is_lawful,
+    one_asymmetric_key_is_lawful, rsa_private_key_is_lawful, rsa_public_key_is_lawful,
+};
+use pkix::request::{CertificationRequest, certification_request_is_lawful};
+use pkix::revocation::{CertificateList, certificate_list_is_lawful};
+use pkix::signatures::{
+    ContentInfo, DigestInfo, EcdsaSigValue, content_info_is_lawful, digest_info_is_lawful,
+    ecdsa_sig_value_is_lawful,
+};
+use pkix::timestamps::{
+    TimeStampReq, TimeStampResp, time_stamp_req_is_lawful, time_stamp_resp_is_lawful,
+};
+use std::alloc::Global;
+use std::fmt::{InlineText, Write};
+
+/// An object that has a number.
+#[derive(Clone, Copy, Debug, PartialEq, Eq)]
+pub(crate) enum Object {
+    /// Certificate (RFC 5280, 4.1).
+    Certificate,
+    /// CertificateList (RFC 5280, 5.1).
+    Crl,
+    /// CertificationRequest (RFC 2986, 4.2).
+    Request,
+    /// SubjectPublicKeyInfo (RFC 5280, 4.1).
+    PublicKey,
+    /// OneAsymmetricKey (RFC 5958, 2).
+    PrivateKey,
+    /// ECPrivateKey (RFC 5915, 3).
+    EcPrivateKey,
+    /// RSAPrivateKey (RFC 8017, A.1.2).
+    RsaPrivateKey,
+    /// RSAPublicKey (RFC 8017, A.1.1).
+    RsaPublicKey,
+    /// ECDSA-Sig-Value (RFC 3279, 2.2.3).
+    EcdsaSignature,
+    /// DigestInfo (RFC 8017, 9.2).
+    DigestInfo,
+    /// ContentInfo (RFC 5652, 3) of signed data.
+    SignedData,
+    /// TimeStampReq (RFC 3161, 2.4.1).
+    TimestampRequest,
+    /// TimeStampResp (RFC 3161, 2.4.2).
+    TimestampResponse,
+}
+
+impl Object {
+    /// Each object once.
+    pub(crate) const ALL: &'static [Object] = &[
+        Object::Certificate,
+        Object::Crl,
+        Object::Request,
+        Object::PublicKey,
+        Object::PrivateKey,
+        Object::EcPrivateKey,
+        Object::RsaPrivateKey,
+        Object::RsaPublicKey,
+        Object::EcdsaSignature,
+        Object::DigestInfo,
+        Object::SignedData,
+        Object::TimestampRequest,
+        Object::TimestampResponse,
+    ];
+
+    /// The number.
+    fn number(self) -> u32
+        ensures { result ≡ object_number self }
+    {
+        match self {
+            Object::Certificate => 1,
+            Object::Crl => 2,
+            Object::Request => 3,
+            Object::PublicKey => 4,
+            Object::PrivateKey => 5,
+            Object::EcPrivateKey => 6,
+            Object::RsaPrivateKey => 7,
+            Object::RsaPublicKey => 8,
+            Object::EcdsaSignature => 9,
+            Object::DigestInfo => 10,
+            Object::SignedData => 11,
+            Object::TimestampRequest => 12,
+            Object::TimestampResponse => 13,
+        }
+    }
+
+    /// The object with this number.
+    fn numbered(number: u32) -> Option<Object>
+        ensures { result ≡ object_numbered number }
+    {
+        Object::ALL
+            .iter()
+            .copied()
+            .find(|one| one.number() == number)
+    }
+}
+
+/// Fields whose names in the documents have other capitals than their words have here.
+const NAMES: &[(&str, &str)] = &[
+    ("ca", "cA"),
+    ("crl_issuer", "cRLIssuer"),
+    ("extn_id", "extnID"),
+    ("issuer_unique_id", "issuerUniqueID"),
+    ("subject_pk_info", "subjectPKInfo"),
+    ("subject_unique_id", "subjectUniqueID"),
+    ("type_id", "type"),
+];
+
+/// The longest location that is shown: eight names.
+type Place = InlineText<512>;
+
+/// Appends a location, as the documents have it: the number of an item, or the name of a field, which an error has in
+/// quotes and after that of its struct.
+fn push_field(out: &mut Place, location: &str) {
+    let field = location.trim_matches('"').rsplit("::").next();
+    let field = field.unwrap_or(location);
+    if let Some((_, name)) = NAMES.iter().find(|row| row.0 == field) {
+        let _is_whole = out.write_str(name).is_ok();
+        return;
+    }
+    let mut is_next = false;
+    for letter in field.chars() {
+        if letter != '_' {
+            let upper = letter.to_ascii_uppercase();
+            let _is_whole = out.write_char(if is_next { upper } else { letter }).is_ok();
+        }
+        is_next = letter == '_';
+    }
+}
+
+/// The location of an error, the outermost field first, with points between.
+fn place_of(error: &ParseError) -> Place {
+    // An error shows its locations in its `Debug` alone: names of fields, and numbers of items.
+    let mut shown = InlineText::<1024>::new();
+    let _is_whole = write!(shown, "{error:?}").is_ok();
+    let mut out = Place::new();
+    if let Some((_, locations)) = shown.as_str().split_once(", location: [") {
+        let locations = locations.trim_end_matches("] }").split(", ");
+        for (number, location) in locations.enumerate() {
+            let _is_whole = out.write_str(if number > 0 { "." } else { "" }).is_ok();
+            push_field(&mut out, location);
+        }
+    }
+    out
+}
+
+/// Whether the octets are the encoding of a value of the type `T`. Returns the number of the error, and sets `error`
+/// and the error's location.
+fn check_object<'a, T: Asn1Readable<'a>>(
+    alloc: Global,
+    octets: &'a [u8],
+    place: &mut [u8],
+    count: &mut usize,
+    error: &mut Asn1Error,
+) -> u32
+    requires { T.der.lawful }
+    ensures exact { ChecksObject T.der octets.entry.now result error.new }
+    ensures number { result ≡ error.new.number }
+    ensures place { (text : List ℕ) × LeavesText text place.old place.new count.new }
+{
+    match parse_single::<T>(alloc, octets) {
+        Ok(_value) => {
+            *error = Asn1Error::without_details(0);
+            leave_text(b"", place, count);
+        }
+        Err(fault) => {
+            *error = error_of(fault.kind());
+            leave_text(place_of(&fault).as_str().as_bytes(), place, count);
+        }
+    }
+    error.number
+}
+
+/// The same of one object, whose type is lawful.
+fn check_one(
+    alloc: Global,
+    one: Object,
+    octets: &[u8],
+    place: &mut [u8],
+    count: &mut usize,
+    error: &mut Asn1Error,
+) -> u32
+    ensures exact { (elim one as (λ _. List ℕ → ℕ → Asn1Error → Type 0) [
+      | objects.Certificate ↦ ChecksObject ⟦<Certificate<'static> as Asn1Type>⟧.der
+      | objects.Crl ↦ ChecksObject ⟦<CertificateList<'static> as Asn1Type>⟧.der
+      | objects.Request ↦ ChecksObject ⟦<CertificationRequest<'static> as Asn1Type>⟧.der
+      | objects.PublicKey ↦ ChecksObject ⟦<SubjectPublicKeyInfo<'static> as Asn1Type>⟧.der
+      | objects.PrivateKey ↦ ChecksObject ⟦<OneAsymmetricKey<'static> as Asn1Type>⟧.der
+      | objects.EcPrivateKey ↦ ChecksObject ⟦<EcPrivateKey<'static> as Asn1Type>⟧.der
+      | objects.RsaPrivateKey ↦ ChecksObject ⟦<RsaPrivateKey<'static> as Asn1Type>⟧.der
+      | objects.RsaPublicKey ↦ ChecksObject ⟦<RsaPublicKey<'static> as Asn1Type>⟧.der
+      | objects.EcdsaSignature ↦ ChecksObject ⟦<EcdsaSigValue<'static> as Asn1Type>⟧.der
+      | objects.DigestInfo ↦ ChecksObject ⟦<DigestInfo<'static> as Asn1Type>⟧.der
+      | objects.SignedData ↦ ChecksObject ⟦<ContentInfo<'static> as Asn1Type>⟧.der
+      | objects.TimestampRequest ↦ ChecksObject ⟦<TimeStampReq<'static> as Asn1Type>⟧.der
+      | objects.TimestampResponse ↦ ChecksObject ⟦<TimeStampResp<'static> as Asn1Type>⟧.der
+    ]) octets.now result error.new }
+    ensures number { result ≡ error.new.number }
+    ensures place { (text : List ℕ) × LeavesText text place.old place.new count.new }
+{
+    certificate_is_lawful();
+    certificate_list_is_lawful();
+    certification_request_is_lawful();
+    subject_public_key_info_is_lawful();
+    one_asymmetric_key_is_lawful();
+    ec_private_key_is_lawful();
+    rsa_private_key_is_lawful();
+    rsa_public_key_is_lawful();
+    ecdsa_sig_value_is_lawful();
+    digest_info_is_lawful();
+    content_info_is_lawful();
+    time_stamp_req_is_lawful();
+    time_stamp_resp_is_lawful();
+    match one {
+        Object::Certificate => check_object::<Certificate<'_>>(alloc, octets, place, count, error),
+        Object::Crl => check_object::<CertificateList<'_>>(alloc, octets, place, count, error),
+        Object::Request => check_object::<CertificationRequest<'_>>(
+            alloc, octets, place, count, error,
+        ),
+        Object::PublicKey => check_object::<SubjectPublicKeyInfo<'_>>(
+            alloc, octets, place, count, error,
+        ),
+        Object::PrivateKey => check_object::<OneAsymmetricKey<'_>>(
+            alloc, octets, place, count, error,
+        ),
+        Object::EcPrivateKey => check_object::<EcPrivateKey<'_>>(
+            alloc, octets, place, count, error,
+        ),
+        Object::RsaPrivateKey => check_object::<RsaPrivateKey<'_>>(
+            alloc, octets, place, count, error,
+        ),
+        Object::RsaPublicKey => check_object::<RsaPublicKey<'_>>(
+            alloc, octets, place, count, error,
+        ),
+        Object::EcdsaSignature => check_object::<EcdsaSigValue<'_>>(
+            alloc, octets, place, count, error,
+        ),
+        Object::DigestInfo => check_object::<DigestInfo<'_>>(alloc, octets, place, count, error),
+        Object::SignedData => check_object::<ContentInfo<'_>>(alloc, octets, place, count, error),
+        Object::TimestampRequest => check_object::<TimeStampReq<'_>>(
+            alloc, octets, place, count, error,
+        ),
+        Object::TimestampResponse => check_object::<TimeStampResp<'_>>(
+            alloc, octets, place, count, error,
+        ),
+    }
+}
+
+/// Whether the octets are the one encoding of the object with this number, as `asn1::parse_single` says. Returns 0 if
+/// they are, and else the number of the error. Sets `error` in each case. Leaves the location of the error, such as
+/// `tbsCertificate.validity.notAfter`, in `place` if it has room for it, and sets `count` to how many octets the
+/// location has, which is 0 without an error.
+#[unsafe(no_mangle)]
+pub extern "C" fn pkix_check(
+    alloc: Global,
+    number: u32,
+    octets: &[u8],
+    place: &mut [u8],
+    count: &mut usize,
+    error: &mut Asn1Error,
+) -> u32
+    ensures exact { IfSome (object_numbered number) (λ one.
+        (elim one as (λ _. List ℕ → ℕ → Asn1Error → Type 0) [
+          | objects.Certificate ↦ ChecksObject ⟦<Certificate<'static> as Asn1Type>⟧.der
+          | objects.Crl ↦ ChecksObject ⟦<CertificateList<'static> as Asn1Type>⟧.der
+          | objects.Request ↦ ChecksObject ⟦<CertificationRequest<'static> as Asn1Type>⟧.der
+          | objects.PublicKey ↦ ChecksObject ⟦<SubjectPublicKeyInfo<'static> as Asn1Type>⟧.der
+          | objects.PrivateKey ↦ ChecksObject ⟦<OneAsymmetricKey<'static> as Asn1Type>⟧.der
+          | objects.EcPrivateKey ↦ ChecksObject ⟦<EcPrivateKey<'static> as Asn1Type>⟧.der
+          | objects.RsaPrivateKey ↦ ChecksObject ⟦<RsaPrivateKey<'static> as Asn1Type>⟧.der
+          | objects.RsaPublicKey ↦ ChecksObject ⟦<RsaPublicKey<'static> as Asn1Type>⟧.der
+          | objects.EcdsaSignature ↦ ChecksObject ⟦<EcdsaSigValue<'static> as Asn1Type>⟧.der
+          | objects.DigestInfo ↦ ChecksObject ⟦<DigestInfo<'static> as Asn1Type>⟧.der
+          | objects.SignedData ↦ ChecksObject ⟦<ContentInfo<'static> as Asn1Type>⟧.der
+          | objects.TimestampRequest ↦ ChecksObject ⟦<TimeStampReq<'static> as Asn1Type>⟧.der
+          | objects.TimestampResponse ↦ ChecksObject ⟦<TimeStampResp<'static> as Asn1Type>⟧.der
+        ]) octets.now result error.new) }
+    ensures none { IfNone (object_numbered number) (error.new ≡ without_details unknown_type) }
+    ensures number { result ≡ error.new.number }
+    ensures place { (text : List ℕ) × LeavesText text place.old place.new count.new }
+{
+    match Object::numbered(number) {
+        Some(one) => check_one(alloc, one, octets, place, count, error),
+        None => {
+            *error = Asn1Error::without_details(UNKNOWN_TYPE);
+            leave_text(b"", place, count);
+            UNKNOWN_TYPE
+        }
+    }
+}

@@ -1,0 +1,409 @@
+/* Rows of octets and what the library has to answer, from X.690 and from the definitions' worked examples. Each row
+   lies once right before a page that can't be read and once right behind one, so that an octet read outside of it is a
+   fault. Each buffer comes with the size that is needed, and with one octet less, before such a page. No call may ask
+   for memory: by the linker's --wrap for malloc, realloc and calloc requests during calls are counted, and refused. */
+#define _DEFAULT_SOURCE
+#include "asn1.h"
+#include <stdio.h>
+#include <stdlib.h>
+#include <string.h>
+#include <sys/mman.h>
+#include <unistd.h>
+
+static unsigned long passed, failed, requests;
+static bool is_calling;
+
+void *__real_malloc(size_t size);
+void *__real_realloc(void *old, size_t size);
+void *__real_calloc(size_t count, size_t size);
+
+void *__wrap_malloc(size_t size) {
+    requests += is_calling;
+    return is_calling ? NULL : __real_malloc(size);
+}
+
+void *__wrap_realloc(void *old, size_t size) {
+    requests += is_calling;
+    return is_calling ? NULL : __real_realloc(old, size);
+}
+
+void *__wrap_calloc(size_t count, size_t size) {
+    requests += is_calling;
+    return is_calling ? NULL : __real_calloc(count, size);
+}
+
+static void expect(bool holds, const char *what, const char *row) {
+    if (holds) {
+        passed++;
+    } else {
+        failed++;
+        printf("failed: %s: %s\n", row, what);
+    }
+}
+
+/* Some pages that can be read and written, between two that can't. */
+struct pages {
+    uint8_t *start;
+    size_t count;
+};
+
+static struct pages pages_of(size_t least) {
+    size_t page = (size_t)sysconf(_SC_PAGESIZE), count = (least + page) / page * page;
+    uint8_t *all = mmap(NULL, count + 2 * page, PROT_NONE, MAP_PRIVATE | MAP_ANONYMOUS, -1, 0);
+    if (all == MAP_FAILED || mprotect(all + page, count, PROT_READ | PROT_WRITE)) exit(2);
+    return (struct pages){all + page, count};
+}
+
+/* The octets in front of the page behind these, or behind the page before these. */
+static uint8_t *placed(struct pages at, const uint8_t *octets, size_t count, bool in_front) {
+    uint8_t *place = in_front ? at.start + at.count - count : at.start;
+    memcpy(place, octets, count);
+    return place;
+}
+
+static size_t from_hex(const char *hex, uint8_t *octets) {
+    size_t count = 0;
+    for (unsigned octet; sscanf(hex + 2 * count, "%2x", &octet) == 1; count++) octets[count] = (uint8_t)octet;
+    return count;
+}
+
+#define CALL(to) \
+    do { \
+        is_calling = true; \
+        called = (to); \
+        is_calling = false; \
+    } while (0)
+
+static const struct {
+    const char *hex;
+    uint32_t answer;
+    uint32_t number;
+    uint8_t class_number;
+    bool constructed;
+    size_t header, contents, needed;
+} ELEMENTS[] = {
+    {"", ASN1_SHORT_DATA, 0, 0, 0, 0, 0, 1},
+    {"04", ASN1_SHORT_DATA, 0, 0, 0, 0, 0, 1},
+    {"040361626300", ASN1_OK, 4, 0, 0, 2, 3, 0},
+    {"04036162", ASN1_SHORT_DATA, 0, 0, 0, 0, 0, 1},
+    {"0405", ASN1_SHORT_DATA, 0, 0, 0, 0, 0, 5},
+    {"048200", ASN1_SHORT_DATA, 0, 0, 0, 0, 0, 1},
+    {"04820010", ASN1_INVALID_LENGTH, 0, 0, 0, 0, 0, 0},
+    {"0180", ASN1_INVALID_LENGTH, 0, 0, 0, 0, 0, 0},
+    {"0485", ASN1_INVALID_LENGTH, 0, 0, 0, 0, 0, 0},
+    {"04847fffffff", ASN1_SHORT_DATA, 0, 0, 0, 0, 0, 0x7fffffff},
+    {"1f9080808080", ASN1_SHORT_DATA, 0, 0, 0, 0, 0, 1},
+    {"1f908080808000", ASN1_INVALID_TAG, 0, 0, 0, 0, 0, 0},
+    {"1f8fffffff7f00", ASN1_OK, 4294967295, 0, 0, 7, 0, 0},
+    {"1f1e", ASN1_INVALID_TAG, 0, 0, 0, 0, 0, 0},
+    {"1f80", ASN1_INVALID_TAG, 0, 0, 0, 0, 0, 0},
+    {"3f81800100", ASN1_OK, 16385, 0, 1, 5, 0, 0},
+    {"41820100", ASN1_SHORT_DATA, 0, 0, 0, 0, 0, 256},
+    {"a003020102", ASN1_OK, 0, 2, 1, 2, 3, 0},
+    {"c10100", ASN1_OK, 1, 3, 0, 2, 1, 0},
+};
+
+static void elements(struct pages at) {
+    for (size_t i = 0; i < sizeof ELEMENTS / sizeof *ELEMENTS; i++) {
+        for (int in_front = 0; in_front < 2; in_front++) {
+            uint8_t octets[64];
+            uint32_t called;
+            const char *hex = ELEMENTS[i].hex;
+            size_t count = from_hex(hex, octets);
+            struct asn1_element found = {9, 9, 1, 9, 9}, before = found;
+            struct asn1_error error;
+            memset(&error, 0xff, sizeof error);
+            CALL(asn1_strip_tlv(placed(at, octets, count, in_front), count, &found, &error));
+            expect(called == ELEMENTS[i].answer, "another answer", hex);
+            expect(error.number == called && error.needed == ELEMENTS[i].needed, "another error", hex);
+            expect(!error.tag_number && !error.min && !error.max && !error.actual, "details of another error", hex);
+            if (called != ASN1_OK) {
+                expect(found.number == before.number && found.header_length == before.header_length, "it is set", hex);
+                continue;
+            }
+            expect(found.number == ELEMENTS[i].number && found.class_number == ELEMENTS[i].class_number, "tag", hex);
+            expect(found.constructed == ELEMENTS[i].constructed, "form", hex);
+            expect(found.header_length == ELEMENTS[i].header, "header", hex);
+            expect(found.contents_length == ELEMENTS[i].contents, "contents", hex);
+        }
+    }
+}
+
+static const struct {
+    const char *hex;
+    uint32_t type, answer;
+} CHECKS[] = {
+    {"0101ff", ASN1_BOOLEAN, ASN1_OK},
+    {"010101", ASN1_BOOLEAN, ASN1_INVALID_VALUE},
+    {"020105", ASN1_BOOLEAN, ASN1_UNEXPECTED_TAG},
+    {"0101ff00", ASN1_BOOLEAN, ASN1_EXTRA_DATA},
+    {"8101ff", ASN1_ANY, ASN1_OK},
+    {"020100", ASN1_INTEGER, ASN1_OK},
+    {"02020001", ASN1_INTEGER, ASN1_INVALID_VALUE},
+    {"0201ff", ASN1_UNSIGNED_INTEGER, ASN1_INVALID_VALUE},
+    {"0500", ASN1_NULL, ASN1_OK},
+    {"050100", ASN1_NULL, ASN1_INVALID_VALUE},
+    {"0403616263", ASN1_OCTET_STRING, ASN1_OK},
+    {"0307040a3b5f291cd0", ASN1_BIT_STRING, ASN1_OK},
+    {"0307040a3b5f291cd1", ASN1_BIT_STRING, ASN1_INVALID_VALUE},
+    {"0c02c3a9", ASN1_UTF8_STRING, ASN1_OK},
+    {"0c01c3", ASN1_UTF8_STRING, ASN1_INVALID_VALUE},
+    {"13054a6f6e6573", ASN1_PRINTABLE_STRING, ASN1_OK},
+    {"13012a", ASN1_PRINTABLE_STRING, ASN1_INVALID_VALUE},
+    {"1a054a6f6e6573", ASN1_VISIBLE_STRING, ASN1_OK},
+    {"0603813403", ASN1_OBJECT_IDENTIFIER, ASN1_OK},
+    {"06028001", ASN1_OBJECT_IDENTIFIER, ASN1_INVALID_VALUE},
+    {"3106020101020102", ASN1_SET_OF_INTEGER, ASN1_OK},
+    {"3106020102020101", ASN1_SET_OF_INTEGER, ASN1_INVALID_SET_ORDERING},
+    {"3006020102020101", ASN1_SEQUENCE_OF_INTEGER, ASN1_OK},
+    {"0101ff", 0, ASN1_UNKNOWN_TYPE},
+    {"0101ff", 31, ASN1_UNKNOWN_TYPE},
+    {"0101ff", 0xffffffff, ASN1_UNKNOWN_TYPE},
+};
+
+static void checks(struct pages at) {
+    for (size_t i = 0; i < sizeof CHECKS / sizeof *CHECKS; i++) {
+        for (int in_front = 0; in_front < 2; in_front++) {
+            uint8_t octets[64];
+            uint32_t called;
+            const char *hex = CHECKS[i].hex;
+            size_t count = from_hex(hex, octets);
+            struct asn1_error error;
+            CALL(asn1_check(CHECKS[i].type, placed(at, octets, count, in_front), count, &error));
+            expect(called == CHECKS[i].answer && error.number == called, "another answer", hex);
+            if (called == ASN1_UNEXPECTED_TAG) {
+                expect(error.tag_number == 2 && !error.tag_class && !error.tag_constructed, "another tag", hex);
+            }
+            for (size_t cut = 0; called == ASN1_OK && cut < count; cut++) {
+                CALL(asn1_check(CHECKS[i].type, placed(at, octets, cut, in_front), cut, &error));
+                expect(called == ASN1_SHORT_DATA && error.needed <= count - cut && error.needed, "cut", hex);
+                called = ASN1_OK;
+            }
+        }
+    }
+}
+
+static const struct {
+    const char *hex;
+    uint32_t bits, answer;
+    int64_t value;
+} SIGNED[] = {
+    {"02017f", 8, ASN1_OK, 127},
+    {"02020080", 8, ASN1_INTEGER_OVERFLOW, 0},
+    {"02020080", 16, ASN1_OK, 128},
+    {"020180", 8, ASN1_OK, -128},
+    {"0202ff7f", 16, ASN1_OK, -129},
+    {"0202ff80", 16, ASN1_INVALID_VALUE, 0},
+    {"020480000000", 32, ASN1_OK, INT32_MIN},
+    {"02087fffffffffffffff", 64, ASN1_OK, INT64_MAX},
+    {"02088000000000000000", 64, ASN1_OK, INT64_MIN},
+    {"0209008000000000000000", 64, ASN1_INTEGER_OVERFLOW, 0},
+    {"020101", 7, ASN1_UNKNOWN_TYPE, 0},
+    {"020101", 0, ASN1_UNKNOWN_TYPE, 0},
+};
+
+static const struct {
+    const char *hex;
+    uint32_t bits, answer;
+    uint64_t value;
+} UNSIGNED[] = {
+    {"02017f", 8, ASN1_OK, 127},
+    {"020200ff", 8, ASN1_OK, 255},
+    {"02020100", 8, ASN1_INTEGER_OVERFLOW, 0},
+    {"02020100", 16, ASN1_OK, 256},
+    {"0201ff", 64, ASN1_INVALID_VALUE, 0},
+    {"020500ffffffff", 32, ASN1_OK, UINT32_MAX},
+    {"020900ffffffffffffffff", 64, ASN1_OK, UINT64_MAX},
+    {"020101", 128, ASN1_UNKNOWN_TYPE, 0},
+};
+
+static void numbers(struct pages at) {
+    uint8_t octets[64];
+    struct asn1_error error;
+    uint32_t called;
+    for (size_t i = 0; i < sizeof SIGNED / sizeof *SIGNED; i++) {
+        int64_t value = 42;
+        size_t count = from_hex(SIGNED[i].hex, octets);
+        CALL(asn1_read_signed(SIGNED[i].bits, placed(at, octets, count, true), count, &value, &error));
+        expect(called == SIGNED[i].answer && error.number == called, "another answer", SIGNED[i].hex);
+        expect(value == (called == ASN1_OK ? SIGNED[i].value : 42), "another number", SIGNED[i].hex);
+    }
+    for (size_t i = 0; i < sizeof UNSIGNED / sizeof *UNSIGNED; i++) {
+        uint64_t value = 42;
+        size_t count = from_hex(UNSIGNED[i].hex, octets);
+        CALL(asn1_read_unsigned(UNSIGNED[i].bits, placed(at, octets, count, true), count, &value, &error));
+        expect(called == UNSIGNED[i].answer && error.number == called, "another answer", UNSIGNED[i].hex);
+        expect(value == (called == ASN1_OK ? UNSIGNED[i].value : 42), "another number", UNSIGNED[i].hex);
+    }
+    bool value = false;
+    size_t count = from_hex("0101ff", octets);
+    CALL(asn1_read_bool(placed(at, octets, count, true), count, &value, &error));
+    expect(called == ASN1_OK && value, "true is read", "0101ff");
+    octets[2] = 1;
+    CALL(asn1_read_bool(placed(at, octets, count, true), count, &value, &error));
+    expect(called == ASN1_INVALID_VALUE && value, "the value stays", "010101");
+    struct asn1_bits bits = {0, 0, 0};
+    count = from_hex("0307040a3b5f291cd0", octets);
+    CALL(asn1_read_bits(placed(at, octets, count, true), count, &bits, &error));
+    expect(called == ASN1_OK && bits.start == 3 && bits.count == 6 && bits.padding == 4, "bits", "0307040a3b5f291cd0");
+}
+
+/* The examples of X.690 11.7.5 and 11.8.3. */
+static const struct {
+    const char *text;
+    bool is_valid;
+    struct asn1_time time;
+} TIMES[] = {
+    {"920521000000Z", true, {1992, 5, 21, 0, 0, 0, 0}},
+    {"920622123421Z", true, {1992, 6, 22, 12, 34, 21, 0}},
+    {"920722132100Z", true, {1992, 7, 22, 13, 21, 0, 0}},
+    {"920520240000Z", false, {0}},
+    {"9207221321Z", false, {0}},
+    {"19920521000000Z", true, {1992, 5, 21, 0, 0, 0, 0}},
+    {"19920622123421Z", true, {1992, 6, 22, 12, 34, 21, 0}},
+    {"19920722132100.3Z", true, {1992, 7, 22, 13, 21, 0, 300000000}},
+    {"19920520240000Z", false, {0}},
+    {"19920622123421.0Z", false, {0}},
+    {"19920722132100.30Z", false, {0}},
+};
+
+static void times(struct pages at) {
+    for (size_t i = 0; i < sizeof TIMES / sizeof *TIMES; i++) {
+        const char *text = TIMES[i].text;
+        size_t length = strlen(text);
+        uint8_t octets[64] = {length < 14 ? 0x17 : 0x18, (uint8_t)length};
+        uint32_t called;
+        struct asn1_time found;
+        struct asn1_error error;
+        const struct asn1_time *time = &TIMES[i].time;
+        memset(&found, 0, sizeof found);
+        memcpy(octets + 2, text, length);
+        uint8_t *place = placed(at, octets, length + 2, true);
+        if (length < 14) {
+            CALL(asn1_read_utc_time(place, length + 2, &found, &error));
+        } else {
+            CALL(asn1_read_generalized_time(place, length + 2, &found, &error));
+        }
+        expect(called == (TIMES[i].is_valid ? ASN1_OK : ASN1_INVALID_VALUE), "another answer", text);
+        expect(found.year == time->year && found.month == time->month && found.day == time->day, "another date", text);
+        expect(found.hour == time->hour && found.minute == time->minute, "another time of day", text);
+        expect(found.second == time->second && found.nanoseconds == time->nanoseconds, "another second", text);
+    }
+}
+
+/* X.690 8.19.5, and others; the last has the longest text. */
+static const struct {
+    const char *hex, *text;
+} IDENTIFIERS[] = {
+    {"0603813403", "2.100.3"},
+    {"06032a0304", "1.2.3.4"},
+    {"0603550403", "2.5.4.3"},
+    {"060127", "0.39"},
+    {"063f7f7f7f7f7f7f7f7f7f7f7f7f7f7f7f7f7f7f7f7f7f7f7f7f7f7f7f7f7f7f7f7f7f7f7f7f7f7f7f7f7f7f7f7f7f7f7f7f7f7f"
+     "7f7f7f7f7f7f7f7f7f7f7f7f7f",
+     "2.47.127.127.127.127.127.127.127.127.127.127.127.127.127.127.127.127.127.127.127.127.127.127.127.127.127"
+     ".127.127.127.127.127.127.127.127.127.127.127.127.127.127.127.127.127.127.127.127.127.127.127.127.127.127"
+     ".127.127.127.127.127.127.127.127.127.127.127"},
+};
+
+static void identifiers(struct pages at, struct pages buffer) {
+    for (size_t i = 0; i < sizeof IDENTIFIERS / sizeof *IDENTIFIERS; i++) {
+        const char *hex = IDENTIFIERS[i].hex, *text = IDENTIFIERS[i].text;
+        uint8_t octets[128];
+        uint32_t called;
+        struct asn1_error error;
+        size_t count = from_hex(hex, octets), wanted = strlen(text), length = 7;
+        uint8_t *place = placed(at, octets, count, true);
+        char *end = (char *)buffer.start + buffer.count;
+        CALL(asn1_read_oid(place, count, end - wanted, wanted, &length, &error));
+        expect(called == ASN1_OK && length == wanted && !memcmp(end - wanted, text, wanted), "another text", hex);
+        memset(end - wanted, '#', wanted);
+        CALL(asn1_read_oid(place, count, end - wanted + 1, wanted - 1, &length, &error));
+        expect(called == ASN1_BUFFER_TOO_SMALL && error.number == called && length == wanted, "too small", hex);
+        expect(end[-1] == '#' && end[1 - (long)wanted] == '#', "a buffer that is too small is written", hex);
+        CALL(asn1_read_oid(place, count - 1, end - wanted, wanted, &length, &error));
+        expect(called == ASN1_SHORT_DATA && !length && end[-1] == '#', "an error leaves no text", hex);
+    }
+    for (uint32_t number = 0; number < 70; number++) {
+        char text[64], *end = (char *)buffer.start + buffer.count;
+        uint32_t called;
+        size_t length = 0, again = 0;
+        CALL(asn1_error_text(number, text, sizeof text, &length));
+        expect(called == ASN1_OK && length > 4 && length <= sizeof text, "a text", "asn1_error_text");
+        CALL(asn1_error_text(number, end - length, length, &again));
+        expect(called == ASN1_OK && !memcmp(end - length, text, length), "the same text", "asn1_error_text");
+        memset(end - length, '#', length);
+        CALL(asn1_error_text(number, end - length + 1, length - 1, &again));
+        expect(called == ASN1_BUFFER_TOO_SMALL && again == length && end[-1] == '#', "too small", "asn1_error_text");
+    }
+}
+
+/* A file is the one encoding of that object, of no other; cut anywhere it lacks octets, and with an octet more it has
+   one too many. With each octet changed in turn the library answers, within the file. */
+static void object(const char *name, uint32_t number) {
+    uint8_t *octets = malloc(1 << 16);
+    FILE *file = fopen(name, "rb");
+    size_t count = file && octets ? fread(octets, 1, 1 << 16, file) : 0, length, accepted = 0;
+    struct pages at = pages_of(count + 1);
+    struct asn1_error error;
+    char place[128];
+    uint32_t called;
+    if (file) fclose(file);
+    for (int in_front = 0; in_front < 2; in_front++) {
+        CALL(pkix_check(number, placed(at, octets, count, in_front), count, place, 128, &length, &error));
+        expect(called == ASN1_OK && error.number == 0 && length == 0, "it is one", name);
+    }
+    octets[count] = 0;
+    CALL(pkix_check(number, placed(at, octets, count + 1, true), count + 1, place, 128, &length, &error));
+    expect(called == ASN1_EXTRA_DATA, "an octet too many", name);
+    for (uint32_t other = 0; other < 15; other++) {
+        CALL(pkix_check(other, placed(at, octets, count, true), count, place, 128, &length, &error));
+        accepted += called == ASN1_OK;
+        expect((called == ASN1_UNKNOWN_TYPE) == (other < 1 || other > 13), "an unknown object", name);
+    }
+    expect(accepted == 1, "another object has the same encoding", name);
+    for (size_t cut = 0; cut < count; cut++) {
+        CALL(pkix_check(number, placed(at, octets, cut, true), cut, place, 128, &length, &error));
+        expect(called == ASN1_SHORT_DATA && error.needed >= 1 && error.needed <= count - cut, "cut", name);
+    }
+    for (size_t i = 0; i < count; i++) {
+        octets[i] ^= 0x80;
+        CALL(pkix_check(number, placed(at, octets, count, true), count, place, 128, &length, &error));
+        expect(called == error.number && length <= sizeof place, "changed", name);
+        octets[i] ^= 0x80;
+    }
+    free(octets);
+}
+
+/* The location of an error comes with the size that it needs. */
+static void place(const char *name, size_t changed, uint8_t octet, const char *wanted, struct pages buffer) {
+    uint8_t octets[1 << 12];
+    FILE *file = fopen(name, "rb");
+    size_t count = file ? fread(octets, 1, sizeof octets, file) : 0, size = strlen(wanted), length = 0;
+    struct asn1_error error;
+    uint32_t called;
+    char *end = (char *)buffer.start + buffer.count;
+    if (file) fclose(file);
+    octets[changed] = octet;
+    CALL(pkix_check(PKIX_CERTIFICATE, octets, count, end - size, size, &length, &error));
+    expect(called != ASN1_OK && length == size && !memcmp(end - size, wanted, size), "another location", wanted);
+    if (length != size) printf("  %.*s\n", (int)(length < size ? length : size), end - size);
+    memset(end - size, '#', size);
+    CALL(pkix_check(PKIX_CERTIFICATE, octets, count, end - size + 1, size - 1, &length, &error));
+    expect(called != ASN1_OK && length == size && end[-1] == '#', "too small", wanted);
+}
+
+int main(int argc, char **argv) {
+    struct pages at = pages_of(256), buffer = pages_of(512);
+    elements(at);
+    checks(at);
+    numbers(at);
+    times(at);
+    identifiers(at, buffer);
+    for (int i = 1; i + 1 < argc; i += 2) object(argv[i + 1], (uint32_t)atoi(argv[i]));
+    if (argc > 2) place(argv[2], 10, 0x04, "tbsCertificate.version", buffer);
+    expect(asn1_version() == ASN1_VERSION, "another version", "asn1_version");
+    expect(requests == 0, "a call asked for memory", "malloc");
+    printf("%lu passed, %lu failed\n", passed, failed);
+    return failed > 0 || passed == 0;
+}
