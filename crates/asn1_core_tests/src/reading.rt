@@ -89,14 +89,15 @@ fn errors_of_a_caller(rt: HostRuntime) -> Result<(), Fail> {
 fn the_next_tag_is_seen_and_then_read(rt: HostRuntime) -> Result<(), Fail> {
     let read = parse(
         rt.alloc(),
-        &[0x02, 0x01, 0x7f],
-        |parser: &mut Parser<'_>| -> ParseResult<(Option<Tag>, u8)> {
+        &[0x02, 0x01, 0x7f, 0x01, 0x01, 0xff],
+        |parser: &mut Parser<'_>| -> ParseResult<(Option<Tag>, u8, bool)> {
             let tag = parser.peek_tag();
             let number = parser.read_element::<u8>()?;
-            Ok((tag, number))
+            let truth = parser.read_element::<bool>()?;
+            Ok((tag, number, truth))
         },
     );
-    same_owned(read, Ok((Some(Tag::primitive(2)), 127)))
+    same_owned(read, Ok((Some(Tag::primitive(2)), 127, true)))
 }
 
 /// Reads a Boolean after an element that is rejected as one.
