@@ -1,6 +1,6 @@
 //! Sets that are written: of slices, of closures, and of a slice by a second buffer for each encoding.
 
-ghost use Rattle.std.specs.Prelude.{◌≡◌, ◌∷◌, []};
+ghost use Rattle.std.specs.Prelude.{◌≡◌, ◌∷◌, [], refl};
 ghost use Rattle.asn1_core.specs.Tag.{universal};
 ghost use Rattle.asn1_core.specs.Der.{simple_der};
 ghost use Rattle.asn1_core.specs.SetWriting.{written};
@@ -228,6 +228,7 @@ impl Asn1Type for Digit {
       plain = Unit {0};
       lawful = ⊥;
       one_text = λ p m t e. e;
+      has_text = λ p m v. refl;
       no_closures = λ p m. tt;
     })) };
 

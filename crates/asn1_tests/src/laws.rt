@@ -122,8 +122,10 @@ pub fn rows_and_structures<V, A: Asn1Type, R: Row>()
     requires element { A.der.is_element }
     requires lawful { R.list.fields.lawful }
     requires plain { R.list.fields.plain }
+    requires read { R.list.fields.is_read }
     ensures row { ⟦<Field<A, R> as Row>⟧.list.fields.lawful }
     ensures row_plain { ⟦<Field<A, R> as Row>⟧.list.fields.plain }
+    ensures row_read { ⟦<Field<A, R> as Row>⟧.list.fields.is_read }
     ensures structure { (view : V → R) (names : List (List ℕ)) →
         HasOneEncoding (structure view R.list names) }
 {
@@ -135,7 +137,7 @@ pub fn rows_and_structures<V, A: Asn1Type, R: Row>()
 /// A type that an item defines is lawful under a tag.
 pub fn defined_under_a_tag<T: Asn1Type, U: Asn1DefinedBy<T>, const TAG: u32>()
     requires lawful { U.by.means.lawful }
-    requires element { U.by.means.is_element }
+    requires element { (item : U.by.Item) → U.by.means.is_element item }
     requires plain { U.by.means.plain }
     ensures lawful { ⟦<Explicit<U, TAG> as Asn1DefinedBy<T>>⟧.by.means.lawful }
     ensures plain { ⟦<Explicit<U, TAG> as Asn1DefinedBy<T>>⟧.by.means.plain }

@@ -395,9 +395,10 @@ impl Asn1Type for Unwritable {
       texts = λ m t. ⊥;
       closures = λ m. Unit {0};
       valid = λ m. Unit {0};
-      plain = Unit {0};
+      plain = ⊥;
       lawful = ⊥;
       one_text = λ p m t e. absurd e;
+      has_text = λ p. absurd p;
       no_closures = λ p m. tt;
     })) };
 
