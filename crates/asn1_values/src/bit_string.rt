@@ -1,6 +1,6 @@
 //! BIT STRING (X.690 8.6, 11.2), borrowed and owned.
 
-ghost use Rattle.std.specs.Prelude.{◌≡◌, true, ⊤, Some, length, MatchOption};
+ghost use Rattle.std.specs.Prelude.{◌≡◌, IsTrue, true, ⊤, Some, length, MatchOption};
 ghost use Rattle.asn1_core.specs.Reading.{Answers};
 ghost use Rattle.asn1_core.specs.Der.{simple_der};
 ghost use Rattle.asn1_core.specs.Boxed.{boxed};
@@ -174,6 +174,12 @@ impl SimpleAsn1Writable for BitString<'_> {
     {
         Some(1 + self.octets.len())
     }
+
+    fn writes_as_read() -> bool
+        ensures { IsTrue result }
+    {
+        true
+    }
 }
 
 /// BIT STRING (X.690 8.6, 11.2; universal 3), which owns its octets. This type is read and written as [`BitString`] is.
@@ -284,5 +290,9 @@ impl SimpleAsn1Writable for OwnedBitString {
         ensures { result ≡ Some (length (bits_text (owned_bits_of self.now))) }
     {
         Some(1 + self.octets.len())
+    }
+
+    fn writes_as_read() -> bool {
+        true
     }
 }

@@ -307,4 +307,8 @@ impl SimpleAsn1Writable for ObjectIdentifier {
     {
         Some(self.as_der().len())
     }
+
+    fn writes_as_read() -> bool {
+        true
+    }
 }

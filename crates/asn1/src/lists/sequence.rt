@@ -1,6 +1,6 @@
 //! SEQUENCE (X.690 8.9), whose contents octets are read by the caller.
 
-ghost use Rattle.std.specs.Prelude.{◌≡◌, List, ℕ, length, Ok, Result, Some};
+ghost use Rattle.std.specs.Prelude.{◌≡◌, IsTrue, List, ℕ, length, Ok, Result, Some};
 ghost use Rattle.std.specs.Fn.{FnOnceReturnsAtMut};
 ghost use Rattle.asn1_core.specs.Reading.{Answers, IsHandedOn};
 ghost use Rattle.asn1_core.specs.Der.{simple_der};
@@ -96,5 +96,11 @@ impl<'a> SimpleAsn1Writable for Sequence<'a> {
         ensures known { result ≡ Some (length (sequence_octets self.now)) }
     {
         Some(self.data.len())
+    }
+
+    fn writes_as_read() -> bool
+        ensures { IsTrue result }
+    {
+        true
     }
 }

@@ -217,6 +217,12 @@ impl SimpleAsn1Writable for Set<'_> {
     {
         Some(self.data.len())
     }
+
+    fn writes_as_read() -> bool
+        ensures { IsTrue result }
+    {
+        true
+    }
 }
 
 /// SET OF (X.690 8.12, 11.6; universal 17, constructed), as an iterator over the items that remain: items of one type
@@ -430,6 +436,12 @@ impl<'a, T: Asn1Readable<'a> + Asn1Writable> SimpleAsn1Writable for SetOf<'a, T>
     }
 
     fn write_data(&self, dest: &mut WriteBuf) -> Result<(), T::Error> {
+        if T::writes_as_read() {
+            // By this call's contract each item has one encoding, which is the octets that it was read from.
+            let _accepted = T::can_parse(Tag::constructed(0x11));
+            dest.push_slice(self.content)?;
+            return Ok(());
+        }
         write_set_items::<T>(self.alloc, self.content, &mut Writer::new(dest))
     }
 
@@ -441,5 +453,11 @@ impl<'a, T: Asn1Readable<'a> + Asn1Writable> SimpleAsn1Writable for SetOf<'a, T>
         // By this call's contract each item has one encoding, which is the octets that it was read from.
         let _accepted = T::can_parse(Tag::constructed(0x11));
         Some(self.content.len())
+    }
+
+    fn writes_as_read() -> bool
+        ensures { IsTrue result → (e : T.Error) → ¬ OneNames T.write_errors e }
+    {
+        T::writes_as_read()
     }
 }

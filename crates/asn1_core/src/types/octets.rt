@@ -1,6 +1,6 @@
 //! OCTET STRING and NULL (X.690 8.7, 8.8).
 
-ghost use Rattle.std.specs.Prelude.{◌≡◌, length, Some};
+ghost use Rattle.std.specs.Prelude.{◌≡◌, IsTrue, length, Some};
 ghost use Rattle.asn1_core.specs.Text.{IsText};
 ghost use Rattle.asn1_core.specs.Tag.{universal};
 ghost use Rattle.asn1_core.specs.Octets.{read_octets};
@@ -55,6 +55,10 @@ impl SimpleAsn1Writable for () {
         ensures { result ≡ Some 0 }
     {
         Some(0)
+    }
+
+    fn writes_as_read() -> bool {
+        true
     }
 }
 
@@ -114,6 +118,12 @@ impl SimpleAsn1Writable for &[u8] {
     {
         Some(self.len())
     }
+
+    fn writes_as_read() -> bool
+        ensures { IsTrue result }
+    {
+        true
+    }
 }
 
 /// OCTET STRING (X.690 8.7; universal 4) of `N` octets, which reading copies. Reading rejects another number of octets
@@ -157,5 +167,9 @@ impl<const N: usize> SimpleAsn1Writable for [u8; N] {
         ensures exact { result ≡ Some N }
     {
         Some(N)
+    }
+
+    fn writes_as_read() -> bool {
+        true
     }
 }

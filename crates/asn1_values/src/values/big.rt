@@ -116,6 +116,12 @@ impl SimpleAsn1Writable for BigUint<'_> {
     {
         Some(self.octets.len())
     }
+
+    fn writes_as_read() -> bool
+        ensures { IsTrue result }
+    {
+        true
+    }
 }
 
 /// INTEGER (X.690 8.3; universal 2) of any length: its contents octets, borrowed from the input.
@@ -235,6 +241,12 @@ impl SimpleAsn1Writable for BigInt<'_> {
         ensures exact { result ≡ Some (length (integer_content (big_int_number self.now))) }
     {
         Some(self.octets.len())
+    }
+
+    fn writes_as_read() -> bool
+        ensures { IsTrue result }
+    {
+        true
     }
 }
 

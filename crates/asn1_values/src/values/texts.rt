@@ -170,6 +170,12 @@ impl SimpleAsn1Writable for PrintableString<'_> {
     {
         Some(self.text.len())
     }
+
+    fn writes_as_read() -> bool
+        ensures { IsTrue result }
+    {
+        true
+    }
 }
 
 /// IA5String (X.690 8.23, X.680 41; universal 22): ASCII characters, control characters included, an octet each,
@@ -274,6 +280,12 @@ impl SimpleAsn1Writable for IA5String<'_> {
         ensures exact { result ≡ Some (length (ia5_octets self.now)) }
     {
         Some(self.text.len())
+    }
+
+    fn writes_as_read() -> bool
+        ensures { IsTrue result }
+    {
+        true
     }
 }
 
@@ -382,6 +394,12 @@ impl SimpleAsn1Writable for VisibleString<'_> {
     {
         Some(self.text.len())
     }
+
+    fn writes_as_read() -> bool
+        ensures { IsTrue result }
+    {
+        true
+    }
 }
 
 /// UTF8String (X.690 8.23, X.680 41; universal 12): any Unicode characters in UTF-8, borrowed from the input. The
@@ -482,5 +500,11 @@ impl SimpleAsn1Writable for Utf8String<'_> {
         ensures exact { result ≡ Some (length (utf8_octets self.now)) }
     {
         Some(self.text.len())
+    }
+
+    fn writes_as_read() -> bool
+        ensures { IsTrue result }
+    {
+        true
     }
 }

@@ -192,6 +192,12 @@ impl SimpleAsn1Writable for BMPString<'_> {
     {
         Some(self.octets.len())
     }
+
+    fn writes_as_read() -> bool
+        ensures { IsTrue result }
+    {
+        true
+    }
 }
 
 /// UniversalString (X.690 8.23, X.680 41; universal 28): UTF-32, the most significant octet of each character first,
@@ -304,5 +310,11 @@ impl SimpleAsn1Writable for UniversalString<'_> {
         ensures exact { result ≡ Some (length (universal_octets self.now)) }
     {
         Some(self.octets.len())
+    }
+
+    fn writes_as_read() -> bool
+        ensures { IsTrue result }
+    {
+        true
     }
 }
