@@ -41,8 +41,8 @@ use std::marker::PhantomData;
 ///
 /// The iterator reads each item again, and ends after the last: it returns `None` exactly if no item remains. It
 /// returns `Some(Err(..))` only if reading an item runs out of memory (`AllocationError`, without a location of this
-/// list). That item counts as taken. The length of a list is known without reading an item: the items' encodings are the
-/// octets that remain. These are also what is written, if no write of an item fails but for memory
+/// list). That item counts as taken. The length of a list is known without reading an item: the items' encodings are
+/// the octets that remain. These are also what is written, if no write of an item fails but for memory
 /// ([`Asn1Writable::writes_as_read`]). Else each item is read again and written, and its error is the list's.
 ///
 /// ```text
