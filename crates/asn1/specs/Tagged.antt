@@ -44,6 +44,7 @@ retagged change c = record c {
 abbrev pub application_tag : Bool → ℕ → Tag
 application_tag constructed n = tag_with Application constructed n
 
+-- A tag of the class private.
 abbrev pub private_tag : Bool → ℕ → Tag
 private_tag constructed n = tag_with Private constructed n
 

@@ -11,6 +11,7 @@ pub record Element : Type 0 where
   pub tag : Tag
   pub content : List ℕ
 
+-- The element with this tag and these contents octets.
 abbrev pub element : Tag → List ℕ → Element
 element tag content = record { tag = tag; content = content }
 

@@ -60,6 +60,7 @@ kind_text kind = kind_name kind ++ spaced (kind_details kind)
 
 -- ---- the replies of the code
 
+-- What the code answers with, as text.
 abbrev pub reply_text : Reply → List ℕ
 reply_text BadLine = codes "bad line"
 reply_text (Refused kind) = codes "err " ++ kind_text kind

@@ -26,6 +26,7 @@ use Rattle.dercheck.specs.Lines.{split_once}
 
 -- ---- the words, and the types that they name
 
+-- How a word is spelled in a line.
 abbrev pub word_text : Word → List ℕ
 word_text words.Bool = codes "bool"
 word_text words.Tlv = codes "tlv"

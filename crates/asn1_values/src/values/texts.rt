@@ -1,11 +1,12 @@
 //! Character strings whose contents octets are read as `str` (X.690 8.23, X.680 41).
 
-ghost use Rattle.std.specs.Prelude.{◌≡◌, true, false, ⊤, Some, length, MatchOption, IsTrue, IsUtf8};
+ghost use Rattle.std.specs.Prelude.{◌≡◌, true, false, ⊤, Some, length, MatchOption, IsUtf8};
 ghost use Rattle.asn1_core.specs.Tag.{universal};
 ghost use Rattle.asn1_core.specs.Reading.{Answers};
 ghost use Rattle.asn1_core.specs.Writing.{GivesLength};
 ghost use Rattle.asn1_core.specs.Der.{simple_der};
-ghost use Rattle.asn1_values.specs.Texts.{is_printable, is_printable_text, is_ia5_text, is_visible_text, is_utf8_text, IsTextOf, read_text};
+ghost use Rattle.asn1_values.specs.Texts.{is_printable, is_printable_text, is_ia5_text, is_visible_text, is_utf8_text};
+ghost use Rattle.asn1_values.specs.Texts.{IsTextOf, read_text};
 
 use asn1_core::{
     Asn1Type, ParseError, ParseErrorKind, ParseResult, SimpleAsn1Readable, SimpleAsn1Writable, Tag,

@@ -1,13 +1,14 @@
 //! Character strings of two or four octets a character (X.690 8.23, X.680 41).
 
-ghost use Rattle.std.specs.Prelude.{◌≡◌, ◌+◌, ◌%◌, ◌<◌, ◌≤◌, ◌↔◌, [], ◌∷◌, drop, true, false, ⊤, Some, length, MatchOption, IsTrue};
+ghost use Rattle.std.specs.Prelude.{◌≡◌, ◌+◌, ◌%◌, ◌<◌, ◌≤◌, ◌↔◌, [], ◌∷◌, ⊤};
+ghost use Rattle.std.specs.Prelude.{drop, true, false, Some, length, MatchOption, IsTrue};
 ghost use Rattle.std.specs.Char.{IsScalar};
 ghost use Rattle.asn1_core.specs.Text.{number};
 ghost use Rattle.asn1_core.specs.Tag.{universal};
 ghost use Rattle.asn1_core.specs.Reading.{Answers};
 ghost use Rattle.asn1_core.specs.Writing.{GivesLength};
 ghost use Rattle.asn1_core.specs.Der.{simple_der};
-ghost use Rattle.asn1_values.specs.Texts.{is_paired, is_utf16_text, fours, is_utf32_text, IsTextOf, read_text};
+ghost use Rattle.asn1_values.specs.Texts.{is_paired, is_utf16_text, is_utf32_text, IsTextOf, read_text};
 
 use asn1_core::{
     Asn1Type, ParseError, ParseErrorKind, ParseResult, SimpleAsn1Readable, SimpleAsn1Writable, Tag,
