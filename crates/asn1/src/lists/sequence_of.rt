@@ -10,6 +10,7 @@ ghost use Rattle.std.proofs.Common.{rules};
 ghost use Rattle.asn1_core.specs.Buffer.{Appends, KeepsFront};
 ghost use Rattle.asn1_core.specs.Element.{Element, front};
 ghost use Rattle.asn1_core.specs.Reading.{Answers, EndsWith};
+ghost use Rattle.asn1_core.specs.Reads.{ReadsContents};
 ghost use Rattle.asn1_core.specs.Der.{simple_der};
 ghost use Rattle.asn1_core.specs.Listing.{Each, Joins, OneNames, sequence_tag};
 ghost use Rattle.asn1_core.specs.Writing.{buffer_name, octets_of, GivesLength, Refuses};
@@ -191,10 +192,8 @@ impl<
     }
 
     fn parse_data(alloc: Global, data: &'a [u8]) -> ParseResult<Self>
-        ensures { Answers (λ s. left T.der.read s.content.now)
-            (λ places. items_out T.der.read T.der.runs_out (length «data».entry.now) 0
-            «data».entry.now places) result (sequence_read T.der.read MINIMUM_LEN MAXIMUM_LEN
-            «data».entry.now) }
+        ensures { ReadsContents ⟦<SequenceOf<'a, T, MINIMUM_LEN, MAXIMUM_LEN> as Asn1Type>⟧.der
+            «data».entry.now result }
     {
         let count = count_items::<T>(alloc, data)?;
         if count < MINIMUM_LEN || count > MAXIMUM_LEN {

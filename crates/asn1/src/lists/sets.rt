@@ -14,6 +14,7 @@ ghost use Rattle.asn1_core.specs.Listing.{text_less, Each, Joins, OneNames, set_
 ghost use Rattle.asn1_core.specs.Tag.{tag_less};
 ghost use Rattle.asn1_core.specs.Tlv.{element_of};
 ghost use Rattle.asn1_core.specs.Reading.{Answers, EndsWith, IsHandedOn, element_front};
+ghost use Rattle.asn1_core.specs.Reads.{ReadsContents};
 ghost use Rattle.asn1_core.specs.Der.{simple_der};
 ghost use Rattle.asn1_core.specs.Writing.{buffer_name, octets_of, GivesLength, Refuses};
 ghost use Rattle.asn1.specs.Lists.{AreOctets, NextItem};
@@ -186,7 +187,7 @@ impl<'a> SimpleAsn1Readable<'a> for Set<'a> {
     }
 
     fn parse_data(alloc: Global, data: &'a [u8]) -> ParseResult<Self>
-        ensures { Answers octets_of_set (λ _. ⊥) result (set_octets tag_less «data».entry.now) }
+        ensures { ReadsContents ⟦<Set<'a> as Asn1Type>⟧.der «data».entry.now result }
     {
         check_elements(alloc, data)?;
         Ok(Set { data })
@@ -338,9 +339,7 @@ impl<'a, T: Asn1Readable<'a>> SimpleAsn1Readable<'a> for SetOf<'a, T> {
     }
 
     fn parse_data(alloc: Global, data: &'a [u8]) -> ParseResult<Self>
-        ensures { Answers (λ s. set_left text_less T.der.read s.content.now)
-            (λ places. set_out text_less T.der.read T.der.runs_out [] (length «data».entry.now) 0
-            «data».entry.now places) result (set_read text_less T.der.read «data».entry.now) }
+        ensures { ReadsContents ⟦<SetOf<'a, T> as Asn1Type>⟧.der «data».entry.now result }
     {
         check_items::<T>(alloc, data)?;
         Ok(SetOf {

@@ -3,9 +3,8 @@
 ghost use Rattle.std.specs.Prelude.{◌≡◌, IsTrue, length, Some};
 ghost use Rattle.asn1_core.specs.Text.{IsText};
 ghost use Rattle.asn1_core.specs.Tag.{universal};
-ghost use Rattle.asn1_core.specs.Octets.{read_octets};
 ghost use Rattle.asn1_core.specs.OctetContents.{octets_content, sized_octets_content, null_content};
-ghost use Rattle.asn1_core.specs.Reading.{Answers};
+ghost use Rattle.asn1_core.specs.Reads.{ReadsContents};
 ghost use Rattle.asn1_core.specs.Writing.{GivesLength};
 ghost use Rattle.asn1_core.specs.Der.{simple_der};
 
@@ -90,7 +89,7 @@ impl<'a> SimpleAsn1Readable<'a> for &'a [u8] {
 
     #[inline]
     fn parse_data(_alloc: Global, data: &'a [u8]) -> ParseResult<&'a [u8]>
-        ensures { Answers (λ octets. octets.now) (λ _. ⊥) result (read_octets «data».entry.now) }
+        ensures { ReadsContents ⟦<&'a [u8] as Asn1Type>⟧.der «data».entry.now result }
     {
         Ok(data)
     }

@@ -1,12 +1,12 @@
 //! Character strings whose contents octets are read as `str` (X.690 8.23, X.680 41).
 
-ghost use Rattle.std.specs.Prelude.{◌≡◌, true, false, ⊤, Some, length, MatchOption, IsUtf8};
+ghost use Rattle.std.specs.Prelude.{◌≡◌, IsTrue, true, false, ⊤, Some, length, MatchOption, IsUtf8};
 ghost use Rattle.asn1_core.specs.Tag.{universal};
-ghost use Rattle.asn1_core.specs.Reading.{Answers};
+ghost use Rattle.asn1_core.specs.Reads.{ReadsContents};
 ghost use Rattle.asn1_core.specs.Writing.{GivesLength};
 ghost use Rattle.asn1_core.specs.Der.{simple_der};
 ghost use Rattle.asn1_values.specs.Texts.{is_printable, is_printable_text, is_ia5_text, is_visible_text, is_utf8_text};
-ghost use Rattle.asn1_values.specs.Texts.{IsTextOf, read_text};
+ghost use Rattle.asn1_values.specs.Texts.{IsTextOf};
 
 use asn1_core::{
     Asn1Type, ParseError, ParseErrorKind, ParseResult, SimpleAsn1Readable, SimpleAsn1Writable, Tag,
@@ -136,8 +136,7 @@ impl<'a> SimpleAsn1Readable<'a> for PrintableString<'a> {
 
     #[inline]
     fn parse_data(_alloc: Global, data: &'a [u8]) -> ParseResult<PrintableString<'a>>
-        ensures { Answers printable_octets (λ _. ⊥) result
-            (read_text is_printable_text «data».entry.now) }
+        ensures { ReadsContents ⟦<PrintableString<'a> as Asn1Type>⟧.der «data».entry.now result }
     {
         match text_in(data, is_printable_text(data)) {
             Some(text) => Ok(PrintableString { text }),
@@ -249,7 +248,7 @@ impl<'a> SimpleAsn1Readable<'a> for IA5String<'a> {
 
     #[inline]
     fn parse_data(_alloc: Global, data: &'a [u8]) -> ParseResult<IA5String<'a>>
-        ensures { Answers ia5_octets (λ _. ⊥) result (read_text is_ia5_text «data».entry.now) }
+        ensures { ReadsContents ⟦<IA5String<'a> as Asn1Type>⟧.der «data».entry.now result }
     {
         match text_in(data, is_ia5_text(data)) {
             Some(text) => Ok(IA5String { text }),
@@ -360,8 +359,7 @@ impl<'a> SimpleAsn1Readable<'a> for VisibleString<'a> {
 
     #[inline]
     fn parse_data(_alloc: Global, data: &'a [u8]) -> ParseResult<VisibleString<'a>>
-        ensures { Answers visible_octets (λ _. ⊥) result
-            (read_text is_visible_text «data».entry.now) }
+        ensures { ReadsContents ⟦<VisibleString<'a> as Asn1Type>⟧.der «data».entry.now result }
     {
         match text_in(data, is_visible_text(data)) {
             Some(text) => Ok(VisibleString { text }),
@@ -469,7 +467,7 @@ impl<'a> SimpleAsn1Readable<'a> for Utf8String<'a> {
 
     #[inline]
     fn parse_data(_alloc: Global, data: &'a [u8]) -> ParseResult<Utf8String<'a>>
-        ensures { Answers utf8_octets (λ _. ⊥) result (read_text is_utf8_text «data».entry.now) }
+        ensures { ReadsContents ⟦<Utf8String<'a> as Asn1Type>⟧.der «data».entry.now result }
     {
         match str::from_utf8(data) {
             Ok(text) => Ok(Utf8String { text }),
