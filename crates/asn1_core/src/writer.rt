@@ -222,22 +222,6 @@ impl WriteBuf {
         Ok(())
     }
 
-    /// Appends octets one by one, which for a few takes less time than to copy them together. `AllocationError` if
-    /// there is no room and no more memory.
-    #[inline]
-    pub(crate) fn push_each(&mut self, octets: &[u8]) -> WriteResult<()>
-        ensures ok { OnOk result (self.new.bytes ≡ self.old.bytes ++ octets.now) }
-        ensures err { OnErr result (self.new ≡ self.old) }
-        ensures error { IsOkUnless result WriteError.AllocationError }
-    {
-        self.octets.try_reserve(octets.len())?;
-        for octet in octets {
-            // There is room now, so each push succeeds.
-            let _pushed = self.octets.push(*octet);
-        }
-        Ok(())
-    }
-
     /// Appends the length octets of `n`. A single one, the usual case, needs no array.
     #[inline(always)]
     fn push_length(&mut self, n: usize) -> WriteResult<()>
