@@ -163,6 +163,16 @@ impl WriteBuf {
         WriteBuf { octets }
     }
 
+    /// An empty buffer with room for this many octets. `AllocationError` if out of memory.
+    #[inline(always)]
+    fn with_room(alloc: Global, octets: usize) -> WriteResult<WriteBuf>
+        ensures ok { IfOk result (λ buf. buf.bytes ≡ []) }
+        ensures error { IsOkUnless result WriteError.AllocationError }
+    {
+        let octets = Vec::with_capacity(alloc, octets)?;
+        Ok(WriteBuf { octets })
+    }
+
     /// The octets.
     pub(crate) fn into_octets(self) -> Vec<u8>
         ensures { result.items ≡ self.bytes }
@@ -539,12 +549,14 @@ pub fn write<E: From<WriteError>, F: Fn(&mut Writer<'_>) -> Result<(), E> + Drop
 ///
 /// same(octets.as_slice(), &[1, 1, 0xff])?;
 /// ```
-#[inline]
+#[inline(always)]
 pub fn write_single<T: Asn1Writable>(alloc: Global, value: &T) -> Result<Vec<u8>, T::Error>
     requires { IsWritable T.der (T.der.meaning value.now) }
     ensures ok { IfOk result (λ v. T.der.texts (T.der.meaning value.now) v.items) }
     ensures text { T.der.plain → IfOk result (λ v. v.items ≡ T.der.text (T.der.meaning value.now)) }
     ensures error { IfErr result (Refuses T.Error.from_gives (T.write_errors value.now)) }
 {
-    write(alloc, |writer: &mut Writer<'_>| writer.write_element(value))
+    let mut buf = WriteBuf::with_room(alloc, value.encoded_length().unwrap_or(0))?;
+    value.write(&mut Writer::new(&mut buf))?;
+    Ok(buf.into_octets())
 }
