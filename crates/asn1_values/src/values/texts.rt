@@ -63,7 +63,7 @@ fn text_in(octets: &[u8], is_text: bool) -> Option<&str>
     if !is_text {
         return None;
     }
-    str::from_utf8(octets).ok()
+    Some(unsafe { str::from_utf8_unchecked(octets) })
 }
 
 /// PrintableString (X.690 8.23, X.680 41; universal 19): letters, digits, space and `'()+,-./:=?`, an octet each,
