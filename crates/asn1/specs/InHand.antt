@@ -25,7 +25,7 @@ use Rattle.asn1_core.specs.declared.writer.Writer.{Writer}
 use Rattle.asn1_core.specs.Writing.{IsWriter, MayWrite}
 use Rattle.asn1_core.specs.SetWriting.{written}
 
--- What a wrapper holds.
+-- The value in an `Explicit`.
 abbrev pub explicit_inner : {T : Type 0} {tag : ℕ} → Explicit T tag → T
 explicit_inner x = x.inner
 

@@ -135,7 +135,7 @@ structure view row names = simple_der (λ w. row.meaning (view w)) (sequence row
 abbrev pub structure_with_tag : {V W : Type 0} → Tag → (W → V) → FieldList V → List (List ℕ) → Der W
 structure_with_tag tag view row names = simple_der (λ w. row.meaning (view w)) (retagged (λ own. tag) (sequence row.fields names))
 
--- The encodings that a write of a value may append, and what the closures in it owe.
+-- The encodings that a write of a field's value may append.
 abbrev pub encoded : {V : Type 0} → Der V → V → List ℕ → Type 0
 encoded d v = d.texts (d.meaning v)
 

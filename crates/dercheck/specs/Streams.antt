@@ -35,8 +35,7 @@ Puts false old new had_failed has_failed octets = AppendsInPart old new octets �
 
 -- ---- what the streams over memory state
 
--- the octets that the pieces have left, which are never at hand, how many a pull gives at most, whether a pull fails
--- after them, and whether one has failed
+-- The octets that pieces have left.
 abbrev pub pieces_left : Pieces → List ℕ
 pieces_left s = s.first.now ++ s.second.now
 
@@ -56,7 +55,7 @@ fails_at_end s = s.fails
 abbrev pub pieces_failed : Pieces → Bool
 pieces_failed s = s.has_failed
 
--- the octets that the sink holds, how many more it can hold, and whether a put has failed
+-- The octets that a `Held` holds.
 abbrev pub held_octets : Held → List ℕ
 held_octets s = take s.count s.octets
 
@@ -70,8 +69,7 @@ held_failed s = s.has_failed
 
 -- ---- what the streams over a reader and a writer state
 
--- the reader, the octets at hand, whether there are any, the octets left, how many octets the source still gives at
--- most, and whether a pull has failed
+-- The reader of an `Input`.
 abbrev pub input_reader : {R : Type 0} → Input R → R
 input_reader s = s.reader
 
@@ -95,7 +93,7 @@ input_bound s = s.count + (s.end - s.start)
 abbrev pub input_failed : {R : Type 0} → Input R → Bool
 input_failed s = s.has_failed
 
--- the writer, and whether a put has failed
+-- The writer of an `Output`.
 abbrev pub output_writer : {W : Type 0} → Output W → W
 output_writer s = s.writer
 
