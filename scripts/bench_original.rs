@@ -75,7 +75,10 @@ macro_rules! defaulted {
 
         impl<'a> Asn1Readable<'a> for $name {
             fn parse(parser: &mut Parser<'a>) -> ParseResult<Self> {
-                Ok($name(from_optional_default(parser.read_element::<Option<$of>>()?, $default)?))
+                Ok($name(from_optional_default(
+                    parser.read_element::<Option<$of>>()?,
+                    $default,
+                )?))
             }
 
             fn can_parse(_: Tag) -> bool {
@@ -101,7 +104,10 @@ structure!(EcdsaSigValue<'a> { r: BigUint<'a>, s: BigUint<'a>, });
 structure!(AlgorithmIdentifier<'a> { algorithm: ObjectIdentifier, parameters: Option<Tlv<'a>>, });
 structure!(AttributeTypeAndValue<'a> { type_id: ObjectIdentifier, value: Tlv<'a>, });
 type Name<'a> = SequenceOf<'a, SetOf<'a, AttributeTypeAndValue<'a>>>;
-structure!(Validity { not_before: Time, not_after: Time, });
+structure!(Validity {
+    not_before: Time,
+    not_after: Time,
+});
 structure!(SubjectPublicKeyInfo<'a> { algorithm: AlgorithmIdentifier<'a>, subject_public_key: BitString<'a>, });
 defaulted!(Critical: bool = false);
 structure!(Extension<'a> { extn_id: ObjectIdentifier, critical: Critical, extn_value: &'a [u8], });
@@ -138,7 +144,9 @@ impl<'a> Asn1Readable<'a> for Time {
         if X509GeneralizedTime::can_parse(tlv.tag()) {
             return Ok(Time::GeneralTime(tlv.parse()?));
         }
-        Err(ParseError::new(ParseErrorKind::UnexpectedTag { actual: tlv.tag() }))
+        Err(ParseError::new(ParseErrorKind::UnexpectedTag {
+            actual: tlv.tag(),
+        }))
     }
 
     fn can_parse(tag: Tag) -> bool {
@@ -209,13 +217,19 @@ fn write_often<T: Asn1Writable<Error = WriteError>>(value: &T, times: u64) -> u6
 
 /// Reads a value once and writes it this often.
 #[inline(never)]
-fn write<'a, T: Asn1Readable<'a> + Asn1Writable<Error = WriteError>>(octets: &'a [u8], times: u64) -> u64 {
+fn write<'a, T: Asn1Readable<'a> + Asn1Writable<Error = WriteError>>(
+    octets: &'a [u8],
+    times: u64,
+) -> u64 {
     parse_single::<T>(octets).map_or(FAILED, |value| write_often(&value, times))
 }
 
 /// Reads this many elements, which follow one another, and writes each.
 #[inline(never)]
-fn rewrite<'a, T: Asn1Readable<'a> + Asn1Writable<Error = WriteError>>(octets: &'a [u8], times: u64) -> u64 {
+fn rewrite<'a, T: Asn1Readable<'a> + Asn1Writable<Error = WriteError>>(
+    octets: &'a [u8],
+    times: u64,
+) -> u64 {
     let sum = parse(octets, |parser| -> ParseResult<u64> {
         let mut sum = 0u64;
         for _ in 0..times {
@@ -245,7 +259,9 @@ fn write_by_closures(times: u64) -> u64 {
     let mut sum = 0u64;
     for _ in 0..times {
         let written = asn1::write(|writer| {
-            writer.write_tlv(SEQUENCE, None, |dest| within(dest, |dest| within(dest, |dest| within(dest, one))))
+            writer.write_tlv(SEQUENCE, None, |dest| {
+                within(dest, |dest| within(dest, |dest| within(dest, one)))
+            })
         });
         sum = sum.wrapping_add(written.map_or(FAILED, |octets: Vec<u8>| (&*octets).answer()));
     }
@@ -287,7 +303,9 @@ pub unsafe extern "C" fn speed(workload: u32, octets: *const u8, length: usize, 
         23 => write::<ObjectIdentifier>(octets, times),
         24 => write::<EcdsaSigValue<'_>>(octets, times),
         25 => write_by_closures(times),
-        26 => write::<SequenceOf<'_, SequenceOf<'_, SequenceOf<'_, SequenceOf<'_, u64>>>>>(octets, times),
+        26 => write::<SequenceOf<'_, SequenceOf<'_, SequenceOf<'_, SequenceOf<'_, u64>>>>>(
+            octets, times,
+        ),
         27 => rewrite::<SequenceOf<'_, u64>>(octets, times),
         28 => rewrite::<Certificate<'_>>(octets, times),
         29 => write_often(&SequenceOfWriter::new(&*numbers(octets)), times),
