@@ -59,8 +59,8 @@ def below(name):
 
 
 def libraries(*others):
-    """The crates that are no tests and no programs, without these others."""
-    return [name for name in uses() if not name.endswith(("_tests", "_cli")) and name not in others]
+    """The crates that are no tests, programs or workloads, without these others."""
+    return [name for name in uses() if not name.endswith(("_tests", "_cli", "speed")) and name not in others]
 
 
 def cases():
