@@ -167,54 +167,70 @@ defaulted x = record { inner = x; default = record {} }
 
 -- ---- rows of these values
 
--- A row of no fields; `fields1` to `fields16` are rows of so many values.
+-- A row of no fields.
 abbrev pub fields0 : NoFields
 fields0 = record {}
 
+-- A row of one field.
 abbrev pub fields1 : {A : Type 0} → A → Last A
 fields1 a = record { value = a }
 
+-- A row of two fields.
 abbrev pub fields2 : {A B : Type 0} → A → B → Field A (Last B)
 fields2 a b = record { value = a; rest = fields1 b }
 
+-- A row of three fields.
 abbrev pub fields3 : {A B C : Type 0} → A → B → C → Field A (Field B (Last C))
 fields3 a b c = record { value = a; rest = fields2 b c }
 
+-- A row of four fields.
 abbrev pub fields4 : {A B C D : Type 0} → A → B → C → D → Field A (Field B (Field C (Last D)))
 fields4 a b c d = record { value = a; rest = fields3 b c d }
 
+-- A row of five fields.
 abbrev pub fields5 : {A B C D E : Type 0} → A → B → C → D → E → Field A (Field B (Field C (Field D (Last E))))
 fields5 a b c d e = record { value = a; rest = fields4 b c d e }
 
+-- A row of six fields.
 abbrev pub fields6 : {A B C D E F : Type 0} → A → B → C → D → E → F → Field A (Field B (Field C (Field D (Field E (Last F)))))
 fields6 a b c d e f = record { value = a; rest = fields5 b c d e f }
 
+-- A row of seven fields.
 abbrev pub fields7 : {A B C D E F G : Type 0} → A → B → C → D → E → F → G → Field A (Field B (Field C (Field D (Field E (Field F (Last G))))))
 fields7 a b c d e f g = record { value = a; rest = fields6 b c d e f g }
 
+-- A row of eight fields.
 abbrev pub fields8 : {A B C D E F G H : Type 0} → A → B → C → D → E → F → G → H → Field A (Field B (Field C (Field D (Field E (Field F (Field G (Last H)))))))
 fields8 a b c d e f g h = record { value = a; rest = fields7 b c d e f g h }
 
+-- A row of nine fields.
 abbrev pub fields9 : {A B C D E F G H I : Type 0} → A → B → C → D → E → F → G → H → I → Field A (Field B (Field C (Field D (Field E (Field F (Field G (Field H (Last I))))))))
 fields9 a b c d e f g h i = record { value = a; rest = fields8 b c d e f g h i }
 
+-- A row of ten fields.
 abbrev pub fields10 : {A B C D E F G H I J : Type 0} → A → B → C → D → E → F → G → H → I → J → Field A (Field B (Field C (Field D (Field E (Field F (Field G (Field H (Field I (Last J)))))))))
 fields10 a b c d e f g h i j = record { value = a; rest = fields9 b c d e f g h i j }
 
+-- A row of eleven fields.
 abbrev pub fields11 : {A B C D E F G H I J K : Type 0} → A → B → C → D → E → F → G → H → I → J → K → Field A (Field B (Field C (Field D (Field E (Field F (Field G (Field H (Field I (Field J (Last K))))))))))
 fields11 a b c d e f g h i j k = record { value = a; rest = fields10 b c d e f g h i j k }
 
+-- A row of twelve fields.
 abbrev pub fields12 : {A B C D E F G H I J K L : Type 0} → A → B → C → D → E → F → G → H → I → J → K → L → Field A (Field B (Field C (Field D (Field E (Field F (Field G (Field H (Field I (Field J (Field K (Last L)))))))))))
 fields12 a b c d e f g h i j k l = record { value = a; rest = fields11 b c d e f g h i j k l }
 
+-- A row of thirteen fields.
 abbrev pub fields13 : {A B C D E F G H I J K L M : Type 0} → A → B → C → D → E → F → G → H → I → J → K → L → M → Field A (Field B (Field C (Field D (Field E (Field F (Field G (Field H (Field I (Field J (Field K (Field L (Last M))))))))))))
 fields13 a b c d e f g h i j k l m = record { value = a; rest = fields12 b c d e f g h i j k l m }
 
+-- A row of fourteen fields.
 abbrev pub fields14 : {A B C D E F G H I J K L M N : Type 0} → A → B → C → D → E → F → G → H → I → J → K → L → M → N → Field A (Field B (Field C (Field D (Field E (Field F (Field G (Field H (Field I (Field J (Field K (Field L (Field M (Last N)))))))))))))
 fields14 a b c d e f g h i j k l m n = record { value = a; rest = fields13 b c d e f g h i j k l m n }
 
+-- A row of fifteen fields.
 abbrev pub fields15 : {A B C D E F G H I J K L M N O : Type 0} → A → B → C → D → E → F → G → H → I → J → K → L → M → N → O → Field A (Field B (Field C (Field D (Field E (Field F (Field G (Field H (Field I (Field J (Field K (Field L (Field M (Field N (Last O))))))))))))))
 fields15 a b c d e f g h i j k l m n o = record { value = a; rest = fields14 b c d e f g h i j k l m n o }
 
+-- A row of sixteen fields.
 abbrev pub fields16 : {A B C D E F G H I J K L M N O P : Type 0} → A → B → C → D → E → F → G → H → I → J → K → L → M → N → O → P → Field A (Field B (Field C (Field D (Field E (Field F (Field G (Field H (Field I (Field J (Field K (Field L (Field M (Field N (Field O (Last P)))))))))))))))
 fields16 a b c d e f g h i j k l m n o p = record { value = a; rest = fields15 b c d e f g h i j k l m n o p }

@@ -44,6 +44,7 @@ named_bits_again b h = rw h.0 (rw h.1 refl)
 pub named_bits_faults : (c : List ℕ) → IfErr (read_named_bits c) IsOfText
 named_bits_faults c = bind_faults (read_bits c) named_bits (bits_content.faults c) (λ b. passed_faults (ends_with_one b) (Ok b) InvalidValue tt (λ e. cc))
 
+-- The contents octets of a BIT STRING with named bits: no 0 bit is at the end (X.690 11.2.2).
 abbrev pub named_bits_content : Content Bits
 named_bits_content = basic (record {
   tag = universal 3;
