@@ -74,6 +74,13 @@ class Form:
         generics = f"<{self.life}>" if "'" in head else ""
         return f"\nimpl{generics} {head} {{\n{text}\n}}\n"
 
+    def writes_as_read(self):
+        """Says that no write of a type that is also read fails but for memory."""
+        return self.item.reads and """
+            fn writes_as_read() -> bool
+                ensures { IsTrue result }
+            { true }""" or ""
+
 
 class Structure(Form):
     """A struct with its fields as they were declared, and its impls, which go by a row of them."""
@@ -108,7 +115,8 @@ class Structure(Form):
             text += self.impl("SimpleAsn1Writable", ERROR, failing, f"""{tag}
             {{ Tag::constructed(0x10) }}
             fn write_data(&self, dest: &mut WriteBuf) -> WriteResult<()> {{ {self.body("write_fields", "self, dest")} }}
-            fn data_length(&self) -> Option<usize> {{ {self.body("fields_length", "self")} }}""")
+            fn data_length(&self) -> Option<usize> {{ {self.body("fields_length", "self")} }}""",
+            "" if lists else self.writes_as_read())
         return text
 
     def list_of_fields(self):
@@ -197,7 +205,7 @@ class Choice(Form):
                 ensures value {{ result ≡ {self.means}.accepts tag }}
                 ensures plain {{ {self.means}.plain }}
             {{ <{alias} as Asn1Readable<{self.item.life or "'_"}>>::can_parse(tag) }}""")
-        return text + self.written("Asn1Writable") if self.item.writes else text
+        return text + self.written("Asn1Writable", last=self.writes_as_read()) if self.item.writes else text
 
     def variants(self):
         """The import of the variants, in the impl: there no other enum's variants have these names."""
@@ -231,14 +239,14 @@ class Choice(Form):
                 ensures stops {{ OnErr result ({stops} parser.old parser.new) }}
             {{ {body} }}"""
 
-    def written(self, trait, *members, other=""):
+    def written(self, trait, *members, other="", last=""):
         """The impl of writing: a variant's value is written, and its length told."""
         tagged = "write_plain::<{form}, _>(x, dest)"
         write = self.match("dest.write_element(x)", f"dest.write_element(&{other})", tagged=tagged)
         length = self.match("x.encoded_length()", f"{other}.encoded_length()", tagged="plain_length::<{form}, _>(x)")
         return self.impl(trait, ERROR, *members, f"""
             fn write(&self, dest: &mut Writer<'_>) -> WriteResult<()> {{ {write} }}
-            fn encoded_length(&self) -> Option<usize> {{ {length} }}""")
+            fn encoded_length(&self) -> Option<usize> {{ {length} }}""", last)
 
 
 class Defined(Choice):

@@ -113,6 +113,15 @@ def items(text, indent=""):
         yield bool(start[1]), start[2], start[3], text[start.start() : end], start.start()
 
 
+def doc_above(text, start, mark="//"):
+    """The lines of the comment above an item that begins at this place of its file; attributes may be between."""
+    lines, found = text[:start].split("\n")[:-1], []
+    while lines and re.match(rf"\s*({mark}|#\[|[\w( ),:]*\)\]$)", lines[-1]):
+        line = lines.pop().strip()
+        found += [line.lstrip("/").strip()] if line.startswith(mark) else []
+    return found[::-1]
+
+
 def contract(function, indent=""):
     """A function's header and clauses, without its body."""
     has_clauses = re.search(r"\b(requires|ensures)\b|\{\}?$", function, re.MULTILINE)

@@ -27,7 +27,7 @@ from pathlib import Path
 
 from sources import CRATES, TOP, below, clauses_of, functions, functions_in, uses
 
-COMMENT = re.compile(r"^\s*(?://.*|--( .*)?)\n", re.MULTILINE)
+COMMENT = re.compile(r"^[^\S\n]*(?://.*|--( .*)?)\n", re.MULTILINE)
 LITERAL = re.compile(r"""("(?:\\.|[^"\\])*"|'(?:\\.|[^'\\])')""")
 NAMED_TEST = re.compile(r"^test: .*", re.MULTILINE)
 LIST = re.compile(r"\{(\w+(?:,\w+)+)\}")

@@ -25,19 +25,23 @@ use Rattle.asn1_core.specs.declared.writer.Writer.{Writer}
 use Rattle.asn1_core.specs.Writing.{IsWriter, MayWrite}
 use Rattle.asn1_core.specs.SetWriting.{written}
 
--- What a wrapper holds.
+-- The value in an `Explicit`.
 abbrev pub explicit_inner : {T : Type 0} {tag : ℕ} → Explicit T tag → T
 explicit_inner x = x.inner
 
+-- The value in an `Implicit`.
 abbrev pub implicit_inner : {T : Type 0} {tag : ℕ} → Implicit T tag → T
 implicit_inner x = x.inner
 
+-- The value in an `OctetStringEncoded`.
 abbrev pub octet_string_inner : {T : Type 0} → OctetStringEncoded T → T
 octet_string_inner x = x.inner
 
+-- The value in a `Defaulted`.
 abbrev pub defaulted_inner : {T D : Type 0} → Defaulted T D → T
 defaulted_inner x = x.inner
 
+-- The value in an `ErrorInto`.
 abbrev pub error_into_inner : {A E : Type 0} → ErrorInto A E → A
 error_into_inner x = x.inner
 
@@ -53,6 +57,7 @@ sequence_closure w = w.f.now
 abbrev pub octets_of_set : Set → List ℕ
 octets_of_set s = s.«data».now
 
+-- The contents octets of a `Sequence`, which are kept unread.
 abbrev pub sequence_octets : Sequence → List ℕ
 sequence_octets s = s.«data».now
 
@@ -60,13 +65,16 @@ sequence_octets s = s.«data».now
 abbrev pub sequence_content : Content (List ℕ)
 sequence_content = record octets_content { tag = sequence_tag }
 
+-- What a choice of one alternative means.
 abbrev pub choice1_meaning : {A M : Type 0} → (A → M) → Choice1 A → M
 choice1_meaning f (one.ChoiceA v) = f v
 
+-- What a choice of two alternatives means.
 abbrev pub choice2_meaning : {A B M N : Type 0} → (A → M) → (B → N) → Choice2 A B → M ⊎ N
 choice2_meaning f g (two.ChoiceA v) = inl (f v)
 choice2_meaning f g (two.ChoiceB v) = inr (g v)
 
+-- What a choice of three alternatives means.
 abbrev pub choice3_meaning : {A B C M N K : Type 0} → (A → M) → (B → N) → (C → K) → Choice3 A B C → M ⊎ (N ⊎ K)
 choice3_meaning f g h (three.ChoiceA v) = inl (f v)
 choice3_meaning f g h (three.ChoiceB v) = inr (inl (g v))
@@ -76,10 +84,12 @@ choice3_meaning f g h (three.ChoiceC v) = inr (inr (h v))
 abbrev pub OfChoice1 : {A : Type 0} → (A → Type 0) → Choice1 A → Type 0
 OfChoice1 f (one.ChoiceA v) = f v
 
+-- What is required of the value in a choice of two.
 abbrev pub OfChoice2 : {A B : Type 0} → (A → Type 0) → (B → Type 0) → Choice2 A B → Type 0
 OfChoice2 f g (two.ChoiceA v) = f v
 OfChoice2 f g (two.ChoiceB v) = g v
 
+-- What is required of the value in a choice of three.
 abbrev pub OfChoice3 : {A B C : Type 0} → (A → Type 0) → (B → Type 0) → (C → Type 0) → Choice3 A B C → Type 0
 OfChoice3 f g h (three.ChoiceA v) = f v
 OfChoice3 f g h (three.ChoiceB v) = g v

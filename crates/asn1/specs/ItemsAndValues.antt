@@ -119,6 +119,7 @@ module _ {M N : Type 0} (f : M → N) (read : List ℕ → Result (M × List ℕ
 element_texts : (tag : Tag) (texts texts2 : List ℕ → Type 0) → ((t : List ℕ) → texts t → texts2 t) → (t : List ℕ) → IsElementOf tag texts t → IsElementOf tag texts2 t
 element_texts tag texts texts2 law t h = record { content = h.content; is_content = law h.content h.is_content; is = h.is }
 
+-- `Agrees` of a type under an explicit tag, if it holds of the type without the tag.
 pub agrees_inside : {T V W : Type 0} (tag : Tag) (view : W → V) (d : Der T) (by : ByItem T V) (both : ItemAndValue T V) → Agrees d by both →
     Agrees d (by_inside tag view by) (record { item = both.item; value = defined_inside tag view both.value })
 agrees_inside tag view d by both h =

@@ -33,6 +33,7 @@ pub record FieldList (V : Type 0) : Type 1 where
   pub meaning : V → Meaning
   pub fields : Fields Meaning
 
+-- What a row of no fields means.
 abbrev pub empty_list : {W : Type 0} → FieldList W
 empty_list = record {
   Meaning = Unit {0};
@@ -40,6 +41,7 @@ empty_list = record {
   fields = no_fields;
 }
 
+-- What a row of one field means, seen so in a value.
 abbrev pub last_field : {V W : Type 0} → (W → V) → Der V → FieldList W
 last_field view d = record {
   Meaning = d.Meaning;
@@ -47,6 +49,7 @@ last_field view d = record {
   fields = last d;
 }
 
+-- What a row means: its first field, and then the row after it.
 abbrev pub first_field : {V U W : Type 0} → (W → V) → Der V → (W → U) → FieldList U → FieldList W
 first_field view d rest others = record {
   Meaning = d.Meaning × others.Meaning;
@@ -73,6 +76,7 @@ pub record BehindItem (T V : Type 0) : Type 1 where
   pub meaning : V → Meaning
   pub fields : FieldsBy item.Meaning Meaning
 
+-- What follows an item, if it is the value that the item defines and nothing else.
 abbrev pub value_last_behind : {T V W : Type 0} → (W → V) → ItemAndValue T V → BehindItem T W
 value_last_behind view both = record {
   item = both.item;
@@ -81,6 +85,7 @@ value_last_behind view both = record {
   fields = value_last both.value;
 }
 
+-- What follows an item, if it is the value that the item defines and then other fields.
 abbrev pub value_behind : {T V U W : Type 0} → (W → V) → ItemAndValue T V → (W → U) → FieldList U → BehindItem T W
 value_behind view both rest others = record {
   item = both.item;
@@ -89,6 +94,7 @@ value_behind view both rest others = record {
   fields = value_field both.value others.fields;
 }
 
+-- What follows an item, if it is a field and then a row with the value that the item defines.
 abbrev pub before_behind : {T A U W : Type 0} → (W → A) → Der A → (W → U) → BehindItem T U → BehindItem T W
 before_behind view d rest behind = record {
   item = behind.item;
@@ -129,10 +135,11 @@ structure view row names = simple_der (λ w. row.meaning (view w)) (sequence row
 abbrev pub structure_with_tag : {V W : Type 0} → Tag → (W → V) → FieldList V → List (List ℕ) → Der W
 structure_with_tag tag view row names = simple_der (λ w. row.meaning (view w)) (retagged (λ own. tag) (sequence row.fields names))
 
--- The encodings that a write of a value may append, and what the closures in it owe.
+-- The encodings that a write of a field's value may append.
 abbrev pub encoded : {V : Type 0} → Der V → V → List ℕ → Type 0
 encoded d v = d.texts (d.meaning v)
 
+-- What a write of a field's value requires of the closures in it.
 abbrev pub owed : {V : Type 0} → Der V → V → Type 0
 owed d v = d.closures (d.meaning v)
 
@@ -146,17 +153,21 @@ IsEncoded d wrap = IsWrittenAs d.texts d.closures (λ v. d.meaning (wrap v))
 
 -- ---- values of a struct's fields as a row has them: under a tag, or with a default
 
+-- A value under its explicit tag, as a row has it.
 abbrev pub explicit : {T : Type 0} {tag : ℕ} → T → Explicit T tag
 explicit x = record { inner = x }
 
+-- A value under its implicit tag, as a row has it.
 abbrev pub implicit : {T : Type 0} {tag : ℕ} → T → Implicit T tag
 implicit x = record { inner = x }
 
+-- A value beside its default, as a row has it.
 abbrev pub defaulted : {T D : Type 0} → T → Defaulted T D
 defaulted x = record { inner = x; default = record {} }
 
 -- ---- rows of these values
 
+-- A row of no fields; `fields1` to `fields16` are rows of so many values.
 abbrev pub fields0 : NoFields
 fields0 = record {}
 

@@ -40,10 +40,11 @@ retagged change c = record c {
   tag = change c.tag;
 }
 
--- The tag with this number of the class application, or private. The first parameter is the constructed bit.
+-- A tag of the class application, with this constructed bit and this number.
 abbrev pub application_tag : Bool → ℕ → Tag
 application_tag constructed n = tag_with Application constructed n
 
+-- A tag of the class private, with this constructed bit and this number.
 abbrev pub private_tag : Bool → ℕ → Tag
 private_tag constructed n = tag_with Private constructed n
 

@@ -58,6 +58,7 @@ ReadsListings d = d.lawful → d.is_element → (c : List ℕ) → IsText c → 
 abbrev pub ListsTellItems : {V : Type 0} → Der V → Type 0
 ListsTellItems d = (a b : List ℕ) (m n : ℕ) → IsText a → IsText b → AreItems d.read a m → AreItems d.read b n → (a ≡ b) ↔ (left d.read a ≡ left d.read b)
 
+-- Two sets that were read have the same octets exactly if they have the same items.
 abbrev pub SetsTellItems : {V : Type 0} → Der V → Type 0
 SetsTellItems d = (a b : List ℕ) → IsText a → IsText b → AreOrdered text_less d.read a → AreOrdered text_less d.read b → (a ≡ b) ↔ (set_left text_less d.read a ≡ set_left text_less d.read b)
 

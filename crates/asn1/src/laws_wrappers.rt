@@ -1,12 +1,12 @@
 //! Laws of options, wrappers, choices and fields, each the contract of a function that does nothing.
 
-ghost use Rattle.std.specs.Prelude.{◌≡◌, true, false};
 ghost use Rattle.std.specs.Borrow.{Bor};
 ghost use Rattle.asn1_core.specs.Options.{option_meaning};
 ghost use Rattle.asn1.specs.declared.fields.Field.{Field};
 ghost use Rattle.asn1.specs.declared.fields.Last.{Last};
 ghost use Rattle.asn1.specs.Alternatives.{Disjoint};
-ghost use Rattle.asn1.specs.Structures.{defaulted, explicit, implicit, IsEncoded, IsPlainBehind, IsReadAs, IsReadBehind, IsWrittenAs};
+ghost use Rattle.asn1.specs.Structures.{defaulted, explicit, implicit, IsEncoded, IsPlainBehind, IsReadAs};
+ghost use Rattle.asn1.specs.Structures.{IsReadBehind, IsWrittenAs};
 
 use crate::fields::{
     Before, DefinedField, Field, FieldWritable, Item, ItemOf, Last, LastValue, NoFields, Plain,

@@ -30,6 +30,7 @@ memory_number = 13
 abbrev pub unknown_type : ℕ
 unknown_type = 64
 
+-- The number of the error that says that a buffer has no room.
 abbrev pub buffer_too_small : ℕ
 buffer_too_small = 65
 

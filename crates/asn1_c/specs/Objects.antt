@@ -10,6 +10,7 @@ use Rattle.asn1_c.specs.declared.objects.TheConstants.Object.{ALL}
 use Rattle.asn1_c.specs.Errors.{IsTold, memory_number}
 use Rattle.asn1_c.specs.Types.{IsEncoding}
 
+-- The number of an object, as `include/asn1.h` has it.
 abbrev pub object_number : Object → ℕ
 object_number objects.Certificate = 1
 object_number objects.Crl = 2

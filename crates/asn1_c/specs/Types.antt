@@ -25,6 +25,7 @@ use Rattle.asn1_c.specs.Errors.{told_read, without_details, unknown_type, left_b
 
 -- ---- the numbers
 
+-- The number of a type, as `include/asn1.h` has it.
 abbrev pub type_number : TypeName → ℕ
 type_number types.Bool = 1
 type_number types.Tlv = 2

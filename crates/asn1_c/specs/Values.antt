@@ -29,6 +29,7 @@ abbrev pub fraction : Option ℕ → ℕ
 fraction (Some nanoseconds) = nanoseconds
 fraction None = 0
 
+-- The struct of a time: its moment, and its nanoseconds or 0.
 abbrev pub shown_time : Moment → Option ℕ → Asn1Time
 shown_time m nanoseconds = record { year = m.year; month = m.month; day = m.day; hour = m.hour; minute = m.minute; second = m.second; nanoseconds = fraction nanoseconds }
 

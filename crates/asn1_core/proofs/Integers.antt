@@ -2,7 +2,7 @@
 use Rattle.std.proofs.Common.{◌≡◌, ℕ, zero, suc, ◌+◌, ◌-◌, ◌*◌, ◌/◌, ◌%◌, ◌^◌, ◌<◌, ◌≤◌, ◌⊎◌, Bool, true, false, if◌then◌else◌, leb, Ok, Err, List, [], ◌∷◌, ◌++◌, length, get_or, take, drop, replicate, refl, sym, ap, subst, ◌∙◌, inl, inr, ⊎_elim, arith, lit<, lit≤}
 use Rattle.std.specs.Prelude.{ℤ, pos, negsuc, neg_ℤ, ◌≤ℤ◌, ◌<ℤ◌, int_lt, unsigned_abs, FitsSigned}
 use Rattle.std.specs.Int.Digits.{digits_of}
-use Rattle.std.specs.Int.{w128, to_be_bytes, from_be_bytes, bytes_high_first, byte_worth, sum_through, cast_unsigned, cast_signed}
+use Rattle.std.specs.Int.{Width, w64, w128, to_be_bytes, from_be_bytes, bytes_high_first, byte_worth, sum_through, cast_unsigned, cast_signed}
 use Rattle.std.proofs.lemmas.Int.{ints, to_z-of_z, to_z_pos}
 use Rattle.std.proofs.lemmas.Int.Digits.{number_push}
 use Rattle.std.proofs.lemmas.Bool.{le-leb, lt-leb, leb-true, leb-false, cases_lt, cases_Bool}
@@ -18,7 +18,6 @@ use Rattle.asn1_core.specs.Fault.{Fault, fault}
 use Rattle.asn1_core.specs.Integer.{nine_bits, is_minimal, with_sign, turned, integer_content, below, within_range, read_sized}
 use Rattle.asn1_core.specs.Lemmas.Digits.{number_by_digits}
 use Rattle.asn1_core.specs.Lemmas.Lengths.{number_lt}
-use Rattle.asn1_core.specs.Lemmas.Texts.{IsText-from_reads}
 use Rattle.asn1_core.specs.Lemmas.Integers.{zero_front, signed_low, signed_high, turned_length, turned_text, turned_low, turned_number, turned_shortest, shortest_nine, fewer_same, content_only, content_text, content_shortest, content_value, range_ok, range_below, range_above, sized_ok, sized_refused}
 
 -- ---- one more octet
@@ -107,9 +106,24 @@ sixteen_high m n small e =
     let same : number (turned b) ≡ m = omega (arith, turned_number b is, value) in
     signed_high b is (omega arith) ∙ ap negsuc same
 
-pub sixteen : (z : ℤ) → FitsSigned w128 z → signed_number (to_be_bytes w128 (cast_unsigned w128 z)) ≡ z
+sixteen : (z : ℤ) → FitsSigned w128 z → signed_number (to_be_bytes w128 (cast_unsigned w128 z)) ≡ z
 sixteen (pos m) fits = sixteen_low m fits.sfits
 sixteen (negsuc m) fits = sixteen_high m _ fits.sfits refl
+
+eight_low : (m : ℕ) → m < 2 ^ 63 → signed_number (bytes_high_first 8 m) ≡ pos m
+eight_low m small = signed_low (bytes_high_first 8 m) (omega arith) ∙ ap pos (high_number 8 m ∙ omega arith)
+
+eight_high : (m n : ℕ) → m < 2 ^ 63 → n ≡ 2 ^ 64 - suc m → signed_number (bytes_high_first 8 n) ≡ negsuc m
+eight_high m n small e =
+    let b : List ℕ = bytes_high_first 8 n in
+    let is : IsText b = high_text 8 n in
+    let value : number b ≡ n % 256 ^ 8 = high_number 8 n in
+    let same : number (turned b) ≡ m = omega (arith, turned_number b is, value) in
+    signed_high b is (omega arith) ∙ ap negsuc same
+
+eight : (z : ℤ) → FitsSigned w64 z → signed_number (to_be_bytes w64 (cast_unsigned w64 z)) ≡ z
+eight (pos m) fits = eight_low m fits.sfits
+eight (negsuc m) fits = eight_high m _ fits.sfits refl
 
 -- ---- the contents octets at the end of the octets
 
@@ -219,35 +233,35 @@ length_by_bits z k n same small most =
           low_bits (turned c) k (turned_text c) (turned_shortest c is e) (turned_low c is h) (omega (arith, value, small)) (omega (arith, value, most)) ∙ turned_length c
     ]
 
-pub length_counted : (z : ℤ) (m n : ℕ) → size_of z ≡ n → n < 2 ^ 128 → m ≡ count_leading_zeros 128 n → (128 - m) / 8 + 1 ≡ length (integer_content z)
-length_counted z m n same small e =
-    let top = leading_length 128 n small in
-    let bits : 128 - m ≡ top.0 = omega (arith, top.1, e) in
+pub length_counted : (w : ℕ) (z : ℤ) (m n : ℕ) → size_of z ≡ n → n < 2 ^ w → m ≡ count_leading_zeros w n → (w - m) / 8 + 1 ≡ length (integer_content z)
+length_counted w z m n same small e =
+    let top = leading_length w n small in
+    let bits : w - m ≡ top.0 = omega (arith, top.1, e) in
     ap (λ (k : ℕ). k / 8 + 1) bits ∙ length_by_bits z top.0 n same top.2 top.3
 
 length_both : (m : ℕ) → length (integer_content (pos m)) ≡ length (integer_content (negsuc m))
 unfolding integer_content
 length_both m = sym (turned_length (with_sign (digits_of 256 m)))
 
-pub length_low : (z : ℤ) (n : ℕ) → FitsSigned w128 z → n ≡ unsigned_abs (cast_signed w128 (cast_unsigned w128 z)) → pos 0 ≤ℤ z → length (integer_content (pos n)) ≡ length (integer_content z)
-length_low (pos m) n fits e h = ap (λ (k : ℕ). length (integer_content (pos k))) (e ∙ ap unsigned_abs (to_z-of_z w128 (pos m) fits))
-length_low (negsuc m) n fits e h = absurd (omega (arith, ints))
+pub length_low : (w : Width) (z : ℤ) (n : ℕ) → FitsSigned w z → n ≡ unsigned_abs (cast_signed w (cast_unsigned w z)) → pos 0 ≤ℤ z → length (integer_content (pos n)) ≡ length (integer_content z)
+length_low w (pos m) n fits e h = ap (λ (k : ℕ). length (integer_content (pos k))) (e ∙ ap unsigned_abs (to_z-of_z w (pos m) fits))
+length_low w (negsuc m) n fits e h = absurd (omega (arith, ints))
 
-pub size_some : (z : ℤ) (n : ℕ) → FitsSigned w128 z → n ≡ unsigned_abs (cast_signed w128 (cast_unsigned w128 z)) → z <ℤ pos 0 → 0 < n
-size_some (pos m) n fits e h = absurd (omega (arith, ints))
-size_some (negsuc m) n fits e h =
-    let same : n ≡ suc m = e ∙ ap unsigned_abs (to_z-of_z w128 (negsuc m) fits) in
+pub size_some : (w : Width) (z : ℤ) (n : ℕ) → FitsSigned w z → n ≡ unsigned_abs (cast_signed w (cast_unsigned w z)) → z <ℤ pos 0 → 0 < n
+size_some w (pos m) n fits e h = absurd (omega (arith, ints))
+size_some w (negsuc m) n fits e h =
+    let same : n ≡ suc m = e ∙ ap unsigned_abs (to_z-of_z w (negsuc m) fits) in
     omega (arith, same)
 
-pub length_high : (z : ℤ) (n : ℕ) → FitsSigned w128 z → n ≡ unsigned_abs (cast_signed w128 (cast_unsigned w128 z)) → z <ℤ pos 0 → length (integer_content (pos (n - 1))) ≡ length (integer_content z)
-length_high (pos m) n fits e h = absurd (omega (arith, ints))
-length_high (negsuc m) n fits e h =
-    let same : n ≡ suc m = e ∙ ap unsigned_abs (to_z-of_z w128 (negsuc m) fits) in
+pub length_high : (w : Width) (z : ℤ) (n : ℕ) → FitsSigned w z → n ≡ unsigned_abs (cast_signed w (cast_unsigned w z)) → z <ℤ pos 0 → length (integer_content (pos (n - 1))) ≡ length (integer_content z)
+length_high w (pos m) n fits e h = absurd (omega (arith, ints))
+length_high w (negsuc m) n fits e h =
+    let same : n ≡ suc m = e ∙ ap unsigned_abs (to_z-of_z w (negsuc m) fits) in
     let less : n - 1 ≡ m = omega (arith, same) in
     ap (λ (k : ℕ). length (integer_content (pos k))) less ∙ length_both m
 
-pub length_passed : (z : ℤ) (r : ℕ) → FitsSigned w128 z → r ≡ length (integer_content (cast_signed w128 (cast_unsigned w128 z))) → r ≡ length (integer_content z)
-length_passed z r fits e = e ∙ ap (λ (x : ℤ). length (integer_content x)) (to_z-of_z w128 z fits)
+pub length_passed : (w : Width) (z : ℤ) (r : ℕ) → FitsSigned w z → r ≡ length (integer_content (cast_signed w (cast_unsigned w z))) → r ≡ length (integer_content z)
+length_passed w z r fits e = e ∙ ap (λ (x : ℤ). length (integer_content x)) (to_z-of_z w z fits)
 
 -- ---- the leading sign octets
 
@@ -387,27 +401,30 @@ beyond_refused low high z c f e value same ordered (inr h) =
     let above : low ≤ℤ z = omega (arith, ints) in
     refused_number low high c f false e (same ∙ ap (λ (b : Bool). fault (if b then below low else IntegerOverflow)) test) (λ t. absurd cc) (λ t. subst (λ (x : ℤ). (low ≤ℤ x) × (high <ℤ x)) value (above, h))
 
-pub sixteen_length : (t : List ℕ) (z : ℤ) → t ≡ to_be_bytes w128 (cast_unsigned w128 z) → length t ≡ 16
-sixteen_length t z e = ap length e ∙ high_length 16 (cast_unsigned w128 z)
+pub passed_octets : (w : Width) (t : List ℕ) (z : ℤ) → FitsSigned w z → t ≡ to_be_bytes w (cast_unsigned w (cast_signed w (cast_unsigned w z))) → t ≡ to_be_bytes w (cast_unsigned w z)
+passed_octets w t z fits e = e ∙ ap (λ (x : ℤ). to_be_bytes w (cast_unsigned w x)) (to_z-of_z w z fits)
 
-reads : (t : List ℕ) → IsText t → (k : ℕ) → get_or t k 0 < 256
-reads [] is k = lit< tt
-reads (x ∷ xs) is zero = is.0
-reads (x ∷ xs) is (suc k) = reads xs is.1 k
+octets_end : (t : List ℕ) (z : ℤ) → IsText t → 0 < length t → signed_number t ≡ z → EndsWithContent t (integer_content z)
+octets_end t z is some e = subst (λ (x : ℤ). EndsWithContent t (integer_content x)) e (content_behind t is some)
 
-pub sixteen_octets : (t : List ℕ) (z : ℤ) → t ≡ to_be_bytes w128 (cast_unsigned w128 z) → (k : ℕ) → get_or t k 0 < 256
-sixteen_octets t z e = reads t (subst IsText (sym e) (high_text 16 (cast_unsigned w128 z)))
+pub eight_end : (t : List ℕ) (z : ℤ) → FitsSigned w64 z → t ≡ to_be_bytes w64 (cast_unsigned w64 (cast_signed w64 (cast_unsigned w64 z))) → (length t ≡ 8) × EndsWithContent t (integer_content z)
+eight_end t z fits passed =
+    let e = passed_octets w64 t z fits passed in
+    let n : ℕ = cast_unsigned w64 z in
+    let size : length t ≡ 8 = ap length e ∙ high_length 8 n in
+    (size, octets_end t z (subst IsText (sym e) (high_text 8 n)) (omega (arith, size)) (ap signed_number e ∙ eight z fits))
 
-pub sixteen_passed : (t : List ℕ) (z : ℤ) → FitsSigned w128 z → t ≡ to_be_bytes w128 (cast_unsigned w128 (cast_signed w128 (cast_unsigned w128 z))) → t ≡ to_be_bytes w128 (cast_unsigned w128 z)
-sixteen_passed t z fits e = e ∙ ap (λ (x : ℤ). to_be_bytes w128 (cast_unsigned w128 x)) (to_z-of_z w128 z fits)
+pub sixteen_end : (t : List ℕ) (z : ℤ) → FitsSigned w128 z → t ≡ to_be_bytes w128 (cast_unsigned w128 (cast_signed w128 (cast_unsigned w128 z))) → (length t ≡ 16) × EndsWithContent t (integer_content z)
+sixteen_end t z fits passed =
+    let e = passed_octets w128 t z fits passed in
+    let n : ℕ = cast_unsigned w128 z in
+    let size : length t ≡ 16 = ap length e ∙ high_length 16 n in
+    (size, octets_end t z (subst IsText (sym e) (high_text 16 n)) (omega (arith, size)) (ap signed_number e ∙ sixteen z fits))
 
-pub sixteen_end : (t : List ℕ) (z : ℤ) → FitsSigned w128 z → t ≡ to_be_bytes w128 (cast_unsigned w128 z) → EndsWithContent t (integer_content z)
-sixteen_end t z fits e =
-    let is : IsText t = IsText-from_reads t (sixteen_octets t z e) in
-    let some : 0 < length t = omega (arith, sixteen_length t z e) in
-    subst (λ (x : ℤ). EndsWithContent t (integer_content x)) (ap signed_number e ∙ sixteen z fits) (content_behind t is some)
+content_end : (t c : List ℕ) (count start : ℕ) → EndsWithContent t c → count ≡ length c → start ≡ length t - count → drop start t ≡ c
+content_end t c count start is size at = ap (λ (k : ℕ). drop k t) (at ∙ ap (λ (k : ℕ). length t - k) size) ∙ is.content
 
-pub sixteen_end_of : (t : List ℕ) (z : ℤ) (count start : ℕ) → FitsSigned w128 z → t ≡ to_be_bytes w128 (cast_unsigned w128 z) → count ≡ length (integer_content z) → start ≡ 16 - count → drop start t ≡ integer_content z
-sixteen_end_of t z count start fits e size at =
-    let place : start ≡ length t - length (integer_content z) = omega (arith, size, at, sixteen_length t z e) in
-    ap (λ (k : ℕ). drop k t) place ∙ (sixteen_end t z fits e).content
+pub content_part : (t c : List ℕ) (count start more : ℕ) → EndsWithContent t c → count ≡ length c → start ≡ length t - count → more ≡ length t - start → take more (drop start t) ≡ c
+content_part t c count start more is size at rest =
+    let e = content_end t c count start is size at in
+    take_all more (drop start t) (omega (arith, ap length e, size, at, rest, is.fewer)) ∙ e

@@ -24,19 +24,21 @@ IsFinished (octet ∷ next ∷ octets) = (128 ≤ octet) × (octet < 256) × IsF
 abbrev pub BeginsWithZero : List ℕ → Type 0
 BeginsWithZero octets = slice_index octets 0 ≡ 0x80
 
--- The octets encode n in base 128. (8.1.2.4.2, 8.19.2)
+-- The octets encode n in base 128: they are finished, don't begin with 0x80, and n is below 2^128. (8.1.2.4.2, 8.19.2)
 pub record IsNumberText (octets : List ℕ) (n : ℕ) : Type 0 where
   pub finished : IsFinished octets
   pub shortest : ¬ BeginsWithZero octets
   pub value : digits_number octets ≡ n
   pub small : n < 2 ^ 128
 
--- Whatever octets follow, these encode no number.
+-- Whatever octets follow, these encode no number: they are open, and begin with 0x80 or are 19 or more; or they are
+-- finished, and begin with 0x80 or give 2^128 or more.
 abbrev pub IsFaulty : List ℕ → Type 0
 IsFaulty octets = IsOpen octets × (BeginsWithZero octets ⊎ 19 ≤ length octets)
     ⊎ IsFinished octets × (BeginsWithZero octets ⊎ 2 ^ 128 ≤ digits_number octets)
 
--- What octets begin with: a number in base 128 and the remaining octets; an error; or too few octets.
+-- What octets begin with: a number in base 128 and the remaining octets; or `InvalidValue`, if a prefix is malformed;
+-- or `ShortData` with 1 needed, if all the octets are open and not malformed.
 abbrev pub IsNumberFront : List ℕ → Result (ℕ × List ℕ) ParseErrorKind → Type 0
 IsNumberFront text (Ok found) = (octets : List ℕ) × IsNumberText octets found.0 × (text ≡ octets ++ found.1)
 IsNumberFront text (Err InvalidValue) = (octets rest : List ℕ) × IsFaulty octets × (text ≡ octets ++ rest)

@@ -5,6 +5,7 @@ use Rattle.asn1_core.specs.Boolean.{bool_content_text, read_bool}
 use Rattle.asn1_core.specs.Der.{Content, basic}
 use Rattle.asn1_core.specs.Lemmas.Booleans.{bool_takes, bool_again, bool_faults}
 
+-- The content of BOOLEAN (8.2), with the tag 1.
 abbrev pub bool_content : Content Bool
 bool_content = basic (record {
   tag = universal 1;

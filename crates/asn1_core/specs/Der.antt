@@ -50,6 +50,8 @@ pub record Content (M : Type 0) : Type 1 where
   pub memory : (c : List ℕ) (places : List Place) → runs_out c places → takes_memory
   pub faults : (c : List ℕ) → IfErr (read c) IsOfText
 
+-- What a type means in DER, for reading and writing alike. An author states it for a type by the ghost member `der` of
+-- `Asn1Type`. Its laws are fields too, so that nobody states a type without a proof of them.
 pub record Der (V : Type 0) : Type 1 where
   -- a value without its address in memory
   pub Meaning : Type 0
@@ -77,22 +79,31 @@ pub record Der (V : Type 0) : Type 1 where
   pub is_read : Type 0
   -- locations at which memory may run out
   pub runs_out : List ℕ → List Place → Type 0
+  -- the tags that an element of the type may have
   pub accepts : Tag → Bool
   -- the value at the start of the octets and the remaining octets, or the first error
   pub read : List ℕ → Result (Meaning × List ℕ) Fault
   -- what a read leaves at an error
   pub stops : List ℕ → List ℕ → Type 0
-  -- the laws
+  -- the laws: a plain type has no encoding but `text`
   pub one_text : plain → (m : Meaning) (t : List ℕ) → texts m t → t ≡ text m
   -- the encoding may be written
   pub has_text : plain → (m : Meaning) → valid m → texts m (text m)
   -- what is written of a value is nothing or one element
   pub at_most_one : (m : Meaning) (t : List ℕ) → texts m t → IsNothingOrElement t
+  -- a plain type requires nothing of closures
   pub no_closures : plain → (m : Meaning) → closures m
+  -- what a read consumes is the encoding of the value that it returns, which is nothing or one readable element; the
+  -- value is valid and allowed
   pub takes : (t rest : List ℕ) (m : Meaning) → IsText t → read t ≡ Ok (m, rest) → Takes t (text m) rest × (valid m × allowed m)
+  -- in a lawful type the encoding of a valid value is empty or one element
   pub shape : (m : Meaning) → lawful → valid m → (text m ≡ []) ⊎ IsOneElement (text m)
+  -- if an encoding is an element, the type accepts its tag
   pub accepted : (m : Meaning) (e : Element) → valid m → text m ≡ element_text e → accepts e.tag ≡ true
+  -- if each encoding of a lawful type is an element, none is empty
   pub solid : (m : Meaning) → lawful → is_element → valid m → text m ≡ [] → ⊥
+  -- a lawful type reads the encoding of a valid, allowed value back, whatever octets are after it, if the encoding
+  -- fits; after an empty one mustn't be an accepted tag
   pub again : (m : Meaning) (rest : List ℕ) → lawful → valid m → allowed m → Fits (text m) → (text m ≡ [] → stands accepts rest ≡ false) → read (text m ++ rest) ≡ Ok (m, rest)
   -- no two values share an encoding
   pub one_value : (m n : Meaning) → lawful → valid m → valid n → allowed m → allowed n → Fits (text m) → text m ≡ text n → m ≡ n
@@ -100,6 +111,7 @@ pub record Der (V : Type 0) : Type 1 where
   pub short_fits : (m : Meaning) → lawful → valid m → length (text m) < 2 ^ 32 → Fits (text m)
   -- a type without bounds reads each valid value back
   pub unbounded : (bounded → ⊥) → (m : Meaning) → valid m → allowed m
+  -- memory runs out only for a type that allocates
   pub memory : (t : List ℕ) (places : List Place) → runs_out t places → takes_memory
   -- memory runs out only if the octets begin with an element
   pub in_front : (t : List ℕ) (places : List Place) → runs_out t places → (f : Element × List ℕ) × (front t ≡ Ok f)
@@ -108,18 +120,29 @@ pub record Der (V : Type 0) : Type 1 where
   -- a simple type is one element with its tag and its contents octets
   pub is_simple : Type 0
   pub content : Content Meaning
+  -- what the type requires of closures its content does
   pub as_closures : (m : Meaning) → closures m → content.closures m
+  -- a valid value is one of the content
   pub as_valid : (m : Meaning) → valid m → content.valid m
+  -- if reading the content allocates, so does reading the type
   pub as_memory : content.takes_memory → takes_memory
+  -- if the content has bounds, so has the type
   pub as_bounded : content.bounded → bounded
   -- reading contents octets returns no `AllocationError` for a type that doesn't allocate
   pub as_faults : (takes_memory → ⊥) → (c : List ℕ) (result : Result V Fault) → Answers meaning (content.runs_out c) result (content.read c) → IfErr result IsOfText
+  -- if the type is plain, so is its content
   pub as_plain : is_simple → plain → content.plain
+  -- if the type is lawful, so is its content
   pub as_lawful : is_simple → lawful → content.lawful
+  -- a write appends an element of its contents octets
   pub as_texts : is_simple → (m : Meaning) → texts m ≡ IsElementOf content.tag (content.texts m)
+  -- the type accepts its own tag alone
   pub as_accepts : is_simple → (t : Tag) → accepts t ≡ tag_eq t content.tag
+  -- reading is framing, the tag, and the content
   pub as_read : is_simple → (t : List ℕ) → read t ≡ simple content.tag content.read t
+  -- memory may run out exactly in contents octets with the right tag
   pub as_out : is_simple → (t : List ℕ) (places : List Place) → simple_out content.tag content.runs_out t places ↔ runs_out t places
+  -- a failed read leaves what `simple_stops` says
   pub as_stops : is_simple → (t rest : List ℕ) → simple_stops t rest ↔ stops t rest
 
 -- The laws of a simple type, by its content. They are separate lemmas, which don't unfold: the type of a list holds
@@ -230,6 +253,7 @@ pub record Basic (M : Type 0) : Type 1 where
   pub again : (m : M) → valid m → read (text m) ≡ Ok m
   pub faults : (c : List ℕ) → IfErr (read c) IsOfText
 
+-- The content without parts: it doesn't allocate, has no closures and no bounds.
 abbrev pub basic : {M : Type 0} → Basic M → Content M
 basic b = record {
   tag = b.tag;

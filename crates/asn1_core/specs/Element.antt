@@ -11,6 +11,7 @@ pub record Element : Type 0 where
   pub tag : Tag
   pub content : List ℕ
 
+-- The element with this tag and these contents octets.
 abbrev pub element : Tag → List ℕ → Element
 element tag content = record { tag = tag; content = content }
 
@@ -24,7 +25,8 @@ pub record IsReadable (e : Element) : Type 0 where
   pub content : length e.content < 2 ^ 32
 
 -- What octets begin with: one element and the remaining octets; or the error of the first field that is malformed or
--- unfinished, in the order tag, length, contents octets.
+-- unfinished, in the order tag, length, contents octets. The kinds are `InvalidTag`, `InvalidLength`, and `ShortData`
+-- with how many octets are missing at least.
 abbrev pub IsFront : List ℕ → Result (Element × List ℕ) ParseErrorKind → Type 0
 IsFront text (Ok found) = IsReadable found.0 × (text ≡ element_text found.0 ++ found.1)
 IsFront text (Err kind) = IsTagFront text (Err kind)

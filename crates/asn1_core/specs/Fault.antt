@@ -11,6 +11,7 @@ use Rattle.asn1_core.specs.Tag.{tag_eq}
 use Rattle.asn1_core.specs.declared.writer.WriteError.{WriteError}
 use Rattle.asn1_core.specs.declared.writer.WriteError.TheVariants as writing
 
+-- An error: its kind, and its locations in the structures around it, the innermost first.
 pub record Fault : Type 0 where
   pub kind : ParseErrorKind
   pub places : List Place
@@ -53,6 +54,7 @@ place_of (locations.Index i) = Index i
 
 -- ---- when two errors are the same: their kinds are, and the locations that are kept
 
+-- Whether two kinds are the same, with the same numbers or the same tag in them.
 abbrev pub kind_eq : ParseErrorKind → ParseErrorKind → Bool
 kind_eq InvalidValue InvalidValue = true
 kind_eq InvalidTag InvalidTag = true
@@ -69,11 +71,13 @@ kind_eq UnknownDefinedBy UnknownDefinedBy = true
 kind_eq AllocationError AllocationError = true
 kind_eq _ _ = false
 
+-- Whether two locations are the same: the same name, octet for octet, or the same index.
 abbrev pub place_eq : Place → Place → Bool
 place_eq (Field name) (Field name') = bytes_eq name name'
 place_eq (Index i) (Index i') = i == i'
 place_eq _ _ = false
 
+-- Whether two errors are equal: the same kind, and one by one the same locations.
 abbrev pub fault_eq : Fault → Fault → Bool
 fault_eq e f = kind_eq e.kind f.kind && pointwise place_eq e.places f.places
 
@@ -95,9 +99,11 @@ kind_text OidTooLong = Some (codes "OBJECT IDENTIFIER was too large to be stored
 kind_text UnknownDefinedBy = Some (codes "DEFINED BY with unknown value")
 kind_text AllocationError = Some (codes "allocation error")
 
+-- What a `ParseError` displays: `ASN.1 parsing error: ` and the words for its kind. Nothing is said of `UnexpectedTag`.
 abbrev pub error_text : ParseErrorKind → Option (List ℕ)
 error_text kind = option_map (λ text. codes "ASN.1 parsing error: " ++ text) (kind_text kind)
 
+-- What a `WriteError` displays.
 abbrev pub write_error_text : WriteError → List ℕ
 write_error_text writing.AllocationError = codes "allocation error"
 write_error_text writing.InvalidSetOrdering = codes "SET elements are not in DER order"

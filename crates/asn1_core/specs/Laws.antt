@@ -67,6 +67,7 @@ JoinsHaveOneCutting = (es fs : List Element) → AllByRecursion IsReadable es �
 
 -- ---- worked examples: what given octets begin with, and how a length, a tag and a value are encoded
 
+-- Worked examples of what octets begin with.
 pub record Fronts : Type 0 where
   pub nothing : front [] ≡ Err (ShortData 1)
   pub octets : front (0x04 ∷ 0x03 ∷ 0x61 ∷ 0x62 ∷ 0x63 ∷ 0x00 ∷ []) ≡ Ok (element (universal 4) (0x61 ∷ 0x62 ∷ 0x63 ∷ []), 0x00 ∷ [])
@@ -77,6 +78,7 @@ pub record Fronts : Type 0 where
   pub open_tag : front (0x1f ∷ 0x90 ∷ 0x80 ∷ 0x80 ∷ 0x80 ∷ 0x80 ∷ []) ≡ Err (ShortData 1)
   pub large_tag : front (0x1f ∷ 0x90 ∷ 0x80 ∷ 0x80 ∷ 0x80 ∷ 0x80 ∷ 0x00 ∷ []) ≡ Err InvalidTag
 
+-- Worked examples of tags: the largest number that is read, and malformed ones.
 pub record Tags : Type 0 where
   pub largest : tag_front (0x1f ∷ 0x8f ∷ 0xff ∷ 0xff ∷ 0xff ∷ 0x7f ∷ []) ≡ Ok (universal 4294967295, [])
   pub small_in_long_form : tag_front (0x1f ∷ 0x1e ∷ []) ≡ Err InvalidTag
@@ -85,6 +87,7 @@ pub record Tags : Type 0 where
   pub nineteen_octets : tag_front (0x1f ∷ (replicate 18 0xff ++ 0x00 ∷ [])) ≡ Err InvalidTag
   pub text : tag_text (universal 16385) ≡ 0x1f ∷ 0x81 ∷ 0x80 ∷ 0x01 ∷ []
 
+-- Worked examples of lengths, in the short and the long form.
 pub record Lengths : Type 0 where
   pub short : length_text 127 ≡ 0x7f ∷ []
   pub long : length_text 128 ≡ 0x81 ∷ 0x80 ∷ []
@@ -92,6 +95,7 @@ pub record Lengths : Type 0 where
   pub three_octets : length_text 65536 ≡ 0x83 ∷ 0x01 ∷ 0x00 ∷ 0x00 ∷ []
   pub not_readable : length_text (2 ^ 32) ≡ 0x85 ∷ 0x01 ∷ 0x00 ∷ 0x00 ∷ 0x00 ∷ 0x00 ∷ []
 
+-- Worked examples of Booleans: their encodings, and an octet that is none.
 pub record Booleans : Type 0 where
   pub text : (simple_der (λ b. b) bool_content).text true ≡ 0x01 ∷ 0x01 ∷ 0xff ∷ []
   pub read : whole ((simple_der (λ b. b) bool_content).read (0x01 ∷ 0x01 ∷ 0xff ∷ [])) ≡ Ok true

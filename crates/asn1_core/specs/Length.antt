@@ -41,6 +41,7 @@ long_length count rest =
     else if slice_index rest 0 == 0 || nat_lt (number (take count rest)) 128 then Err InvalidLength
     else Ok (number (take count rest), drop count rest)
 
+-- What octets begin with if a length is expected, as a function: that length and the remaining octets, or the error.
 unfoldable pub length_front : List ℕ → Result (ℕ × List ℕ) ParseErrorKind
 length_front [] = Err (ShortData 1)
 length_front (first ∷ rest) =

@@ -82,6 +82,7 @@ abbrev pub accepts_front : (Tag → Bool) → Result (Tag × List ℕ) ParseErro
 accepts_front accepts (Ok found) = accepts found.0
 accepts_front accepts (Err kind) = false
 
+-- Whether the octets begin with a tag that is accepted.
 abbrev pub stands : (Tag → Bool) → List ℕ → Bool
 stands accepts t = accepts_front accepts (tag_front t)
 

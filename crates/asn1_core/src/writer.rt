@@ -163,6 +163,16 @@ impl WriteBuf {
         WriteBuf { octets }
     }
 
+    /// An empty buffer with room for this many octets. `AllocationError` if out of memory.
+    #[inline(always)]
+    fn with_room(alloc: Global, octets: usize) -> WriteResult<WriteBuf>
+        ensures ok { IfOk result (λ buf. buf.bytes ≡ []) }
+        ensures error { IsOkUnless result WriteError.AllocationError }
+    {
+        let octets = Vec::with_capacity(alloc, octets)?;
+        Ok(WriteBuf { octets })
+    }
+
     /// The octets.
     pub(crate) fn into_octets(self) -> Vec<u8>
         ensures { result.items ≡ self.bytes }
@@ -219,22 +229,6 @@ impl WriteBuf {
         self.octets.try_reserve(octets.len())?;
         // There is room now, so all of them are pushed.
         let _pushed = self.octets.extend_from_slice(octets);
-        Ok(())
-    }
-
-    /// Appends octets one by one, which for a few takes less time than to copy them together. `AllocationError` if
-    /// there is no room and no more memory.
-    #[inline]
-    pub(crate) fn push_each(&mut self, octets: &[u8]) -> WriteResult<()>
-        ensures ok { OnOk result (self.new.bytes ≡ self.old.bytes ++ octets.now) }
-        ensures err { OnErr result (self.new ≡ self.old) }
-        ensures error { IsOkUnless result WriteError.AllocationError }
-    {
-        self.octets.try_reserve(octets.len())?;
-        for octet in octets {
-            // There is room now, so each push succeeds.
-            let _pushed = self.octets.push(*octet);
-        }
         Ok(())
     }
 
@@ -555,12 +549,14 @@ pub fn write<E: From<WriteError>, F: Fn(&mut Writer<'_>) -> Result<(), E> + Drop
 ///
 /// same(octets.as_slice(), &[1, 1, 0xff])?;
 /// ```
-#[inline]
+#[inline(always)]
 pub fn write_single<T: Asn1Writable>(alloc: Global, value: &T) -> Result<Vec<u8>, T::Error>
     requires { IsWritable T.der (T.der.meaning value.now) }
     ensures ok { IfOk result (λ v. T.der.texts (T.der.meaning value.now) v.items) }
     ensures text { T.der.plain → IfOk result (λ v. v.items ≡ T.der.text (T.der.meaning value.now)) }
     ensures error { IfErr result (Refuses T.Error.from_gives (T.write_errors value.now)) }
 {
-    write(alloc, |writer: &mut Writer<'_>| writer.write_element(value))
+    let mut buf = WriteBuf::with_room(alloc, value.encoded_length().unwrap_or(0))?;
+    value.write(&mut Writer::new(&mut buf))?;
+    Ok(buf.into_octets())
 }

@@ -32,6 +32,8 @@ mod page;
 #[cfg(test)]
 mod readme;
 #[cfg(test)]
+mod refused_items;
+#[cfg(test)]
 mod round_trips;
 #[cfg(test)]
 mod sets;

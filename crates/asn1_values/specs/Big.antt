@@ -19,6 +19,7 @@ IsUnsigned octets = IsSigned octets × (pos 0 ≤ℤ signed_number octets)
 abbrev pub IsSignedForm : List ℕ → Type 0
 IsSignedForm octets = (is_minimal octets ≡ true) × ((k : ℕ) → slice_index octets k < 256)
 
+-- The same of a number that isn't negative: the top bit of the first octet is 0.
 abbrev pub IsUnsignedForm : List ℕ → Type 0
 IsUnsignedForm octets = IsSignedForm octets × (slice_index octets 0 < 0x80)
 
@@ -30,5 +31,6 @@ bit_count z = length (digits_of 2 (unsigned_abs z))
 abbrev pub not_negative : ℤ → Result ℤ Fault
 not_negative z = if int_lt z (pos 0) then Err (fault InvalidValue) else Ok z
 
+-- The number of contents octets; `InvalidValue` if it is negative, or if they are not minimal.
 unfoldable pub read_unsigned : List ℕ → Result ℤ Fault
 read_unsigned c = read_integer c >>= not_negative

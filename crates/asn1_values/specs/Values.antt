@@ -13,27 +13,35 @@ use Rattle.asn1_values.specs.Lemmas.Big.{signed_takes, signed_again, unsigned_ta
 use Rattle.asn1_core.specs.Lemmas.Integers.{integer_faults}
 use Rattle.asn1_values.specs.declared.values.enumerated.Enumerated.{Enumerated}
 
+-- The octets of a `BigUint`.
 abbrev pub big_uint_octets : BigUint → List ℕ
 big_uint_octets n = n.octets.now
 
+-- The number of a `BigUint`.
 abbrev pub big_uint_number : BigUint → ℤ
 big_uint_number n = signed_number (big_uint_octets n)
 
+-- The octets of a `BigInt`.
 abbrev pub big_int_octets : BigInt → List ℕ
 big_int_octets n = n.octets.now
 
+-- The number of a `BigInt`.
 abbrev pub big_int_number : BigInt → ℤ
 big_int_number n = signed_number (big_int_octets n)
 
+-- The octets of an `OwnedBigUint`.
 abbrev pub owned_big_uint_octets : OwnedBigUint → List ℕ
 owned_big_uint_octets n = n.octets.items
 
+-- The number of an `OwnedBigUint`.
 abbrev pub owned_big_uint_number : OwnedBigUint → ℤ
 owned_big_uint_number n = signed_number (owned_big_uint_octets n)
 
+-- The octets of an `OwnedBigInt`.
 abbrev pub owned_big_int_octets : OwnedBigInt → List ℕ
 owned_big_int_octets n = n.octets.items
 
+-- The number of an `OwnedBigInt`.
 abbrev pub owned_big_int_number : OwnedBigInt → ℤ
 owned_big_int_number n = signed_number (owned_big_int_octets n)
 

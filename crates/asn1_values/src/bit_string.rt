@@ -1,12 +1,12 @@
 //! BIT STRING (X.690 8.6, 11.2), borrowed and owned.
 
-ghost use Rattle.std.specs.Prelude.{◌≡◌, true, ⊤, Some, length, MatchOption};
-ghost use Rattle.asn1_core.specs.Reading.{Answers};
+ghost use Rattle.std.specs.Prelude.{◌≡◌, IsTrue, true, ⊤, Some, length, MatchOption};
+ghost use Rattle.asn1_core.specs.Reads.{ReadsContents};
 ghost use Rattle.asn1_core.specs.Der.{simple_der};
 ghost use Rattle.asn1_core.specs.Boxed.{boxed};
 ghost use Rattle.asn1_core.specs.Tag.{universal};
 ghost use Rattle.asn1_core.specs.Writing.{GivesLength};
-ghost use Rattle.asn1_values.specs.Bits.{is_padded, IsBits, bits, bits_text, has_bit, read_bits};
+ghost use Rattle.asn1_values.specs.Bits.{is_padded, IsBits, bits, bits_text, has_bit};
 
 use asn1_core::{
     Asn1Type, ParseError, ParseErrorKind, ParseResult, SimpleAsn1Readable, SimpleAsn1Writable, Tag,
@@ -137,7 +137,7 @@ impl<'a> SimpleAsn1Readable<'a> for BitString<'a> {
 
     #[inline]
     fn parse_data(_alloc: Global, data: &'a [u8]) -> ParseResult<BitString<'a>>
-        ensures { Answers bits_of (λ _. ⊥) result (read_bits «data».entry.now) }
+        ensures { ReadsContents ⟦<BitString<'a> as Asn1Type>⟧.der «data».entry.now result }
     {
         let [padding, octets @ ..] = data else {
             return Err(ParseError::new(ParseErrorKind::InvalidValue));
@@ -173,6 +173,12 @@ impl SimpleAsn1Writable for BitString<'_> {
         ensures exact { result ≡ Some (length (bits_text (bits_of self.now))) }
     {
         Some(1 + self.octets.len())
+    }
+
+    fn writes_as_read() -> bool
+        ensures { IsTrue result }
+    {
+        true
     }
 }
 
@@ -284,5 +290,9 @@ impl SimpleAsn1Writable for OwnedBitString {
         ensures { result ≡ Some (length (bits_text (owned_bits_of self.now))) }
     {
         Some(1 + self.octets.len())
+    }
+
+    fn writes_as_read() -> bool {
+        true
     }
 }

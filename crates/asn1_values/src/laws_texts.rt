@@ -7,7 +7,8 @@ ghost use Rattle.asn1_values.specs.Comparisons.{
   IsEqualityOf,
   NeverFails,
 };
-ghost use Rattle.asn1_values.specs.TextValues.{ia5_octets, printable_octets, utf8_octets, visible_octets, bmp_octets, universal_octets};
+ghost use Rattle.asn1_values.specs.TextValues.{ia5_octets, printable_octets, utf8_octets, visible_octets, bmp_octets};
+ghost use Rattle.asn1_values.specs.TextValues.{universal_octets};
 
 use crate::values::{
     BMPString, IA5String, PrintableString, UniversalString, Utf8String, VisibleString,

@@ -1,7 +1,8 @@
 //! Laws of times: which octets are read and written, how times compare, and what clones are. Each is the contract of a
 //! function that does nothing.
 
-ghost use Rattle.asn1_values.specs.Comparisons.{ClonesAreEqual, HashesAlike, IsEqualityOf, IsOrderOf, IsTieOf, NeverFails};
+ghost use Rattle.asn1_values.specs.Comparisons.{ClonesAreEqual, HashesAlike, IsEqualityOf, IsOrderOf, IsTieOf};
+ghost use Rattle.asn1_values.specs.Comparisons.{NeverFails};
 ghost use Rattle.asn1_values.specs.TimeValues.{TimesAreRead, TimesAreWritten};
 ghost use Rattle.asn1_values.specs.TimeValues.{instant_content, utc_content, x509_content};
 ghost use Rattle.asn1_values.specs.TimeValues.{moment, instant_of, utc_moment, x509_moment};

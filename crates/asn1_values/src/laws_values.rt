@@ -7,7 +7,9 @@ ghost use Rattle.asn1_values.specs.Comparisons.{
   IsEqualityOf,
   NeverFails,
 };
-ghost use Rattle.asn1_values.specs.Values.{enumerated_value, big_int_number, big_int_octets, big_uint_number, big_uint_octets, owned_big_int_number, owned_big_int_octets, owned_big_uint_number, owned_big_uint_octets};
+ghost use Rattle.asn1_values.specs.Values.{enumerated_value, big_int_number, big_int_octets, big_uint_number};
+ghost use Rattle.asn1_values.specs.Values.{big_uint_octets, owned_big_int_number, owned_big_int_octets};
+ghost use Rattle.asn1_values.specs.Values.{owned_big_uint_number, owned_big_uint_octets};
 
 use crate::values::{BigInt, BigUint, Enumerated, OwnedBigInt, OwnedBigUint};
 use std::hash::Hash;

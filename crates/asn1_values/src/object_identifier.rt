@@ -1,12 +1,15 @@
 //! OBJECT IDENTIFIER (X.690 8.19), and its dotted form in decimal.
 
-ghost use Rattle.std.specs.Prelude.{⊤, ◌≡◌, ◌+◌, ◌<◌, ◌≤◌, ◌^◌, ◌++◌, IfSome, drop, ◌∷◌, None, option_map, length, true, Some, take, is_some, Ok, Err, MatchOption};
+ghost use Rattle.std.specs.Prelude.{⊤, ◌≡◌, ◌+◌, ◌<◌, ◌≤◌, ◌^◌, ◌++◌, ◌∷◌};
+ghost use Rattle.std.specs.Prelude.{IfSome, drop, None, option_map, length, true, Some, take, is_some, Ok, Err};
+ghost use Rattle.std.specs.Prelude.{MatchOption};
 ghost use Rattle.asn1_core.specs.declared.parser.ParseErrorKind.{ParseErrorKind};
 ghost use Rattle.asn1_core.specs.Base128.{number_front, number_text};
-ghost use Rattle.asn1_core.specs.Tag.{universal};
 ghost use Rattle.asn1_core.specs.Reading.{Answers};
 ghost use Rattle.asn1_core.specs.Der.{simple_der};
-ghost use Rattle.asn1_values.specs.Identifier.{identifier_content, identifier_numbers, numbers_in, read_identifier, IsIdentifierForm, IsIdentifier, dotted_text, part_number, text_numbers, first_of, and_then, if_few, read_dotted};
+ghost use Rattle.asn1_values.specs.Identifier.{identifier_content, identifier_numbers, numbers_in, read_identifier};
+ghost use Rattle.asn1_values.specs.Identifier.{IsIdentifierForm, IsIdentifier, dotted_text, part_number, text_numbers};
+ghost use Rattle.asn1_values.specs.Identifier.{first_of, and_then, if_few, read_dotted};
 ghost use Rattle.asn1_values.specs.IdentifierSteps.{first_text, left_numbers, left_size};
 ghost use Rattle.std.specs.Fmt.{DisplaysOnOk};
 
@@ -306,5 +309,9 @@ impl SimpleAsn1Writable for ObjectIdentifier {
         ensures { result ≡ Some (length (identifier_content (identifier_of self.now))) }
     {
         Some(self.as_der().len())
+    }
+
+    fn writes_as_read() -> bool {
+        true
     }
 }

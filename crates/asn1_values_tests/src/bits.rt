@@ -98,7 +98,7 @@ fn other_contents_are_no_bit_strings(rt: HostRuntime) -> Result<(), Fail> {
     are_invalid::<OwnedBitString>(rt.alloc(), REFUSED)
 }
 
-/// The constructed encodings of X.690 8.6.4.2, which DER forbids (10.2): a length that is indefinite, and one that isn't.
+/// The constructed encodings of X.690 8.6.4.2, which DER forbids (10.2), of indefinite and of definite length.
 #[test]
 fn bit_strings_in_parts_are_refused(rt: HostRuntime) -> Result<(), Fail> {
     const INDEFINITE: &[u8] = b"\x23\x80\x03\x03\x00\x0a\x3b\x03\x05\x04\x5f\x29\x1c\xd0\x00\x00";

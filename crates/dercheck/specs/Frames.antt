@@ -33,7 +33,7 @@ IsUnfinished rest = IsShort (front rest)
 abbrev pub HasNoFault : List ℕ → Type 0
 HasNoFault text = (elements : List Element) × (rest : List ℕ) × IsFraming text elements rest × IsUnfinished rest
 
--- The line of an element: its identifier octets, and the number of its contents octets.
+-- The line of an element: its identifier octets in hex, a space, and the number of its contents octets in decimal.
 abbrev pub line_of : List ℕ → ℕ → List ℕ
 line_of tag n = encode_lower tag ++ codes " " ++ decimal n ++ codes "\n"
 
@@ -52,7 +52,8 @@ answer_line (Ok found) = []
 answer_line (Err (ShortData needed)) = codes "short " ++ decimal needed ++ codes "\n"
 answer_line (Err kind) = fault_line kind
 
--- The line of the remaining octets. If none remain, there is no line.
+-- The line of the remaining octets: `short` and what is needed, or `err InvalidTag`, or `err InvalidLength`. If none
+-- remain, there is no line.
 abbrev pub end_line : List ℕ → List ℕ
 end_line [] = []
 end_line (octet ∷ octets) = answer_line (front (octet ∷ octets))

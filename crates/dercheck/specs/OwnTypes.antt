@@ -56,6 +56,7 @@ reason_faults [] = λ e. cc
 reason_faults (octet ∷ []) = if_faults (nat_eq octet 0) (Ok Unspecified) _ tt (passed_faults (nat_eq octet 4) (Ok Superseded) InvalidValue tt (λ e. cc))
 reason_faults (octet ∷ next ∷ octets) = λ e. cc
 
+-- The contents octets of a `Reason`.
 abbrev pub reason_content : Content Reason
 reason_content = basic (record {
   tag = universal 10;

@@ -5,7 +5,8 @@ use Rattle.dercheck.specs.declared.answers.Fault.{Fault}
 use Rattle.dercheck.specs.declared.modes.Mode.{Mode}
 use Rattle.dercheck.specs.declared.modes.Mode.TheVariants.{Check, Frames}
 
--- the mode that arguments ask for
+-- The mode that arguments ask for: none asks for the replies to lines, the one argument `frames` for framing; others
+-- are unknown.
 abbrev pub mode_of : {A : Type 0} → List (String A) → Option Mode
 mode_of [] = Some Check
 mode_of (word ∷ []) = if bytes_eq (string_bytes word) (codes "frames") then Some Frames else None

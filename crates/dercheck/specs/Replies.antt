@@ -47,7 +47,8 @@ abbrev pub spaced : List (List ℕ) → List ℕ
 spaced [] = []
 spaced (word ∷ words) = (32 ∷ word) ++ spaced words
 
--- the details of a kind, which follow its name
+-- The details of a kind, which follow its name: of `InvalidSize` its bounds and count, of `UnexpectedTag` the class,
+-- the number and `primitive` or `constructed`, of `ShortData` what is needed.
 abbrev pub kind_details : ParseErrorKind → List (List ℕ)
 kind_details (InvalidSize min max actual) = decimal min ∷ decimal max ∷ decimal actual ∷ []
 kind_details (UnexpectedTag actual) = class_text (tag_class actual) ∷ decimal (tag_number actual) ∷ form_text (tag_constructed actual) ∷ []
@@ -60,6 +61,7 @@ kind_text kind = kind_name kind ++ spaced (kind_details kind)
 
 -- ---- the replies of the code
 
+-- What the code answers with, as text.
 abbrev pub reply_text : Reply → List ℕ
 reply_text BadLine = codes "bad line"
 reply_text (Refused kind) = codes "err " ++ kind_text kind
@@ -93,7 +95,8 @@ abbrev pub answer_to : Option (Word × List ℕ) → List ℕ
 answer_to None = codes "bad line"
 answer_to (Some request) = answer_read request.1 (reading request.0 request.1)
 
--- The reply to a line, without the line feed.
+-- The reply to a line, without the line feed: to a request `ok` and its octets in lower-case hex if a whole read of
+-- them gives a value, else `err` and the kind of the error; to any other line `bad line`.
 abbrev pub answer : List ℕ → List ℕ
 answer line = answer_to (request_of line)
 

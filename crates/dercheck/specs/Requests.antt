@@ -26,6 +26,7 @@ use Rattle.dercheck.specs.Lines.{split_once}
 
 -- ---- the words, and the types that they name
 
+-- How a word is spelled in a line.
 abbrev pub word_text : Word → List ℕ
 word_text words.Bool = codes "bool"
 word_text words.Tlv = codes "tlv"
@@ -116,7 +117,7 @@ type_of words.SetOfInt = simple_type (set_inside int_der)
 
 -- ---- the requests
 
--- A request: a word, a space, and octets in hex.
+-- A request: a word, one space, and octets in hex with letters of either case.
 pub record IsRequest (line : List ℕ) (word : Word) (octets : List ℕ) : Type 0 where
   pub hex : List ℕ
   pub is : line ≡ word_text word ++ 32 ∷ hex

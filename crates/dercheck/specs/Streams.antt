@@ -35,58 +35,68 @@ Puts false old new had_failed has_failed octets = AppendsInPart old new octets �
 
 -- ---- what the streams over memory state
 
--- the octets that the pieces have left, which are never at hand, how many a pull gives at most, whether a pull fails
--- after them, and whether one has failed
+-- The octets that pieces have left.
 abbrev pub pieces_left : Pieces → List ℕ
 pieces_left s = s.first.now ++ s.second.now
 
+-- Pieces are never at hand before a pull.
 abbrev pub pieces_ready : Pieces → Bool
 pieces_ready s = false
 
+-- How many octets a pull of pieces gives at most.
 abbrev pub piece_of : Pieces → ℕ
 piece_of s = s.piece
 
+-- Whether a pull at the end of pieces fails.
 abbrev pub fails_at_end : Pieces → Bool
 fails_at_end s = s.fails
 
+-- Whether a pull of pieces has failed.
 abbrev pub pieces_failed : Pieces → Bool
 pieces_failed s = s.has_failed
 
--- the octets that the sink holds, how many more it can hold, and whether a put has failed
+-- The octets that a `Held` holds.
 abbrev pub held_octets : Held → List ℕ
 held_octets s = take s.count s.octets
 
+-- How many octets a `Held` still takes.
 abbrev pub room_left : Held → ℕ
 room_left s = s.room - s.count
 
+-- Whether a put into a `Held` has failed.
 abbrev pub held_failed : Held → Bool
 held_failed s = s.has_failed
 
 -- ---- what the streams over a reader and a writer state
 
--- the reader, the octets at hand, whether there are any, the octets left, how many octets the source still gives at
--- most, and whether a pull has failed
+-- The reader of an `Input`.
 abbrev pub input_reader : {R : Type 0} → Input R → R
 input_reader s = s.reader
 
+-- The octets that an `Input` has read from its reader and not given yet.
 abbrev pub input_at_hand : {R : Type 0} → Input R → List ℕ
 input_at_hand s = slice_range s.octets s.start s.end
 
+-- Whether an `Input` has octets at hand.
 abbrev pub input_ready : {R : Type 0} → Input R → Bool
 input_ready s = nat_lt s.start s.end
 
+-- The octets that an `Input` has left: those at hand, and then its reader's.
 abbrev pub input_left : {R : Type 0} → (R → Option (List ℕ)) → Input R → Option (List ℕ)
 input_left remaining s = prepend_known (input_at_hand s) (remaining s.reader)
 
+-- How many octets an `Input` still gives at most.
 abbrev pub input_bound : {R : Type 0} → Input R → ℕ
 input_bound s = s.count + (s.end - s.start)
 
+-- Whether a pull of an `Input` has failed.
 abbrev pub input_failed : {R : Type 0} → Input R → Bool
 input_failed s = s.has_failed
 
--- the writer, and whether a put has failed
+-- The writer of an `Output`.
 abbrev pub output_writer : {W : Type 0} → Output W → W
 output_writer s = s.writer
 
+-- Whether a put into an `Output` has failed.
 abbrev pub output_failed : {W : Type 0} → Output W → Bool
 output_failed s = s.has_failed

@@ -1,7 +1,7 @@
 //! Private keys of elliptic curves (RFC 5915, 3).
-// Printed by scripts/derive from declarations/ec_private_key.rs, with the sum 3ade710b.
+// Printed by scripts/derive from declarations/ec_private_key.rs, with the sum 98b7a7f3.
 
-ghost use Rattle.std.specs.Prelude.{◌≡◌, ◌∷◌, []};
+ghost use Rattle.std.specs.Prelude.{◌≡◌, ◌∷◌, [], IsTrue};
 ghost use Rattle.asn1.specs.Options.{option_meaning};
 ghost use Rattle.asn1.specs.Reads.{HasOneEncoding, ReadsContents};
 ghost use Rattle.asn1.specs.Structures.{explicit, field_names, structure, fields4};
@@ -87,6 +87,12 @@ impl<'a> SimpleAsn1Writable for EcPrivateKey<'a> {
 
     fn data_length(&self) -> Option<usize> {
         fields_of_ec_private_key!(fields_length, self)
+    }
+
+    fn writes_as_read() -> bool
+        ensures { IsTrue result }
+    {
+        true
     }
 }
 

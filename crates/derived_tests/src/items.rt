@@ -1,7 +1,7 @@
 //! Values that an item before them defines: each attribute of the original's derives for them, once.
-// Printed by scripts/derive from declarations/items.rs, with the sum be4b7554.
+// Printed by scripts/derive from declarations/items.rs, with the sum 11404be0.
 
-ghost use Rattle.std.specs.Prelude.{◌≡◌, ◌⊎◌, ◌∷◌, [], true, false, ⊤, MatchOption, OnErr};
+ghost use Rattle.std.specs.Prelude.{◌≡◌, ◌⊎◌, ◌∷◌, [], true, false, ⊤, IsTrue, MatchOption, OnErr};
 ghost use Rattle.std.specs.Str.{bytes_eq};
 ghost use Rattle.std.proofs.Common.{inl, inr};
 ghost use Rattle.asn1.specs.IdentifierValues.{identifier_of};
@@ -107,6 +107,10 @@ impl SimpleAsn1Writable for MySequence {
 
     fn data_length(&self) -> Option<usize> {
         fields_length!(self; content_type of content: ObjectIdentifier, content by ObjectIdentifier)
+    }
+
+    fn writes_as_read() -> bool {
+        true
     }
 }
 
@@ -445,6 +449,12 @@ impl<'a> SimpleAsn1Writable for AnySequence<'a> {
     fn data_length(&self) -> Option<usize> {
         fields_length!(self; content_type of content: ObjectIdentifier, content by ObjectIdentifier)
     }
+
+    fn writes_as_read() -> bool
+        ensures { IsTrue result }
+    {
+        true
+    }
 }
 
 /// Two fields between an identifier and what it defines, one before both, and one after.
@@ -540,6 +550,10 @@ impl SimpleAsn1Writable for Letter {
 
     fn data_length(&self) -> Option<usize> {
         fields_of_letter!(fields_length, self)
+    }
+
+    fn writes_as_read() -> bool {
+        true
     }
 }
 
@@ -738,6 +752,12 @@ impl<'a> SimpleAsn1Writable for Entry<'a> {
 
     fn data_length(&self) -> Option<usize> {
         fields_length!(self; kind of listed: ObjectIdentifier, listed by ObjectIdentifier, note)
+    }
+
+    fn writes_as_read() -> bool
+        ensures { IsTrue result }
+    {
+        true
     }
 }
 

@@ -1,7 +1,7 @@
 //! Structures and choices: each attribute of the original's derives for them, once.
-// Printed by scripts/derive from declarations/page.rs, with the sum 99124563.
+// Printed by scripts/derive from declarations/page.rs, with the sum b069c0e2.
 
-ghost use Rattle.std.specs.Prelude.{◌≡◌, ◌∷◌, [], negsuc, OnErr, IfOk};
+ghost use Rattle.std.specs.Prelude.{◌≡◌, ◌∷◌, [], negsuc, IsTrue, OnErr, IfOk};
 ghost use Rattle.std.proofs.Common.{inl, inr};
 ghost use Rattle.asn1.specs.Choices.{choice_der, only, or};
 ghost use Rattle.asn1.specs.Reading.{EndsWith};
@@ -61,6 +61,10 @@ impl SimpleAsn1Writable for Signature {
     fn data_length(&self) -> Option<usize> {
         fields_length!(self; r, s)
     }
+
+    fn writes_as_read() -> bool {
+        true
+    }
 }
 
 /// No fields.
@@ -101,6 +105,10 @@ impl SimpleAsn1Writable for Nothing {
 
     fn data_length(&self) -> Option<usize> {
         fields_length!(self;)
+    }
+
+    fn writes_as_read() -> bool {
+        true
     }
 }
 
@@ -203,6 +211,12 @@ impl<'a> SimpleAsn1Writable for Tagged<'a> {
     fn data_length(&self) -> Option<usize> {
         fields_of_tagged!(fields_length, self)
     }
+
+    fn writes_as_read() -> bool
+        ensures { IsTrue result }
+    {
+        true
+    }
 }
 
 /// Strings, in the order of a set.
@@ -277,6 +291,12 @@ impl<'a> Asn1Writable for ResponderId<'a> {
             ResponderId::ByKey(x) => plain_length::<Explicit<&'a [u8], 2>, _>(x),
         }
     }
+
+    fn writes_as_read() -> bool
+        ensures { IsTrue result }
+    {
+        true
+    }
 }
 
 /// A choice in a structure, which may be missing.
@@ -329,6 +349,12 @@ impl<'a> SimpleAsn1Writable for Alternative<'a> {
 
     fn data_length(&self) -> Option<usize> {
         fields_length!(self; responder)
+    }
+
+    fn writes_as_read() -> bool
+        ensures { IsTrue result }
+    {
+        true
     }
 }
 

@@ -18,6 +18,7 @@ pub record ValueType (E : Type 0) : Type 1 where
   pub der : Der Value
   pub variant : Value → E
 
+-- The type of a value that an identifier names, and the variant that holds such a value.
 abbrev pub typed : {V E : Type 0} → Der V → (V → E) → ValueType E
 typed {V = V} d v = record { Value = V; der = d; variant = v }
 

@@ -1,7 +1,7 @@
 //! Keys, and the parameters of their algorithms (RFC 5958, 8017, 5915, 5480, 3279 and 4055).
-// Printed by scripts/derive from declarations/keys.rs, with the sum 04a3b897.
+// Printed by scripts/derive from declarations/keys.rs, with the sum b2214e4e.
 
-ghost use Rattle.std.specs.Prelude.{◌≡◌, ◌∷◌, []};
+ghost use Rattle.std.specs.Prelude.{◌≡◌, ◌∷◌, [], IsTrue};
 ghost use Rattle.asn1.specs.Options.{option_meaning};
 ghost use Rattle.asn1.specs.Reads.{HasOneEncoding, ReadsContents};
 ghost use Rattle.asn1.specs.Structures.{defaulted, explicit, field_names, implicit, structure, fields2, fields3, fields4, fields5, fields9};
@@ -98,6 +98,12 @@ impl<'a> SimpleAsn1Writable for OneAsymmetricKey<'a> {
     fn data_length(&self) -> Option<usize> {
         fields_of_one_asymmetric_key!(fields_length, self)
     }
+
+    fn writes_as_read() -> bool
+        ensures { IsTrue result }
+    {
+        true
+    }
 }
 
 /// EncryptedPrivateKeyInfo (RFC 5958, 3), a SEQUENCE: a private key that is encrypted.
@@ -156,6 +162,12 @@ impl<'a> SimpleAsn1Writable for EncryptedPrivateKeyInfo<'a> {
     fn data_length(&self) -> Option<usize> {
         fields_length!(self; encryption_algorithm, encrypted_data)
     }
+
+    fn writes_as_read() -> bool
+        ensures { IsTrue result }
+    {
+        true
+    }
 }
 
 /// RSAPublicKey (RFC 8017, A.1.1), a SEQUENCE. Its numbers aren't negative.
@@ -211,6 +223,12 @@ impl<'a> SimpleAsn1Writable for RsaPublicKey<'a> {
 
     fn data_length(&self) -> Option<usize> {
         fields_length!(self; modulus, public_exponent)
+    }
+
+    fn writes_as_read() -> bool
+        ensures { IsTrue result }
+    {
+        true
     }
 }
 
@@ -302,6 +320,12 @@ impl<'a> SimpleAsn1Writable for RsaPrivateKey<'a> {
     fn data_length(&self) -> Option<usize> {
         fields_of_rsa_private_key!(fields_length, self)
     }
+
+    fn writes_as_read() -> bool
+        ensures { IsTrue result }
+    {
+        true
+    }
 }
 
 /// ECPrivateKey (RFC 5915, 3), a SEQUENCE.
@@ -378,6 +402,12 @@ impl<'a> SimpleAsn1Writable for EcPrivateKey<'a> {
     fn data_length(&self) -> Option<usize> {
         fields_of_ec_private_key!(fields_length, self)
     }
+
+    fn writes_as_read() -> bool
+        ensures { IsTrue result }
+    {
+        true
+    }
 }
 
 /// Dss-Parms (RFC 3279, 2.3.2), a SEQUENCE: the parameters of DSA. Its numbers aren't negative.
@@ -434,6 +464,12 @@ impl<'a> SimpleAsn1Writable for DssParms<'a> {
 
     fn data_length(&self) -> Option<usize> {
         fields_length!(self; p, q, g)
+    }
+
+    fn writes_as_read() -> bool
+        ensures { IsTrue result }
+    {
+        true
     }
 }
 
@@ -540,6 +576,12 @@ impl<'a> SimpleAsn1Writable for RsassaPssParams<'a> {
 
     fn data_length(&self) -> Option<usize> {
         fields_of_rsassa_pss_params!(fields_length, self)
+    }
+
+    fn writes_as_read() -> bool
+        ensures { IsTrue result }
+    {
+        true
     }
 }
 

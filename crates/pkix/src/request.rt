@@ -1,7 +1,7 @@
 //! Requests for certificates (RFC 2986).
-// Printed by scripts/derive from declarations/request.rs, with the sum 377385e2.
+// Printed by scripts/derive from declarations/request.rs, with the sum e41fb1d8.
 
-ghost use Rattle.std.specs.Prelude.{◌≡◌, ◌∷◌, []};
+ghost use Rattle.std.specs.Prelude.{◌≡◌, ◌∷◌, [], IsTrue};
 ghost use Rattle.asn1.specs.Reads.{HasOneEncoding, ReadsContents};
 ghost use Rattle.asn1.specs.Structures.{field_names, implicit, structure, fields3, fields4};
 
@@ -90,6 +90,12 @@ impl<'a> SimpleAsn1Writable for CertificationRequestInfo<'a> {
     fn data_length(&self) -> Option<usize> {
         fields_of_certification_request_info!(fields_length, self)
     }
+
+    fn writes_as_read() -> bool
+        ensures { IsTrue result }
+    {
+        true
+    }
 }
 
 /// CertificationRequest (RFC 2986, 4.2), a SEQUENCE.
@@ -154,6 +160,12 @@ impl<'a> SimpleAsn1Writable for CertificationRequest<'a> {
 
     fn data_length(&self) -> Option<usize> {
         fields_length!(self; certification_request_info, signature_algorithm, signature)
+    }
+
+    fn writes_as_read() -> bool
+        ensures { IsTrue result }
+    {
+        true
     }
 }
 

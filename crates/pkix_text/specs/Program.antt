@@ -47,6 +47,7 @@ abbrev pub status_by : List ℕ → ℕ
 status_by [] = 0
 status_by (code ∷ reasons) = 1
 
+-- The status: 0 if each object was shown, 1 if there is a reason why one was rejected, 2 if there was no answer.
 abbrev pub status_of : Option (Result Report Fault) → ℕ
 status_of (Some (Ok report)) = status_by (string_bytes report.reasons)
 status_of (Some (Err fault)) = 2

@@ -1,8 +1,9 @@
 //! SEQUENCE (X.690 8.9), whose contents octets are read by the caller.
 
-ghost use Rattle.std.specs.Prelude.{◌≡◌, List, ℕ, length, Ok, Result, Some};
+ghost use Rattle.std.specs.Prelude.{◌≡◌, IsTrue, List, ℕ, length, Ok, Result, Some};
 ghost use Rattle.std.specs.Fn.{FnOnceReturnsAtMut};
-ghost use Rattle.asn1_core.specs.Reading.{Answers, IsHandedOn};
+ghost use Rattle.asn1_core.specs.Reading.{IsHandedOn};
+ghost use Rattle.asn1_core.specs.Reads.{ReadsContents};
 ghost use Rattle.asn1_core.specs.Der.{simple_der};
 ghost use Rattle.asn1_core.specs.Listing.{sequence_tag};
 ghost use Rattle.asn1_core.specs.Writing.{GivesLength};
@@ -69,7 +70,7 @@ impl<'a> SimpleAsn1Readable<'a> for Sequence<'a> {
     }
 
     fn parse_data(_alloc: Global, data: &'a [u8]) -> ParseResult<Sequence<'a>>
-        ensures { Answers sequence_octets (λ _. ⊥) result (Ok «data».entry.now) }
+        ensures { ReadsContents ⟦<Sequence<'a> as Asn1Type>⟧.der «data».entry.now result }
     {
         Ok(Sequence { data })
     }
@@ -96,5 +97,11 @@ impl<'a> SimpleAsn1Writable for Sequence<'a> {
         ensures known { result ≡ Some (length (sequence_octets self.now)) }
     {
         Some(self.data.len())
+    }
+
+    fn writes_as_read() -> bool
+        ensures { IsTrue result }
+    {
+        true
     }
 }

@@ -10,6 +10,7 @@ ghost use Rattle.std.proofs.Common.{rules};
 ghost use Rattle.asn1_core.specs.Buffer.{Appends, KeepsFront};
 ghost use Rattle.asn1_core.specs.Element.{Element, front};
 ghost use Rattle.asn1_core.specs.Reading.{Answers, EndsWith};
+ghost use Rattle.asn1_core.specs.Reads.{ReadsContents};
 ghost use Rattle.asn1_core.specs.Der.{simple_der};
 ghost use Rattle.asn1_core.specs.Listing.{Each, Joins, OneNames, sequence_tag};
 ghost use Rattle.asn1_core.specs.Writing.{buffer_name, octets_of, GivesLength, Refuses};
@@ -41,8 +42,9 @@ use std::marker::PhantomData;
 ///
 /// The iterator reads each item again, and ends after the last: it returns `None` exactly if no item remains. It
 /// returns `Some(Err(..))` only if reading an item runs out of memory (`AllocationError`, without a location of this
-/// list). That item counts as taken. Writing a list whose item runs out of memory returns `AllocationError` too. The
-/// length of a list is known without reading an item: the items' encodings are the octets that remain.
+/// list). That item counts as taken. The length of a list is known without reading an item: the items' encodings are
+/// the octets that remain. These are also what is written, if no write of an item fails but for memory
+/// ([`Asn1Writable::writes_as_read`]). Else each item is read again and written, and its error is the list's.
 ///
 /// ```text
 /// const FIVE_AND_SEVEN: &[u8] = &[0x30, 0x06, 0x02, 0x01, 0x05, 0x02, 0x01, 0x07];
@@ -190,10 +192,8 @@ impl<
     }
 
     fn parse_data(alloc: Global, data: &'a [u8]) -> ParseResult<Self>
-        ensures { Answers (λ s. left T.der.read s.content.now)
-            (λ places. items_out T.der.read T.der.runs_out (length «data».entry.now) 0
-            «data».entry.now places) result (sequence_read T.der.read MINIMUM_LEN MAXIMUM_LEN
-            «data».entry.now) }
+        ensures { ReadsContents ⟦<SequenceOf<'a, T, MINIMUM_LEN, MAXIMUM_LEN> as Asn1Type>⟧.der
+            «data».entry.now result }
     {
         let count = count_items::<T>(alloc, data)?;
         if count < MINIMUM_LEN || count > MAXIMUM_LEN {
@@ -353,6 +353,12 @@ impl<
     }
 
     fn write_data(&self, dest: &mut WriteBuf) -> Result<(), T::Error> {
+        if T::writes_as_read() {
+            // By this call's contract each item has one encoding, which is the octets that it was read from.
+            let _accepted = T::can_parse(Tag::constructed(0x10));
+            dest.push_slice(self.content)?;
+            return Ok(());
+        }
         write_items::<T>(self.alloc, self.content, self.count, &mut Writer::new(dest))
     }
 
@@ -364,5 +370,11 @@ impl<
         // By this call's contract each item has one encoding, which is the octets that it was read from.
         let _accepted = T::can_parse(Tag::constructed(0x10));
         Some(self.content.len())
+    }
+
+    fn writes_as_read() -> bool
+        ensures { IsTrue result → (e : T.Error) → ¬ OneNames T.write_errors e }
+    {
+        T::writes_as_read()
     }
 }

@@ -14,6 +14,7 @@ ghost use Rattle.asn1_core.specs.Listing.{text_less, Each, Joins, OneNames, set_
 ghost use Rattle.asn1_core.specs.Tag.{tag_less};
 ghost use Rattle.asn1_core.specs.Tlv.{element_of};
 ghost use Rattle.asn1_core.specs.Reading.{Answers, EndsWith, IsHandedOn, element_front};
+ghost use Rattle.asn1_core.specs.Reads.{ReadsContents};
 ghost use Rattle.asn1_core.specs.Der.{simple_der};
 ghost use Rattle.asn1_core.specs.Writing.{buffer_name, octets_of, GivesLength, Refuses};
 ghost use Rattle.asn1.specs.Lists.{AreOctets, NextItem};
@@ -186,7 +187,7 @@ impl<'a> SimpleAsn1Readable<'a> for Set<'a> {
     }
 
     fn parse_data(alloc: Global, data: &'a [u8]) -> ParseResult<Self>
-        ensures { Answers octets_of_set (λ _. ⊥) result (set_octets tag_less «data».entry.now) }
+        ensures { ReadsContents ⟦<Set<'a> as Asn1Type>⟧.der «data».entry.now result }
     {
         check_elements(alloc, data)?;
         Ok(Set { data })
@@ -216,6 +217,12 @@ impl SimpleAsn1Writable for Set<'_> {
         ensures known { result ≡ Some (length (octets_of_set self.now)) }
     {
         Some(self.data.len())
+    }
+
+    fn writes_as_read() -> bool
+        ensures { IsTrue result }
+    {
+        true
     }
 }
 
@@ -332,9 +339,7 @@ impl<'a, T: Asn1Readable<'a>> SimpleAsn1Readable<'a> for SetOf<'a, T> {
     }
 
     fn parse_data(alloc: Global, data: &'a [u8]) -> ParseResult<Self>
-        ensures { Answers (λ s. set_left text_less T.der.read s.content.now)
-            (λ places. set_out text_less T.der.read T.der.runs_out [] (length «data».entry.now) 0
-            «data».entry.now places) result (set_read text_less T.der.read «data».entry.now) }
+        ensures { ReadsContents ⟦<SetOf<'a, T> as Asn1Type>⟧.der «data».entry.now result }
     {
         check_items::<T>(alloc, data)?;
         Ok(SetOf {
@@ -430,6 +435,12 @@ impl<'a, T: Asn1Readable<'a> + Asn1Writable> SimpleAsn1Writable for SetOf<'a, T>
     }
 
     fn write_data(&self, dest: &mut WriteBuf) -> Result<(), T::Error> {
+        if T::writes_as_read() {
+            // By this call's contract each item has one encoding, which is the octets that it was read from.
+            let _accepted = T::can_parse(Tag::constructed(0x11));
+            dest.push_slice(self.content)?;
+            return Ok(());
+        }
         write_set_items::<T>(self.alloc, self.content, &mut Writer::new(dest))
     }
 
@@ -441,5 +452,11 @@ impl<'a, T: Asn1Readable<'a> + Asn1Writable> SimpleAsn1Writable for SetOf<'a, T>
         // By this call's contract each item has one encoding, which is the octets that it was read from.
         let _accepted = T::can_parse(Tag::constructed(0x11));
         Some(self.content.len())
+    }
+
+    fn writes_as_read() -> bool
+        ensures { IsTrue result → (e : T.Error) → ¬ OneNames T.write_errors e }
+    {
+        T::writes_as_read()
     }
 }

@@ -60,6 +60,10 @@ impl<T1: Asn1Writable<Error = WriteError>> Asn1Writable for Choice1<T1> {
             Choice1::ChoiceA(value) => value.encoded_length(),
         }
     }
+
+    fn writes_as_read() -> bool {
+        T1::writes_as_read()
+    }
 }
 
 /// CHOICE (X.690 8.13) of two alternatives, selected by the tag. Its encoding is that of the alternative.
@@ -138,6 +142,10 @@ impl<T1: Asn1Writable<Error = WriteError>, T2: Asn1Writable<Error = WriteError>>
             Choice2::ChoiceA(value) => value.encoded_length(),
             Choice2::ChoiceB(value) => value.encoded_length(),
         }
+    }
+
+    fn writes_as_read() -> bool {
+        T1::writes_as_read() && T2::writes_as_read()
     }
 }
 
@@ -220,5 +228,9 @@ impl<
             Choice3::ChoiceB(value) => value.encoded_length(),
             Choice3::ChoiceC(value) => value.encoded_length(),
         }
+    }
+
+    fn writes_as_read() -> bool {
+        T1::writes_as_read() && T2::writes_as_read() && T3::writes_as_read()
     }
 }

@@ -154,4 +154,8 @@ impl<T: Asn1Writable + MeaningEq + Drop, D: DefaultValue<T>> Asn1Writable for De
         }
         self.inner.encoded_length()
     }
+
+    fn writes_as_read() -> bool {
+        T::writes_as_read()
+    }
 }

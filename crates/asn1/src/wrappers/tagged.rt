@@ -98,6 +98,10 @@ impl<T: Asn1Writable, const TAG: u32> SimpleAsn1Writable for Explicit<T, TAG> {
     fn data_length(&self) -> Option<usize> {
         self.inner.encoded_length()
     }
+
+    fn writes_as_read() -> bool {
+        T::writes_as_read()
+    }
 }
 
 /// An implicitly tagged type (X.690 8.14, X.680 31.2): a value of `T`, a type with a tag of its own, with the
@@ -181,6 +185,10 @@ impl<T: SimpleAsn1Writable, const TAG: u32> SimpleAsn1Writable for Implicit<T, T
 
     fn data_length(&self) -> Option<usize> {
         self.inner.data_length()
+    }
+
+    fn writes_as_read() -> bool {
+        <T as SimpleAsn1Writable>::writes_as_read()
     }
 }
 
@@ -267,5 +275,9 @@ impl<T: Asn1Writable> SimpleAsn1Writable for OctetStringEncoded<T> {
 
     fn data_length(&self) -> Option<usize> {
         self.inner.encoded_length()
+    }
+
+    fn writes_as_read() -> bool {
+        T::writes_as_read()
     }
 }

@@ -55,4 +55,8 @@ impl SimpleAsn1Writable for bool {
     {
         Some(1)
     }
+
+    fn writes_as_read() -> bool {
+        true
+    }
 }

@@ -15,10 +15,12 @@ mod unsigned;
 
 use crate::parser::ParseErrorKind;
 use crate::writer::{WriteBuf, WriteError, WriteResult};
-use std::marker::Model;
 
 /// Longer contents octets are outside the range of every type of fixed width.
 const MAX_CONTENT_OCTETS: usize = 9;
+
+/// How many octets an `i64` has.
+const WORD_OCTETS: usize = 8;
 
 /// How many octets an `i128` has.
 const OCTETS: usize = 16;
@@ -105,63 +107,74 @@ pub(crate) fn read(octets: &[u8], low: i128, high: i128) -> Result<i128, ParseEr
     Ok(number)
 }
 
-/// The contents octets of a number, at the end of an array.
-#[derive(Drop)]
-struct IntegerText {
-    octets: [u8; OCTETS],
-    start: usize,
-}
-
-impl Model for IntegerText {
-    ghost use Rattle.std.specs.Prelude.{List, ℕ, drop, length, ◌≤◌, ◌≡◌};
-    ghost use Rattle.asn1_core.specs.declared.types.integers.TheConstants.{OCTETS};
-
-    ghost Value = { List ℕ };
-
-    ghost view = { λ text. drop text.start text.octets };
-
-    ghost invariant = { λ text. (text.start ≤ OCTETS) × (length text.octets ≡ OCTETS) };
-}
-
-impl IntegerText {
-    /// The contents octets of the number.
-    #[inline]
-    fn new(number: i128) -> IntegerText
-        ensures { result ≡ integer_content number }
-    {
-        let octets = number.to_be_bytes();
-        let count = length(number);
-        let start = OCTETS - count;
-        IntegerText { octets, start }
-    }
-
-    /// The contents octets.
-    #[inline]
-    fn octets(&self) -> &[u8]
-        ensures { result.now ≡ self.now }
-    {
-        &self.octets[self.start..]
-    }
-}
-
 /// Appends the contents octets of the number. `AllocationError` if out of memory; then nothing was appended.
-#[inline]
+///
+/// Nearly all numbers fit in a word, and take a third of the instructions then.
+#[inline(always)]
 pub(crate) fn write(number: i128, dest: &mut WriteBuf) -> WriteResult<()>
     ensures ok { OnOk result (dest.new.bytes ≡ dest.old.bytes ++ integer_content number) }
     ensures err { OnErr result (dest.new ≡ dest.old) }
     ensures error { IsOkUnless result WriteError.AllocationError }
 {
-    dest.push_each(IntegerText::new(number).octets())
+    match i64::try_from(number) {
+        Ok(word) => write_word(word, dest),
+        Err(_) => write_wide(number, dest),
+    }
+}
+
+/// The same for a number in one word.
+#[inline]
+fn write_word(number: i64, dest: &mut WriteBuf) -> WriteResult<()>
+    ensures ok { OnOk result (dest.new.bytes ≡ dest.old.bytes ++ integer_content number) }
+    ensures err { OnErr result (dest.new ≡ dest.old) }
+    ensures error { IsOkUnless result WriteError.AllocationError }
+{
+    let octets = number.to_be_bytes();
+    let start = WORD_OCTETS - word_length(number);
+    dest.push_slice(&octets[start..])
+}
+
+/// The same for any number.
+#[cold]
+#[inline(never)]
+fn write_wide(number: i128, dest: &mut WriteBuf) -> WriteResult<()>
+    ensures ok { OnOk result (dest.new.bytes ≡ dest.old.bytes ++ integer_content number) }
+    ensures err { OnErr result (dest.new ≡ dest.old) }
+    ensures error { IsOkUnless result WriteError.AllocationError }
+{
+    let octets = number.to_be_bytes();
+    let start = OCTETS - wide_length(number);
+    dest.push_slice(&octets[start..])
 }
 
 /// How many contents octets the number has: enough for its bits and one for the sign.
-#[inline]
+#[inline(always)]
 pub(crate) fn length(number: i128) -> usize
     ensures { result ≡ length (integer_content number) }
 {
+    match i64::try_from(number) {
+        Ok(word) => word_length(word),
+        Err(_) => wide_length(number),
+    }
+}
+
+/// The same for a number in one word.
+#[inline(always)]
+fn word_length(number: i64) -> usize
+    ensures { result ≡ length (integer_content number) }
+{
+    let size = word_without_sign(number);
+    let bits = 64 - size.leading_zeros();
+    (bits / 8) as usize + 1
+}
+
+/// The same for any number.
+#[inline]
+fn wide_length(number: i128) -> usize
+    ensures { result ≡ length (integer_content number) }
+{
     let size = without_sign(number);
-    let zeros = size.leading_zeros();
-    let bits = 128 - zeros;
+    let bits = 128 - size.leading_zeros();
     (bits / 8) as usize + 1
 }
 
@@ -176,6 +189,18 @@ fn is_short(number: i128)
 /// The number n itself, or -n - 1 if n is negative; both have the same number of contents octets.
 #[inline]
 fn without_sign(number: i128) -> u128
+    ensures { length (integer_content (pos result)) ≡ length (integer_content number) }
+{
+    let size = number.unsigned_abs();
+    if number < 0 {
+        return size - 1;
+    }
+    size
+}
+
+/// The same for a number in one word.
+#[inline(always)]
+fn word_without_sign(number: i64) -> u64
     ensures { length (integer_content (pos result)) ≡ length (integer_content number) }
 {
     let size = number.unsigned_abs();

@@ -1,11 +1,10 @@
 //! OCTET STRING and NULL (X.690 8.7, 8.8).
 
-ghost use Rattle.std.specs.Prelude.{◌≡◌, length, Some};
+ghost use Rattle.std.specs.Prelude.{◌≡◌, IsTrue, length, Some};
 ghost use Rattle.asn1_core.specs.Text.{IsText};
 ghost use Rattle.asn1_core.specs.Tag.{universal};
-ghost use Rattle.asn1_core.specs.Octets.{read_octets};
 ghost use Rattle.asn1_core.specs.OctetContents.{octets_content, sized_octets_content, null_content};
-ghost use Rattle.asn1_core.specs.Reading.{Answers};
+ghost use Rattle.asn1_core.specs.Reads.{ReadsContents};
 ghost use Rattle.asn1_core.specs.Writing.{GivesLength};
 ghost use Rattle.asn1_core.specs.Der.{simple_der};
 
@@ -56,6 +55,10 @@ impl SimpleAsn1Writable for () {
     {
         Some(0)
     }
+
+    fn writes_as_read() -> bool {
+        true
+    }
 }
 
 /// States that a slice holds octets. The body looks at the slice, whose type says so.
@@ -86,7 +89,7 @@ impl<'a> SimpleAsn1Readable<'a> for &'a [u8] {
 
     #[inline]
     fn parse_data(_alloc: Global, data: &'a [u8]) -> ParseResult<&'a [u8]>
-        ensures { Answers (λ octets. octets.now) (λ _. ⊥) result (read_octets «data».entry.now) }
+        ensures { ReadsContents ⟦<&'a [u8] as Asn1Type>⟧.der «data».entry.now result }
     {
         Ok(data)
     }
@@ -113,6 +116,12 @@ impl SimpleAsn1Writable for &[u8] {
         ensures exact { result ≡ Some (length self.now.now) }
     {
         Some(self.len())
+    }
+
+    fn writes_as_read() -> bool
+        ensures { IsTrue result }
+    {
+        true
     }
 }
 
@@ -157,5 +166,9 @@ impl<const N: usize> SimpleAsn1Writable for [u8; N] {
         ensures exact { result ≡ Some N }
     {
         Some(N)
+    }
+
+    fn writes_as_read() -> bool {
+        true
     }
 }

@@ -54,4 +54,8 @@ impl<T: Asn1Writable> Asn1Writable for Option<T> {
             None => Some(0),
         }
     }
+
+    fn writes_as_read() -> bool {
+        T::writes_as_read()
+    }
 }

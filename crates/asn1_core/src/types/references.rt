@@ -55,6 +55,10 @@ impl<T: SimpleAsn1Writable> SimpleAsn1Writable for Box<T> {
     fn data_length(&self) -> Option<usize> {
         (**self).data_length()
     }
+
+    fn writes_as_read() -> bool {
+        <T as SimpleAsn1Writable>::writes_as_read()
+    }
 }
 
 /// A reference, which is written as what it points to, and not read.

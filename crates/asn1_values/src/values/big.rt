@@ -1,13 +1,14 @@
 //! INTEGER of any length (X.690 8.3), whose contents octets are borrowed; and properties of contents octets.
 
-ghost use Rattle.std.specs.Prelude.{◌≡◌, ℕ, ◌+◌, ◌*◌, ◌-◌, ◌/◌, ◌^◌, ◌∷◌, ◌<◌, ◌≤◌, ◌↔◌, length, pos, int_lt, IsTrue, Some, MatchOption, EachIndex, slice_index};
+ghost use Rattle.std.specs.Prelude.{◌≡◌, ◌+◌, ◌*◌, ◌-◌, ◌/◌, ◌^◌, ◌∷◌, ◌<◌, ◌≤◌, ◌↔◌};
+ghost use Rattle.std.specs.Prelude.{length, pos, int_lt, IsTrue, Some, MatchOption, EachIndex, slice_index};
 ghost use Rattle.asn1_core.specs.Text.{number, signed_number};
 ghost use Rattle.asn1_core.specs.Tag.{universal};
-ghost use Rattle.asn1_core.specs.Integer.{integer_content, read_integer};
-ghost use Rattle.asn1_core.specs.Reading.{Answers};
+ghost use Rattle.asn1_core.specs.Integer.{integer_content};
+ghost use Rattle.asn1_core.specs.Reads.{ReadsContents};
 ghost use Rattle.asn1_core.specs.Writing.{GivesLength};
 ghost use Rattle.asn1_core.specs.Der.{simple_der};
-ghost use Rattle.asn1_values.specs.Big.{IsSigned, IsUnsigned, IsSignedForm, IsUnsignedForm, bit_count, read_unsigned};
+ghost use Rattle.asn1_values.specs.Big.{IsSigned, IsUnsigned, IsSignedForm, IsUnsignedForm, bit_count};
 ghost use Rattle.asn1_values.specs.BigSteps.{IsMagnitude, magnitude};
 
 use asn1_core::types::is_integer_content;
@@ -82,7 +83,7 @@ impl<'a> SimpleAsn1Readable<'a> for BigUint<'a> {
 
     #[inline]
     fn parse_data(_alloc: Global, data: &'a [u8]) -> ParseResult<BigUint<'a>>
-        ensures { Answers big_uint_number (λ _. ⊥) result (read_unsigned «data».entry.now) }
+        ensures { ReadsContents ⟦<BigUint<'a> as Asn1Type>⟧.der «data».entry.now result }
     {
         match BigUint::new(data) {
             Some(number) => Ok(number),
@@ -115,6 +116,12 @@ impl SimpleAsn1Writable for BigUint<'_> {
         ensures exact { result ≡ Some (length (integer_content (big_uint_number self.now))) }
     {
         Some(self.octets.len())
+    }
+
+    fn writes_as_read() -> bool
+        ensures { IsTrue result }
+    {
+        true
     }
 }
 
@@ -202,7 +209,7 @@ impl<'a> SimpleAsn1Readable<'a> for BigInt<'a> {
 
     #[inline]
     fn parse_data(_alloc: Global, data: &'a [u8]) -> ParseResult<BigInt<'a>>
-        ensures { Answers big_int_number (λ _. ⊥) result (read_integer «data».entry.now) }
+        ensures { ReadsContents ⟦<BigInt<'a> as Asn1Type>⟧.der «data».entry.now result }
     {
         match BigInt::new(data) {
             Some(number) => Ok(number),
@@ -235,6 +242,12 @@ impl SimpleAsn1Writable for BigInt<'_> {
         ensures exact { result ≡ Some (length (integer_content (big_int_number self.now))) }
     {
         Some(self.octets.len())
+    }
+
+    fn writes_as_read() -> bool
+        ensures { IsTrue result }
+    {
+        true
     }
 }
 

@@ -86,4 +86,8 @@ impl SimpleAsn1Writable for Enumerated {
     {
         self.0.data_length()
     }
+
+    fn writes_as_read() -> bool {
+        true
+    }
 }

@@ -135,4 +135,8 @@ impl SimpleAsn1Writable for GeneralizedTime {
     {
         Some(15 + fraction_count(self.nanoseconds))
     }
+
+    fn writes_as_read() -> bool {
+        true
+    }
 }

@@ -113,6 +113,10 @@ impl SimpleAsn1Writable for OwnedBigUint {
     {
         Some(self.octets.len())
     }
+
+    fn writes_as_read() -> bool {
+        true
+    }
 }
 
 /// INTEGER (X.690 8.3; universal 2) of any length, which owns its contents octets. This type is read and written as
@@ -228,5 +232,9 @@ impl SimpleAsn1Writable for OwnedBigInt {
         ensures { result ≡ Some (length (integer_content (owned_big_int_number self.now))) }
     {
         Some(self.octets.len())
+    }
+
+    fn writes_as_read() -> bool {
+        true
     }
 }

@@ -1,11 +1,12 @@
 //! Character strings whose contents octets are read as `str` (X.690 8.23, X.680 41).
 
-ghost use Rattle.std.specs.Prelude.{◌≡◌, true, false, ⊤, Some, length, MatchOption, IsTrue, IsUtf8};
+ghost use Rattle.std.specs.Prelude.{◌≡◌, IsTrue, true, false, ⊤, Some, length, MatchOption, IsUtf8};
 ghost use Rattle.asn1_core.specs.Tag.{universal};
-ghost use Rattle.asn1_core.specs.Reading.{Answers};
+ghost use Rattle.asn1_core.specs.Reads.{ReadsContents};
 ghost use Rattle.asn1_core.specs.Writing.{GivesLength};
 ghost use Rattle.asn1_core.specs.Der.{simple_der};
-ghost use Rattle.asn1_values.specs.Texts.{is_printable, is_printable_text, is_ia5_text, is_visible_text, is_utf8_text, IsTextOf, read_text};
+ghost use Rattle.asn1_values.specs.Texts.{is_printable, is_printable_text, is_ia5_text, is_visible_text, is_utf8_text};
+ghost use Rattle.asn1_values.specs.Texts.{IsTextOf};
 
 use asn1_core::{
     Asn1Type, ParseError, ParseErrorKind, ParseResult, SimpleAsn1Readable, SimpleAsn1Writable, Tag,
@@ -62,7 +63,7 @@ fn text_in(octets: &[u8], is_text: bool) -> Option<&str>
     if !is_text {
         return None;
     }
-    str::from_utf8(octets).ok()
+    Some(unsafe { str::from_utf8_unchecked(octets) })
 }
 
 /// PrintableString (X.690 8.23, X.680 41; universal 19): letters, digits, space and `'()+,-./:=?`, an octet each,
@@ -135,8 +136,7 @@ impl<'a> SimpleAsn1Readable<'a> for PrintableString<'a> {
 
     #[inline]
     fn parse_data(_alloc: Global, data: &'a [u8]) -> ParseResult<PrintableString<'a>>
-        ensures { Answers printable_octets (λ _. ⊥) result
-            (read_text is_printable_text «data».entry.now) }
+        ensures { ReadsContents ⟦<PrintableString<'a> as Asn1Type>⟧.der «data».entry.now result }
     {
         match text_in(data, is_printable_text(data)) {
             Some(text) => Ok(PrintableString { text }),
@@ -169,6 +169,12 @@ impl SimpleAsn1Writable for PrintableString<'_> {
         ensures exact { result ≡ Some (length (printable_octets self.now)) }
     {
         Some(self.text.len())
+    }
+
+    fn writes_as_read() -> bool
+        ensures { IsTrue result }
+    {
+        true
     }
 }
 
@@ -242,7 +248,7 @@ impl<'a> SimpleAsn1Readable<'a> for IA5String<'a> {
 
     #[inline]
     fn parse_data(_alloc: Global, data: &'a [u8]) -> ParseResult<IA5String<'a>>
-        ensures { Answers ia5_octets (λ _. ⊥) result (read_text is_ia5_text «data».entry.now) }
+        ensures { ReadsContents ⟦<IA5String<'a> as Asn1Type>⟧.der «data».entry.now result }
     {
         match text_in(data, is_ia5_text(data)) {
             Some(text) => Ok(IA5String { text }),
@@ -274,6 +280,12 @@ impl SimpleAsn1Writable for IA5String<'_> {
         ensures exact { result ≡ Some (length (ia5_octets self.now)) }
     {
         Some(self.text.len())
+    }
+
+    fn writes_as_read() -> bool
+        ensures { IsTrue result }
+    {
+        true
     }
 }
 
@@ -347,8 +359,7 @@ impl<'a> SimpleAsn1Readable<'a> for VisibleString<'a> {
 
     #[inline]
     fn parse_data(_alloc: Global, data: &'a [u8]) -> ParseResult<VisibleString<'a>>
-        ensures { Answers visible_octets (λ _. ⊥) result
-            (read_text is_visible_text «data».entry.now) }
+        ensures { ReadsContents ⟦<VisibleString<'a> as Asn1Type>⟧.der «data».entry.now result }
     {
         match text_in(data, is_visible_text(data)) {
             Some(text) => Ok(VisibleString { text }),
@@ -381,6 +392,12 @@ impl SimpleAsn1Writable for VisibleString<'_> {
         ensures exact { result ≡ Some (length (visible_octets self.now)) }
     {
         Some(self.text.len())
+    }
+
+    fn writes_as_read() -> bool
+        ensures { IsTrue result }
+    {
+        true
     }
 }
 
@@ -450,7 +467,7 @@ impl<'a> SimpleAsn1Readable<'a> for Utf8String<'a> {
 
     #[inline]
     fn parse_data(_alloc: Global, data: &'a [u8]) -> ParseResult<Utf8String<'a>>
-        ensures { Answers utf8_octets (λ _. ⊥) result (read_text is_utf8_text «data».entry.now) }
+        ensures { ReadsContents ⟦<Utf8String<'a> as Asn1Type>⟧.der «data».entry.now result }
     {
         match str::from_utf8(data) {
             Ok(text) => Ok(Utf8String { text }),
@@ -482,5 +499,11 @@ impl SimpleAsn1Writable for Utf8String<'_> {
         ensures exact { result ≡ Some (length (utf8_octets self.now)) }
     {
         Some(self.text.len())
+    }
+
+    fn writes_as_read() -> bool
+        ensures { IsTrue result }
+    {
+        true
     }
 }

@@ -114,6 +114,10 @@ impl SimpleAsn1Writable for UtcTime {
     {
         Some(13)
     }
+
+    fn writes_as_read() -> bool {
+        true
+    }
 }
 
 /// GeneralizedTime (X.690 11.7; universal 24) as in certificates (RFC 5280 4.1.2.5.2): a date and a time of day to the
@@ -211,5 +215,9 @@ impl SimpleAsn1Writable for X509GeneralizedTime {
         ensures { result ≡ Some 15 }
     {
         Some(15)
+    }
+
+    fn writes_as_read() -> bool {
+        true
     }
 }

@@ -1,13 +1,14 @@
 //! Character strings of two or four octets a character (X.690 8.23, X.680 41).
 
-ghost use Rattle.std.specs.Prelude.{◌≡◌, ◌+◌, ◌%◌, ◌<◌, ◌≤◌, ◌↔◌, [], ◌∷◌, drop, true, false, ⊤, Some, length, MatchOption, IsTrue};
+ghost use Rattle.std.specs.Prelude.{◌≡◌, ◌+◌, ◌%◌, ◌<◌, ◌≤◌, ◌↔◌, [], ◌∷◌, ⊤};
+ghost use Rattle.std.specs.Prelude.{drop, true, false, Some, length, MatchOption, IsTrue};
 ghost use Rattle.std.specs.Char.{IsScalar};
 ghost use Rattle.asn1_core.specs.Text.{number};
 ghost use Rattle.asn1_core.specs.Tag.{universal};
-ghost use Rattle.asn1_core.specs.Reading.{Answers};
+ghost use Rattle.asn1_core.specs.Reads.{ReadsContents};
 ghost use Rattle.asn1_core.specs.Writing.{GivesLength};
 ghost use Rattle.asn1_core.specs.Der.{simple_der};
-ghost use Rattle.asn1_values.specs.Texts.{is_paired, is_utf16_text, fours, is_utf32_text, IsTextOf, read_text};
+ghost use Rattle.asn1_values.specs.Texts.{is_paired, is_utf16_text, is_utf32_text, IsTextOf};
 
 use asn1_core::{
     Asn1Type, ParseError, ParseErrorKind, ParseResult, SimpleAsn1Readable, SimpleAsn1Writable, Tag,
@@ -159,7 +160,7 @@ impl<'a> SimpleAsn1Readable<'a> for BMPString<'a> {
 
     #[inline]
     fn parse_data(_alloc: Global, data: &'a [u8]) -> ParseResult<BMPString<'a>>
-        ensures { Answers bmp_octets (λ _. ⊥) result (read_text is_utf16_text «data».entry.now) }
+        ensures { ReadsContents ⟦<BMPString<'a> as Asn1Type>⟧.der «data».entry.now result }
     {
         match BMPString::new(data) {
             Some(text) => Ok(text),
@@ -191,6 +192,12 @@ impl SimpleAsn1Writable for BMPString<'_> {
         ensures exact { result ≡ Some (length (bmp_octets self.now)) }
     {
         Some(self.octets.len())
+    }
+
+    fn writes_as_read() -> bool
+        ensures { IsTrue result }
+    {
+        true
     }
 }
 
@@ -270,8 +277,7 @@ impl<'a> SimpleAsn1Readable<'a> for UniversalString<'a> {
 
     #[inline]
     fn parse_data(_alloc: Global, data: &'a [u8]) -> ParseResult<UniversalString<'a>>
-        ensures { Answers universal_octets (λ _. ⊥) result
-            (read_text is_utf32_text «data».entry.now) }
+        ensures { ReadsContents ⟦<UniversalString<'a> as Asn1Type>⟧.der «data».entry.now result }
     {
         match UniversalString::new(data) {
             Some(text) => Ok(text),
@@ -304,5 +310,11 @@ impl SimpleAsn1Writable for UniversalString<'_> {
         ensures exact { result ≡ Some (length (universal_octets self.now)) }
     {
         Some(self.octets.len())
+    }
+
+    fn writes_as_read() -> bool
+        ensures { IsTrue result }
+    {
+        true
     }
 }

@@ -1,7 +1,7 @@
 //! Where other data of an issuer or a subject is (RFC 5280, 4.2.2).
-// Printed by scripts/derive from declarations/certificate/access.rs, with the sum de868c46.
+// Printed by scripts/derive from declarations/certificate/access.rs, with the sum 6a78e136.
 
-ghost use Rattle.std.specs.Prelude.{◌≡◌, ◌∷◌, []};
+ghost use Rattle.std.specs.Prelude.{◌≡◌, ◌∷◌, [], IsTrue};
 ghost use Rattle.asn1.specs.Reads.{HasOneEncoding, ReadsContents};
 ghost use Rattle.asn1.specs.Structures.{field_names, structure, fields2};
 
@@ -67,6 +67,12 @@ impl<'a> SimpleAsn1Writable for AccessDescription<'a> {
 
     fn data_length(&self) -> Option<usize> {
         fields_length!(self; access_method, access_location)
+    }
+
+    fn writes_as_read() -> bool
+        ensures { IsTrue result }
+    {
+        true
     }
 }
 

@@ -1,7 +1,7 @@
 //! Where revocation lists are found, and what they have (RFC 5280, 4.2.1.13 and 5.2.5).
-// Printed by scripts/derive from declarations/certificate/distribution.rs, with the sum 83d08ddb.
+// Printed by scripts/derive from declarations/certificate/distribution.rs, with the sum af91041b.
 
-ghost use Rattle.std.specs.Prelude.{◌≡◌, ◌∷◌, [], false, OnErr, IfOk};
+ghost use Rattle.std.specs.Prelude.{◌≡◌, ◌∷◌, [], false, IsTrue, OnErr, IfOk};
 ghost use Rattle.std.proofs.Common.{inl, inr};
 ghost use Rattle.asn1.specs.Choices.{choice_der, only, or};
 ghost use Rattle.asn1.specs.Options.{option_meaning};
@@ -108,6 +108,12 @@ impl<'a> Asn1Writable for DistributionPointName<'a> {
             >(x),
         }
     }
+
+    fn writes_as_read() -> bool
+        ensures { IsTrue result }
+    {
+        true
+    }
 }
 
 /// DistributionPoint (RFC 5280, 4.2.1.13), a SEQUENCE: where a revocation list is, and what it is for. That it has a
@@ -185,6 +191,12 @@ impl<'a> SimpleAsn1Writable for DistributionPoint<'a> {
 
     fn data_length(&self) -> Option<usize> {
         fields_of_distribution_point!(fields_length, self)
+    }
+
+    fn writes_as_read() -> bool
+        ensures { IsTrue result }
+    {
+        true
     }
 }
 
@@ -347,6 +359,12 @@ impl<'a> SimpleAsn1Writable for IssuingDistributionPoint<'a> {
 
     fn data_length(&self) -> Option<usize> {
         fields_of_issuing_distribution_point!(fields_length, self)
+    }
+
+    fn writes_as_read() -> bool
+        ensures { IsTrue result }
+    {
+        true
     }
 }
 

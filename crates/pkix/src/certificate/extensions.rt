@@ -1,7 +1,7 @@
 //! Values of extensions (RFC 5280, 4.2.1 and 4.2.2): each type is what the octets of an extension hold.
-// Printed by scripts/derive from declarations/certificate/extensions.rs, with the sum 38be8872.
+// Printed by scripts/derive from declarations/certificate/extensions.rs, with the sum fe1aa4fa.
 
-ghost use Rattle.std.specs.Prelude.{◌≡◌, ◌∷◌, [], false};
+ghost use Rattle.std.specs.Prelude.{◌≡◌, ◌∷◌, [], false, IsTrue};
 ghost use Rattle.asn1.specs.Options.{option_meaning};
 ghost use Rattle.asn1.specs.Reads.{HasOneEncoding, ReadsContents};
 ghost use Rattle.asn1.specs.Structures.{defaulted, field_names, implicit, structure, fields2, fields3};
@@ -83,6 +83,12 @@ impl<'a> SimpleAsn1Writable for BasicConstraints<'a> {
     fn data_length(&self) -> Option<usize> {
         fields_length!(self; ca: BasicConstraintsCaField, path_len_constraint)
     }
+
+    fn writes_as_read() -> bool
+        ensures { IsTrue result }
+    {
+        true
+    }
 }
 
 /// AuthorityKeyIdentifier (RFC 5280, 4.2.1.1), a SEQUENCE; identifier 2.5.29.35. That it has both or neither of the
@@ -161,6 +167,12 @@ impl<'a> SimpleAsn1Writable for AuthorityKeyIdentifier<'a> {
 
     fn data_length(&self) -> Option<usize> {
         fields_of_authority_key_identifier!(fields_length, self)
+    }
+
+    fn writes_as_read() -> bool
+        ensures { IsTrue result }
+    {
+        true
     }
 }
 

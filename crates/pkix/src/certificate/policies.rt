@@ -1,8 +1,8 @@
 //! The policies of a certificate, and what it demands of those that follow it in a path (RFC 5280, 4.2.1.4, 4.2.1.5,
 //! 4.2.1.10, 4.2.1.11 and 4.2.1.14).
-// Printed by scripts/derive from declarations/certificate/policies.rs, with the sum cf8a3fa7.
+// Printed by scripts/derive from declarations/certificate/policies.rs, with the sum e8b13693.
 
-ghost use Rattle.std.specs.Prelude.{◌≡◌, ◌∷◌, []};
+ghost use Rattle.std.specs.Prelude.{◌≡◌, ◌∷◌, [], IsTrue};
 ghost use Rattle.asn1.specs.Options.{option_meaning};
 ghost use Rattle.asn1.specs.Reads.{HasOneEncoding, ReadsContents};
 ghost use Rattle.asn1.specs.Structures.{defaulted, field_names, implicit, structure, fields2, fields3};
@@ -72,6 +72,12 @@ impl<'a> SimpleAsn1Writable for PolicyQualifierInfo<'a> {
     fn data_length(&self) -> Option<usize> {
         fields_length!(self; policy_qualifier_id, qualifier)
     }
+
+    fn writes_as_read() -> bool
+        ensures { IsTrue result }
+    {
+        true
+    }
 }
 
 /// PolicyInformation (RFC 5280, 4.2.1.4), a SEQUENCE: a policy.
@@ -132,6 +138,12 @@ impl<'a> SimpleAsn1Writable for PolicyInformation<'a> {
     fn data_length(&self) -> Option<usize> {
         fields_length!(self; policy_identifier, policy_qualifiers)
     }
+
+    fn writes_as_read() -> bool
+        ensures { IsTrue result }
+    {
+        true
+    }
 }
 
 /// CertificatePolicies (RFC 5280, 4.2.1.4), a SEQUENCE of at least one PolicyInformation; identifier 2.5.29.32. That
@@ -184,6 +196,10 @@ impl SimpleAsn1Writable for PolicyMapping {
 
     fn data_length(&self) -> Option<usize> {
         fields_length!(self; issuer_domain_policy, subject_domain_policy)
+    }
+
+    fn writes_as_read() -> bool {
+        true
     }
 }
 
@@ -269,6 +285,12 @@ impl<'a> SimpleAsn1Writable for GeneralSubtree<'a> {
         fields_length!(self;
             base, minimum: GeneralSubtreeMinimumField, maximum: GeneralSubtreeMaximumField<'a>)
     }
+
+    fn writes_as_read() -> bool
+        ensures { IsTrue result }
+    {
+        true
+    }
 }
 
 /// GeneralSubtrees (RFC 5280, 4.2.1.10), a SEQUENCE of at least one GeneralSubtree.
@@ -343,6 +365,12 @@ impl<'a> SimpleAsn1Writable for NameConstraints<'a> {
     fn data_length(&self) -> Option<usize> {
         fields_of_name_constraints!(fields_length, self)
     }
+
+    fn writes_as_read() -> bool
+        ensures { IsTrue result }
+    {
+        true
+    }
 }
 
 /// PolicyConstraints (RFC 5280, 4.2.1.11), a SEQUENCE; identifier 2.5.29.36. One without fields is read, which the RFC
@@ -414,6 +442,12 @@ impl<'a> SimpleAsn1Writable for PolicyConstraints<'a> {
 
     fn data_length(&self) -> Option<usize> {
         fields_of_policy_constraints!(fields_length, self)
+    }
+
+    fn writes_as_read() -> bool
+        ensures { IsTrue result }
+    {
+        true
     }
 }
 

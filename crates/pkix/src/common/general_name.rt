@@ -1,7 +1,7 @@
 //! General names (RFC 5280, 4.2.1.6).
-// Printed by scripts/derive from declarations/common/general_name.rs, with the sum ca4f860e.
+// Printed by scripts/derive from declarations/common/general_name.rs, with the sum e774d308.
 
-ghost use Rattle.std.specs.Prelude.{◌≡◌, ◌∷◌, [], OnErr, IfOk};
+ghost use Rattle.std.specs.Prelude.{◌≡◌, ◌∷◌, [], IsTrue, OnErr, IfOk};
 ghost use Rattle.std.proofs.Common.{inl, inr};
 ghost use Rattle.asn1.specs.Choices.{choice_der, only, or};
 ghost use Rattle.asn1.specs.Options.{option_meaning};
@@ -75,6 +75,12 @@ impl<'a> SimpleAsn1Writable for OtherName<'a> {
     fn data_length(&self) -> Option<usize> {
         fields_length!(self; type_id, value: OtherNameValueField<'a>)
     }
+
+    fn writes_as_read() -> bool
+        ensures { IsTrue result }
+    {
+        true
+    }
 }
 
 /// EDIPartyName (RFC 5280, 4.2.1.6), a SEQUENCE. Its strings are elements of any type, of which the RFC allows five.
@@ -143,6 +149,12 @@ impl<'a> SimpleAsn1Writable for EdiPartyName<'a> {
 
     fn data_length(&self) -> Option<usize> {
         fields_of_edi_party_name!(fields_length, self)
+    }
+
+    fn writes_as_read() -> bool
+        ensures { IsTrue result }
+    {
+        true
     }
 }
 
@@ -311,6 +323,12 @@ impl<'a> Asn1Writable for GeneralName<'a> {
             GeneralName::IpAddress(x) => plain_length::<Implicit<&'a [u8], 7>, _>(x),
             GeneralName::RegisteredId(x) => plain_length::<Implicit<ObjectIdentifier, 8>, _>(x),
         }
+    }
+
+    fn writes_as_read() -> bool
+        ensures { IsTrue result }
+    {
+        true
     }
 }
 

@@ -1,5 +1,5 @@
 //! Times (RFC 5280, 4.1.2.5).
-// Printed by scripts/derive from declarations/common/time.rs, with the sum 6c23488c.
+// Printed by scripts/derive from declarations/common/time.rs, with the sum 206e53a4.
 
 ghost use Rattle.std.proofs.Common.{inl, inr};
 ghost use Rattle.asn1.specs.Choices.{choice_der, only, or};
@@ -67,6 +67,10 @@ impl Asn1Writable for Time {
             Time::UtcTime(x) => x.encoded_length(),
             Time::GeneralTime(x) => x.encoded_length(),
         }
+    }
+
+    fn writes_as_read() -> bool {
+        true
     }
 }
 

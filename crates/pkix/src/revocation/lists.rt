@@ -1,7 +1,7 @@
 //! Revocation lists (RFC 5280, 5.1 to 5.3).
-// Printed by scripts/derive from declarations/revocation/lists.rs, with the sum f70f141c.
+// Printed by scripts/derive from declarations/revocation/lists.rs, with the sum 5344f7c7.
 
-ghost use Rattle.std.specs.Prelude.{◌≡◌, ◌∷◌, []};
+ghost use Rattle.std.specs.Prelude.{◌≡◌, ◌∷◌, [], IsTrue};
 ghost use Rattle.asn1.specs.Options.{option_meaning};
 ghost use Rattle.asn1.specs.Reads.{HasOneEncoding, ReadsContents};
 ghost use Rattle.asn1.specs.Structures.{explicit, field_names, structure, fields3, fields7};
@@ -75,6 +75,12 @@ impl<'a> SimpleAsn1Writable for RevokedCertificate<'a> {
 
     fn data_length(&self) -> Option<usize> {
         fields_length!(self; user_certificate, revocation_date, crl_entry_extensions)
+    }
+
+    fn writes_as_read() -> bool
+        ensures { IsTrue result }
+    {
+        true
     }
 }
 
@@ -163,6 +169,12 @@ impl<'a> SimpleAsn1Writable for TbsCertList<'a> {
     fn data_length(&self) -> Option<usize> {
         fields_of_tbs_cert_list!(fields_length, self)
     }
+
+    fn writes_as_read() -> bool
+        ensures { IsTrue result }
+    {
+        true
+    }
 }
 
 /// CertificateList (RFC 5280, 5.1.1), a SEQUENCE: a revocation list.
@@ -221,6 +233,12 @@ impl<'a> SimpleAsn1Writable for CertificateList<'a> {
 
     fn data_length(&self) -> Option<usize> {
         fields_length!(self; tbs_cert_list, signature_algorithm, signature_value)
+    }
+
+    fn writes_as_read() -> bool
+        ensures { IsTrue result }
+    {
+        true
     }
 }
 

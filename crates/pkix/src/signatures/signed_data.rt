@@ -1,7 +1,7 @@
 //! Signed data (RFC 5652), as far as time stamps need it.
-// Printed by scripts/derive from declarations/signatures/signed_data.rs, with the sum 5006b825.
+// Printed by scripts/derive from declarations/signatures/signed_data.rs, with the sum 042ec824.
 
-ghost use Rattle.std.specs.Prelude.{◌≡◌, ◌∷◌, []};
+ghost use Rattle.std.specs.Prelude.{◌≡◌, ◌∷◌, [], IsTrue};
 ghost use Rattle.asn1.specs.Options.{option_meaning};
 ghost use Rattle.asn1.specs.Reads.{HasOneEncoding, ReadsContents};
 ghost use Rattle.asn1.specs.Structures.{explicit, field_names, implicit, structure, fields2, fields6};
@@ -75,6 +75,12 @@ impl<'a> SimpleAsn1Writable for ContentInfo<'a> {
     fn data_length(&self) -> Option<usize> {
         fields_length!(self; content_type, content: ContentInfoContentField<'a>)
     }
+
+    fn writes_as_read() -> bool
+        ensures { IsTrue result }
+    {
+        true
+    }
 }
 
 /// EncapsulatedContentInfo (RFC 5652, 5.2), a SEQUENCE.
@@ -138,6 +144,12 @@ impl<'a> SimpleAsn1Writable for EncapsulatedContentInfo<'a> {
 
     fn data_length(&self) -> Option<usize> {
         fields_length!(self; e_content_type, e_content: EncapsulatedContentInfoEContentField<'a>)
+    }
+
+    fn writes_as_read() -> bool
+        ensures { IsTrue result }
+    {
+        true
     }
 }
 
@@ -222,6 +234,12 @@ impl<'a> SimpleAsn1Writable for SignedData<'a> {
 
     fn data_length(&self) -> Option<usize> {
         fields_of_signed_data!(fields_length, self)
+    }
+
+    fn writes_as_read() -> bool
+        ensures { IsTrue result }
+    {
+        true
     }
 }
 

@@ -1,7 +1,7 @@
 //! Who signed (RFC 5652, 5.3).
-// Printed by scripts/derive from declarations/signatures/signer.rs, with the sum e8a020c6.
+// Printed by scripts/derive from declarations/signatures/signer.rs, with the sum 5b4427fc.
 
-ghost use Rattle.std.specs.Prelude.{◌≡◌, ◌∷◌, [], OnErr, IfOk};
+ghost use Rattle.std.specs.Prelude.{◌≡◌, ◌∷◌, [], IsTrue, OnErr, IfOk};
 ghost use Rattle.std.proofs.Common.{inl, inr};
 ghost use Rattle.asn1.specs.Choices.{choice_der, only, or};
 ghost use Rattle.asn1.specs.Options.{option_meaning};
@@ -76,6 +76,12 @@ impl<'a> SimpleAsn1Writable for IssuerAndSerialNumber<'a> {
 
     fn data_length(&self) -> Option<usize> {
         fields_length!(self; issuer, serial_number)
+    }
+
+    fn writes_as_read() -> bool
+        ensures { IsTrue result }
+    {
+        true
     }
 }
 
@@ -152,6 +158,12 @@ impl<'a> Asn1Writable for SignerIdentifier<'a> {
                 x,
             ),
         }
+    }
+
+    fn writes_as_read() -> bool
+        ensures { IsTrue result }
+    {
+        true
     }
 }
 
@@ -239,6 +251,12 @@ impl<'a> SimpleAsn1Writable for SignerInfo<'a> {
 
     fn data_length(&self) -> Option<usize> {
         fields_of_signer_info!(fields_length, self)
+    }
+
+    fn writes_as_read() -> bool
+        ensures { IsTrue result }
+    {
+        true
     }
 }
 

@@ -1,7 +1,7 @@
 //! Values of signatures (RFC 3279, 2.2.2 and 2.2.3; RFC 8017, 9.2).
-// Printed by scripts/derive from declarations/signatures/values.rs, with the sum 5df69621.
+// Printed by scripts/derive from declarations/signatures/values.rs, with the sum f2cd25bd.
 
-ghost use Rattle.std.specs.Prelude.{◌≡◌, ◌∷◌, []};
+ghost use Rattle.std.specs.Prelude.{◌≡◌, ◌∷◌, [], IsTrue};
 ghost use Rattle.asn1.specs.Reads.{HasOneEncoding, ReadsContents};
 ghost use Rattle.asn1.specs.Structures.{field_names, structure, fields2};
 
@@ -67,6 +67,12 @@ impl<'a> SimpleAsn1Writable for EcdsaSigValue<'a> {
     fn data_length(&self) -> Option<usize> {
         fields_length!(self; r, s)
     }
+
+    fn writes_as_read() -> bool
+        ensures { IsTrue result }
+    {
+        true
+    }
 }
 
 /// DigestInfo (RFC 8017, 9.2), a SEQUENCE: a digest, and the algorithm that made it.
@@ -122,6 +128,12 @@ impl<'a> SimpleAsn1Writable for DigestInfo<'a> {
 
     fn data_length(&self) -> Option<usize> {
         fields_length!(self; digest_algorithm, digest)
+    }
+
+    fn writes_as_read() -> bool
+        ensures { IsTrue result }
+    {
+        true
     }
 }
 

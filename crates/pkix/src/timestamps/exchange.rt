@@ -1,7 +1,7 @@
 //! Requests for time stamps, and responses (RFC 3161, 2.4).
-// Printed by scripts/derive from declarations/timestamps/exchange.rs, with the sum b71ee7b3.
+// Printed by scripts/derive from declarations/timestamps/exchange.rs, with the sum 9f0bad2b.
 
-ghost use Rattle.std.specs.Prelude.{◌≡◌, ◌∷◌, [], false};
+ghost use Rattle.std.specs.Prelude.{◌≡◌, ◌∷◌, [], false, IsTrue};
 ghost use Rattle.asn1.specs.Options.{option_meaning};
 ghost use Rattle.asn1.specs.Reads.{HasOneEncoding, ReadsContents};
 ghost use Rattle.asn1.specs.Structures.{defaulted, field_names, implicit, structure, fields2, fields3, fields6};
@@ -73,6 +73,12 @@ impl<'a> SimpleAsn1Writable for MessageImprint<'a> {
 
     fn data_length(&self) -> Option<usize> {
         fields_length!(self; hash_algorithm, hashed_message)
+    }
+
+    fn writes_as_read() -> bool
+        ensures { IsTrue result }
+    {
+        true
     }
 }
 
@@ -167,6 +173,12 @@ impl<'a> SimpleAsn1Writable for TimeStampReq<'a> {
     fn data_length(&self) -> Option<usize> {
         fields_of_time_stamp_req!(fields_length, self)
     }
+
+    fn writes_as_read() -> bool
+        ensures { IsTrue result }
+    {
+        true
+    }
 }
 
 /// PKIStatusInfo (RFC 3161, 2.4.2), a SEQUENCE.
@@ -225,6 +237,12 @@ impl<'a> SimpleAsn1Writable for PkiStatusInfo<'a> {
 
     fn data_length(&self) -> Option<usize> {
         fields_length!(self; status, status_string, fail_info)
+    }
+
+    fn writes_as_read() -> bool
+        ensures { IsTrue result }
+    {
+        true
     }
 }
 
@@ -285,6 +303,12 @@ impl<'a> SimpleAsn1Writable for TimeStampResp<'a> {
 
     fn data_length(&self) -> Option<usize> {
         fields_length!(self; status, time_stamp_token)
+    }
+
+    fn writes_as_read() -> bool
+        ensures { IsTrue result }
+    {
+        true
     }
 }
 

@@ -1,7 +1,7 @@
 //! What a time stamp says (RFC 3161, 2.4.2).
-// Printed by scripts/derive from declarations/timestamps/info.rs, with the sum 1585d6c6.
+// Printed by scripts/derive from declarations/timestamps/info.rs, with the sum d6e735f9.
 
-ghost use Rattle.std.specs.Prelude.{◌≡◌, ◌∷◌, [], false};
+ghost use Rattle.std.specs.Prelude.{◌≡◌, ◌∷◌, [], false, IsTrue};
 ghost use Rattle.asn1.specs.Options.{option_meaning};
 ghost use Rattle.asn1.specs.Reads.{HasOneEncoding, ReadsContents};
 ghost use Rattle.asn1.specs.Structures.{defaulted, explicit, field_names, implicit, structure, fields3, fields10};
@@ -76,6 +76,12 @@ impl<'a> SimpleAsn1Writable for Accuracy<'a> {
 
     fn data_length(&self) -> Option<usize> {
         fields_length!(self; seconds, millis: AccuracyMillisField, micros: AccuracyMicrosField)
+    }
+
+    fn writes_as_read() -> bool
+        ensures { IsTrue result }
+    {
+        true
     }
 }
 
@@ -185,6 +191,12 @@ impl<'a> SimpleAsn1Writable for TstInfo<'a> {
 
     fn data_length(&self) -> Option<usize> {
         fields_of_tst_info!(fields_length, self)
+    }
+
+    fn writes_as_read() -> bool
+        ensures { IsTrue result }
+    {
+        true
     }
 }
 

@@ -38,6 +38,10 @@ impl SimpleAsn1Writable for NonZeroI8 {
     {
         self.get().data_length()
     }
+
+    fn writes_as_read() -> bool {
+        true
+    }
 }
 
 impl Asn1Type for NonZeroI16 {
@@ -65,6 +69,10 @@ impl SimpleAsn1Writable for NonZeroI16 {
         ensures { result ≡ Some (length (integer_content (non_zero_i16_get self.now))) }
     {
         self.get().data_length()
+    }
+
+    fn writes_as_read() -> bool {
+        true
     }
 }
 
@@ -94,6 +102,10 @@ impl SimpleAsn1Writable for NonZeroI32 {
     {
         self.get().data_length()
     }
+
+    fn writes_as_read() -> bool {
+        true
+    }
 }
 
 impl Asn1Type for NonZeroI64 {
@@ -121,6 +133,10 @@ impl SimpleAsn1Writable for NonZeroI64 {
         ensures { result ≡ Some (length (integer_content (non_zero_i64_get self.now))) }
     {
         self.get().data_length()
+    }
+
+    fn writes_as_read() -> bool {
+        true
     }
 }
 
@@ -150,6 +166,10 @@ impl SimpleAsn1Writable for NonZeroU8 {
     {
         self.get().data_length()
     }
+
+    fn writes_as_read() -> bool {
+        true
+    }
 }
 
 impl Asn1Type for NonZeroU16 {
@@ -177,6 +197,10 @@ impl SimpleAsn1Writable for NonZeroU16 {
         ensures { result ≡ Some (length (integer_content (pos (non_zero_u16_get self.now)))) }
     {
         self.get().data_length()
+    }
+
+    fn writes_as_read() -> bool {
+        true
     }
 }
 
@@ -206,6 +230,10 @@ impl SimpleAsn1Writable for NonZeroU32 {
     {
         self.get().data_length()
     }
+
+    fn writes_as_read() -> bool {
+        true
+    }
 }
 
 impl Asn1Type for NonZeroU64 {
@@ -233,5 +261,9 @@ impl SimpleAsn1Writable for NonZeroU64 {
         ensures { result ≡ Some (length (integer_content (pos (non_zero_u64_get self.now)))) }
     {
         self.get().data_length()
+    }
+
+    fn writes_as_read() -> bool {
+        true
     }
 }

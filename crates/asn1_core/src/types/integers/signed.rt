@@ -58,6 +58,10 @@ impl SimpleAsn1Writable for i8 {
     {
         Some(length(i128::from(*self)))
     }
+
+    fn writes_as_read() -> bool {
+        true
+    }
 }
 
 /// INTEGER (X.690 8.3; universal 2) from -2^15 to 2^15 - 1. Reading has the errors of `i8`.
@@ -104,6 +108,10 @@ impl SimpleAsn1Writable for i16 {
         ensures { result ≡ Some (length (integer_content self.now)) }
     {
         Some(length(i128::from(*self)))
+    }
+
+    fn writes_as_read() -> bool {
+        true
     }
 }
 
@@ -152,6 +160,10 @@ impl SimpleAsn1Writable for i32 {
     {
         Some(length(i128::from(*self)))
     }
+
+    fn writes_as_read() -> bool {
+        true
+    }
 }
 
 /// INTEGER (X.690 8.3; universal 2) from -2^63 to 2^63 - 1. Reading has the errors of `i8`.
@@ -198,5 +210,9 @@ impl SimpleAsn1Writable for i64 {
         ensures { result ≡ Some (length (integer_content self.now)) }
     {
         Some(length(i128::from(*self)))
+    }
+
+    fn writes_as_read() -> bool {
+        true
     }
 }

@@ -58,6 +58,10 @@ impl SimpleAsn1Writable for u8 {
     {
         Some(length(i128::from(*self)))
     }
+
+    fn writes_as_read() -> bool {
+        true
+    }
 }
 
 /// INTEGER (X.690 8.3; universal 2) from 0 to 2^16 - 1. Reading has the errors of `u8`.
@@ -104,6 +108,10 @@ impl SimpleAsn1Writable for u16 {
         ensures { result ≡ Some (length (integer_content (pos self.now))) }
     {
         Some(length(i128::from(*self)))
+    }
+
+    fn writes_as_read() -> bool {
+        true
     }
 }
 
@@ -152,6 +160,10 @@ impl SimpleAsn1Writable for u32 {
     {
         Some(length(i128::from(*self)))
     }
+
+    fn writes_as_read() -> bool {
+        true
+    }
 }
 
 /// INTEGER (X.690 8.3; universal 2) from 0 to 2^64 - 1. Reading has the errors of `u8`.
@@ -198,5 +210,9 @@ impl SimpleAsn1Writable for u64 {
         ensures { result ≡ Some (length (integer_content (pos self.now))) }
     {
         Some(length(i128::from(*self)))
+    }
+
+    fn writes_as_read() -> bool {
+        true
     }
 }

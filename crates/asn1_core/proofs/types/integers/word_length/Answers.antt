@@ -1,0 +1,14 @@
+use Rattle.std.proofs.Common.{◌∙◌, refl, arith}
+use Rattle.std.specs.Prelude.{pos}
+use Rattle.std.proofs.lemmas.Nat.{leading_le}
+use Rattle.std.specs.Int.{w64}
+use Rattle.asn1_core.proofs.Integers.{length_counted, length_passed}
+use Rattle.asn1_core.proofs.types.integers.word_length.Goals as goal
+
+pub overflow_sub-bits : goal.overflow_sub-bits
+overflow_sub-bits c = omega (arith, leading_le 64 c.word_without_sign-size.result)
+
+pub returns : goal.returns
+returns c =
+    let size = c.word_without_sign-size.result in
+    length_passed w64 c.args.number _ c.ranges.number (length_counted 64 (pos size) _ size refl (omega (arith, c.word_without_sign-size.type_inv)) refl ∙ c.word_without_sign-size.ensures)
