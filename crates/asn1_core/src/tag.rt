@@ -172,6 +172,7 @@ impl Tag {
     }
 
     /// Appends the identifier octets. `AllocationError` if out of memory; then nothing was appended.
+    #[inline(always)]
     pub(crate) fn write_to(self, dest: &mut WriteBuf) -> WriteResult<()>
         ensures ok { OnOk result (dest.new.bytes ≡ dest.old.bytes ++ tag_text self) }
         ensures err { OnErr result (dest.new ≡ dest.old) }
@@ -180,6 +181,18 @@ impl Tag {
         if self.value < u32::from(LONG_FORM) {
             return dest.push_byte(self.first_octet(self.value as u8));
         }
+        self.write_long(dest)
+    }
+
+    /// The same for a number in the long form, which few tags have.
+    #[cold]
+    #[inline(never)]
+    fn write_long(self, dest: &mut WriteBuf) -> WriteResult<()>
+        requires { 31 ≤ tag_number self }
+        ensures ok { OnOk result (dest.new.bytes ≡ dest.old.bytes ++ tag_text self) }
+        ensures err { OnErr result (dest.new ≡ dest.old) }
+        ensures error { IsOkUnless result WriteError.AllocationError }
+    {
         let mut octets = [0u8; MAX_TAG_OCTETS];
         octets[0] = self.first_octet(LONG_FORM);
         let Some(count) = base128::write(u128::from(self.value), &mut octets[1..]) else {

@@ -240,9 +240,19 @@ impl WriteBuf {
         ensures error { IsOkUnless result WriteError.AllocationError }
     {
         if n > 0x7f {
-            return self.push_slice(LengthText::new(n).octets());
+            return self.push_long_length(n);
         }
         self.push_byte(n as u8)
+    }
+
+    /// The same for any number of length octets.
+    #[inline(never)]
+    fn push_long_length(&mut self, n: usize) -> WriteResult<()>
+        ensures ok { OnOk result (self.new.bytes ≡ self.old.bytes ++ length_text n) }
+        ensures err { OnErr result (self.new ≡ self.old) }
+        ensures error { IsOkUnless result WriteError.AllocationError }
+    {
+        self.push_slice(LengthText::new(n).octets())
     }
 
     /// Replaces the octet before `start` by the length octets of everything from `start` on. A single one, the usual
@@ -370,7 +380,7 @@ impl<'a> Writer<'a> {
     ///
     /// The caller has to prove (`requires`) that `body` may always be called, that it leaves the octets before its own
     /// as they were, at `Ok` and at `Err`, and that with `Some(n)` it appends exactly `n` octets at `Ok`.
-    #[inline]
+    #[inline(always)]
     pub fn write_tlv<E: From<WriteError>, F: FnOnce(&mut WriteBuf) -> Result<(), E>>(
         &mut self,
         tag: Tag,
@@ -480,6 +490,7 @@ impl<'a> Writer<'a> {
     }
 
     /// The same as [`Writer::write_tlv`], but on an error a part of the element may stay in the buffer.
+    #[inline(always)]
     fn write_tlv_or_part<E: From<WriteError>, F: FnOnce(&mut WriteBuf) -> Result<(), E>>(
         &mut self,
         tag: Tag,
