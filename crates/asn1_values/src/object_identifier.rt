@@ -39,7 +39,7 @@ fn first_number(octets: &[u8]) -> (u128, &[u8])
 {
     match number_before(octets) {
         Some(found) => found,
-        None => (0, octets),
+        None => unreachable!(),
     }
 }
 
@@ -112,14 +112,14 @@ fn first_of(first: u128, second: u128) -> Option<u128>
 /// ```
 #[derive(PartialEq, Eq, Hash, Drop)]
 pub struct ObjectIdentifier {
-    octets: [u8; 63],
+    octets: [u8; MAX_OCTETS],
     count: u8,
     pub ghost is_content: { IsIdentifierForm octets count },
 }
 
 /// Writes a number in base 128 after the first `count` octets, and returns how many octets there are then. `None` if
 /// there is no room for the number.
-fn append_number(octets: &mut [u8; 63], count: usize, number: u128) -> Option<usize>
+fn append_number(octets: &mut [u8; MAX_OCTETS], count: usize, number: u128) -> Option<usize>
     requires { count ≤ 63 }
     ensures { MatchOption result (63 < count + length (number_text number))
         (λ total. (total ≡ count + length (number_text number)) × (total ≤ 63)
@@ -138,7 +138,7 @@ impl ObjectIdentifier {
         ensures { option_map identifier_of result
             ≡ and_then (option_map (λ numbers. first ∷ numbers) (left_numbers rest.entry)) if_few }
     {
-        let mut octets = [0; 63];
+        let mut octets = [0; MAX_OCTETS];
         let mut count = append_number(&mut octets, 0, first)?;
         while let Some(text) = rest {
             let (number, after) = next_part(text)?;
@@ -178,7 +178,7 @@ impl ObjectIdentifier {
         if octets.is_empty() || !are_numbers(octets) {
             return Err(ParseError::new(ParseErrorKind::InvalidValue));
         }
-        let mut all = [0; 63];
+        let mut all = [0; MAX_OCTETS];
         all[..octets.len()].copy_from_slice(octets);
         Ok(ObjectIdentifier {
             octets: all,
@@ -189,7 +189,7 @@ impl ObjectIdentifier {
     /// The identifier whose contents octets are the first `count` of `octets`. The caller has to prove that these are
     /// contents octets of an identifier, 1 to 63, and that those after them are zero (`requires`); nothing is tested at
     /// run time.
-    pub const fn from_der_unchecked(octets: [u8; 63], count: u8) -> ObjectIdentifier
+    pub const fn from_der_unchecked(octets: [u8; MAX_OCTETS], count: u8) -> ObjectIdentifier
         requires { IsIdentifierForm octets count }
         ensures { identifier_of result ≡ identifier_numbers (take count octets) }
     {
