@@ -43,7 +43,7 @@ fn main(rt: HostRuntime) -> ExitCode {
     };
     let _ = match &answer {
         None => eprintln!(rt;
-            "pkix: the argument has to be a file, or one of {}",
+            "pkix: the argument has to be one of {}",
             Kind::NAMES
         ),
         Some(Ok(report)) => eprint!(rt; "{}", report.reasons),
