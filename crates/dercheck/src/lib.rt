@@ -6,6 +6,7 @@ mod answers;
 mod frame_lines;
 pub mod framing;
 mod header;
+mod hex_digits;
 pub mod kinds;
 pub mod laws;
 mod lines;

@@ -4,8 +4,8 @@ ghost use Rattle.std.specs.Prelude.{◌≡◌, IfOk, IsOkUnless};
 ghost use Rattle.dercheck.specs.Requests.{word_text, word_of, request_of, shown};
 
 use crate::answers::Fault;
+use crate::hex_digits::octets_of;
 use crate::lines::split_once;
-use hex::FromHexError;
 use std::alloc::Global;
 
 /// A type that a line may name.
@@ -165,9 +165,8 @@ pub(crate) fn request(alloc: Global, line: &[u8]) -> Result<Option<(Word, Vec<u8
     let Some(word) = Word::named(name) else {
         return Ok(None);
     };
-    match hex::decode(alloc, hex) {
-        Ok(octets) => Ok(Some((word, octets))),
-        Err(FromHexError::OutOfMemory) => Err(Fault::Memory),
-        Err(_) => Ok(None),
+    match octets_of(alloc, hex)? {
+        Some(octets) => Ok(Some((word, octets))),
+        None => Ok(None),
     }
 }

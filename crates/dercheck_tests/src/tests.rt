@@ -241,6 +241,71 @@ const LISTS: &[(&str, &str)] = &[
     ),
 ];
 
+/// Lines with hex in letters of either case, and with octets that are no digits: those beside the digits, and others in
+/// a long text.
+const HEX: &[(&str, &str)] = &[
+    (
+        "octets 041400112233445566778899aAbBcCdDeEfFFfEeDdCc",
+        "ok 041400112233445566778899aabbccddeeffffeeddcc",
+    ),
+    (
+        "octets 041200112233445566778899aabbccddeeff0123",
+        "ok 041200112233445566778899aabbccddeeff0123",
+    ),
+    (
+        "octets g41200112233445566778899aabbccddeeff0123",
+        "bad line",
+    ),
+    (
+        "octets 0g1200112233445566778899aabbccddeeff0123",
+        "bad line",
+    ),
+    (
+        "octets 041200112233445566778899aabbccgdeeff0123",
+        "bad line",
+    ),
+    (
+        "octets 041200112233445566778899aabbccdgeeff0123",
+        "bad line",
+    ),
+    (
+        "octets 041200112233445566778899aabbccddgeff0123",
+        "bad line",
+    ),
+    (
+        "octets 041200112233445566778899aabbccddegff0123",
+        "bad line",
+    ),
+    (
+        "octets 041200112233445566778899aabbccddeeff01g3",
+        "bad line",
+    ),
+    (
+        "octets 041200112233445566778899aabbccddeeff012g",
+        "bad line",
+    ),
+    (
+        "octets 041200112233445566778899aabbccddeeff01230",
+        "bad line",
+    ),
+    ("octets 0401/0", "bad line"),
+    ("octets 04010/", "bad line"),
+    ("octets 0401:0", "bad line"),
+    ("octets 04010:", "bad line"),
+    ("octets 0401@0", "bad line"),
+    ("octets 04010@", "bad line"),
+    ("octets 0401G0", "bad line"),
+    ("octets 04010G", "bad line"),
+    ("octets 0401`0", "bad line"),
+    ("octets 04010`", "bad line"),
+    ("octets 0401g0", "bad line"),
+    ("octets 04010g", "bad line"),
+    ("octets 0401 0", "bad line"),
+    ("octets 04010 ", "bad line"),
+    ("octets 0401é", "bad line"),
+    ("octets 0xff", "bad line"),
+];
+
 /// The output before, the input, the output after, and whether each reply is `ok`.
 const INPUTS: &[(&str, &str, &str, bool)] = &[
     ("", "", "", true),
@@ -300,6 +365,11 @@ fn check_lines(alloc: Global, lines: &[(&str, &str)]) -> Result<(), Fail> {
 #[test]
 fn each_line(rt: HostRuntime) -> Result<(), Fail> {
     check_lines(rt.alloc(), LINES)
+}
+
+#[test]
+fn hex_digits(rt: HostRuntime) -> Result<(), Fail> {
+    check_lines(rt.alloc(), HEX)
 }
 
 #[test]

@@ -27,11 +27,7 @@ fn answer(rt: &HostRuntime, kind: Option<Kind>) -> Result<Report, Fault> {
         Err(error) if error.kind() == ErrorKind::OutOfMemory => return Err(Fault::Memory),
         Err(_) => return Err(Fault::Read),
     }
-    let report = report_on(rt.alloc(), kind, &input)?;
-    if print!(rt; "{}", report.lines).is_err() {
-        return Err(Fault::Write);
-    }
-    Ok(report)
+    report_on(rt.alloc(), kind, &input, rt.stdout())
 }
 
 /// The lines of objects go to standard output, and why others are rejected to standard error.
@@ -47,7 +43,7 @@ fn main(rt: HostRuntime) -> ExitCode {
     };
     let _ = match &answer {
         None => eprintln!(rt;
-            "pkix: the argument has to be a file, or one of {}",
+            "pkix: the argument has to be one of {}",
             Kind::NAMES
         ),
         Some(Ok(report)) => eprint!(rt; "{}", report.reasons),

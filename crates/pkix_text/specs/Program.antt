@@ -1,17 +1,19 @@
 -- What the program does with its arguments, what it shows of an object, and how it ends.
-use Rattle.std.specs.Prelude.{ℕ, if◌then◌else◌, List, [], ◌∷◌, codes, String, string_bytes, Option, Some, None, Result, Ok, Err, ◌≡◌, ◌++◌, IsOk, ⊤}
+use Rattle.std.specs.Prelude.{ℕ, if◌then◌else◌, List, [], ◌∷◌, codes, String, string_bytes, Option, Some, None, Result, Ok, Err, ◌≡◌, ◌++◌, IsOk, ◌⊎◌, ⊤}
 use Rattle.std.specs.List.{find}
 use Rattle.std.specs.Str.{bytes_eq}
 use Rattle.asn1.specs.Der.{Der}
 use Rattle.asn1.specs.Reading.{whole}
 use Rattle.pkix_text.specs.declared.answers.Answer.{Answer}
-use Rattle.pkix_text.specs.declared.answers.Answer.TheVariants.{Shown, Rejected}
+use Rattle.pkix_text.specs.declared.answers.Answer.TheVariants.{Read, Shown, Rejected}
 use Rattle.pkix_text.specs.declared.answers.Fault.{Fault}
+use Rattle.pkix_text.specs.declared.answers.Fault.TheVariants.{Memory, Write}
 use Rattle.pkix_text.specs.declared.answers.Report.{Report}
 use Rattle.pkix_text.specs.declared.kinds.Kind.{Kind}
 use Rattle.pkix_text.specs.declared.kinds.Kind.TheVariants as kinds
 use Rattle.pkix_text.specs.declared.program.Asked.{Asked}
 use Rattle.pkix_text.specs.declared.program.Asked.TheVariants.{Help, Objects}
+use Rattle.pkix_text.specs.declared.show.Page.{Page}
 
 abbrev pub kind_name : Kind → List ℕ
 kind_name kinds.Certificate = codes "certificate"
@@ -63,8 +65,20 @@ IsRead der octets = IsOk (whole (der.read octets))
 abbrev pub EndsInSame : List ℕ → Type 0
 EndsInSame text = (front : List ℕ) × (text ≡ front ++ codes "same\n")
 
--- What is shown has the form, and its last line is `same`. What has the form may be rejected: an encrypted key may have
--- the form of another object.
+-- What is read or shown has the form, and the last line that is shown is `same`. What has the form may be rejected: an
+-- encrypted key may have the form of another object.
 abbrev pub IsShownOnlyIf : Type 0 → Answer → Type 0
+IsShownOnlyIf Form Read = Form
 IsShownOnlyIf Form (Shown text) = Form × EndsInSame (string_bytes text)
 IsShownOnlyIf Form (Rejected refusal) = ⊤
+
+-- ---- why there is no result
+
+-- There was no memory, or the lines couldn't be written.
+abbrev pub IsMemoryOrWrite : Fault → Type 0
+IsMemoryOrWrite fault = (fault ≡ Memory) ⊎ (fault ≡ Write)
+
+-- The same; without a page nothing is written.
+abbrev pub IsFaultOf : Option Page → Fault → Type 0
+IsFaultOf None fault = fault ≡ Memory
+IsFaultOf (Some page) fault = IsMemoryOrWrite fault

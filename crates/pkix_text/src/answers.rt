@@ -1,14 +1,14 @@
 //! The result for an input.
 
 ghost use Rattle.std.specs.Prelude.{◌≡◌, ◌⊎◌, IfErr, IfOk};
-ghost use Rattle.pkix_text.specs.Program.{IsRead, IsShownOnlyIf};
+ghost use Rattle.pkix_text.specs.Program.{IsFaultOf, IsMemoryOrWrite, IsRead, IsShownOnlyIf};
 ghost use Rattle.pkix_text.specs.declared.answers.Fault.TheVariants.{Memory};
 ghost use Rattle.pkix_text.specs.declared.kinds.Kind.TheVariants as kinds;
 
 use crate::errors::{UNIVERSAL, in_words};
 use crate::kinds::Kind;
 use crate::pem::{Object, PemError, objects};
-use crate::show::{Show, escaped, lines_of};
+use crate::show::{Page, Show, escaped, lines_of};
 use asn1::{
     Asn1Readable, Asn1Type, Asn1Writable, ParseError, ParseErrorKind, Tag, WriteError,
     parse_single, strip_tlv, write_readable,
@@ -23,6 +23,7 @@ use pkix::timestamps::{TimeStampReq, TimeStampResp};
 use sha2::{Digest, Sha256};
 use std::alloc::{AllocError, Global};
 use std::fmt;
+use std::io::{Stdout, Write};
 
 /// Why there is no result.
 #[derive(Debug, Drop)]
@@ -92,7 +93,10 @@ impl fmt::Display for Refusal {
 /// The result for an object.
 #[derive(Debug, Drop)]
 pub enum Answer {
-    /// The lines of its fields, the SHA-256 of what it is written back as, and `same`: these octets are its own.
+    /// It is one of the kind, and nothing is shown of it.
+    Read,
+    /// The last lines of its fields, the SHA-256 of what it is written back as, and `same`: these octets are its own.
+    /// The lines before these are written.
     Shown(String),
     /// Why it is rejected.
     Rejected(Refusal),
@@ -109,20 +113,25 @@ fn digest_of<'a, T: Asn1Readable<'a> + Asn1Writable<Error = WriteError>>(
     Ok(hex::encode(alloc, &Sha256::digest(written.as_slice()))?)
 }
 
-/// The lines of the value whose encoding the octets are. The value has one encoding, so these octets are written back.
+/// The lines of the value whose encoding the octets are, if there is a page for them. The value has one encoding, so
+/// these octets are written back.
 fn shown<'a, T: Asn1Readable<'a> + Asn1Writable<Error = WriteError> + Show>(
     alloc: Global,
     octets: &'a [u8],
+    page: Option<Page<'_>>,
 ) -> Result<Answer, Fault>
     ensures shown { IfOk result (IsShownOnlyIf (IsRead T.der octets.entry.now)) }
-    ensures error { IfErr result (λ fault. fault ≡ Memory) }
+    ensures error { IfErr result (IsFaultOf page.entry) }
 {
     let value = match parse_single::<T>(alloc, octets) {
         Ok(value) => value,
         Err(error) => return Ok(Answer::Rejected(Refusal::Der(error))),
     };
+    let Some(page) = page else {
+        return Ok(Answer::Read);
+    };
     let digest = digest_of(alloc, &value)?;
-    let mut text = lines_of(alloc, &value)?;
+    let mut text = lines_of(alloc, &value, page)?;
     writeln!(text, "sha256: {digest}")?;
     text.push_str("same\n")?;
     Ok(Answer::Shown(text))
@@ -166,49 +175,66 @@ fn start_of(octets: &[u8]) -> Option<Start> {
 /// The lines of a key, whose first elements tell its form: a OneAsymmetricKey has a version and an algorithm, an
 /// ECPrivateKey a version and octets, an RSAPublicKey two integers, an RSAPrivateKey more of them, a
 /// SubjectPublicKeyInfo begins with an algorithm.
-fn key<'a>(alloc: Global, start: Start, octets: &'a [u8]) -> Result<Answer, Fault>
+fn key<'a>(
+    alloc: Global,
+    start: Start,
+    octets: &'a [u8],
+    page: Option<Page<'_>>,
+) -> Result<Answer, Fault>
     ensures shown { IfOk result (IsShownOnlyIf (
         IsRead ⟦<SubjectPublicKeyInfo<'a> as Asn1Type>⟧.der octets.entry.now
         ⊎ IsRead ⟦<EcPrivateKey<'a> as Asn1Type>⟧.der octets.entry.now
         ⊎ IsRead ⟦<RsaPrivateKey<'a> as Asn1Type>⟧.der octets.entry.now
         ⊎ IsRead ⟦<RsaPublicKey<'a> as Asn1Type>⟧.der octets.entry.now
         ⊎ IsRead ⟦<OneAsymmetricKey<'a> as Asn1Type>⟧.der octets.entry.now)) }
-    ensures error { IfErr result (λ fault. fault ≡ Memory) }
+    ensures error { IfErr result (IsFaultOf page.entry) }
 {
     if start.first == Some(Tag::constructed(0x10)) {
-        shown::<SubjectPublicKeyInfo<'_>>(alloc, octets)
+        shown::<SubjectPublicKeyInfo<'_>>(alloc, octets, page)
     } else if start.second == Some(Tag::primitive(0x04)) {
-        shown::<EcPrivateKey<'_>>(alloc, octets)
+        shown::<EcPrivateKey<'_>>(alloc, octets, page)
     } else if start.second != Some(Tag::primitive(0x02)) {
-        shown::<OneAsymmetricKey<'_>>(alloc, octets)
+        shown::<OneAsymmetricKey<'_>>(alloc, octets, page)
     } else if start.has_more {
-        shown::<RsaPrivateKey<'_>>(alloc, octets)
+        shown::<RsaPrivateKey<'_>>(alloc, octets, page)
     } else {
-        shown::<RsaPublicKey<'_>>(alloc, octets)
+        shown::<RsaPublicKey<'_>>(alloc, octets, page)
     }
 }
 
 /// The lines of a signature, whose first element tells its form: an ECDSA-Sig-Value begins with an integer, a
 /// DigestInfo with an algorithm, a ContentInfo with an identifier.
-fn signature<'a>(alloc: Global, start: Start, octets: &'a [u8]) -> Result<Answer, Fault>
+fn signature<'a>(
+    alloc: Global,
+    start: Start,
+    octets: &'a [u8],
+    page: Option<Page<'_>>,
+) -> Result<Answer, Fault>
     ensures shown { IfOk result (IsShownOnlyIf (
         IsRead ⟦<EcdsaSigValue<'a> as Asn1Type>⟧.der octets.entry.now
         ⊎ IsRead ⟦<DigestInfo<'a> as Asn1Type>⟧.der octets.entry.now
         ⊎ IsRead ⟦<ContentInfo<'a> as Asn1Type>⟧.der octets.entry.now)) }
-    ensures error { IfErr result (λ fault. fault ≡ Memory) }
+    ensures error { IfErr result (IsFaultOf page.entry) }
 {
     if start.first == Some(Tag::primitive(0x02)) {
-        shown::<EcdsaSigValue<'_>>(alloc, octets)
+        shown::<EcdsaSigValue<'_>>(alloc, octets, page)
     } else if start.first == Some(Tag::constructed(0x10)) {
-        shown::<DigestInfo<'_>>(alloc, octets)
+        shown::<DigestInfo<'_>>(alloc, octets, page)
     } else {
-        shown::<ContentInfo<'_>>(alloc, octets)
+        shown::<ContentInfo<'_>>(alloc, octets, page)
     }
 }
 
 /// The lines of the value of this kind whose encoding the octets are. An encrypted key is rejected as an encrypted key
-/// for each kind, and other octets with the first error of the kind's type. `Memory` if out of memory.
-pub fn answer_to<'a>(alloc: Global, kind: Kind, octets: &'a [u8]) -> Result<Answer, Fault>
+/// for each kind, and other octets with the first error of the kind's type. The lines are written on the page if there
+/// is one, but for the last of them; without a page the value is read alone. `Memory` if out of memory, `Write` if the
+/// lines can't be written.
+pub fn answer_to<'a>(
+    alloc: Global,
+    kind: Kind,
+    octets: &'a [u8],
+    page: Option<Page<'_>>,
+) -> Result<Answer, Fault>
     ensures shown { IfOk result (IsShownOnlyIf (elim kind as (λ _. Type 0) [
       | kinds.Certificate ↦ IsRead ⟦<Certificate<'a> as Asn1Type>⟧.der octets.entry.now
       | kinds.Crl ↦ IsRead ⟦<CertificateList<'a> as Asn1Type>⟧.der octets.entry.now
@@ -224,20 +250,20 @@ pub fn answer_to<'a>(alloc: Global, kind: Kind, octets: &'a [u8]) -> Result<Answ
       | kinds.TimestampRequest ↦ IsRead ⟦<TimeStampReq<'a> as Asn1Type>⟧.der octets.entry.now
       | kinds.TimestampResponse ↦ IsRead ⟦<TimeStampResp<'a> as Asn1Type>⟧.der octets.entry.now
     ])) }
-    ensures error { IfErr result (λ fault. fault ≡ Memory) }
+    ensures error { IfErr result (IsFaultOf page.entry) }
 {
     let start = start_of(octets).unwrap_or_default();
     if start.is_encrypted {
         return Ok(Answer::Rejected(Refusal::Encrypted));
     }
     match kind {
-        Kind::Certificate => shown::<Certificate<'_>>(alloc, octets),
-        Kind::Crl => shown::<CertificateList<'_>>(alloc, octets),
-        Kind::Request => shown::<CertificationRequest<'_>>(alloc, octets),
-        Kind::Key => key(alloc, start, octets),
-        Kind::Signature => signature(alloc, start, octets),
-        Kind::TimestampRequest => shown::<TimeStampReq<'_>>(alloc, octets),
-        Kind::TimestampResponse => shown::<TimeStampResp<'_>>(alloc, octets),
+        Kind::Certificate => shown::<Certificate<'_>>(alloc, octets, page),
+        Kind::Crl => shown::<CertificateList<'_>>(alloc, octets, page),
+        Kind::Request => shown::<CertificationRequest<'_>>(alloc, octets, page),
+        Kind::Key => key(alloc, start, octets, page),
+        Kind::Signature => signature(alloc, start, octets, page),
+        Kind::TimestampRequest => shown::<TimeStampReq<'_>>(alloc, octets, page),
+        Kind::TimestampResponse => shown::<TimeStampResp<'_>>(alloc, octets, page),
     }
 }
 
@@ -246,7 +272,7 @@ pub fn answer_to<'a>(alloc: Global, kind: Kind, octets: &'a [u8]) -> Result<Answ
 fn has_error(alloc: Global, kind: Kind, octets: &[u8], error: &ParseError) -> Result<bool, Fault>
     ensures { IfErr result (λ fault. fault ≡ Memory) }
 {
-    let answer = answer_to(alloc, kind, octets)?;
+    let answer = answer_to(alloc, kind, octets, None)?;
     let Answer::Rejected(Refusal::Der(other)) = &answer else {
         return Ok(false);
     };
@@ -347,10 +373,10 @@ fn octet_of(
 }
 
 /// The result for an object in DER if this kind is asked for, with an error in words and its octet.
-fn told(alloc: Global, kind: Kind, octets: &[u8]) -> Result<Answer, Fault>
-    ensures { IfErr result (λ fault. fault ≡ Memory) }
+fn told(alloc: Global, kind: Kind, octets: &[u8], page: Page<'_>) -> Result<Answer, Fault>
+    ensures { IfErr result IsMemoryOrWrite }
 {
-    let answer = answer_to(alloc, kind, octets)?;
+    let answer = answer_to(alloc, kind, octets, Some(page))?;
     let Answer::Rejected(Refusal::Der(error)) = &answer else {
         return Ok(answer);
     };
@@ -370,34 +396,42 @@ fn told(alloc: Global, kind: Kind, octets: &[u8]) -> Result<Answer, Fault>
 }
 
 /// The result for an object in DER if no kind is named: the lines of the only kind that reads it.
-fn answer_to_any(alloc: Global, octets: &[u8]) -> Result<Answer, Fault>
-    ensures { IfErr result (λ fault. fault ≡ Memory) }
+fn answer_to_any(alloc: Global, octets: &[u8], page: Page<'_>) -> Result<Answer, Fault>
+    ensures { IfErr result IsMemoryOrWrite }
 {
     let mut found = None;
     for kind in Kind::ALL.iter().copied() {
-        match answer_to(alloc, kind, octets)? {
+        match answer_to(alloc, kind, octets, None)? {
             Answer::Rejected(Refusal::Encrypted) => {
                 return Ok(Answer::Rejected(Refusal::Encrypted));
             }
             Answer::Rejected(_refusal) => {}
-            Answer::Shown(lines) => {
-                if found.replace(lines).is_some() {
+            _answer => {
+                if found.replace(kind).is_some() {
                     return Ok(Answer::Rejected(Refusal::SeveralKinds));
                 }
             }
         }
     }
-    Ok(found.map_or(Answer::Rejected(Refusal::NoKind), Answer::Shown))
+    match found {
+        Some(kind) => answer_to(alloc, kind, octets, Some(page)),
+        None => Ok(Answer::Rejected(Refusal::NoKind)),
+    }
 }
 
 /// The result for an input that isn't in PEM.
-fn answer_to_der(alloc: Global, kind: Option<Kind>, input: &[u8]) -> Result<Answer, Fault>
-    ensures { IfErr result (λ fault. fault ≡ Memory) }
+fn answer_to_der(
+    alloc: Global,
+    kind: Option<Kind>,
+    input: &[u8],
+    page: Page<'_>,
+) -> Result<Answer, Fault>
+    ensures { IfErr result IsMemoryOrWrite }
 {
     match kind {
         _ if input.is_empty() => Ok(Answer::Rejected(Refusal::Empty)),
-        Some(kind) => told(alloc, kind, input),
-        None => answer_to_any(alloc, input),
+        Some(kind) => told(alloc, kind, input, page),
+        None => answer_to_any(alloc, input, page),
     }
 }
 
@@ -412,8 +446,9 @@ fn answer_to_object(
     alloc: Global,
     asked: Option<Kind>,
     object: &Object<'_>,
+    page: Page<'_>,
 ) -> Result<Answer, Fault>
-    ensures { IfErr result (λ fault. fault ≡ Memory) }
+    ensures { IfErr result IsMemoryOrWrite }
 {
     if object.is_encrypted || object.label.starts_with(b"ENCRYPTED") {
         return Ok(Answer::Rejected(Refusal::Encrypted));
@@ -429,7 +464,7 @@ fn answer_to_object(
         (told, asked) => told.or(asked),
     };
     match kind {
-        Some(kind) => told(alloc, kind, octets.as_slice()),
+        Some(kind) => told(alloc, kind, octets.as_slice(), page),
         None => Ok(Answer::Rejected(Refusal::Label(text_of(alloc, object.label)?))),
     }
 }
@@ -443,44 +478,52 @@ fn heading(alloc: Global, number: usize, object: &Object<'_>) -> Result<String, 
 /// The result for an input.
 #[derive(Debug, Drop)]
 pub struct Report {
-    /// The lines of its objects. If there are several, a line with the number and the label comes before each.
-    pub lines: String,
     /// A line for each object that is rejected: why.
     pub reasons: String,
 }
 
 impl Report {
-    /// Adds the result for an object, which has this name if it isn't the only one.
-    fn add(&mut self, name: &str, answer: Answer) -> Result<(), AllocError> {
+    /// Writes the last lines of an object, or adds why it is rejected. It has this page's heading as its name.
+    fn add(&mut self, page: Page<'_>, answer: Answer) -> Result<(), Fault>
+        ensures { IfErr result IsMemoryOrWrite }
+    {
+        let name = page.heading;
         let dots = if name.is_empty() { "" } else { ": " };
+        let mut out = page.out;
         match answer {
-            // The only object: its lines can be many, and aren't copied.
-            Answer::Shown(lines) if name.is_empty() => {
-                self.lines = lines;
-                Ok(())
-            }
-            Answer::Shown(lines) => write!(self.lines, "{name}\n{lines}"),
-            Answer::Rejected(refusal) => writeln!(self.reasons, "pkix: {name}{dots}{refusal}"),
+            Answer::Read => {}
+            Answer::Shown(last) => out.write_all(last.as_bytes()).or(Err(Fault::Write))?,
+            Answer::Rejected(refusal) => writeln!(self.reasons, "pkix: {name}{dots}{refusal}")?,
         }
+        Ok(())
     }
 }
 
-/// The lines of the objects of an input, and why others are rejected. The input is in PEM if it has a line that begins
-/// with `-----BEGIN ` and only text before that, and else one object in DER. `Memory` if out of memory.
-pub fn report_on(alloc: Global, kind: Option<Kind>, input: &[u8]) -> Result<Report, Fault>
-    ensures { IfErr result (λ fault. fault ≡ Memory) }
+/// Writes the lines of the objects of an input, and returns why others are rejected. If there are several objects, a
+/// line with the number and the label comes before each. The input is in PEM if it has a line that begins with
+/// `-----BEGIN ` and only text before that, and else one object in DER. `Memory` if out of memory, `Write` if the lines
+/// can't be written; some of them may be written then.
+pub fn report_on(
+    alloc: Global,
+    kind: Option<Kind>,
+    input: &[u8],
+    out: Stdout,
+) -> Result<Report, Fault>
+    ensures { IfErr result IsMemoryOrWrite }
 {
     let mut report = Report {
-        lines: String::new(alloc),
         reasons: String::new(alloc),
     };
+    let page = Page { out, heading: "" };
     match objects(alloc, input)?.as_slice() {
-        [] => report.add("", answer_to_der(alloc, kind, input)?)?,
-        [object] => report.add("", answer_to_object(alloc, kind, object)?)?,
+        [] => report.add(page, answer_to_der(alloc, kind, input, page)?)?,
+        [object] => report.add(page, answer_to_object(alloc, kind, object, page)?)?,
         several => {
             for (number, object) in several.iter().enumerate() {
                 let name = heading(alloc, number, object)?;
-                report.add(name.as_str(), answer_to_object(alloc, kind, object)?)?;
+                let heading = name.as_str();
+                let page = Page { out, heading };
+                report.add(page, answer_to_object(alloc, kind, object, page)?)?;
             }
         }
     }

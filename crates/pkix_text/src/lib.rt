@@ -20,3 +20,4 @@ pub use answers::{Answer, Fault, Refusal, Report, answer_to, report_on};
 pub use kinds::Kind;
 pub use pem::PemError;
 pub use program::{Asked, HELP, ask, status};
+pub use show::Page;

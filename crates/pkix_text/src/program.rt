@@ -8,12 +8,12 @@ use crate::kinds::Kind;
 
 /// How the program is used.
 pub const HELP: &str = "\
-usage: pkix [KIND] [FILE]...
-Shows certificates and other documents in DER or PEM, a line for each field. Without a file it reads standard input.
+usage: pkix_cli [KIND]
+Shows certificates and other documents in DER or PEM, which it reads from standard input, a line for each field.
 KIND is certificate, crl, request, key, signature, timestamp-request or timestamp-response. PEM needs none if its labels
 tell the kind, and DER none if a single kind has its form.
 The status is 0 if each object is shown, 1 if one is rejected, and 2 if there is no answer.
-example: pkix certificate server.der
+example: pkix_cli certificate < server.der
 ";
 
 /// What the words after the program's name ask for.

@@ -1,7 +1,10 @@
 //! Lines of text, and how values of the simple types are shown.
 
+ghost use Rattle.std.specs.Prelude.{IfErr};
 ghost use Rattle.std.specs.Iterator.{IsFinite};
+ghost use Rattle.pkix_text.specs.Program.{IsMemoryOrWrite};
 
+use crate::answers::Fault;
 use crate::errors::in_words;
 use crate::identifiers::name_of;
 use asn1::{
@@ -12,6 +15,7 @@ use asn1::{
 use pkix::common::{NamedBits, Time};
 use std::alloc::{AllocError, Global};
 use std::char::decode_utf16;
+use std::io::{Stdout, Write};
 use std::mem;
 
 /// What is shown as lines of text.
@@ -20,27 +24,53 @@ pub(crate) trait Show {
     fn show(&self, lines: &mut Lines);
 }
 
+/// Where the lines of an object are written, and the line that comes before them, if any.
+#[derive(Clone, Copy)]
+pub struct Page<'a> {
+    /// Standard output.
+    pub out: Stdout,
+    /// The line before the others, or nothing.
+    pub heading: &'a str,
+}
+
+/// How many octets of lines are kept before they are written.
+const PIECE: usize = 65_536;
+
 /// The lines of an object, as they grow, and the location of the value that is shown next. The empty location is the
-/// whole. They remember that memory ran out, and then show no more parts, so that showing a value never fails.
+/// whole. They are written in pieces. They remember that memory ran out, or that they couldn't be written, and then
+/// show no more parts, so that showing a value never fails.
 #[derive(Drop)]
 pub(crate) struct Lines {
     pub(crate) alloc: Global,
     pub(crate) is_out_of_memory: bool,
+    is_unwritten: bool,
+    out: Stdout,
     place: String,
     text: String,
 }
 
-/// The lines of the value, which is the whole.
-pub(crate) fn lines_of<T: Show>(alloc: Global, value: &T) -> Result<String, AllocError> {
+/// Writes the lines of the value, which is the whole, and returns the last ones, which aren't written.
+pub(crate) fn lines_of<T: Show>(alloc: Global, value: &T, page: Page<'_>) -> Result<String, Fault>
+    ensures { IfErr result IsMemoryOrWrite }
+{
+    let mut text = String::new(alloc);
+    if !page.heading.is_empty() {
+        writeln!(text, "{}", page.heading)?;
+    }
     let mut lines = Lines {
         alloc,
         is_out_of_memory: false,
+        is_unwritten: false,
+        out: page.out,
         place: String::new(alloc),
-        text: String::new(alloc),
+        text,
     };
     value.show(&mut lines);
     if lines.is_out_of_memory {
-        return Err(AllocError);
+        return Err(Fault::Memory);
+    }
+    if lines.is_unwritten {
+        return Err(Fault::Write);
     }
     Ok(lines.text)
 }
@@ -51,7 +81,7 @@ impl Lines {
         let dot = if self.place.is_empty() { "" } else { "." };
         let inner = format!(in self.alloc; "{}{dot}{name}", self.place);
         let inner = self.kept(inner);
-        if !self.is_out_of_memory {
+        if !self.is_out_of_memory && !self.is_unwritten {
             let outer = mem::replace(&mut self.place, inner);
             value.show(self);
             self.place = outer;
@@ -75,10 +105,11 @@ impl Lines {
         }
     }
 
-    /// An item of a list, unless memory ran out: all items were read when the list was, so an error means just that.
+    /// An item of a list, unless no more is shown. All items were read when the list was, so an error means that memory
+    /// ran out.
     pub(crate) fn item<T: Drop>(&mut self, item: ParseResult<T>) -> Option<T> {
         self.is_out_of_memory |= item.is_err();
-        if self.is_out_of_memory {
+        if self.is_out_of_memory || self.is_unwritten {
             return None;
         }
         item.ok()
@@ -107,10 +138,15 @@ impl Lines {
         self.read(name, octets, parse_single::<T>(self.alloc, octets));
     }
 
-    /// Appends the line of a text.
+    /// Appends the line of a text, and writes the lines so far if they are a piece. If memory ran out, a line may lack
+    /// a part, and isn't written.
     pub(crate) fn line(&mut self, text: &str) {
         let appended = writeln!(self.text, "{}: {text}", self.place);
         self.is_out_of_memory |= appended.is_err();
+        if self.text.len() >= PIECE && !self.is_out_of_memory {
+            self.is_unwritten |= self.out.write_all(self.text.as_bytes()).is_err();
+            self.text.clear();
+        }
     }
 
     /// The text; if there was no memory for it, which is remembered, an empty one.
