@@ -203,3 +203,15 @@ fn are_answered<'a, T: Asn1Readable<'a> + Asn1Writable<Error = WriteError>>(
         Ok(())
     }
 }
+
+#[test]
+fn each_type(rt: HostRuntime) -> Result<(), Fail> {
+    let alloc = rt.alloc();
+    certificate::certificates_and_policies(alloc)?;
+    certificate::constraints_and_points(alloc)?;
+    common::names_and_extensions(alloc)?;
+    keys::keys_and_parameters(alloc)?;
+    lists_and_requests::lists_and_requests(alloc)?;
+    signatures::signed_data(alloc)?;
+    timestamps::time_stamps(alloc)
+}

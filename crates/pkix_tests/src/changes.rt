@@ -151,11 +151,6 @@ const FULL_CHANGED: &str = "\
 777 is 1: InvalidValue signature_value
 847 is 58: read";
 
-#[test]
-fn certificates(rt: HostRuntime) -> Result<(), Fail> {
-    are_changes_answered::<Certificate<'_>>(rt.alloc(), "Certificate", FULL, FULL_CHANGED)
-}
-
 /// A revocation list with an entry.
 const DELTA_CRL_CHANGED: &str = "\
 0 is 49: tag 31
@@ -265,16 +260,6 @@ const DELTA_CRL_CHANGED: &str = "\
 295 is 1: InvalidValue signature_value
 366 is 196: read";
 
-#[test]
-fn revocation_lists(rt: HostRuntime) -> Result<(), Fail> {
-    are_changes_answered::<CertificateList<'_>>(
-        rt.alloc(),
-        "CertificateList",
-        DELTA_CRL,
-        DELTA_CRL_CHANGED,
-    )
-}
-
 /// A response with a time stamp.
 const STAMP_RESPONSE_CHANGED: &str = "\
 0 is 49: tag 31
@@ -303,9 +288,17 @@ const STAMP_RESPONSE_CHANGED: &str = "\
 1046 is 174: read";
 
 #[test]
-fn responses_with_time_stamps(rt: HostRuntime) -> Result<(), Fail> {
+fn changed_octets(rt: HostRuntime) -> Result<(), Fail> {
+    let alloc = rt.alloc();
+    are_changes_answered::<Certificate<'_>>(alloc, "Certificate", FULL, FULL_CHANGED)?;
+    are_changes_answered::<CertificateList<'_>>(
+        alloc,
+        "CertificateList",
+        DELTA_CRL,
+        DELTA_CRL_CHANGED,
+    )?;
     are_changes_answered::<TimeStampResp<'_>>(
-        rt.alloc(),
+        alloc,
         "TimeStampResp",
         STAMP_RESPONSE,
         STAMP_RESPONSE_CHANGED,

@@ -14,6 +14,7 @@ use pkix::certificate::policies::{
     PolicyConstraints, PolicyInformation, PolicyMapping, PolicyMappings, PolicyQualifierInfo,
 };
 use pkix::certificate::{Certificate, TbsCertificate, Validity};
+use std::alloc::Global;
 use std::test::Fail;
 
 /// Validity (RFC 5280, 4.1.2.5).
@@ -67,14 +68,6 @@ const CERTIFICATE: &str = "\
 + 03020001: short 1 signature_value; ExtraData; tag 8e signature_value
 = 030200a0: read
 = 030207ff: InvalidValue signature_value";
-
-#[test]
-fn certificates(rt: HostRuntime) -> Result<(), Fail> {
-    let alloc = rt.alloc();
-    are_answered::<Validity>(alloc, "Validity", VALIDITY)?;
-    are_answered::<TbsCertificate<'_>>(alloc, "TbsCertificate", TBS_CERTIFICATE)?;
-    are_answered::<Certificate<'_>>(alloc, "Certificate", CERTIFICATE)
-}
 
 /// AuthorityKeyIdentifier (RFC 5280, 4.2.1.1).
 const AUTHORITY_KEY_IDENTIFIER: &str = "\
@@ -137,25 +130,6 @@ const BASIC_CONSTRAINTS: &str = "\
 = 0201ff: InvalidValue path_len_constraint
 = 02020005: InvalidValue path_len_constraint";
 
-#[test]
-fn keys_and_constraints(rt: HostRuntime) -> Result<(), Fail> {
-    let alloc = rt.alloc();
-    are_answered::<AuthorityKeyIdentifier<'_>>(
-        alloc,
-        "AuthorityKeyIdentifier",
-        AUTHORITY_KEY_IDENTIFIER,
-    )?;
-    are_answered::<SubjectKeyIdentifier<'_>>(
-        alloc,
-        "SubjectKeyIdentifier",
-        SUBJECT_KEY_IDENTIFIER,
-    )?;
-    are_answered::<KeyUsage<'_>>(alloc, "KeyUsage", KEY_USAGE)?;
-    are_answered::<SubjectAltName<'_>>(alloc, "SubjectAltName", SUBJECT_ALT_NAME)?;
-    are_answered::<ExtendedKeyUsage<'_>>(alloc, "ExtendedKeyUsage", EXTENDED_KEY_USAGE)?;
-    are_answered::<BasicConstraints<'_>>(alloc, "BasicConstraints", BASIC_CONSTRAINTS)
-}
-
 /// PolicyQualifierInfo (RFC 5280, 4.2.1.4).
 const POLICY_QUALIFIER_INFO: &str = "\
 + 06022a03: tag 05 policy_qualifier_id; ExtraData; tag 8e policy_qualifier_id
@@ -197,9 +171,25 @@ ae0a300806022a0306022a04: tag ae
 : short 1
 3018300a06032a030406032a0305300a06032a030606032a0307: read";
 
-#[test]
-fn policies(rt: HostRuntime) -> Result<(), Fail> {
-    let alloc = rt.alloc();
+/// Each of these types answers as its rows say.
+pub fn certificates_and_policies(alloc: Global) -> Result<(), Fail> {
+    are_answered::<Validity>(alloc, "Validity", VALIDITY)?;
+    are_answered::<TbsCertificate<'_>>(alloc, "TbsCertificate", TBS_CERTIFICATE)?;
+    are_answered::<Certificate<'_>>(alloc, "Certificate", CERTIFICATE)?;
+    are_answered::<AuthorityKeyIdentifier<'_>>(
+        alloc,
+        "AuthorityKeyIdentifier",
+        AUTHORITY_KEY_IDENTIFIER,
+    )?;
+    are_answered::<SubjectKeyIdentifier<'_>>(
+        alloc,
+        "SubjectKeyIdentifier",
+        SUBJECT_KEY_IDENTIFIER,
+    )?;
+    are_answered::<KeyUsage<'_>>(alloc, "KeyUsage", KEY_USAGE)?;
+    are_answered::<SubjectAltName<'_>>(alloc, "SubjectAltName", SUBJECT_ALT_NAME)?;
+    are_answered::<ExtendedKeyUsage<'_>>(alloc, "ExtendedKeyUsage", EXTENDED_KEY_USAGE)?;
+    are_answered::<BasicConstraints<'_>>(alloc, "BasicConstraints", BASIC_CONSTRAINTS)?;
     are_answered::<PolicyQualifierInfo<'_>>(alloc, "PolicyQualifierInfo", POLICY_QUALIFIER_INFO)?;
     are_answered::<PolicyInformation<'_>>(alloc, "PolicyInformation", POLICY_INFORMATION)?;
     are_answered::<CertificatePolicies<'_>>(alloc, "CertificatePolicies", CERTIFICATE_POLICIES)?;
@@ -266,16 +256,6 @@ const INHIBIT_ANY_POLICY: &str = "\
 8e0105: tag 8e
 : short 1";
 
-#[test]
-fn constraints(rt: HostRuntime) -> Result<(), Fail> {
-    let alloc = rt.alloc();
-    are_answered::<GeneralSubtree<'_>>(alloc, "GeneralSubtree", GENERAL_SUBTREE)?;
-    are_answered::<GeneralSubtrees<'_>>(alloc, "GeneralSubtrees", GENERAL_SUBTREES)?;
-    are_answered::<NameConstraints<'_>>(alloc, "NameConstraints", NAME_CONSTRAINTS)?;
-    are_answered::<PolicyConstraints<'_>>(alloc, "PolicyConstraints", POLICY_CONSTRAINTS)?;
-    are_answered::<InhibitAnyPolicy<'_>>(alloc, "InhibitAnyPolicy", INHIBIT_ANY_POLICY)
-}
-
 /// AccessDescription (RFC 5280, 4.2.2.1).
 const ACCESS_DESCRIPTION: &str = "\
 + 06022a03: tag 82 access_method; tag 06 access_location; tag 8e access_method
@@ -291,13 +271,6 @@ ae09300706022a03820161: tag ae
 : short 1
 3047302006082b060105050730018614687474703a2f2f6f6373702e6578616d706c652f302306082b060105050730028617687474703a2f\
     2f63612e6578616d706c652f632e646572: read";
-
-#[test]
-fn access(rt: HostRuntime) -> Result<(), Fail> {
-    let alloc = rt.alloc();
-    are_answered::<AccessDescription<'_>>(alloc, "AccessDescription", ACCESS_DESCRIPTION)?;
-    are_answered::<AuthorityInfoAccess<'_>>(alloc, "AuthorityInfoAccess", AUTHORITY_INFO_ACCESS)
-}
 
 /// DistributionPointName (RFC 5280, 4.2.1.13).
 const DISTRIBUTION_POINT_NAME: &str = "\
@@ -360,9 +333,15 @@ const ISSUING_DISTRIBUTION_POINT: &str = "\
 302ba01fa01d861b687474703a2f2f63726c2e6578616d706c652f736f6d652e63726c8101ff830205608401ff: read
 3011a00ca10a300806035504030c01618501ff: read";
 
-#[test]
-fn distribution(rt: HostRuntime) -> Result<(), Fail> {
-    let alloc = rt.alloc();
+/// Each of these types answers as its rows say.
+pub fn constraints_and_points(alloc: Global) -> Result<(), Fail> {
+    are_answered::<GeneralSubtree<'_>>(alloc, "GeneralSubtree", GENERAL_SUBTREE)?;
+    are_answered::<GeneralSubtrees<'_>>(alloc, "GeneralSubtrees", GENERAL_SUBTREES)?;
+    are_answered::<NameConstraints<'_>>(alloc, "NameConstraints", NAME_CONSTRAINTS)?;
+    are_answered::<PolicyConstraints<'_>>(alloc, "PolicyConstraints", POLICY_CONSTRAINTS)?;
+    are_answered::<InhibitAnyPolicy<'_>>(alloc, "InhibitAnyPolicy", INHIBIT_ANY_POLICY)?;
+    are_answered::<AccessDescription<'_>>(alloc, "AccessDescription", ACCESS_DESCRIPTION)?;
+    are_answered::<AuthorityInfoAccess<'_>>(alloc, "AuthorityInfoAccess", AUTHORITY_INFO_ACCESS)?;
     are_answered::<DistributionPointName<'_>>(
         alloc,
         "DistributionPointName",

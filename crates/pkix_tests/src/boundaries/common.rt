@@ -5,6 +5,7 @@ use pkix::common::{
     AlgorithmIdentifier, Attribute, AttributeTypeAndValue, Attributes, EdiPartyName, Extension,
     Extensions, GeneralName, GeneralNames, Name, OtherName, SubjectPublicKeyInfo, Time,
 };
+use std::alloc::Global;
 use std::test::Fail;
 
 /// AlgorithmIdentifier (RFC 5280, 4.1.1.2).
@@ -55,20 +56,6 @@ const TIME: &str = "\
 8e0d3236313132343130353031305a: tag 8e
 : short 1";
 
-#[test]
-fn algorithms_and_extensions(rt: HostRuntime) -> Result<(), Fail> {
-    let alloc = rt.alloc();
-    are_answered::<AlgorithmIdentifier<'_>>(alloc, "AlgorithmIdentifier", ALGORITHM_IDENTIFIER)?;
-    are_answered::<SubjectPublicKeyInfo<'_>>(
-        alloc,
-        "SubjectPublicKeyInfo",
-        SUBJECT_PUBLIC_KEY_INFO,
-    )?;
-    are_answered::<Extension<'_>>(alloc, "Extension", EXTENSION)?;
-    are_answered::<Extensions<'_>>(alloc, "Extensions", EXTENSIONS)?;
-    are_answered::<Time>(alloc, "Time", TIME)
-}
-
 /// AttributeTypeAndValue (RFC 5280, 4.1.2.4).
 const ATTRIBUTE_TYPE_AND_VALUE: &str = "\
 + 06022a03: tag 05 type_id; ExtraData; tag 8e type_id
@@ -100,19 +87,6 @@ const ATTRIBUTES: &str = "\
 3110300606022a043100300606022a033100: InvalidSetOrdering 1
 ae00: tag ae
 : short 1";
-
-#[test]
-fn names(rt: HostRuntime) -> Result<(), Fail> {
-    let alloc = rt.alloc();
-    are_answered::<AttributeTypeAndValue<'_>>(
-        alloc,
-        "AttributeTypeAndValue",
-        ATTRIBUTE_TYPE_AND_VALUE,
-    )?;
-    are_answered::<Name<'_>>(alloc, "Name", NAME)?;
-    are_answered::<Attribute<'_>>(alloc, "Attribute", ATTRIBUTE)?;
-    are_answered::<Attributes<'_>>(alloc, "Attributes", ATTRIBUTES)
-}
 
 /// OtherName (RFC 5280, 4.2.1.6).
 const OTHER_NAME: &str = "\
@@ -181,9 +155,25 @@ ae03820161: tag ae
 : short 1
 3011a40f300d310b3009060355040613024154: read";
 
-#[test]
-fn general_names(rt: HostRuntime) -> Result<(), Fail> {
-    let alloc = rt.alloc();
+/// Each of these types answers as its rows say.
+pub fn names_and_extensions(alloc: Global) -> Result<(), Fail> {
+    are_answered::<AlgorithmIdentifier<'_>>(alloc, "AlgorithmIdentifier", ALGORITHM_IDENTIFIER)?;
+    are_answered::<SubjectPublicKeyInfo<'_>>(
+        alloc,
+        "SubjectPublicKeyInfo",
+        SUBJECT_PUBLIC_KEY_INFO,
+    )?;
+    are_answered::<Extension<'_>>(alloc, "Extension", EXTENSION)?;
+    are_answered::<Extensions<'_>>(alloc, "Extensions", EXTENSIONS)?;
+    are_answered::<Time>(alloc, "Time", TIME)?;
+    are_answered::<AttributeTypeAndValue<'_>>(
+        alloc,
+        "AttributeTypeAndValue",
+        ATTRIBUTE_TYPE_AND_VALUE,
+    )?;
+    are_answered::<Name<'_>>(alloc, "Name", NAME)?;
+    are_answered::<Attribute<'_>>(alloc, "Attribute", ATTRIBUTE)?;
+    are_answered::<Attributes<'_>>(alloc, "Attributes", ATTRIBUTES)?;
     are_answered::<OtherName<'_>>(alloc, "OtherName", OTHER_NAME)?;
     are_answered::<EdiPartyName<'_>>(alloc, "EdiPartyName", EDI_PARTY_NAME)?;
     are_answered::<GeneralName<'_>>(alloc, "GeneralName", GENERAL_NAME)?;

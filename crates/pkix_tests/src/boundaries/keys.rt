@@ -5,6 +5,7 @@ use pkix::keys::{
     DssParms, EcPrivateKey, EncryptedPrivateKeyInfo, OneAsymmetricKey, RsaPrivateKey, RsaPublicKey,
     RsassaPssParams,
 };
+use std::alloc::Global;
 use std::test::Fail;
 
 /// OneAsymmetricKey (RFC 5958, 2).
@@ -106,20 +107,6 @@ const EC_PRIVATE_KEY: &str = "\
 = a100: short 1 public_key
 = a106030200010500: ExtraData public_key";
 
-#[test]
-fn keys(rt: HostRuntime) -> Result<(), Fail> {
-    let alloc = rt.alloc();
-    are_answered::<OneAsymmetricKey<'_>>(alloc, "OneAsymmetricKey", ONE_ASYMMETRIC_KEY)?;
-    are_answered::<EncryptedPrivateKeyInfo<'_>>(
-        alloc,
-        "EncryptedPrivateKeyInfo",
-        ENCRYPTED_PRIVATE_KEY_INFO,
-    )?;
-    are_answered::<RsaPublicKey<'_>>(alloc, "RsaPublicKey", RSA_PUBLIC_KEY)?;
-    are_answered::<RsaPrivateKey<'_>>(alloc, "RsaPrivateKey", RSA_PRIVATE_KEY)?;
-    are_answered::<EcPrivateKey<'_>>(alloc, "EcPrivateKey", EC_PRIVATE_KEY)
-}
-
 /// DssParms (RFC 3279, 2.3.2).
 const DSS_PARMS: &str = "\
 + 020107: short 1 g; ExtraData; tag 8e p
@@ -162,9 +149,17 @@ const RSASSA_PSS_PARAMS: &str = "\
 = a3050201020500: ExtraData trailer_field
 300da00b300906052b0e03021a0500: read";
 
-#[test]
-fn parameters(rt: HostRuntime) -> Result<(), Fail> {
-    let alloc = rt.alloc();
+/// Each of these types answers as its rows say.
+pub fn keys_and_parameters(alloc: Global) -> Result<(), Fail> {
+    are_answered::<OneAsymmetricKey<'_>>(alloc, "OneAsymmetricKey", ONE_ASYMMETRIC_KEY)?;
+    are_answered::<EncryptedPrivateKeyInfo<'_>>(
+        alloc,
+        "EncryptedPrivateKeyInfo",
+        ENCRYPTED_PRIVATE_KEY_INFO,
+    )?;
+    are_answered::<RsaPublicKey<'_>>(alloc, "RsaPublicKey", RSA_PUBLIC_KEY)?;
+    are_answered::<RsaPrivateKey<'_>>(alloc, "RsaPrivateKey", RSA_PRIVATE_KEY)?;
+    are_answered::<EcPrivateKey<'_>>(alloc, "EcPrivateKey", EC_PRIVATE_KEY)?;
     are_answered::<DssParms<'_>>(alloc, "DssParms", DSS_PARMS)?;
     are_answered::<RsassaPssParams<'_>>(alloc, "RsassaPssParams", RSASSA_PSS_PARAMS)
 }

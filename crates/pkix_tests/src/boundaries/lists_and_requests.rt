@@ -4,6 +4,7 @@ use crate::boundaries::are_answered;
 use pkix::request::{CertificationRequest, CertificationRequestInfo};
 use pkix::revocation::extensions::{BaseCrlNumber, CrlNumber, CrlReason, InvalidityDate};
 use pkix::revocation::{CertificateList, RevokedCertificate, RevokedCertificates, TbsCertList};
+use std::alloc::Global;
 use std::test::Fail;
 
 /// RevokedCertificate (RFC 5280, 5.1.2.6).
@@ -55,15 +56,6 @@ const CERTIFICATE_LIST: &str = "\
 = 030200a0: read
 = 030207ff: InvalidValue signature_value";
 
-#[test]
-fn lists(rt: HostRuntime) -> Result<(), Fail> {
-    let alloc = rt.alloc();
-    are_answered::<RevokedCertificate<'_>>(alloc, "RevokedCertificate", REVOKED_CERTIFICATE)?;
-    are_answered::<RevokedCertificates<'_>>(alloc, "RevokedCertificates", REVOKED_CERTIFICATES)?;
-    are_answered::<TbsCertList<'_>>(alloc, "TbsCertList", TBS_CERT_LIST)?;
-    are_answered::<CertificateList<'_>>(alloc, "CertificateList", CERTIFICATE_LIST)
-}
-
 /// CrlNumber (RFC 5280, 5.2.3).
 const CRL_NUMBER: &str = "\
 020105: read
@@ -103,15 +95,6 @@ const INVALIDITY_DATE: &str = "\
 : short 1
 170d3236313033313233353935395a: tag 17";
 
-#[test]
-fn values_of_extensions(rt: HostRuntime) -> Result<(), Fail> {
-    let alloc = rt.alloc();
-    are_answered::<CrlNumber<'_>>(alloc, "CrlNumber", CRL_NUMBER)?;
-    are_answered::<BaseCrlNumber<'_>>(alloc, "BaseCrlNumber", BASE_CRL_NUMBER)?;
-    are_answered::<CrlReason>(alloc, "CrlReason", CRL_REASON)?;
-    are_answered::<InvalidityDate>(alloc, "InvalidityDate", INVALIDITY_DATE)
-}
-
 /// CertificationRequestInfo (RFC 2986, 4.1).
 const CERTIFICATION_REQUEST_INFO: &str = "\
 + 020100: tag 30 version; tag 02 subject; tag 8e version
@@ -134,9 +117,16 @@ const CERTIFICATION_REQUEST: &str = "\
 = 030200a0: read
 = 030207ff: InvalidValue signature";
 
-#[test]
-fn requests(rt: HostRuntime) -> Result<(), Fail> {
-    let alloc = rt.alloc();
+/// Each of these types answers as its rows say.
+pub fn lists_and_requests(alloc: Global) -> Result<(), Fail> {
+    are_answered::<RevokedCertificate<'_>>(alloc, "RevokedCertificate", REVOKED_CERTIFICATE)?;
+    are_answered::<RevokedCertificates<'_>>(alloc, "RevokedCertificates", REVOKED_CERTIFICATES)?;
+    are_answered::<TbsCertList<'_>>(alloc, "TbsCertList", TBS_CERT_LIST)?;
+    are_answered::<CertificateList<'_>>(alloc, "CertificateList", CERTIFICATE_LIST)?;
+    are_answered::<CrlNumber<'_>>(alloc, "CrlNumber", CRL_NUMBER)?;
+    are_answered::<BaseCrlNumber<'_>>(alloc, "BaseCrlNumber", BASE_CRL_NUMBER)?;
+    are_answered::<CrlReason>(alloc, "CrlReason", CRL_REASON)?;
+    are_answered::<InvalidityDate>(alloc, "InvalidityDate", INVALIDITY_DATE)?;
     are_answered::<CertificationRequestInfo<'_>>(
         alloc,
         "CertificationRequestInfo",

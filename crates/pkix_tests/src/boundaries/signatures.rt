@@ -5,6 +5,7 @@ use pkix::signatures::{
     ContentInfo, DigestInfo, EcdsaSigValue, EncapsulatedContentInfo, IssuerAndSerialNumber,
     SignedData, SignerIdentifier, SignerInfo,
 };
+use std::alloc::Global;
 use std::test::Fail;
 
 /// EcdsaSigValue (RFC 3279, 2.2.3).
@@ -25,13 +26,6 @@ const DIGEST_INFO: &str = "\
 + 300406022a03: tag 04 digest_algorithm; tag 30 digest; tag ae digest_algorithm
 + 0401ab: short 1 digest; ExtraData; tag 8e digest
 = 0400: read";
-
-#[test]
-fn values(rt: HostRuntime) -> Result<(), Fail> {
-    let alloc = rt.alloc();
-    are_answered::<EcdsaSigValue<'_>>(alloc, "EcdsaSigValue", ECDSA_SIG_VALUE)?;
-    are_answered::<DigestInfo<'_>>(alloc, "DigestInfo", DIGEST_INFO)
-}
 
 /// ContentInfo (RFC 5652, 3).
 const CONTENT_INFO: &str = "\
@@ -103,9 +97,10 @@ const SIGNER_INFO: &str = "\
 ? a100: read; ExtraData; ExtraData
 = a1023000: short 1 unsigned_attrs 0 Attribute::type_id";
 
-#[test]
-fn signed_data(rt: HostRuntime) -> Result<(), Fail> {
-    let alloc = rt.alloc();
+/// Each of these types answers as its rows say.
+pub fn signed_data(alloc: Global) -> Result<(), Fail> {
+    are_answered::<EcdsaSigValue<'_>>(alloc, "EcdsaSigValue", ECDSA_SIG_VALUE)?;
+    are_answered::<DigestInfo<'_>>(alloc, "DigestInfo", DIGEST_INFO)?;
     are_answered::<ContentInfo<'_>>(alloc, "ContentInfo", CONTENT_INFO)?;
     are_answered::<EncapsulatedContentInfo<'_>>(
         alloc,

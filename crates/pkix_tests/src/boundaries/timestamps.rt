@@ -4,6 +4,7 @@ use crate::boundaries::are_answered;
 use pkix::timestamps::{
     Accuracy, MessageImprint, PkiFreeText, PkiStatusInfo, TimeStampReq, TimeStampResp, TstInfo,
 };
+use std::alloc::Global;
 use std::test::Fail;
 
 /// MessageImprint (RFC 3161, 2.4.1).
@@ -63,16 +64,6 @@ const TIME_STAMP_RESP: &str = "\
     tag ae status
 ? 300806022a03a0020500: read; ExtraData; ExtraData";
 
-#[test]
-fn requests_and_responses(rt: HostRuntime) -> Result<(), Fail> {
-    let alloc = rt.alloc();
-    are_answered::<MessageImprint<'_>>(alloc, "MessageImprint", MESSAGE_IMPRINT)?;
-    are_answered::<TimeStampReq<'_>>(alloc, "TimeStampReq", TIME_STAMP_REQ)?;
-    are_answered::<PkiStatusInfo<'_>>(alloc, "PkiStatusInfo", PKI_STATUS_INFO)?;
-    are_answered::<PkiFreeText<'_>>(alloc, "PkiFreeText", PKI_FREE_TEXT)?;
-    are_answered::<TimeStampResp<'_>>(alloc, "TimeStampResp", TIME_STAMP_RESP)
-}
-
 /// Accuracy (RFC 3161, 2.4.2).
 const ACCURACY: &str = "\
 ? 020105: read; ExtraData; ExtraData
@@ -124,9 +115,13 @@ const TST_INFO: &str = "\
 303502010106022a03300b300406022a030403616263020105180f32303236313132363132303030305aa10b300906032a030404020500: \
     read";
 
-#[test]
-fn what_is_stamped(rt: HostRuntime) -> Result<(), Fail> {
-    let alloc = rt.alloc();
+/// Each of these types answers as its rows say.
+pub fn time_stamps(alloc: Global) -> Result<(), Fail> {
+    are_answered::<MessageImprint<'_>>(alloc, "MessageImprint", MESSAGE_IMPRINT)?;
+    are_answered::<TimeStampReq<'_>>(alloc, "TimeStampReq", TIME_STAMP_REQ)?;
+    are_answered::<PkiStatusInfo<'_>>(alloc, "PkiStatusInfo", PKI_STATUS_INFO)?;
+    are_answered::<PkiFreeText<'_>>(alloc, "PkiFreeText", PKI_FREE_TEXT)?;
+    are_answered::<TimeStampResp<'_>>(alloc, "TimeStampResp", TIME_STAMP_RESP)?;
     are_answered::<Accuracy<'_>>(alloc, "Accuracy", ACCURACY)?;
     are_answered::<TstInfo<'_>>(alloc, "TstInfo", TST_INFO)
 }
