@@ -1,7 +1,7 @@
 """Reads the sources of the repository's crates: what each crate uses, the cases of programs, and functions as a check
 names them, each with its clauses and its body. Runs the kit's `rattle`, and reports what a script of the gate found."""
 
-import re, subprocess
+import os, re, subprocess
 from collections import namedtuple
 from functools import cache
 from pathlib import Path
@@ -64,13 +64,20 @@ def libraries(*others):
 
 
 def cases():
-    """The cases of the programs. Each folder crates/PROGRAM/cases/NAME has the files of the kit's stored run: stdin;
-    stdout and stderr, if anything is written; args, a word on each line, if there are any; status, if it isn't 0."""
+    """The cases of the programs. Each folder crates/PROGRAM/cases/NAME has the files of the kit's stored run: stdin,
+    without which standard input can't be read; stdout and stderr, if anything is written; args, a word on each line, if
+    there are any; status, if it isn't 0."""
     for folder in sorted(CRATES.glob("*/cases/*")):
         stored, crate = {file.name: file.read_bytes() for file in folder.iterdir()}, folder.parent.parent
-        stdin, stdout, stderr, args = (stored.get(name, b"") for name in ("stdin", "stdout", "stderr", "args"))
-        command = [crate / "out" / crate.name, *args.decode().splitlines()]
-        yield Run(crate.name, folder.name, command, stdin, (int(stored.get("status") or 0), stdout, stderr))
+        stdout, stderr, args = (stored.get(name, b"") for name in ("stdout", "stderr", "args"))
+        command = [crate / "out" / crate.name, *args.splitlines()]
+        yield Run(crate.name, folder.name, command, stored.get("stdin"), (int(stored.get("status") or 0), stdout, stderr))
+
+
+@cache
+def unreadable():
+    """A descriptor that can't be read: a folder's."""
+    return os.open(TOP, os.O_RDONLY)
 
 
 def spans_of_clauses(text):

@@ -1,13 +1,11 @@
 //! Parameters of algorithms, read by their identifiers (RFC 3279, 3370, 4055, 5480, 5754, 5758, 8410).
 
-use crate::objects::{CURVE, DIGEST, DSA_PUBLIC, EC_PKCS8, ED_PKCS8, RSA, RSA_PKCS8};
+use crate::objects::DSA_PUBLIC;
 use asn1::{ObjectIdentifier, ParseErrorKind, ParseResult, Tag, Tlv, parse_single};
 use pkix::algorithm_parameters::{AlgorithmParameters, KnownAlgorithm};
-use pkix::certificate::Certificate;
 use pkix::common::{AlgorithmIdentifier, SubjectPublicKeyInfo};
-use pkix::keys::{DssParms, OneAsymmetricKey, RsassaPssParams};
-use pkix::signatures::DigestInfo;
-use std::alloc::Global;
+use pkix::keys::{DssParms, RsassaPssParams};
+use std::alloc::{AllocError, Global};
 use std::test::Fail;
 use testing::{all_same, are_written_back, kind_of, same, same_at};
 
@@ -73,67 +71,51 @@ fn identifiers_of_algorithms(rt: HostRuntime) -> Result<(), Fail> {
     same(KnownAlgorithm::ALL.len(), IDENTIFIERS.len())
 }
 
-/// The identifier of the curve P-256 (RFC 5480, 2.1.1.1).
-fn p256() -> Result<ObjectIdentifier, Fail> {
-    match ObjectIdentifier::from_string("1.2.840.10045.3.1.7") {
-        Some(identifier) => Ok(identifier),
-        None => Err(Fail::new(format_args!("no identifier"))),
+/// Algorithms in hex, most of them of objects that OpenSSL made, each with its parameters.
+const ALGORITHMS: &[(&str, &str)] = &[
+    // The signature and the key of certificates: of RSA, and on the curve P-256 (RFC 5480, 2.1.1.1).
+    ("300d06092a864886f70d01010b0500", "null"),
+    ("300d06092a864886f70d0101010500", "null"),
+    ("300a06082a8648ce3d040302", "absent"),
+    (
+        "301306072a8648ce3d020106082a8648ce3d030107",
+        "curve 1.2.840.10045.3.1.7",
+    ),
+    // A key of Ed25519, and digests, which OpenSSL writes with NULL.
+    ("300506032b6570", "absent"),
+    ("300d06096086480165030402010500", "null"),
+    ("300b0609608648016503040201", "absent"),
+    // An algorithm that isn't known: md5WithRSAEncryption (RFC 3279, 2.2.1).
+    ("300b06092a864886f70d010104", "other, none"),
+    ("300d06092a864886f70d0101040500", "other 0500"),
+];
+
+/// Parameters in words.
+fn words_of(alloc: Global, parameters: &AlgorithmParameters<'_>) -> Result<String, AllocError> {
+    match parameters {
+        AlgorithmParameters::Absent => format!(in alloc; "absent"),
+        AlgorithmParameters::Null => format!(in alloc; "null"),
+        AlgorithmParameters::NamedCurve(curve) => format!(in alloc; "curve {curve}"),
+        AlgorithmParameters::Dss(_) => format!(in alloc; "of DSA"),
+        AlgorithmParameters::RsassaPss(_) => format!(in alloc; "of RSASSA-PSS"),
+        AlgorithmParameters::Other(None) => format!(in alloc; "other, none"),
+        AlgorithmParameters::Other(Some(element)) => {
+            let digits = hex::encode(alloc, element.full_data())?;
+            format!(in alloc; "other {digits}")
+        }
     }
 }
 
 #[test]
-fn parameters_in_certificates(rt: HostRuntime) -> Result<(), Fail> {
+fn parameters_of_algorithms(rt: HostRuntime) -> Result<(), Fail> {
     let alloc = rt.alloc();
-    let (rsa, curve) = (hex::decode(alloc, RSA)?, hex::decode(alloc, CURVE)?);
-    let rsa = parse_single::<Certificate<'_>>(alloc, rsa.as_slice())?;
-    let curve = parse_single::<Certificate<'_>>(alloc, curve.as_slice())?;
-    let rsa_key = &rsa.tbs_certificate.subject_public_key_info;
-    let curve_key = &curve.tbs_certificate.subject_public_key_info;
-    all_same(&[
-        (
-            rsa.signature_algorithm.read_parameters(alloc)?,
-            AlgorithmParameters::Null,
-        ),
-        (
-            rsa_key.algorithm.read_parameters(alloc)?,
-            AlgorithmParameters::Null,
-        ),
-        (
-            curve.signature_algorithm.read_parameters(alloc)?,
-            AlgorithmParameters::Absent,
-        ),
-        (
-            curve_key.algorithm.read_parameters(alloc)?,
-            AlgorithmParameters::NamedCurve(p256()?),
-        ),
-    ])
-}
-
-#[test]
-fn parameters_in_keys(rt: HostRuntime) -> Result<(), Fail> {
-    let alloc = rt.alloc();
-    let wanted = [
-        (EC_PKCS8, AlgorithmParameters::NamedCurve(p256()?)),
-        (ED_PKCS8, AlgorithmParameters::Absent),
-        (RSA_PKCS8, AlgorithmParameters::Null),
-    ];
-    for (object, wanted) in wanted {
-        let octets = hex::decode(alloc, object)?;
-        let key = parse_single::<OneAsymmetricKey<'_>>(alloc, octets.as_slice())?;
-        let found = key.private_key_algorithm.read_parameters(alloc)?;
-        all_same(&[(found, wanted)])?;
+    for (digits, wanted) in ALGORITHMS {
+        let octets = hex::decode(alloc, digits)?;
+        let algorithm = parse_single::<AlgorithmIdentifier<'_>>(alloc, octets.as_slice())?;
+        let parameters = algorithm.read_parameters(alloc)?;
+        same_at(*digits, words_of(alloc, &parameters)?.as_str(), *wanted)?;
     }
     Ok(())
-}
-
-/// With NULL, as OpenSSL writes digests.
-#[test]
-fn parameters_of_digests(rt: HostRuntime) -> Result<(), Fail> {
-    let alloc = rt.alloc();
-    let octets = hex::decode(alloc, DIGEST)?;
-    let digest = parse_single::<DigestInfo<'_>>(alloc, octets.as_slice())?;
-    let found = digest.digest_algorithm.read_parameters(alloc)?;
-    all_same(&[(found, AlgorithmParameters::Null)])
 }
 
 /// What reading these parameters of an algorithm returns. If there are no octets, there are no parameters.
@@ -264,24 +246,6 @@ fn parameters_that_may_be_absent(rt: HostRuntime) -> Result<(), Fail> {
             (LONG_NULL, Some(ParseErrorKind::InvalidValue)),
         ],
     )
-}
-
-/// Digests without parameters, and an algorithm that isn't known: md5WithRSAEncryption (RFC 3279, 2.2.1).
-#[test]
-fn other_parameters(rt: HostRuntime) -> Result<(), Fail> {
-    let alloc = rt.alloc();
-    let digest = read(alloc, KnownAlgorithm::Sha256.identifier(), NONE)?;
-    let Some(other) = ObjectIdentifier::from_string("1.2.840.113549.1.1.4") else {
-        return Err(Fail::new(format_args!("no identifier")));
-    };
-    let none = read(alloc, other.clone()?, NONE)?;
-    let null = read(alloc, other, NULL)?;
-    let element = parse_single::<Tlv<'_>>(alloc, NULL)?;
-    all_same(&[
-        (digest, AlgorithmParameters::Absent),
-        (none, AlgorithmParameters::Other(None)),
-        (null, AlgorithmParameters::Other(Some(element))),
-    ])
 }
 
 /// Parameters of a key, as OpenSSL lists them; inherited ones, which are none; and others.

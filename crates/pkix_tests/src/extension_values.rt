@@ -1,14 +1,15 @@
 //! Values of extensions, read by the identifiers of RFC 5280 (4.2, 5.2 and 5.3).
 
+use crate::boundaries::words_of;
 use crate::objects::{CRL, CURVE, DELTA_CRL, FULL, POLICIES, RSA};
-use asn1::{ObjectIdentifier, ParseError, ParseErrorKind, ParseLocation, Tag, parse_single};
+use asn1::{ObjectIdentifier, parse_single};
 use pkix::certificate::Certificate;
 use pkix::common::{Extension, Extensions};
 use pkix::extension_values::{ExtensionValue, KnownExtension};
 use pkix::revocation::CertificateList;
 use std::alloc::Global;
 use std::test::Fail;
-use testing::{error_of, same};
+use testing::{error_of, same, same_at};
 
 /// Each known extension with its identifier.
 const IDENTIFIERS: &[(KnownExtension, &str)] = &[
@@ -237,144 +238,84 @@ fn other_extensions(rt: HostRuntime) -> Result<(), Fail> {
     }
 }
 
-/// An error in an item of a list.
-fn in_item(kind: ParseErrorKind, name: &'static str) -> ParseError {
-    ParseError::new(kind)
-        .add_location(ParseLocation::Field(name))
-        .add_location(ParseLocation::Index(0))
-}
-
-/// The values of these extensions are rejected with these errors.
-fn are_rejected(alloc: Global, rows: &[(KnownExtension, &[u8], ParseError)]) -> Result<(), Fail> {
-    for (known, octets, wanted) in rows {
-        let extension = Extension {
-            extn_id: known.identifier(),
-            critical: false,
-            extn_value: octets,
-        };
-        let found = error_of(extension.value(alloc));
-        if found.as_ref() != Some(wanted) {
-            return Err(Fail::new(format_args!("{known:?}: {found:?} isn't {wanted:?}")));
-        }
-    }
-    Ok(())
-}
+/// Values that each known extension rejects, in the rows of `boundaries`.
+const REJECTED: &[(KnownExtension, &str)] = &[
+    (KnownExtension::AuthorityInfoAccess, "3000: 0 items"),
+    (
+        KnownExtension::AuthorityKeyIdentifier,
+        "3003020105: ExtraData",
+    ),
+    (
+        KnownExtension::BasicConstraints,
+        "3003010100: EncodedDefault BasicConstraints::ca",
+    ),
+    (KnownExtension::CertificateIssuer, "3000: 0 items"),
+    (
+        KnownExtension::CertificatePolicies,
+        "30023000: short 1 0 PolicyInformation::policy_identifier",
+    ),
+    (
+        KnownExtension::CertificatePolicies,
+        "300a300606022a0330003000: 0 items 0 PolicyInformation::policy_qualifiers",
+    ),
+    (KnownExtension::CrlDistributionPoints, "3000: 0 items"),
+    (KnownExtension::CrlNumber, "02011f00: ExtraData"),
+    (KnownExtension::CrlNumber, "0201ff: InvalidValue"),
+    (KnownExtension::CrlReason, "0a01ff: InvalidValue"),
+    (KnownExtension::DeltaCrlIndicator, "0201ff: InvalidValue"),
+    (KnownExtension::ExtendedKeyUsage, "30020500: tag 05 0"),
+    (KnownExtension::FreshestCrl, "3100: tag 31"),
+    (KnownExtension::InhibitAnyPolicy, "040100: tag 04"),
+    (
+        KnownExtension::InvalidityDate,
+        "170d3236313033313233353935395a: tag 17",
+    ),
+    (
+        KnownExtension::InvalidityDate,
+        "181132303236313033313233353935392e355a: InvalidValue",
+    ),
+    (KnownExtension::IssuerAltName, "30020500: tag 05 0"),
+    (
+        KnownExtension::IssuingDistributionPoint,
+        "3003810100: EncodedDefault IssuingDistributionPoint::only_contains_user_certs",
+    ),
+    (KnownExtension::KeyUsage, "030200a0: InvalidValue"),
+    (
+        KnownExtension::NameConstraints,
+        "300aa0083006820161800100: EncodedDefault NameConstraints::permitted_subtrees 0 GeneralSubtree::minimum",
+    ),
+    (
+        KnownExtension::PolicyConstraints,
+        "3005a003020100: ExtraData",
+    ),
+    (
+        KnownExtension::PolicyMappings,
+        "3006300406022a03: short 1 0 PolicyMapping::subject_domain_policy",
+    ),
+    (KnownExtension::SubjectAltName, "30030101ff: tag 01 0"),
+    (
+        KnownExtension::SubjectInfoAccess,
+        "3006300406022a03: short 1 0 AccessDescription::access_location",
+    ),
+    (KnownExtension::SubjectKeyIdentifier, ": short 1"),
+    (KnownExtension::SubjectKeyIdentifier, "020105: tag 02"),
+];
 
 #[test]
 fn values_that_are_rejected(rt: HostRuntime) -> Result<(), Fail> {
-    let default = ParseErrorKind::EncodedDefault;
-    are_rejected(
-        rt.alloc(),
-        &[
-            (
-                KnownExtension::BasicConstraints,
-                b"\x30\x03\x01\x01\x00",
-                ParseError::new(default).add_location(ParseLocation::Field("BasicConstraints::ca")),
-            ),
-            (
-                KnownExtension::CrlNumber,
-                b"\x02\x01\x1f\x00",
-                ParseError::new(ParseErrorKind::ExtraData),
-            ),
-            (
-                KnownExtension::SubjectKeyIdentifier,
-                b"",
-                ParseError::new(ParseErrorKind::ShortData { needed: 1 }),
-            ),
-        ],
-    )
-}
-
-#[test]
-fn lists_that_are_rejected(rt: HostRuntime) -> Result<(), Fail> {
-    let short = ParseErrorKind::ShortData { needed: 1 };
-    let size = ParseErrorKind::InvalidSize {
-        min: 1,
-        max: usize::MAX,
-        actual: 0,
-    };
-    let set = Tag::constructed(0x11);
-    are_rejected(
-        rt.alloc(),
-        &[
-            (
-                KnownExtension::CertificateIssuer,
-                b"\x30\x00",
-                ParseError::new(size),
-            ),
-            (
-                KnownExtension::CertificatePolicies,
-                b"\x30\x02\x30\x00",
-                in_item(short, "PolicyInformation::policy_identifier"),
-            ),
-            (
-                KnownExtension::CertificatePolicies,
-                b"\x30\x08\x30\x06\x06\x02\x2a\x03\x30\x00",
-                in_item(size, "PolicyInformation::policy_qualifiers"),
-            ),
-            (
-                KnownExtension::FreshestCrl,
-                b"\x31\x00",
-                ParseError::new(ParseErrorKind::UnexpectedTag { actual: set }),
-            ),
-            (
-                KnownExtension::PolicyMappings,
-                b"\x30\x06\x30\x04\x06\x02\x2a\x03",
-                in_item(short, "PolicyMapping::subject_domain_policy"),
-            ),
-            (
-                KnownExtension::SubjectInfoAccess,
-                b"\x30\x06\x30\x04\x06\x02\x2a\x03",
-                in_item(short, "AccessDescription::access_location"),
-            ),
-        ],
-    )
-}
-
-#[test]
-fn constraints_that_are_rejected(rt: HostRuntime) -> Result<(), Fail> {
-    let default = ParseErrorKind::EncodedDefault;
-    let subtrees = ParseLocation::Field("NameConstraints::permitted_subtrees");
-    let users = ParseLocation::Field("IssuingDistributionPoint::only_contains_user_certs");
-    let (octets, time) = (Tag::primitive(0x04), Tag::primitive(0x17));
-    are_rejected(
-        rt.alloc(),
-        &[
-            (
-                KnownExtension::DeltaCrlIndicator,
-                b"\x02\x01\xff",
-                ParseError::new(ParseErrorKind::InvalidValue),
-            ),
-            (
-                KnownExtension::InhibitAnyPolicy,
-                b"\x04\x01\x00",
-                ParseError::new(ParseErrorKind::UnexpectedTag { actual: octets }),
-            ),
-            (
-                KnownExtension::InvalidityDate,
-                b"\x17\x0d261031235959Z",
-                ParseError::new(ParseErrorKind::UnexpectedTag { actual: time }),
-            ),
-            (
-                KnownExtension::InvalidityDate,
-                b"\x18\x1120261031235959.5Z",
-                ParseError::new(ParseErrorKind::InvalidValue),
-            ),
-            (
-                KnownExtension::IssuingDistributionPoint,
-                b"\x30\x03\x81\x01\x00",
-                ParseError::new(default).add_location(users),
-            ),
-            (
-                KnownExtension::NameConstraints,
-                b"\x30\x0a\xa0\x08\x30\x06\x82\x01a\x80\x01\x00",
-                in_item(default, "GeneralSubtree::minimum").add_location(subtrees),
-            ),
-            (
-                KnownExtension::PolicyConstraints,
-                b"\x30\x05\xa0\x03\x02\x01\x00",
-                ParseError::new(ParseErrorKind::ExtraData),
-            ),
-        ],
-    )
+    let alloc = rt.alloc();
+    for (known, row) in REJECTED {
+        let (digits, wanted) = row.split_once(": ").unwrap_or((row, ""));
+        let octets = hex::decode(alloc, digits)?;
+        let extension = Extension {
+            extn_id: known.identifier(),
+            critical: false,
+            extn_value: octets.as_slice(),
+        };
+        match error_of(extension.value(alloc)) {
+            Some(error) => same_at(*known, words_of(alloc, "", &error)?.as_str(), wanted)?,
+            None => return Err(Fail::new(format_args!("{known:?}: {row} is read"))),
+        }
+    }
+    Ok(())
 }

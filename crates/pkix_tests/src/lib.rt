@@ -1,19 +1,19 @@
-//! Tests of `pkix`: real objects, made with throwaway keys, are read and written back; what is cut, changed or not DER
-//! is rejected. The lines of objects are in the cases of `pkix_cli`.
+//! Tests of `pkix`: each type at its boundaries; real objects, made with throwaway keys, are read and written back;
+//! what is cut, changed or not DER is rejected. The lines of objects are in the cases of `pkix_cli`.
 #![tactic(auto)]
 
 #[cfg(test)]
 mod algorithm_parameters;
 #[cfg(test)]
-mod extension_values;
+mod boundaries;
 #[cfg(test)]
-mod extensions;
+mod changes;
+#[cfg(test)]
+mod extension_values;
 #[cfg(test)]
 mod keys;
 #[cfg(test)]
 mod named_bits;
-#[cfg(test)]
-mod not_der;
 #[cfg(test)]
 mod objects;
 #[cfg(test)]

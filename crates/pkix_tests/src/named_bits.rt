@@ -1,10 +1,8 @@
 //! Bit strings whose bits have names: zero bits at their end are removed before they are encoded (X.690 11.2.2).
 
 use asn1::{BitString, parse_single};
-use pkix::certificate::distribution::DistributionPoint;
 use pkix::certificate::extensions::KeyUsage;
 use pkix::common::NamedBits;
-use pkix::timestamps::PkiStatusInfo;
 use std::test::Fail;
 use testing::{are_invalid, are_written_back, is_written_back, same};
 
@@ -37,16 +35,6 @@ fn encodings_of_named_bits(rt: HostRuntime) -> Result<(), Fail> {
             b"\x03\x00",
         ],
     )
-}
-
-#[test]
-fn fields_of_named_bits(rt: HostRuntime) -> Result<(), Fail> {
-    let alloc = rt.alloc();
-    are_invalid::<KeyUsage<'_>>(alloc, &[b"\x03\x02\x00\xa0"])?;
-    are_written_back::<DistributionPoint<'_>>(alloc, &[b"\x30\x04\x81\x02\x05\x60"])?;
-    are_invalid::<DistributionPoint<'_>>(alloc, &[b"\x30\x04\x81\x02\x04\x60"])?;
-    are_written_back::<PkiStatusInfo<'_>>(alloc, &[b"\x30\x07\x02\x01\x02\x03\x02\x05\x20"])?;
-    are_invalid::<PkiStatusInfo<'_>>(alloc, &[b"\x30\x07\x02\x01\x02\x03\x02\x04\x20"])
 }
 
 #[test]

@@ -27,12 +27,16 @@ pub(crate) const UNIVERSAL: &[(u8, &str)] = &[
     (0x1e, "BMPString"),
 ];
 
-/// Fields whose names in the documents have other capitals than their words have here.
+/// Fields whose names in the documents are other than their words here with capitals. One name is that of a structure's
+/// own field.
 const NAMES: &[(&str, &str)] = &[
+    ("OtherName::type_id", "type-id"),
     ("ca", "cA"),
     ("crl_issuer", "cRLIssuer"),
     ("extn_id", "extnID"),
+    ("indirect_crl", "indirectCRL"),
     ("issuer_unique_id", "issuerUniqueID"),
+    ("only_contains_ca_certs", "onlyContainsCACerts"),
     ("subject_pk_info", "subjectPKInfo"),
     ("subject_unique_id", "subjectUniqueID"),
     ("type_id", "type"),
@@ -86,9 +90,9 @@ fn push_found(out: &mut String, found: Tag, expected: &[Tag]) -> Result<(), Allo
 /// Appends a location, as it is in the lines: the number of an item, or the name of a field, which an error has in
 /// quotes and after that of its struct.
 fn push_field(out: &mut String, location: &str) -> Result<(), AllocError> {
-    let field = location.trim_matches('"').rsplit("::").next();
-    let field = field.unwrap_or(location);
-    if let Some((_, name)) = NAMES.iter().find(|row| row.0 == field) {
+    let location = location.trim_matches('"');
+    let field = location.rsplit("::").next().unwrap_or(location);
+    if let Some((_, name)) = NAMES.iter().find(|row| row.0 == location || row.0 == field) {
         return out.push_str(name);
     }
     let mut is_next = false;
