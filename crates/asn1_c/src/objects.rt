@@ -399,8 +399,8 @@ fn form_of(alloc: Global, number: u32, octets: &[u8]) -> Option<Object>
     }
 }
 
-/// Which form of a key or of a signature the octets have: the number of that object, at which `pkix_check` tells of them
-/// what it tells at `number`. Other objects have one form: their number is returned, or 0 if no object has it.
+/// Which form of a key or of a signature the octets have: the number of that object, at which `pkix_check` tells of
+/// them what it tells at `number`. Other objects have one form: their number is returned, or 0 if no object has it.
 #[unsafe(no_mangle)]
 pub extern "C" fn pkix_form(alloc: Global, number: u32, octets: &[u8]) -> u32
     ensures one { IfSome (object_numbered number) (λ one. result ≡ number) }
