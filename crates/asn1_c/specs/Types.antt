@@ -147,6 +147,7 @@ abbrev pub ChecksForm : Form → List ℕ → ℕ → Asn1Error → Type 0
 ChecksForm f octets number error = f.IsTold octets error × (number ≡ error.number) × (number ≡ 0 → f.IsOne octets)
     × (f.IsOne octets → Fits octets → number ≡ 0)
 
+-- The same of octets that ought to be the encoding of a value of a type.
 abbrev pub Checks : {V : Type 0} → Der V → List ℕ → ℕ → Asn1Error → Type 0
 Checks d = ChecksForm (form d)
 
