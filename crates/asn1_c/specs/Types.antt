@@ -142,12 +142,11 @@ abbrev pub either : Form → Form → Form
 either a b = record { IsOne = λ octets. a.IsOne octets ⊎ b.IsOne octets; IsTold = λ octets error. a.IsTold octets error ⊎ b.IsTold octets error }
 
 -- A call returned this number and told this error of octets. The number is 0 exactly if they have the form, as far as the
--- library reads any.
+-- library reads any. `Checks` is the same at a type.
 abbrev pub ChecksForm : Form → List ℕ → ℕ → Asn1Error → Type 0
 ChecksForm f octets number error = f.IsTold octets error × (number ≡ error.number) × (number ≡ 0 → f.IsOne octets)
     × (f.IsOne octets → Fits octets → number ≡ 0)
 
--- The same of octets that ought to be the encoding of a value of a type.
 abbrev pub Checks : {V : Type 0} → Der V → List ℕ → ℕ → Asn1Error → Type 0
 Checks d = ChecksForm (form d)
 
