@@ -118,7 +118,9 @@ enum {
     PKIX_DIGEST_INFO = 10,            /* DigestInfo (RFC 8017, 9.2). */
     PKIX_SIGNED_DATA = 11,            /* ContentInfo (RFC 5652, 3) of signed data. */
     PKIX_TIMESTAMP_REQUEST = 12,      /* TimeStampReq (RFC 3161, 2.4.1). */
-    PKIX_TIMESTAMP_RESPONSE = 13      /* TimeStampResp (RFC 3161, 2.4.2). */
+    PKIX_TIMESTAMP_RESPONSE = 13,     /* TimeStampResp (RFC 3161, 2.4.2). */
+    PKIX_KEY = 14,                    /* A key: PKIX_PUBLIC_KEY to PKIX_RSA_PUBLIC_KEY. */
+    PKIX_SIGNATURE = 15               /* A signature: PKIX_ECDSA_SIGNATURE to PKIX_SIGNED_DATA. */
 };
 
 /* Cuts off the element at the start of the octets.
@@ -181,10 +183,31 @@ uint32_t asn1_read_generalized_time(const uint8_t *octets, size_t count, struct 
 uint32_t asn1_read_oid(const uint8_t *octets, size_t count, char *text, size_t size, size_t *text_length,
                        struct asn1_error *error);
 
-/* Whether the octets are the one encoding of the object, a PKIX_ number.
+/* The contents octets of the SET OF with these elements, which are one after another in any order: the elements in
+ * ascending order (X.690 11.6), each as often as it came in. Who signs a set, such as the attributes of signed data,
+ * signs it in this order. Identifier and length octets of the set itself aren't written.
+ *
+ * ASN1_OK: they are in `contents`, which has `size` octets. `contents_length` is how many there are: as many as came
+ * in. ASN1_BUFFER_TOO_SMALL: `contents_length` is above `size`, and `contents` stays as it was. Else the octets aren't
+ * whole elements: ASN1_INVALID_TAG, ASN1_INVALID_LENGTH or ASN1_SHORT_DATA of the first that isn't one, `contents`
+ * stays as it was, and `contents_length` is 0. `error` is set in each case. No octets are the set without elements.
+ *
+ * The time grows with the square of the number of elements: a thousand take some milliseconds. */
+uint32_t asn1_set_of(const uint8_t *octets, size_t count, uint8_t *contents, size_t size, size_t *contents_length,
+                     struct asn1_error *error);
+
+/* Which form of a key or of a signature the octets have: the number of that object. It is the first form of which they
+ * are the encoding, or, if they are of none, the one that the tags of their first elements tell. `pkix_check` tells of
+ * them what it tells at that number. An object of one form is its own: its number is returned. 0: no object has this
+ * number. Two integers are an RSAPublicKey and an ECDSA-Sig-Value: the caller says which is meant. */
+uint32_t pkix_form(uint32_t object, const uint8_t *octets, size_t count);
+
+/* Whether the octets are the one encoding of the object, a PKIX_ number; of PKIX_KEY and PKIX_SIGNATURE, of one of its
+ * forms.
  *
  * ASN1_OK: they are. Else the first error in the order of the octets, with ASN1_EXTRA_DATA if octets follow the object:
- * any but ASN1_BUFFER_TOO_SMALL. ASN1_UNKNOWN_TYPE: no object has this number. `error` is set in each case.
+ * any but ASN1_ALLOCATION_ERROR and ASN1_BUFFER_TOO_SMALL. ASN1_UNKNOWN_TYPE: no object has this number. `error` is
+ * set in each case. Of a key or a signature the error is that of the form which `pkix_form` returns.
  *
  * The location of the error, such as `tbsCertificate.validity.notAfter`, is left in `place`, which has `size` octets,
  * if it has room for it; and `place_length` is set to how many octets the location has. It has none if there is no

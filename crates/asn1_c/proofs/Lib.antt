@@ -1,2 +1,4 @@
 mod Calls
+mod Forms
+mod InOrder
 mod Told

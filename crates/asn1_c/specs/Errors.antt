@@ -1,5 +1,5 @@
 -- The errors of include/asn1.h: their numbers and details.
-use Rattle.std.specs.Prelude.{ℕ, ◌≡◌, ◌⊎◌, false, Result, Ok, Err}
+use Rattle.std.specs.Prelude.{ℕ, ◌≡◌, false, Result, Ok, Err}
 use Rattle.asn1.specs.declared.ParseErrorKind.{ParseErrorKind}
 use Rattle.asn1.specs.declared.ParseErrorKind.TheVariants.{InvalidValue, InvalidTag, InvalidLength, InvalidSize, UnexpectedTag, ShortData, IntegerOverflow, ExtraData, InvalidSetOrdering, EncodedDefault, OidTooLong, UnknownDefinedBy, AllocationError}
 use Rattle.asn1.specs.Tag.{tag_class, tag_constructed, tag_number, class_number}
@@ -21,10 +21,6 @@ kind_number EncodedDefault = 10
 kind_number OidTooLong = 11
 kind_number UnknownDefinedBy = 12
 kind_number AllocationError = 13
-
--- The number of the error that memory ran out.
-abbrev pub memory_number : ℕ
-memory_number = 13
 
 -- The numbers of this library's own errors: a number that no type has, and a buffer that is too small.
 abbrev pub unknown_type : ℕ
@@ -54,10 +50,6 @@ told (Err kind) = error_of kind
 abbrev pub told_read : {A : Type 0} → Result A Fault → Asn1Error
 told_read (Ok value) = without_details 0
 told_read (Err fault) = error_of fault.kind
-
--- What is told of a result, or that memory ran out.
-abbrev pub IsTold : {A : Type 0} → Result A Fault → Asn1Error → Type 0
-IsTold read error = (error ≡ told_read read) ⊎ (error ≡ error_of AllocationError)
 
 -- What a place for values holds after a call: the value of a result, or what it held before if there is an error.
 abbrev pub left_by : {A S E : Type 0} → (A → S) → S → Result A E → S

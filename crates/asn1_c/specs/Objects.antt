@@ -1,14 +1,11 @@
 -- The objects of include/asn1.h, by their numbers.
-use Rattle.std.specs.Prelude.{ℕ, ◌==◌, List, Option, ◌≡◌, ◌⊎◌}
+use Rattle.std.specs.Prelude.{ℕ, ◌==◌, List, Option, None, ◌≡◌}
 use Rattle.std.specs.List.{find}
-use Rattle.asn1.specs.Der.{Der}
-use Rattle.asn1.specs.Reading.{Fits, whole}
 use Rattle.asn1_c.specs.declared.errors.Asn1Error.{Asn1Error}
 use Rattle.asn1_c.specs.declared.objects.Object.{Object}
 use Rattle.asn1_c.specs.declared.objects.Object.TheVariants as objects
 use Rattle.asn1_c.specs.declared.objects.TheConstants.Object.{ALL}
-use Rattle.asn1_c.specs.Errors.{IsTold, memory_number}
-use Rattle.asn1_c.specs.Types.{IsEncoding}
+use Rattle.asn1_c.specs.Types.{Form, ChecksForm}
 
 -- The number of an object, as `include/asn1.h` has it.
 abbrev pub object_number : Object → ℕ
@@ -30,8 +27,18 @@ object_number objects.TimestampResponse = 13
 abbrev pub object_numbered : ℕ → Option Object
 object_numbered number = find (λ one. object_number one == number) ALL.now
 
--- A call returned this number and told this error: of what reading all of the octets gives, or that memory ran out. The
--- number is 0 only if they are the encoding of a value; and is, of the encoding of a value, unless memory ran out.
-abbrev pub ChecksObject : {V : Type 0} → Der V → List ℕ → ℕ → Asn1Error → Type 0
-ChecksObject d octets number error = IsTold (whole (d.read octets)) error × (number ≡ error.number)
-    × (number ≡ 0 → IsEncoding d octets) × (IsEncoding d octets → Fits octets → (number ≡ 0) ⊎ (number ≡ memory_number))
+-- The number of a key in any of its forms.
+abbrev pub key_number : ℕ
+key_number = 14
+
+-- The number of a signature in any of its forms.
+abbrev pub signature_number : ℕ
+signature_number = 15
+
+-- No object has this number.
+abbrev pub IsNoObject : ℕ → Type 0
+IsNoObject number = (object_numbered number ≡ None) × ¬ (number ≡ key_number) × ¬ (number ≡ signature_number)
+
+-- What is told of octets at one form is right of another.
+abbrev pub TellsOf : Form → Form → List ℕ → Type 0
+TellsOf one all octets = (number : ℕ) (error : Asn1Error) → ChecksForm one octets number error → ChecksForm all octets number error

@@ -1,5 +1,5 @@
 -- The types of include/asn1.h, by their numbers, and what their values and encodings are.
-use Rattle.std.specs.Prelude.{ℕ, ◌-◌, ◌^◌, ◌==◌, ℤ, pos, ◌-ℤ◌, List, Option, ◌≡◌, Some, None, Result, Ok, IsErr}
+use Rattle.std.specs.Prelude.{ℕ, ◌-◌, ◌^◌, ◌==◌, ℤ, pos, ◌-ℤ◌, List, Option, ◌≡◌, ◌⊎◌, Some, None, Result, Ok, IsErr}
 use Rattle.std.specs.List.{find}
 use Rattle.asn1.specs.Tag.{universal}
 use Rattle.asn1.specs.BooleanContent.{bool_content}
@@ -129,11 +129,27 @@ told_at (Some one) octets = told_read (reading one octets)
 abbrev pub IsEncoding : {V : Type 0} → Der V → List ℕ → Type 0
 IsEncoding d octets = (value : d.Meaning) × (octets ≡ d.text value) × d.valid value × d.allowed value
 
--- A call returned this number and told this error: of what reading all of the octets gives. The number is 0 exactly if
--- they are the encoding of a value, as far as the library reads any.
+-- What octets have to be, and what may be told of them.
+pub record Form : Type 1 where
+  pub IsOne : List ℕ → Type 0
+  pub IsTold : List ℕ → Asn1Error → Type 0
+
+-- The encoding of a value of a type: what reading all of the octets gives is told.
+abbrev pub form : {V : Type 0} → Der V → Form
+form d = record { IsOne = IsEncoding d; IsTold = λ octets error. error ≡ told_read (whole (d.read octets)) }
+
+-- One form or another.
+abbrev pub either : Form → Form → Form
+either a b = record { IsOne = λ octets. a.IsOne octets ⊎ b.IsOne octets; IsTold = λ octets error. a.IsTold octets error ⊎ b.IsTold octets error }
+
+-- A call returned this number and told this error of octets. The number is 0 exactly if they have the form, as far as the
+-- library reads any. `Checks` is the same at a type.
+abbrev pub ChecksForm : Form → List ℕ → ℕ → Asn1Error → Type 0
+ChecksForm f octets number error = f.IsTold octets error × (number ≡ error.number) × (number ≡ 0 → f.IsOne octets)
+    × (f.IsOne octets → Fits octets → number ≡ 0)
+
 abbrev pub Checks : {V : Type 0} → Der V → List ℕ → ℕ → Asn1Error → Type 0
-Checks d octets number error = (error ≡ told_read (whole (d.read octets))) × (number ≡ error.number)
-    × (number ≡ 0 → IsEncoding d octets) × (IsEncoding d octets → Fits octets → number ≡ 0)
+Checks d = ChecksForm (form d)
 
 -- What a call leaves in the places for a value and for an error, if reading gives this.
 pub record LeavesRead {M S : Type 0} (shown : M → S) (old new : S) (found : Asn1Error) (read : Result M Fault) : Type 0 where

@@ -5,13 +5,15 @@
 mod elements;
 mod errors;
 mod objects;
+mod set_of;
 mod texts;
 mod types;
 mod values;
 
 pub use elements::{Asn1Element, asn1_strip_tlv};
 pub use errors::Asn1Error;
-pub use objects::pkix_check;
+pub use objects::{pkix_check, pkix_form};
+pub use set_of::asn1_set_of;
 pub use texts::{asn1_error_text, asn1_version};
 pub use types::asn1_check;
 pub use values::{

@@ -1,15 +1,17 @@
 //! Whether octets are the one encoding of an object of `pkix`, such as a certificate, and where it has an error.
 
-ghost use Rattle.std.specs.Prelude.{◌≡◌, List, ℕ, IfSome, IfNone};
+ghost use Rattle.std.specs.Prelude.{◌≡◌, List, ℕ, None, IfSome, IfNone, IsTrue};
+ghost use Rattle.asn1.specs.Reading.{Fits};
 ghost use Rattle.asn1_c.specs.Errors.{unknown_type, without_details};
-ghost use Rattle.asn1_c.specs.Objects.{ChecksObject, object_number, object_numbered};
+ghost use Rattle.asn1_c.specs.Objects.{IsNoObject, TellsOf};
+ghost use Rattle.asn1_c.specs.Objects.{key_number, signature_number, object_number, object_numbered};
 ghost use Rattle.asn1_c.specs.Texts.{LeavesText};
-ghost use Rattle.asn1_c.specs.declared.errors.Asn1Error.{Asn1Error};
+ghost use Rattle.asn1_c.specs.Types.{ChecksForm, Form, IsEncoding, either, form};
 ghost use Rattle.asn1_c.specs.declared.objects.Object.TheVariants as objects;
 
 use crate::errors::{Asn1Error, UNKNOWN_TYPE, error_of};
 use crate::texts::leave_text;
-use asn1::{Asn1Readable, Asn1Type, ParseError, parse_single};
+use asn1::{Asn1Readable, Asn1Type, ParseError, Tag, parse_single, strip_tlv};
 use pkix::certificate::{Certificate, certificate_is_lawful};
 use pkix::common::{SubjectPublicKeyInfo, subject_public_key_info_is_lawful};
 use pkix::keys::{
@@ -58,6 +60,48 @@ pub(crate) enum Object {
     /// TimeStampResp (RFC 3161, 2.4.2).
     TimestampResponse,
 }
+
+/// What octets have to be: objects of one form, keys, and signatures.
+pub(crate) trait Described {
+    ghost form: { Self → Form };
+
+    ghost key: { Form };
+
+    ghost signature: { Form };
+}
+
+impl Described for Object {
+    ghost form = { λ one. elim one as (λ _. Form) [
+      | objects.Certificate ↦ form ⟦<Certificate<'static> as Asn1Type>⟧.der
+      | objects.Crl ↦ form ⟦<CertificateList<'static> as Asn1Type>⟧.der
+      | objects.Request ↦ form ⟦<CertificationRequest<'static> as Asn1Type>⟧.der
+      | objects.PublicKey ↦ form ⟦<SubjectPublicKeyInfo<'static> as Asn1Type>⟧.der
+      | objects.PrivateKey ↦ form ⟦<OneAsymmetricKey<'static> as Asn1Type>⟧.der
+      | objects.EcPrivateKey ↦ form ⟦<EcPrivateKey<'static> as Asn1Type>⟧.der
+      | objects.RsaPrivateKey ↦ form ⟦<RsaPrivateKey<'static> as Asn1Type>⟧.der
+      | objects.RsaPublicKey ↦ form ⟦<RsaPublicKey<'static> as Asn1Type>⟧.der
+      | objects.EcdsaSignature ↦ form ⟦<EcdsaSigValue<'static> as Asn1Type>⟧.der
+      | objects.DigestInfo ↦ form ⟦<DigestInfo<'static> as Asn1Type>⟧.der
+      | objects.SignedData ↦ form ⟦<ContentInfo<'static> as Asn1Type>⟧.der
+      | objects.TimestampRequest ↦ form ⟦<TimeStampReq<'static> as Asn1Type>⟧.der
+      | objects.TimestampResponse ↦ form ⟦<TimeStampResp<'static> as Asn1Type>⟧.der
+    ] };
+
+    ghost key = { either (form ⟦<SubjectPublicKeyInfo<'static> as Asn1Type>⟧.der)
+        (either (form ⟦<EcPrivateKey<'static> as Asn1Type>⟧.der)
+        (either (form ⟦<RsaPrivateKey<'static> as Asn1Type>⟧.der)
+        (either (form ⟦<RsaPublicKey<'static> as Asn1Type>⟧.der)
+        (form ⟦<OneAsymmetricKey<'static> as Asn1Type>⟧.der)))) };
+
+    ghost signature = { either (form ⟦<EcdsaSigValue<'static> as Asn1Type>⟧.der)
+        (either (form ⟦<DigestInfo<'static> as Asn1Type>⟧.der)
+        (form ⟦<ContentInfo<'static> as Asn1Type>⟧.der)) };
+}
+
+/// The number of a key in any of its forms.
+const KEY: u32 = 14;
+/// The number of a signature in any of its forms.
+const SIGNATURE: u32 = 15;
 
 impl Object {
     /// Each object once.
@@ -167,8 +211,9 @@ fn check_object<'a, T: Asn1Readable<'a>>(
     count: &mut usize,
     error: &mut Asn1Error,
 ) -> u32
-    requires { T.der.lawful }
-    ensures exact { ChecksObject T.der octets.entry.now result error.new }
+    requires lawful { T.der.lawful }
+    requires needs_no_memory { T.der.takes_memory → ⊥ }
+    ensures exact { ChecksForm (form T.der) octets.entry.now result error.new }
     ensures number { result ≡ error.new.number }
     ensures place { (text : List ℕ) × LeavesText text place.old place.new count.new }
 {
@@ -194,21 +239,7 @@ fn check_one(
     count: &mut usize,
     error: &mut Asn1Error,
 ) -> u32
-    ensures exact { (elim one as (λ _. List ℕ → ℕ → Asn1Error → Type 0) [
-      | objects.Certificate ↦ ChecksObject ⟦<Certificate<'static> as Asn1Type>⟧.der
-      | objects.Crl ↦ ChecksObject ⟦<CertificateList<'static> as Asn1Type>⟧.der
-      | objects.Request ↦ ChecksObject ⟦<CertificationRequest<'static> as Asn1Type>⟧.der
-      | objects.PublicKey ↦ ChecksObject ⟦<SubjectPublicKeyInfo<'static> as Asn1Type>⟧.der
-      | objects.PrivateKey ↦ ChecksObject ⟦<OneAsymmetricKey<'static> as Asn1Type>⟧.der
-      | objects.EcPrivateKey ↦ ChecksObject ⟦<EcPrivateKey<'static> as Asn1Type>⟧.der
-      | objects.RsaPrivateKey ↦ ChecksObject ⟦<RsaPrivateKey<'static> as Asn1Type>⟧.der
-      | objects.RsaPublicKey ↦ ChecksObject ⟦<RsaPublicKey<'static> as Asn1Type>⟧.der
-      | objects.EcdsaSignature ↦ ChecksObject ⟦<EcdsaSigValue<'static> as Asn1Type>⟧.der
-      | objects.DigestInfo ↦ ChecksObject ⟦<DigestInfo<'static> as Asn1Type>⟧.der
-      | objects.SignedData ↦ ChecksObject ⟦<ContentInfo<'static> as Asn1Type>⟧.der
-      | objects.TimestampRequest ↦ ChecksObject ⟦<TimeStampReq<'static> as Asn1Type>⟧.der
-      | objects.TimestampResponse ↦ ChecksObject ⟦<TimeStampResp<'static> as Asn1Type>⟧.der
-    ]) octets.now result error.new }
+    ensures exact { ChecksForm (⟦<Object as Described>⟧.form one) octets.now result error.new }
     ensures number { result ≡ error.new.number }
     ensures place { (text : List ℕ) × LeavesText text place.old place.new count.new }
 {
@@ -260,6 +291,134 @@ fn check_one(
     }
 }
 
+/// Whether the octets are the encoding of a value of the type `T`.
+fn is_read<'a, T: Asn1Readable<'a>>(alloc: Global, octets: &'a [u8]) -> bool
+    requires lawful { T.der.lawful }
+    requires needs_no_memory { T.der.takes_memory → ⊥ }
+    ensures yes { IsTrue result → IsEncoding T.der octets.entry.now }
+    ensures no { IsEncoding T.der octets.entry.now → Fits octets.entry.now → IsTrue result }
+{
+    parse_single::<T>(alloc, octets).is_ok()
+}
+
+/// The tags of the first two elements within an element, as far as they are there, and whether octets follow these.
+fn first_tags(octets: &[u8]) -> (Option<Tag>, Option<Tag>, bool) {
+    let Ok((whole, _rest)) = strip_tlv(octets) else {
+        return (None, None, false);
+    };
+    let Ok((first, after)) = strip_tlv(whole.data()) else {
+        return (None, None, false);
+    };
+    match strip_tlv(after) {
+        Ok((second, after)) => (Some(first.tag()), Some(second.tag()), !after.is_empty()),
+        Err(_) => (Some(first.tag()), None, !after.is_empty()),
+    }
+}
+
+/// The form of a key: the first that reads the octets, or else the one that the tags of their first elements tell. A
+/// OneAsymmetricKey has a version and an algorithm, an ECPrivateKey a version and octets, an RSAPublicKey two integers,
+/// an RSAPrivateKey more of them, a SubjectPublicKeyInfo begins with an algorithm.
+fn key_form(alloc: Global, octets: &[u8]) -> Object
+    ensures { TellsOf (⟦<Object as Described>⟧.form result) ⟦<Object as Described>⟧.key octets.now }
+{
+    subject_public_key_info_is_lawful();
+    one_asymmetric_key_is_lawful();
+    ec_private_key_is_lawful();
+    rsa_private_key_is_lawful();
+    rsa_public_key_is_lawful();
+    if is_read::<SubjectPublicKeyInfo<'_>>(alloc, octets) {
+        return Object::PublicKey;
+    }
+    if is_read::<EcPrivateKey<'_>>(alloc, octets) {
+        return Object::EcPrivateKey;
+    }
+    if is_read::<RsaPrivateKey<'_>>(alloc, octets) {
+        return Object::RsaPrivateKey;
+    }
+    if is_read::<RsaPublicKey<'_>>(alloc, octets) {
+        return Object::RsaPublicKey;
+    }
+    if is_read::<OneAsymmetricKey<'_>>(alloc, octets) {
+        return Object::PrivateKey;
+    }
+    let (first, second, has_more) = first_tags(octets);
+    if first == Some(Tag::constructed(0x10)) {
+        Object::PublicKey
+    } else if second == Some(Tag::primitive(0x04)) {
+        Object::EcPrivateKey
+    } else if second != Some(Tag::primitive(0x02)) {
+        Object::PrivateKey
+    } else if has_more {
+        Object::RsaPrivateKey
+    } else {
+        Object::RsaPublicKey
+    }
+}
+
+/// The form of a signature, in the same way: an ECDSA-Sig-Value begins with an integer, a DigestInfo with an algorithm,
+/// a ContentInfo with an identifier.
+fn signature_form(alloc: Global, octets: &[u8]) -> Object
+    ensures { TellsOf (⟦<Object as Described>⟧.form result) ⟦<Object as Described>⟧.signature
+        octets.now }
+{
+    ecdsa_sig_value_is_lawful();
+    digest_info_is_lawful();
+    content_info_is_lawful();
+    if is_read::<EcdsaSigValue<'_>>(alloc, octets) {
+        return Object::EcdsaSignature;
+    }
+    if is_read::<DigestInfo<'_>>(alloc, octets) {
+        return Object::DigestInfo;
+    }
+    if is_read::<ContentInfo<'_>>(alloc, octets) {
+        return Object::SignedData;
+    }
+    let (first, _second, _has_more) = first_tags(octets);
+    if first == Some(Tag::primitive(0x02)) {
+        Object::EcdsaSignature
+    } else if first == Some(Tag::constructed(0x10)) {
+        Object::DigestInfo
+    } else {
+        Object::SignedData
+    }
+}
+
+/// The object with this number; of keys and of signatures the form that these octets have.
+fn form_of(alloc: Global, number: u32, octets: &[u8]) -> Option<Object>
+    ensures one { IfSome (object_numbered number) (λ one. result ≡ object_numbered number) }
+    ensures key { number ≡ key_number → IfSome result (λ one. TellsOf
+        (⟦<Object as Described>⟧.form one) ⟦<Object as Described>⟧.key octets.now) }
+    ensures signature { number ≡ signature_number → IfSome result (λ one. TellsOf
+        (⟦<Object as Described>⟧.form one) ⟦<Object as Described>⟧.signature octets.now) }
+    ensures none { IfNone result (IsNoObject number) }
+    ensures some { IsNoObject number → result ≡ None }
+{
+    match number {
+        KEY => Some(key_form(alloc, octets)),
+        SIGNATURE => Some(signature_form(alloc, octets)),
+        _ => Object::numbered(number),
+    }
+}
+
+/// Which form of a key or of a signature the octets have: the number of that object, at which `pkix_check` tells of
+/// them what it tells at `number`. Other objects have one form: their number is returned, or 0 if no object has it.
+#[unsafe(no_mangle)]
+pub extern "C" fn pkix_form(alloc: Global, number: u32, octets: &[u8]) -> u32
+    ensures one { IfSome (object_numbered number) (λ one. result ≡ number) }
+    ensures key { number ≡ key_number → IfSome (object_numbered result) (λ one. TellsOf
+        (⟦<Object as Described>⟧.form one) ⟦<Object as Described>⟧.key octets.now) }
+    ensures signature { number ≡ signature_number → IfSome (object_numbered result)
+        (λ one. TellsOf (⟦<Object as Described>⟧.form one) ⟦<Object as Described>⟧.signature
+        octets.now) }
+    ensures some { IfNone (object_numbered result) (IsNoObject number) }
+    ensures none { IsNoObject number → result ≡ 0 }
+{
+    match form_of(alloc, number, octets) {
+        Some(one) => one.number(),
+        None => 0,
+    }
+}
+
 /// Whether the octets are the one encoding of the object with this number, as `asn1::parse_single` says. Returns 0 if
 /// they are, and else the number of the error. Sets `error` in each case. Leaves the location of the error, such as
 /// `tbsCertificate.validity.notAfter`, in `place` if it has room for it, and sets `count` to how many octets the
@@ -274,26 +433,18 @@ pub extern "C" fn pkix_check(
     error: &mut Asn1Error,
 ) -> u32
     ensures exact { IfSome (object_numbered number) (λ one.
-        (elim one as (λ _. List ℕ → ℕ → Asn1Error → Type 0) [
-          | objects.Certificate ↦ ChecksObject ⟦<Certificate<'static> as Asn1Type>⟧.der
-          | objects.Crl ↦ ChecksObject ⟦<CertificateList<'static> as Asn1Type>⟧.der
-          | objects.Request ↦ ChecksObject ⟦<CertificationRequest<'static> as Asn1Type>⟧.der
-          | objects.PublicKey ↦ ChecksObject ⟦<SubjectPublicKeyInfo<'static> as Asn1Type>⟧.der
-          | objects.PrivateKey ↦ ChecksObject ⟦<OneAsymmetricKey<'static> as Asn1Type>⟧.der
-          | objects.EcPrivateKey ↦ ChecksObject ⟦<EcPrivateKey<'static> as Asn1Type>⟧.der
-          | objects.RsaPrivateKey ↦ ChecksObject ⟦<RsaPrivateKey<'static> as Asn1Type>⟧.der
-          | objects.RsaPublicKey ↦ ChecksObject ⟦<RsaPublicKey<'static> as Asn1Type>⟧.der
-          | objects.EcdsaSignature ↦ ChecksObject ⟦<EcdsaSigValue<'static> as Asn1Type>⟧.der
-          | objects.DigestInfo ↦ ChecksObject ⟦<DigestInfo<'static> as Asn1Type>⟧.der
-          | objects.SignedData ↦ ChecksObject ⟦<ContentInfo<'static> as Asn1Type>⟧.der
-          | objects.TimestampRequest ↦ ChecksObject ⟦<TimeStampReq<'static> as Asn1Type>⟧.der
-          | objects.TimestampResponse ↦ ChecksObject ⟦<TimeStampResp<'static> as Asn1Type>⟧.der
-        ]) octets.now result error.new) }
-    ensures none { IfNone (object_numbered number) (error.new ≡ without_details unknown_type) }
+        ChecksForm (⟦<Object as Described>⟧.form one) octets.now result error.new) }
+
+    // A key is one of its forms, and so is a signature.
+    ensures key { number ≡ key_number
+        → ChecksForm ⟦<Object as Described>⟧.key octets.now result error.new }
+    ensures signature { number ≡ signature_number
+        → ChecksForm ⟦<Object as Described>⟧.signature octets.now result error.new }
+    ensures none { IsNoObject number → error.new ≡ without_details unknown_type }
     ensures number { result ≡ error.new.number }
     ensures place { (text : List ℕ) × LeavesText text place.old place.new count.new }
 {
-    match Object::numbered(number) {
+    match form_of(alloc, number, octets) {
         Some(one) => check_one(alloc, one, octets, place, count, error),
         None => {
             *error = Asn1Error::without_details(UNKNOWN_TYPE);

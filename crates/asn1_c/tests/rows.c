@@ -338,17 +338,112 @@ static void identifiers(struct pages at, struct pages buffer) {
     }
 }
 
+/* Elements, and the contents octets of the SET OF with these, by the rule of X.690 11.6: the shorter of two is compared as
+   if zeros followed it. */
+static const struct {
+    const char *hex, *contents;
+    uint32_t answer;
+} SETS[] = {
+    {"", "", ASN1_OK},
+    {"0500", "0500", ASN1_OK},
+    {"020102020101", "020101020102", ASN1_OK},
+    {"0201010500020101", "0201010201010500", ASN1_OK},
+    {"0202010002017f", "02017f02020100", ASN1_OK},
+    {"040201000403010000040101", "040101040201000403010000", ASN1_OK},
+    {"a003020100310005000101ff300302010502010830030201040c0141", "0101ff0201080500"
+     "0c0141300302010430030201053100a003020100", ASN1_OK},
+    {"02010102", "", ASN1_SHORT_DATA},
+    {"020101020201", "", ASN1_SHORT_DATA},
+    {"05000480", "", ASN1_INVALID_LENGTH},
+    {"05001f1e", "", ASN1_INVALID_TAG},
+};
+
+static void sets(struct pages at, struct pages buffer) {
+    for (size_t i = 0; i < sizeof SETS / sizeof *SETS; i++) {
+        const char *hex = SETS[i].hex;
+        uint8_t octets[64], wanted[64], *end = buffer.start + buffer.count;
+        uint32_t called;
+        struct asn1_error error;
+        size_t count = from_hex(hex, octets), size = from_hex(SETS[i].contents, wanted), length = 7;
+        uint8_t *place = placed(at, octets, count, true);
+        memset(end - count, '#', count);
+        CALL(asn1_set_of(place, count, end - count, count, &length, &error));
+        expect(called == SETS[i].answer && error.number == called && length == size, "another answer", hex);
+        if (called != ASN1_OK) {
+            expect(count && end[-1] == '#' && end[-(long)count] == '#', "an error leaves the buffer", hex);
+            continue;
+        }
+        expect(!memcmp(end - size, wanted, size), "another order", hex);
+        CALL(asn1_set_of(wanted, size, octets, sizeof octets, &length, &error));
+        expect(called == ASN1_OK && length == size && !memcmp(octets, wanted, size), "the same order", hex);
+        if (!size) continue;
+        memset(end - count, '#', count);
+        CALL(asn1_set_of(place, count, end - count + 1, count - 1, &length, &error));
+        expect(called == ASN1_BUFFER_TOO_SMALL && error.number == called && length == size, "too small", hex);
+        expect(end[-1] == '#', "a buffer that is too small is written", hex);
+    }
+}
+
+static int by_octets(const void *a, const void *b) { return memcmp(a, b, 4); }
+
+/* Many elements of one length, of which many are the same: they are in the order of `qsort`. */
+static void large_set(void) {
+    enum { COUNT = 1000 };
+    uint8_t octets[4 * COUNT], contents[4 * COUNT];
+    struct asn1_error error;
+    size_t length = 0;
+    uint32_t called, state = 1;
+    for (size_t i = 0; i < COUNT; i++) {
+        state = state * 1664525 + 1013904223;
+        uint8_t element[4] = {0x04, 0x02, (uint8_t)(state >> 29), (uint8_t)(state >> 20 & 15)};
+        memcpy(octets + 4 * i, element, 4);
+    }
+    CALL(asn1_set_of(octets, sizeof octets, contents, sizeof contents, &length, &error));
+    qsort(octets, COUNT, 4, by_octets);
+    expect(called == ASN1_OK && length == sizeof octets && !memcmp(octets, contents, length), "order", "many elements");
+}
+
+/* Whether an object of the first number is one of the second. Two integers are a key and a signature. */
+static bool is_also(uint32_t number, uint32_t other) {
+    bool are_integers = number == PKIX_RSA_PUBLIC_KEY || number == PKIX_ECDSA_SIGNATURE;
+    if (other == PKIX_KEY) return (number >= PKIX_PUBLIC_KEY && number <= PKIX_RSA_PUBLIC_KEY) || are_integers;
+    if (other == PKIX_SIGNATURE) return (number >= PKIX_ECDSA_SIGNATURE && number <= PKIX_SIGNED_DATA) || are_integers;
+    return other == number || (are_integers && (other == PKIX_RSA_PUBLIC_KEY || other == PKIX_ECDSA_SIGNATURE));
+}
+
+/* At the number of a key or of a signature the same is told as at the number of the form. */
+static void forms(const char *name, uint32_t number, const uint8_t *octets, size_t count) {
+    for (uint32_t any = PKIX_KEY; any <= PKIX_SIGNATURE; any++) {
+        struct asn1_error error, again;
+        char place[128], other[128];
+        size_t length = 0, other_length = 0;
+        uint32_t called, form, answer;
+        CALL(pkix_form(any, octets, count));
+        form = called;
+        expect(any == PKIX_KEY ? form >= 4 && form <= 8 : form >= 9 && form <= 11, "no form", name);
+        if (number) expect(!is_also(number, any) || is_also(number, form), "another form", name);
+        CALL(pkix_check(any, octets, count, place, sizeof place, &length, &error));
+        answer = called;
+        CALL(pkix_check(form, octets, count, other, sizeof other, &other_length, &again));
+        expect(called == answer && error.number == again.number && error.needed == again.needed, "form", name);
+        expect(length == other_length && !memcmp(place, other, length), "another location than of the form", name);
+    }
+}
+
 /* A file is the one encoding of that object, of no other; cut anywhere it lacks octets, and with an octet more it has
    one too many. With each octet changed in turn the library answers, within the file. */
 static void object(const char *name, uint32_t number) {
     uint8_t *octets = malloc(1 << 16);
     FILE *file = fopen(name, "rb");
-    size_t count = file && octets ? fread(octets, 1, 1 << 16, file) : 0, length, accepted = 0;
+    size_t count = file && octets ? fread(octets, 1, 1 << 16, file) : 0, length;
     struct pages at = pages_of(count + 1);
     struct asn1_error error;
     char place[128];
     uint32_t called;
     if (file) fclose(file);
+    forms(name, number, placed(at, octets, count, true), count);
+    CALL(pkix_form(number, octets, count));
+    expect(called == number, "an object is its own form", name);
     for (int in_front = 0; in_front < 2; in_front++) {
         CALL(pkix_check(number, placed(at, octets, count, in_front), count, place, 128, &length, &error));
         expect(called == ASN1_OK && error.number == 0 && length == 0, "it is one", name);
@@ -356,12 +451,13 @@ static void object(const char *name, uint32_t number) {
     octets[count] = 0;
     CALL(pkix_check(number, placed(at, octets, count + 1, true), count + 1, place, 128, &length, &error));
     expect(called == ASN1_EXTRA_DATA, "an octet too many", name);
-    for (uint32_t other = 0; other < 15; other++) {
+    for (uint32_t other = 0; other < 17; other++) {
         CALL(pkix_check(other, placed(at, octets, count, true), count, place, 128, &length, &error));
-        accepted += called == ASN1_OK;
-        expect((called == ASN1_UNKNOWN_TYPE) == (other < 1 || other > 13), "an unknown object", name);
+        expect((called == ASN1_OK) == is_also(number, other), "another object has the same encoding", name);
+        expect((called == ASN1_UNKNOWN_TYPE) == (other < 1 || other > 15), "an unknown object", name);
+        CALL(pkix_form(other, octets, count));
+        expect(!called == (other < 1 || other > 15), "an unknown object has a form", name);
     }
-    expect(accepted == 1, "another object has the same encoding", name);
     for (size_t cut = 0; cut < count; cut++) {
         CALL(pkix_check(number, placed(at, octets, cut, true), cut, place, 128, &length, &error));
         expect(called == ASN1_SHORT_DATA && error.needed >= 1 && error.needed <= count - cut, "cut", name);
@@ -370,6 +466,8 @@ static void object(const char *name, uint32_t number) {
         octets[i] ^= 0x80;
         CALL(pkix_check(number, placed(at, octets, count, true), count, place, 128, &length, &error));
         expect(called == error.number && length <= sizeof place, "changed", name);
+        expect(called != ASN1_ALLOCATION_ERROR, "out of memory", name);
+        if (i < 64) forms(name, 0, placed(at, octets, count, true), count);
         octets[i] ^= 0x80;
     }
     free(octets);
@@ -400,6 +498,8 @@ int main(int argc, char **argv) {
     numbers(at);
     times(at);
     identifiers(at, buffer);
+    sets(at, buffer);
+    large_set();
     for (int i = 1; i + 1 < argc; i += 2) object(argv[i + 1], (uint32_t)atoi(argv[i]));
     if (argc > 2) place(argv[2], 10, 0x04, "tbsCertificate.version", buffer);
     expect(asn1_version() == ASN1_VERSION, "another version", "asn1_version");
