@@ -4,12 +4,12 @@ is known of their types: tags, derives, and what a field is in its row. What has
 import re
 from dataclasses import dataclass, field, replace
 
-WORD, LIFE, NUMBER = r"[A-Za-z_]\w*", r"'[A-Za-z_]\w*", r"\d\w*"
+WORD, LIFE, NUMBER = r"[A-Za-z_][A-Za-z_0-9]*", r"'[A-Za-z_][A-Za-z_0-9]*", r"[0-9][A-Za-z_0-9]*"
 SKIP, STRING = r"\s+|//(?!/)[^\n]*|/\*.*?\*/", r"\"(?:\\.|[^\"\\])*\""
 TOKEN = re.compile(rf"(?P<skip>{SKIP})|///[^\n]*|{LIFE}(?!')|{WORD}|{NUMBER}|{STRING}|::|->|.", re.S)
 END = "the end of the file"
 # Words of Rust and of Rattle, which no item, field or variant may have as its name; and those of clauses, which no
-# function may have.
+# function and no variant may have.
 WORDS = """
     _ Self Type abstract as async await become box break const continue crate do dyn else ensures enum extern false
     final fn for gen ghost if impl in let loop macro match mod move mut override priv pub ref requires return self
@@ -17,33 +17,67 @@ WORDS = """
 OF_CLAUSES = """
     abbrev axiom coe com data deriving elim fcoe hcom infix infixl infixr module mutual open package record ruleset
     tcoe unfold unfoldable unfolding""".split()
-ATTRIBUTES = ("derive", "implicit", "explicit", "default", "defined_by")
+# Classes of tags whose number an attribute states, with the number of the class (X.690 8.1.2.2).
+CLASSES = {"application": "Application", "private": "Private", "universal": "Universal"}
+ATTRIBUTES = ("derive", "implicit", "explicit", "default", "defined_by", "set", *CLASSES)
 ORIGINAL = ("asn1", "std", "core", "alloc")
-# No more digits than `int` takes.
-DIGITS = r"\d[\d_]{,4299}"
+# Numbers as Rust writes them, with no more digits than `int` takes.
+DIGITS = r"[0-9][0-9_]{,4299}"
+LITERAL = rf"0x[0-9a-fA-F_]{{1,999}}|0o[0-7_]{{1,999}}|0b[01_]{{1,999}}|{DIGITS}"
 KEPT = ("Debug", "Clone", "Copy", "PartialEq", "Eq", "Hash")
 COPY, ALL = frozenset(KEPT), frozenset(KEPT) - {"Copy"}
+TAGGED = [
+    name + form for name in ("", "Application", "Private", "Universal") for form in ("Implicit", "Explicit")
+]
 LISTS = ("SequenceOf", "SetOf", "SequenceOfWriter", "SetOfWriter")
 # What is in a type's brackets: a lifetime, a type, or a number.
 SHAPES = {
     **dict.fromkeys(("Option", "Box", "OctetStringEncoded", "DefinedByMarker"), "T"),
-    **dict.fromkeys(("Implicit", "Explicit"), "Tn"),
+    **dict.fromkeys((name for name in TAGGED if name != "UniversalExplicit"), "Tn"),
     **dict.fromkeys(LISTS, "'T"),
     "SequenceOf": "'Tn?n?",
 }
 INTEGERS = {f"u{bits}": range(2**bits) for bits in (8, 16, 32, 64)}
 INTEGERS.update({f"i{bits}": range(-(2**bits) // 2, 2**bits // 2) for bits in (8, 16, 32, 64)})
-MOST_FIELDS, MOST_VARIANTS, LARGEST_TAG = 30, 36, 2**32 - 1
+MOST_FIELDS, MOST_VARIANTS, MOST_DEEP, LARGEST = 30, 36, 30, 2**32 - 1
 ANY = "any"
+
+
+# The sections of docs/OWN_TYPES.md, each with words of the reasons for which the section has a form by hand, or says that
+# there is none. The last one is for all others.
+SECTIONS = {
+    "What has no form": r"recursive|more than \d|has to follow|it is there|marks an item|missing itself|a field alone",
+    "A default of another type": r"the default of|is no value of",
+    "A simple type": r"is no type of the library|a reference other",
+    "An error of one's own": r"a list made in code",
+    "A set": r"\bset\b",
+    "Tags of other classes": r"a tag that isn't|a tag of|tags of two|two tags|no tag of its own|no tag here",
+    "A value that an identifier defines": r"identifier|defined by",
+    "A choice": r"alternative|variant",
+    "What the script prints": "",
+}
 
 
 class Rejected(Exception):
     """Why a declaration has no form, and the line."""
 
+    def __str__(self):
+        """The line, the reason, and where the guide says more."""
+        line, reason = self.args
+        section = next(section for section, words in SECTIONS.items() if re.search(words, reason))
+        return f'{line}: {reason} (docs/OWN_TYPES.md, "{section}")'
+
 
 def reject(wrong, line, reason):
     if wrong:
         raise Rejected(line, reason)
+
+
+def number_of(text):
+    """The number that a literal states, without the name of a type behind it; `None` if it is no literal."""
+    found = re.fullmatch(rf"({LITERAL})(?:[ui](?:8|16|32|64|128|size))?", text)
+    digits = found[1].replace("_", "") if found else ""
+    return int(digits, 0 if digits[:1] == "0" and not digits.isdigit() else 10) if digits else None
 
 
 @dataclass
@@ -80,6 +114,9 @@ class Item:
     doc: list = field(default_factory=list)
     attributes: dict = field(default_factory=dict)
     parts: list = field(default_factory=list)
+    # The variants of an enum with numbers, and the number of one.
+    values: list = field(default_factory=list)
+    number: int = None
     # What is said of the derives that are left out.
     note: str = ""
 
@@ -102,7 +139,7 @@ class Reader:
         found = [token for token in TOKEN.finditer(source) if not token["skip"]]
         self.tokens = [*(token[0] for token in found), END, END, END]
         self.lines = [source.count("\n", 0, token.start()) + 1 for token in found] + [source.count("\n") + 1] * 3
-        self.at = 0
+        self.at, self.depth = 0, 0
 
     def takes(self, *patterns):
         """The next token, if these match it and those after it; else nothing is taken."""
@@ -160,18 +197,34 @@ class Reader:
         return names[-1] if names[0] in ORIGINAL else "::".join(names)
 
     def type(self):
+        self.depth += 1
+        reject(self.depth > MOST_DEEP, self.lines[self.at], f"types within one another more deeply than {MOST_DEEP}")
+        found = self.type_itself()
+        self.depth -= 1
+        return found
+
+    def type_itself(self):
         line = self.lines[self.at]
         if self.takes("&"):
             return Type("&", [self.expect(LIFE, "a lifetime"), self.type()], line)
         if self.takes(r"\[", "u8", ";"):
-            return Type("[u8; N]", ["".join(self.until("]"))], line)
+            length = number_of("".join(self.until("]")))
+            reject(length is None or length > LARGEST, line, f"the length of an array isn't a number up to {LARGEST}")
+            return Type("[u8; N]", [str(length)], line)
         plain = "()" if self.takes(r"\(", r"\)") else "[u8]" if self.takes(r"\[", "u8", "]") else ""
         return Type(plain or self.path(), self.parts(self.argument, ">") if not plain and self.takes("<") else [], line)
 
     def argument(self):
-        if self.takes("{"):
-            return "{ " + "".join(self.until("}")) + " }"
-        return self.takes(LIFE) or self.takes(NUMBER) or self.type()
+        """What is in a type's brackets: a lifetime, a number, which may be in braces, or a type."""
+        line, is_braced = self.lines[self.at], self.takes("{")
+        text = "".join(self.until("}")) if is_braced else self.takes(NUMBER)
+        if not text and not is_braced:
+            return self.takes(LIFE) or self.type()
+        if text == "usize::MAX":
+            return "{ usize::MAX }"
+        number = number_of(text)
+        reject(number is None or number >= 2**64, line, f"`{text}` isn't a number below 2^64, or `usize::MAX`")
+        return str(number)
 
     def field(self):
         found = self.item("a field's name")
@@ -181,12 +234,26 @@ class Reader:
 
     def variant(self):
         found = self.item("a variant's name")
+        found.reject(found.name in OF_CLAUSES, "is a word of clauses, and a variant's name there: name it otherwise")
+        if self.takes("="):
+            text = "".join(self.until_comma())
+            found.number = number_of(text)
+            is_wrong = found.number is None or found.number > LARGEST
+            found.reject(is_wrong, f"has the number `{text}`, which isn't one from 0 to {LARGEST}")
+            return found
         found.parts = self.parts(self.type, r"\)") if self.takes(r"\(") else []
-        found.reject(not found.parts, "has no unnamed field: a variant has exactly one")
+        found.reject(not found.parts, "has no unnamed field and no number: a variant has exactly one")
         has_more = len(found.parts) > 1 and "default" not in found.attributes
         found.reject(has_more, "has more than one field: a variant has exactly one")
         found.type = found.parts[-1]
         return found
+
+    def until_comma(self):
+        """The tokens up to a comma or the bracket that closes the list, which are left."""
+        words = []
+        while self.tokens[self.at] not in (",", "}", END):
+            words.append(self.expect(r"[\s\S]*"))
+        return words
 
     def parts(self, read, end):
         """What is between brackets, with commas between."""
@@ -210,7 +277,7 @@ class Reader:
         if found.kind in ("struct", "enum"):
             found.reject(not self.takes("{"), "has no named fields")
             found.parts = self.parts(self.field if found.kind == "struct" else self.variant, "}")
-            return found
+            return with_numbers(found)
         if found.kind == "type":
             self.expect("=")
             found.type = self.type()
@@ -235,12 +302,31 @@ class Reader:
             if self.takes("use"):
                 line, words = self.lines[self.at], self.until(";")
                 reject(not words, line, "a path was expected, and found `;`")
+                is_renamed = words[0] in ORIGINAL and "as" in words
+                reject(is_renamed, line, "a name of the original's is imported as another: name it as it is")
                 uses += [] if words[0] in ORIGINAL else ["use " + " ".join(words) + ";"]
             elif self.takes("#", "!", r"\["):
                 self.until("]")
             else:
                 found.append(self.declaration())
         return uses, found
+
+
+def with_numbers(item):
+    """The item; if its variants have numbers, they are its values and not its parts."""
+    numbered = [part for part in item.parts if part.number is not None]
+    if not numbered:
+        return item
+    for at, part in enumerate(item.parts):
+        part.reject(part.number is None, f"has no number, and `{numbered[0].name}` has one")
+        for other in item.parts[:at]:
+            part.reject(part.name == other.name, "is declared twice")
+            part.reject(part.number == other.number, f"has the number of `{other.name}`")
+        reject(part.attributes, part.line, f"an attribute that `{part.name}` can't have")
+    item.reject(item.is_defined, "has numbers, and is defined by an item")
+    item.reject(item.life, "declares a lifetime, and nothing in it has one")
+    item.kind, item.values, item.parts = "numbers", item.parts, []
+    return item
 
 
 @dataclass(frozen=True)
@@ -283,7 +369,7 @@ class Module:
                 one.reject(one.name in [before.name for before in named[:at]], "is declared twice")
         for item in items:
             # It isn't named like a type of the library, its size has a form, and it uses the lifetime that it declares.
-            item.reject(item.name in (*SHAPES, *imported), "is imported, or a type of the library: name it otherwise")
+            item.reject(item.name in (*SHAPES, *LIBRARY, *imported), "is imported, or a type of the library: name it otherwise")
             item.reject(item.kind == "struct" and len(item.parts) > MOST_FIELDS, f"has more than {MOST_FIELDS} fields")
             has_no_form = item.kind == "enum" and not 0 < len(item.parts) <= MOST_VARIANTS
             item.reject(has_no_form, f"has no variant, or more than {MOST_VARIANTS}")
@@ -292,6 +378,7 @@ class Module:
                 reject(set(type.lives) - {item.life}, type.line, f"a lifetime that `{item.name}` doesn't declare")
             is_unused = item.life and not any(type.lives for type in types)
             item.reject(is_unused, "declares a lifetime, and nothing in it has one")
+            set_tag(item)
             for part in item.parts:
                 set_form(item, part)
         for item in items:
@@ -334,20 +421,24 @@ class Module:
         if name in ("Option", "Defaulted"):
             reject(inside.is_missing, type.line, "an option or a default of what may be missing itself")
             return replace(inside, is_missing=True, is_simple=False)
+        is_option = inside.is_missing and name in (*LISTS, *TAGGED)
+        reject(is_option, type.line, "an option or a default is in a field alone, and in no list or under no tag")
         if name in LISTS:
+            bounds = [2**64 - 1 if "MAX" in bound else int(bound) for bound in type.args[2:]]
+            reject(bounds[:1] > bounds[1:] > [], type.line, "a list whose least number of items is above its greatest")
             is_made = name.endswith("Writer")
             derives = inside.derives & ALL if is_made else ALL - ({"Debug"} - inside.derives)
             return Known({"17 constructed" if name.startswith("Set") else "16 constructed"}, derives, fails=is_made)
         if name == "OctetStringEncoded":
             return replace(inside, tags={"4"}, is_missing=False, is_simple=True)
-        if name not in ("Implicit", "Explicit"):
+        if name not in TAGGED:
             return replace(inside, derives=inside.derives & ALL)
-        is_large = not re.fullmatch(r"\d{1,4300}", type.args[1]) or int(type.args[1]) > LARGEST_TAG
-        reject(is_large, type.line, f"a tag isn't a number from 0 to {LARGEST_TAG}")
-        has_no_tag = name == "Implicit" and not inside.is_simple
+        is_large = not type.args[1].isdigit() or int(type.args[1]) > LARGEST
+        reject(is_large, type.line, f"a tag isn't a number from 0 to {LARGEST}")
+        has_no_tag = name.endswith("Implicit") and not inside.is_simple
         reject(has_no_tag, type.line, f"`{type.inner[0]}` is implicit, and has no tag of its own")
-        is_constructed = name == "Explicit" or "constructed" in "".join(inside.tags or "")
-        tag = f"context {int(type.args[1])}" + " constructed" * is_constructed
+        is_constructed = name.endswith("Explicit") or "constructed" in "".join(inside.tags or "")
+        tag = tag_in(name[: -len("Explicit")].lower() or "context", type.args[1], is_constructed)
         return replace(inside, tags={tag}, is_missing=False, is_simple=True)
 
     def known_item(self, item):
@@ -366,19 +457,43 @@ class Module:
                 left.setdefault(why, []).append(f"`{name}`")
         said = "; ".join(f"{', '.join(names)}, {why}" for why, names in left.items())
         item.note = f"`{item.name}` is printed without {said}" if left else ""
+        if item.kind == "numbers":
+            # A value is copied where its number is asked for.
+            item.derives = [name for name in KEPT if name in (*item.derives, "Clone", "Copy")]
         item.derives += [] if "Copy" in item.derives else ["Drop"]
         tags, derives = [known.tags for _, known in parts], frozenset(item.derives)
-        if item.kind == "struct":
-            return Known({"16 constructed"}, derives, fails=any(known.fails for _, known in parts))
+        if item.kind != "enum":
+            own = ("universal", 10 if item.kind == "numbers" else 17 if item.is_set else 16)
+            tag = tag_in(*(item.tag or own), item.kind == "struct")
+            self.check_order(item)
+            return Known({tag}, derives, fails=any(known.fails for _, known in parts))
         tags = None if None in tags else ANY if ANY in tags else set().union(*tags)
         return Known(tags, derives, any(known.is_missing for _, known in parts), False)
+
+    def check_order(self, item):
+        """The fields of a set are in the order of their tags (X.680 8.6), of which each has one."""
+        last = ()
+        for part in item.parts if item.is_set else []:
+            tags = self.known(part.form).tags
+            part.reject(not tags or tags == ANY or len(tags) > 1, "is in a set, and hasn't one tag that is known")
+            *name, number = next(iter(tags)).replace(" constructed", "").split(" ")
+            order = (("", "application", "context", "private").index("".join(name)), int(number))
+            part.reject(order <= last, "is in a set, and its tag doesn't come after that of the field before it")
+            last = order
 
     def check_part(self, item, part, others):
         """A value that an item defines comes after it, and under an explicit tag at most. A field that may be missing
         is told from what may follow it, and a variant from the others."""
         in_struct, type, known = item.kind == "struct", self.known(part.type), self.known(part.form)
-        is_unclear = not in_struct and part.tag and not type.is_simple and type.tags != ANY
-        part.reject(is_unclear, "is a choice or an option under a tag: put a struct around it")
+        if not in_struct and part.tag and not type.is_simple:
+            # A choice has no tag of its own: the variant's type states the tag around it.
+            part.type, part.base, part.tag = part.form, part.form, ""
+        for other in (self.items.get(one.name) for one in self.within(part.base)):
+            for does, trait in ("reads", "Read"), ("writes", "Write"):
+                lacks = other and other.kind != "type" and getattr(item, does) and not getattr(other, does)
+                part.reject(lacks, f"has the type `{other and other.name}`, which doesn't derive `Asn1{trait}`")
+        is_other = part.type.name == "DefinedByMarker" and part.type.inner[0].name != "ObjectIdentifier"
+        part.reject(is_other, "marks an item of another type than `ObjectIdentifier`")
         declared = self.items.get((part.type.inner[0] if part.type.name == "Option" else part.type).name)
         by, is_value = in_struct and "defined_by" in part.attributes, declared and declared.is_defined
         part.reject(is_value and not by, "is defined by an item: it follows that, with `#[defined_by(..)]`")
@@ -402,18 +517,65 @@ class Module:
                 break
 
 
+def tag_in(name, number, is_constructed):
+    """The tag with this number of a class, as [`Known`] has it."""
+    return f"{'' if name == 'universal' else name + ' '}{number}" + " constructed" * is_constructed
+
+
+def class_tag(item):
+    """The tag of another class than context-specific that an attribute states: the class, the number, and whether the
+    tag is explicit; `None` if there is none."""
+    found = [name for name in CLASSES if name in item.attributes]
+    item.reject(len(found) > 1, "has tags of two classes")
+    if not found:
+        return None
+    number, _, form = "".join(item.attributes.pop(found[0])).rstrip(",").partition(",")
+    number = number_of(number)
+    is_wrong = number is None or number > LARGEST or form not in ("implicit", "explicit")
+    item.reject(is_wrong, f"has a tag that isn't as `#[{found[0]}(1, implicit)]` or `#[{found[0]}(1, explicit)]`")
+    item.reject(found[0] == "universal" and form == "explicit", "has a tag of the class universal that is explicit")
+    return found[0], number, form == "explicit"
+
+
+def under(tag, type):
+    """A type under a tag of another class; in an option, the type that is in the option."""
+    name, number, is_explicit = tag
+    if type.name == "Option" and type.inner:
+        return Type("Option", [under(tag, type.inner[0])], type.line)
+    return Type(CLASSES[name] + ("Explicit" if is_explicit else "Implicit"), [type, str(number)], type.line)
+
+
+def set_tag(item):
+    """Gives a declaration the tag that it states, if it is a struct or an enum with numbers; and an alias the type under
+    the tag."""
+    tag, item.is_set = class_tag(item), "set" in item.attributes
+    item.tag = tag and tag[:2]
+    item.reject(item.is_set and (item.kind != "struct" or tag), "is a set, and no struct, or has another tag too")
+    item.reject(tag and item.kind == "const", "is an identifier, which has no tag here")
+    around = f"`type {item.name}2 = asn1::{CLASSES[tag[0]]}Explicit<{item.name}, {tag[1]}>`" if tag else ""
+    item.reject(tag and item.kind == "enum", f"is a choice, which has no tag of its own: an alias has one, as {around}")
+    has_other = tag and tag[2] and item.kind != "type"
+    item.reject(has_other, f"has a tag of its own, and an explicit tag around it is an alias's, as {around}")
+    if tag and item.kind == "type":
+        item.type = under(tag, item.type)
+
+
 def set_form(item, part):
     """Gives a field or a variant its type in the row, and what is said of it by its attributes."""
+    tag = class_tag(part)
+    part.reject(tag and {"implicit", "explicit"} & set(part.attributes), "has two tags: an alias states one of them")
+    part.type = under(tag, part.type) if tag else part.type
     in_struct, attributes, is_option = item.kind == "struct", part.attributes, part.type.name == "Option"
     part.reject({"implicit", "explicit"} <= set(attributes), "is both implicit and explicit")
     part.tag = "".join({"implicit", "explicit"} & set(attributes))
     others = set(attributes) - {part.tag}
     is_by = others == {"defined_by"} or set(attributes) == {"default"}
     part.reject(item.is_defined and not is_by, "has neither `#[defined_by(..)]` nor `#[default]` alone")
-    is_wrong = not in_struct and not item.is_defined and others or "derive" in attributes
+    is_wrong = not in_struct and not item.is_defined and others or {"derive", "set"} & set(attributes)
     reject(is_wrong, part.line, f"an attribute that `{part.name}` can't have")
     number, *words = attributes.get(part.tag, ["0"])
-    reject(not re.fullmatch(r"\d[\d_]*", number), part.line, f"`{part.tag}` without a number")
+    number = number_of(number)
+    reject(number is None, part.line, f"`{part.tag}` without a number")
     required = {"": False, "required=false": False, "required=true": True}.get("".join(words).strip(","))
     reject(required is None, part.line, f"`{part.tag}` takes a number and `required = true`")
     has_default = in_struct and "default" in attributes
@@ -422,7 +584,7 @@ def set_form(item, part):
     part.reject(is_unclear, "has a tag: either it is an option, or the tag says `required = true`")
     is_around = is_option and part.tag and in_struct and part.type.inner
     part.base = part.type.inner[0] if is_around else part.type
-    part.form = Type(part.tag.capitalize(), [part.base, number.replace("_", "")], part.line) if part.tag else part.base
+    part.form = Type(part.tag.capitalize(), [part.base, str(number)], part.line) if part.tag else part.base
     part.form = Type("Option", [part.form], part.line) if is_around else part.form
     # Of a marker the value that its item defines, of this value the item's type, and of any field its default.
     part.value = part.item = part.default = None
@@ -431,10 +593,11 @@ def set_form(item, part):
     if has_default:
         part.form = Type("Defaulted", [part.form, part.title], part.line)
         value, type = "".join(word for word in attributes["default"] if word != ","), str(part.base)
-        found = re.fullmatch(rf"(true|false)|-?{DIGITS}(?:[ui]\d+)?", value)
-        reject(not found, part.line, f"the default of `{part.name}` isn't a literal: `true`, `false` or a number")
-        part.default = value = re.sub(r"_|[ui]\d+$", "", value)
-        fits = found[1] if type == "bool" else not found[1] and int(value) in INTEGERS.get(type, ())
+        is_bool, number = value in ("true", "false"), number_of(value.removeprefix("-"))
+        is_literal = is_bool or number is not None
+        reject(not is_literal, part.line, f"the default of `{part.name}` isn't a literal: `true`, `false` or a number")
+        part.default = value = value if is_bool else str(-number if value.startswith("-") else number)
+        fits = is_bool if type == "bool" else not is_bool and int(value) in INTEGERS.get(type, ())
         reject(not fits, part.line, f"`{value}` is no value of `{type}`: a default is of a Boolean or an integer type")
     # Whether the type in the row is another than the field's.
     part.is_wrapped = in_struct and part.form is not part.type and "defined_by" not in attributes

@@ -61,8 +61,9 @@ class Form:
 
     def stated(self, types):
         """The struct or the enum, with its comments and its derives, and with these types of its parts."""
+        kind = "struct" if self.item.kind == "struct" else "enum"
         text = f"\n{self.item.comment(f'`{self.name}`.')}\n#[derive({', '.join(self.item.derives)})]\n"
-        text += f"pub {self.item.kind} {self.item.own()} {{\n"
+        text += f"pub {kind} {self.item.own()} {{\n"
         for part, type in zip(self.parts, types):
             text += f"{part.comment(self.default_comment)}\n{self.part.format(part.name, type)},\n"
         return text + "}\n"
@@ -82,6 +83,60 @@ class Form:
             { true }""" or ""
 
 
+def tag_of(tag, is_constructed):
+    """A tag of another class than context-specific, in a contract and in code."""
+    name, number = tag
+    said = {"application": "Application", "private": "Private"}.get(name)
+    if not said:
+        word = "constructed" if is_constructed else "primitive"
+        return f"universal{'_constructed' if is_constructed else ''} {number}", f"Tag::{word}({number})"
+    form = str(is_constructed).lower()
+    return f"{name}_tag {form} {number}", f"Tag::new({number}, TagClass::{said}, {form})"
+
+
+def uses_of_variants(module, item, parts):
+    """The import of an enum's variants, in the impl: there no other enum's variants have these names."""
+    names = ", ".join(part.name for part in parts)
+    path = f"ghost use Rattle.{module.specs}{item.name}.TheVariants."
+    lines = textwrap.wrap(names, max(40, 112 - len(path)), break_long_words=False)
+    return " ".join(f"{path}{{{line.rstrip(',')}}};\n" for line in lines)
+
+
+class Numbers(Form):
+    """An enum whose values have numbers, and its impls."""
+
+    part, default_comment = "{} = {}", "This value."
+
+    def __init__(self, item, module):
+        super().__init__(item, module)
+        self.parts = item.values
+
+    def __str__(self):
+        own, numbered = self.name, quoted(self.name, "Numbered")
+        tag, made = tag_of(self.item.tag or ("universal", 10), False)
+        text = self.stated(part.number for part in self.parts)
+        numbers = " | ".join(f"{part.name} ↦ {part.number}" for part in self.parts)
+        arms = " ".join(f"{part.number} => Some({own}::{part.name})," for part in self.parts)
+        text += self.impl("Numbered", uses_of_variants(self.module, self.item, self.parts), f"""
+            ghost number_of = {{ elim [ {numbers} ] }};
+            ghost numbers = {{ {' ∷ '.join(str(part.number) for part in self.parts)} ∷ [] }};
+            fn number(self) -> u32 {{ self as u32 }}
+            fn from_number(number: u32) -> Option<{own}> {{ match number {{ {arms} _ => None, }} }}""")
+        text += self.impl("Asn1Type", f"""
+            ghost der = {{ numbered ({tag}) {numbered}.number_of {numbered}.numbers }};
+            fn known(&self) {{ known_number(*self) }}""")
+        if self.item.reads:
+            text += self.impl("SimpleAsn1Readable<'a>", f"""
+            fn tag() -> Tag {{ {made} }}
+            fn parse_data(alloc: Global, data: &'a [u8]) -> ParseResult<{own}> {{ read_number(alloc, data) }}""")
+        if self.item.writes:
+            text += self.impl("SimpleAsn1Writable", ERROR, "ghost length_known = { λ _. Unit {0} };", f"""
+            fn tag() -> Tag {{ {made} }}
+            fn write_data(&self, dest: &mut WriteBuf) -> WriteResult<()> {{ self.number().write_data(dest) }}
+            fn data_length(&self) -> Option<usize> {{ self.number().data_length() }}""", self.writes_as_read())
+        return text
+
+
 class Structure(Form):
     """A struct with its fields as they were declared, and its impls, which go by a row of them."""
 
@@ -90,12 +145,16 @@ class Structure(Form):
     def __str__(self):
         self.set_rows()
         row, (row_type, view) = self.item.own("Fields"), self.row(self.parts)
+        word, made = "structure", "Tag::constructed(0x10)"
+        if self.item.tag or self.item.is_set:
+            term, made = tag_of(self.item.tag, True) if self.item.tag else ("set_tag", "Tag::constructed(0x11)")
+            word = f"structure_with_tag {group(term)}"
         text = self.stated(part.form if part.item else part.type for part in self.parts)
         text += "".join(self.default(part) for part in self.parts if part.default)
         text += "".join(f"\ntype {part.row} = {part.form};\n" for part in self.parts if part.is_wrapped)
         names = "".join(f'"{part.name}" ∷ ' for part in self.parts)
         text += f"\ntype {row} = {row_type};\n" + self.list_of_fields() + self.impl("Asn1Type", f"""
-            ghost der = {{ structure (λ v. {view}) {quoted(row, 'Row')}.list (field_names "{self.name}" ({names}[])) }};
+            ghost der = {{ {word} (λ v. {view}) {quoted(row, 'Row')}.list (field_names "{self.name}" ({names}[])) }};
             fn known(&self) {{ {self.body("known_fields", "self")} }}""")
         tag = f"""
             fn tag() -> Tag
@@ -104,7 +163,7 @@ class Structure(Form):
         if self.item.reads:
             text += self.impl(f"SimpleAsn1Readable<{self.life}>", f"""{tag}
                 ensures plain {{ {self.means}.plain }}
-            {{ Tag::constructed(0x10) }}
+            {{ {made} }}
             fn parse_data(alloc: Global, data: &{self.life} [u8]) -> ParseResult<{self.item.own()}>
                 ensures {{ ReadsContents {self.means} «data».entry.now result }}
             {{ {self.body("read_fields", f"{row}, alloc, data => {self.name}")} }}""")
@@ -113,7 +172,7 @@ class Structure(Form):
             errors = (f"{quoted(part.form, part.fails)}.write_errors {group(part.seen)} e" for part in lists)
             failing = f"ghost write_errors = {{ λ v e. {' ⊎ '.join(errors)} }};" if lists else ""
             text += self.impl("SimpleAsn1Writable", ERROR, failing, f"""{tag}
-            {{ Tag::constructed(0x10) }}
+            {{ {made} }}
             fn write_data(&self, dest: &mut WriteBuf) -> WriteResult<()> {{ {self.body("write_fields", "self, dest")} }}
             fn data_length(&self) -> Option<usize> {{ {self.body("fields_length", "self")} }}""",
             "" if lists else self.writes_as_read())
@@ -430,7 +489,7 @@ def alias(item, _):
 
 
 # What prints each kind of declaration.
-FORMS = {"struct": Structure, "enum": Choice, "type": alias, "const": identifier}
+FORMS = {"struct": Structure, "enum": Choice, "numbers": Numbers, "type": alias, "const": identifier}
 
 
 def answers(item, module):

@@ -63,7 +63,7 @@ struct Unnamed(u8); //~ `Unnamed` has no named fields
 
 #[derive(asn1::Asn1Read)]
 enum NoField {
-    Nothing, //~ `Nothing` has no unnamed field: a variant has exactly one
+    Nothing, //~ `Nothing` has no unnamed field and no number: a variant has exactly one
 }
 
 #[derive(asn1::Asn1Read)]
@@ -104,17 +104,6 @@ struct TwoTags {
 struct ImplicitChoice {
     #[implicit(0)]
     either: Option<Either>, //~ `Either` is implicit, and has no tag of its own
-}
-#[derive(asn1::Asn1Read)]
-enum Either {
-    Flag(bool),
-    Number(u64),
-}
-
-#[derive(asn1::Asn1Read)]
-enum Inside {
-    #[explicit(0)]
-    Either(Either), //~ `Either` is a choice or an option under a tag: put a struct around it
 }
 #[derive(asn1::Asn1Read)]
 enum Either {
@@ -459,4 +448,301 @@ use ; //~ a path was expected, and found `;`
 #[derive(asn1::Asn1Read)]
 struct AfterNoPath {
     value: bool,
+}
+
+#[derive(asn1::Asn1Read)]
+struct DefaultAbove {
+    #[default(256)]
+    value: u8, //~ `256` is no value of `u8`: a default is of a Boolean or an integer type
+}
+
+#[derive(asn1::Asn1Read)]
+struct OverlapOfLargeIntegers<'a> {
+    first: Option<u8>,
+    second: asn1::BigUint<'a>, //~ a tag of `second` is one of `first` too, from which it is told by its tag
+}
+
+#[derive(asn1::Asn1Read)]
+struct OverlapOfOctets<'a> {
+    first: Option<&'a [u8]>,
+    second: asn1::OctetStringEncoded<bool>, //~ a tag of `second` is one of `first` too, from which it is told by its tag
+}
+
+#[derive(asn1::Asn1Read)]
+struct OverlapOfTimes {
+    first: Option<asn1::GeneralizedTime>,
+    second: asn1::X509GeneralizedTime, //~ a tag of `second` is one of `first` too, from which it is told by its tag
+}
+
+#[derive(asn1::Asn1Read)]
+struct OverlapOfClasses {
+    #[application(1, implicit)]
+    first: Option<u8>,
+    #[application(1, implicit)]
+    second: bool, //~ a tag of `second` is one of `first` too, from which it is told by its tag
+}
+
+#[derive(asn1::Asn1Read)]
+struct OverlapOfUniversal<'a> {
+    first: Option<u8>,
+    #[universal(2, implicit)]
+    second: &'a [u8], //~ a tag of `second` is one of `first` too, from which it is told by its tag
+}
+
+use crate::content::Content;
+#[derive(asn1::Asn1Read)]
+struct CrossedMarkers {
+    kind: asn1::DefinedByMarker<asn1::ObjectIdentifier>, //~ `kind` marks an item: `#[defined_by(kind)]` has to follow, with no other marker between
+    other: asn1::DefinedByMarker<asn1::ObjectIdentifier>,
+    #[defined_by(kind)]
+    content: Content,
+    #[defined_by(other)]
+    more: Content,
+}
+
+#[derive(asn1::Asn1Read)]
+struct MarkerOfANumber {
+    kind: asn1::DefinedByMarker<u8>, //~ `kind` marks an item of another type than `ObjectIdentifier`
+    #[defined_by(kind)]
+    content: Content,
+}
+use crate::content::Content;
+
+const TOP: asn1::ObjectIdentifier = asn1::oid!(3, 1); //~ `TOP` is no identifier: its second number is below 40 after 0 and 1
+
+const LARGE: asn1::ObjectIdentifier = asn1::oid!(2, 5, 340282366920938463463374607431768211456); //~ `LARGE` has more than 63 octets, or a number from 2^128 on
+
+const LONG: asn1::ObjectIdentifier = asn1::oid!(2, 5, 340282366920938463463374607431768211455, 340282366920938463463374607431768211455, 340282366920938463463374607431768211455, 268435455, 127, 127); //~ `LONG` has more than 63 octets, or a number from 2^128 on
+
+#[derive(asn1::Asn1Read, asn1::Asn1Write)]
+struct Half {
+    value: Read, //~ `value` has the type `Read`, which doesn't derive `Asn1Write`
+}
+#[derive(asn1::Asn1Read)]
+struct Read {
+    value: u8,
+}
+
+#[derive(asn1::Asn1Read)]
+struct NegativeLength {
+    value: [u8; -4], //~ the length of an array isn't a number up to 4294967295
+}
+
+#[derive(asn1::Asn1Read)]
+struct LengthOfAConstant {
+    value: [u8; N], //~ the length of an array isn't a number up to 4294967295
+}
+
+#[derive(asn1::Asn1Read)]
+struct NoLength {
+    value: [u8; ], //~ the length of an array isn't a number up to 4294967295
+}
+
+#[derive(asn1::Asn1Read)]
+struct SumAsABound<'a> {
+    value: asn1::SequenceOf<'a, u8, 1, { 1 + 1 }>, //~ `1+1` isn't a number below 2^64, or `usize::MAX`
+}
+
+#[derive(asn1::Asn1Read)]
+struct BoundsThatCross<'a> {
+    value: asn1::SequenceOf<'a, u8, 5, 4>, //~ a list whose least number of items is above its greatest
+}
+
+#[derive(asn1::Asn1Read)]
+struct ListOfOptions<'a> {
+    value: asn1::SetOf<'a, Option<u8>>, //~ an option or a default is in a field alone, and in no list or under no tag
+}
+
+#[derive(asn1::Asn1Read)]
+struct OptionUnderATag {
+    value: asn1::Explicit<Option<u8>, 1>, //~ an option or a default is in a field alone, and in no list or under no tag
+}
+
+#[derive(asn1::Asn1Read)]
+struct OneName { //~ `OneNameABField` is printed twice for `OneName`: name one of its fields otherwise
+    #[implicit(0)]
+    a_b: Option<u8>,
+    #[implicit(1)]
+    a__b: Option<u8>,
+}
+
+#[derive(asn1::Asn1Read)]
+struct Letters {
+    größe: u8, //~ `:` was expected, and found `ö`
+}
+
+#[derive(asn1::Asn1Read)]
+enum OfClauses {
+    elim(u8), //~ `elim` is a word of clauses, and a variant's name there: name it otherwise
+}
+
+#[derive(asn1::Asn1Read)]
+struct u8 { //~ `u8` is imported, or a type of the library: name it otherwise
+    value: bool,
+}
+
+use asn1::Tlv as Any; //~ a name of the original's is imported as another: name it as it is
+
+#[derive(asn1::Asn1Read)]
+struct Boxes {
+    value: Box<Box<Box<Box<Box<Box<Box<Box<Box<Box<Box<Box<Box<Box<Box<Box<Box<Box<Box<Box<Box<Box<Box<Box<Box<Box<
+    Box<Box<Box<Box<u8>>>>>>>>>>>>>>>>>>>>>>>>>>>>>>, //~ types within one another more deeply than 30
+}
+
+#[derive(asn1::Asn1Read)]
+#[application(1, explicit)]
+struct AroundItself { //~ `AroundItself` has a tag of its own, and an explicit tag around it is an alias's, as `type AroundItself2 = asn1::ApplicationExplicit<AroundItself, 1>`
+    value: u8,
+}
+
+#[derive(asn1::Asn1Read)]
+#[private(1, implicit)]
+enum TaggedChoice { //~ `TaggedChoice` is a choice, which has no tag of its own: an alias has one, as `type TaggedChoice2 = asn1::PrivateExplicit<TaggedChoice, 1>`
+    One(u8),
+    Other(bool),
+}
+
+#[derive(asn1::Asn1Read)]
+#[application(1)]
+struct NoForm { //~ `NoForm` has a tag that isn't as `#[application(1, implicit)]` or `#[application(1, explicit)]`
+    value: u8,
+}
+
+#[derive(asn1::Asn1Read)]
+#[universal(27, explicit)]
+struct ExplicitUniversal { //~ `ExplicitUniversal` has a tag of the class universal that is explicit
+    value: u8,
+}
+
+#[derive(asn1::Asn1Read)]
+#[application(1, implicit)]
+#[private(1, implicit)]
+struct TwoClasses { //~ `TwoClasses` has tags of two classes
+    value: u8,
+}
+
+#[derive(asn1::Asn1Read)]
+struct TwoTagsOfAField {
+    #[implicit(1)]
+    #[application(1, implicit)]
+    value: Option<u8>, //~ `value` has two tags: an alias states one of them
+}
+
+#[application(1, implicit)]
+const TAGGED: asn1::ObjectIdentifier = asn1::oid!(1, 2, 3); //~ `TAGGED` is an identifier, which has no tag here
+
+#[derive(asn1::Asn1Read)]
+#[set]
+enum SetOfVariants { //~ `SetOfVariants` is a set, and no struct, or has another tag too
+    One(u8),
+}
+
+#[derive(asn1::Asn1Read)]
+struct SetOfAField {
+    #[set]
+    value: u8, //~ an attribute that `value` can't have
+}
+
+#[derive(asn1::Asn1Read)]
+#[set]
+struct Unordered {
+    number: u8,
+    flag: bool, //~ `flag` is in a set, and its tag doesn't come after that of the field before it
+}
+
+#[derive(asn1::Asn1Read)]
+#[set]
+struct UnorderedClasses {
+    #[implicit(0)]
+    number: Option<u8>,
+    #[application(1, implicit)]
+    flag: bool, //~ `flag` is in a set, and its tag doesn't come after that of the field before it
+}
+
+#[derive(asn1::Asn1Read)]
+#[set]
+struct AnyInASet<'a> {
+    any: asn1::Tlv<'a>, //~ `any` is in a set, and hasn't one tag that is known
+}
+
+#[derive(asn1::Asn1Read)]
+enum HalfNumbered {
+    One = 1,
+    Other(u8), //~ `Other` has no number, and `One` has one
+}
+
+#[derive(asn1::Asn1Read)]
+enum SameNumber {
+    One = 1,
+    Other = 0x1, //~ `Other` has the number of `One`
+}
+
+#[derive(asn1::Asn1Read)]
+enum NegativeNumber {
+    Below = -1, //~ `Below` has the number `-1`, which isn't one from 0 to 4294967295
+}
+
+#[derive(asn1::Asn1Read)]
+enum LargeNumber {
+    Above = 4294967296, //~ `Above` has the number `4294967296`, which isn't one from 0 to 4294967295
+}
+
+#[derive(asn1::Asn1DefinedByRead)]
+enum NumbersByItem { //~ `NumbersByItem` has numbers, and is defined by an item
+    One = 1,
+}
+
+#[derive(asn1::Asn1Read)]
+enum NumbersWithALife<'a> { //~ `NumbersWithALife` declares a lifetime, and nothing in it has one
+    One = 1,
+}
+
+#[derive(asn1::Asn1Read)]
+enum ValueTwice {
+    One = 1,
+    One = 2, //~ `One` is declared twice
+}
+
+#[derive(asn1::Asn1Read)]
+enum ValueWithATag {
+    #[implicit(1)]
+    One = 1, //~ an attribute that `One` can't have
+}
+
+use crate::content::Content;
+#[derive(asn1::Asn1Read)]
+struct MarkersOfEachOther {
+    kind: asn1::DefinedByMarker<asn1::ObjectIdentifier>,
+    #[defined_by(other)]
+    content: Content, //~ `content` isn't after the marker of its item
+    other: asn1::DefinedByMarker<asn1::ObjectIdentifier>,
+    #[defined_by(kind)]
+    more: Content,
+}
+
+#[derive(asn1::Asn1Read)]
+struct TagsOfOtherForms<'a> {
+    #[implicit(0)]
+    list: Option<asn1::SequenceOf<'a, u8>>,
+    #[implicit(0)]
+    number: Option<u8>,
+    #[implicit(0, required = true)]
+    last: u8, //~ a tag of `last` is one of `number` too, from which it is told by its tag
+}
+
+#[derive(asn1::Asn1Read)]
+struct OverlapOfNumbers {
+    first: Option<Numbers>,
+    second: asn1::Enumerated, //~ a tag of `second` is one of `first` too, from which it is told by its tag
+}
+#[derive(asn1::Asn1Read)]
+enum Numbers {
+    One = 1,
+}
+
+#[derive(asn1::Asn1Read)]
+#[set]
+struct SameTagTwice {
+    number: u8,
+    other: u16, //~ `other` is in a set, and its tag doesn't come after that of the field before it
 }

@@ -3,6 +3,8 @@ use Rattle.std.specs.Prelude.{ℕ, List, ◌⊎◌, [], Result}
 use Rattle.asn1.specs.declared.wrappers.tagged.Explicit.{Explicit}
 use Rattle.asn1.specs.declared.wrappers.tagged.Implicit.{Implicit}
 use Rattle.asn1.specs.declared.wrappers.tagged.OctetStringEncoded.{OctetStringEncoded}
+use Rattle.asn1.specs.declared.wrappers.classes.TaggedExplicit.{TaggedExplicit}
+use Rattle.asn1.specs.declared.wrappers.classes.TaggedImplicit.{TaggedImplicit}
 use Rattle.asn1.specs.declared.wrappers.defaulted.Defaulted.{Defaulted}
 use Rattle.asn1.specs.declared.wrappers.errors.ErrorInto.{ErrorInto}
 use Rattle.asn1.specs.declared.lists.sets.Set.{Set}
@@ -32,6 +34,14 @@ explicit_inner x = x.inner
 -- The value in an `Implicit`.
 abbrev pub implicit_inner : {T : Type 0} {tag : ℕ} → Implicit T tag → T
 implicit_inner x = x.inner
+
+-- The value in a `TaggedExplicit`.
+abbrev pub tagged_explicit_inner : {T : Type 0} {class tag : ℕ} → TaggedExplicit T class tag → T
+tagged_explicit_inner x = x.inner
+
+-- The value in a `TaggedImplicit`.
+abbrev pub tagged_implicit_inner : {T : Type 0} {class tag : ℕ} → TaggedImplicit T class tag → T
+tagged_implicit_inner x = x.inner
 
 -- The value in an `OctetStringEncoded`.
 abbrev pub octet_string_inner : {T : Type 0} → OctetStringEncoded T → T

@@ -33,3 +33,4 @@ pub mod FieldSteps
 pub mod ListItems
 pub mod SetItems
 pub mod Equalities
+pub mod Numbered

@@ -1,12 +1,12 @@
 -- Values under a tag of any class, or in an octet string (X.680 31.2, X.690 8.14).
-use Rattle.std.specs.Prelude.{[], ℕ, Bool}
+use Rattle.std.specs.Prelude.{[], ℕ, Bool, true}
 use Rattle.asn1_core.specs.declared.tag.Tag.{Tag}
 use Rattle.asn1_core.specs.Reading.{whole}
-use Rattle.asn1_core.specs.Der.{Der, Content, simple_der}
+use Rattle.asn1_core.specs.Der.{Der, Content}
 use Rattle.asn1_core.specs.Lemmas.Faults.{whole_faults}
 use Rattle.asn1_core.specs.Lemmas.Inside.{inside_takes, inside_again}
 use Rattle.asn1_core.specs.declared.tag.TagClass.TheVariants.{Application, Private}
-use Rattle.asn1_core.specs.Tag.{tag_with}
+use Rattle.asn1_core.specs.Tag.{class_of, tag_with}
 
 -- Contents octets that are the encoding of one value. (X.690 8.14.2)
 abbrev pub one_inside : {V : Type 0} → Tag → (d : Der V) → Content d.Meaning
@@ -48,10 +48,10 @@ application_tag constructed n = tag_with Application constructed n
 abbrev pub private_tag : Bool → ℕ → Tag
 private_tag constructed n = tag_with Private constructed n
 
--- Values seen as values of a type, with this tag in place of the type's own tag. (8.14.3)
-abbrev pub seen_with_tag : {V W : Type 0} → (W → V) → Tag → Der V → Der W
-seen_with_tag view tag d = simple_der (λ w. d.meaning (view w)) (retagged (λ own. tag) d.content)
+-- The tag n of an explicitly tagged type in the class with this number. (8.1.2.2; X.680 31.2)
+abbrev pub explicit_tag_in : ℕ → ℕ → Tag
+explicit_tag_in class n = tag_with (class_of class) true n
 
--- Values seen as values of a type, under this tag: the contents octets are the whole encoding of a value. (8.14.2)
-abbrev pub seen_under_tag : {V W : Type 0} → (W → V) → Tag → Der V → Der W
-seen_under_tag view tag d = simple_der (λ w. d.meaning (view w)) (one_inside tag d)
+-- The tag n of an implicitly tagged type in the class with this number, whose own tag is `inner`. (8.1.2.2; X.680 31.2)
+abbrev pub implicit_tag_in : ℕ → ℕ → Tag → Tag
+implicit_tag_in class n inner = tag_with (class_of class) inner.constructed n

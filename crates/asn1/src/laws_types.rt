@@ -13,8 +13,9 @@ use crate::{
     BMPString, BigInt, BigUint, BitString, Choice1, Choice2, Choice3, DefaultValue, Defaulted,
     Enumerated, ErrorInto, Explicit, GeneralizedTime, IA5String, Implicit, MeaningEq, Null,
     ObjectIdentifier, OctetStringEncoded, OwnedBigInt, OwnedBigUint, OwnedBitString,
-    PrintableString, Sequence, SequenceOf, SequenceOfWriter, Set, SetOf, SetOfWriter, Tlv,
-    UniversalString, UtcTime, Utf8String, VisibleString, X509GeneralizedTime,
+    PrintableString, Sequence, SequenceOf, SequenceOfWriter, Set, SetOf, SetOfWriter,
+    TaggedExplicit, TaggedImplicit, Tlv, UniversalString, UtcTime, Utf8String, VisibleString,
+    X509GeneralizedTime,
 };
 use asn1_core::Asn1Type;
 
@@ -115,6 +116,13 @@ pub fn wrappers_inherit<T: Asn1Type, const TAG: u32>()
     ensures implicit { T.der.is_simple → Inherits T.der ⟦<Implicit<T, TAG> as Asn1Type>⟧.der }
     ensures octet_string { Inherits T.der ⟦<OctetStringEncoded<T> as Asn1Type>⟧.der }
     ensures choice { Inherits T.der ⟦<Choice1<T> as Asn1Type>⟧.der }
+{}
+
+/// The same of types under a tag of any class.
+pub fn tagged_types_inherit<T: Asn1Type, const CLASS: u8, const NUMBER: u32>()
+    ensures explicit { Inherits T.der ⟦<TaggedExplicit<T, CLASS, NUMBER> as Asn1Type>⟧.der }
+    ensures implicit { T.der.is_simple
+        → Inherits T.der ⟦<TaggedImplicit<T, CLASS, NUMBER> as Asn1Type>⟧.der }
 {}
 
 /// The same of a field with a default, by its type.

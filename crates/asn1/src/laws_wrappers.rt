@@ -14,7 +14,7 @@ use crate::fields::{
 };
 use crate::{
     Choice1, Choice2, Choice3, DefaultValue, Defaulted, ErrorInto, Explicit, Implicit, MeaningEq,
-    OctetStringEncoded, SimpleMeaningEq,
+    OctetStringEncoded, SimpleMeaningEq, TaggedExplicit, TaggedImplicit,
 };
 use asn1_core::{
     Asn1DefinedBy, Asn1DefinedByReadable, Asn1DefinedByWritable, Asn1Readable, Asn1Type,
@@ -30,6 +30,15 @@ pub fn wrappers_are_lawful<T: Asn1Type, const TAG: u32>()
     ensures implicit { T.der.lawful → T.der.is_simple
         → ⟦<Implicit<T, TAG> as Asn1Type>⟧.der.lawful }
     ensures octet_string { T.der.lawful → ⟦<OctetStringEncoded<T> as Asn1Type>⟧.der.lawful }
+{}
+
+/// The same of types under a tag of any class, which are elements.
+pub fn tagged_types_are_lawful<T: Asn1Type, const CLASS: u8, const NUMBER: u32>()
+    ensures explicit { T.der.lawful → ⟦<TaggedExplicit<T, CLASS, NUMBER> as Asn1Type>⟧.der.lawful }
+    ensures implicit { T.der.lawful → T.der.is_simple
+        → ⟦<TaggedImplicit<T, CLASS, NUMBER> as Asn1Type>⟧.der.lawful }
+    ensures explicit_element { ⟦<TaggedExplicit<T, CLASS, NUMBER> as Asn1Type>⟧.der.is_element }
+    ensures implicit_element { ⟦<TaggedImplicit<T, CLASS, NUMBER> as Asn1Type>⟧.der.is_element }
 {}
 
 /// A field with a default is lawful if its part is, and if that part is an element, as for an option.

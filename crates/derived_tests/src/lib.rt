@@ -6,6 +6,12 @@ mod ec_private_key;
 #[cfg(test)]
 mod items;
 #[cfg(test)]
+mod kerberos;
+#[cfg(test)]
 mod page;
+#[cfg(test)]
+mod spellings;
+#[cfg(test)]
+mod tags;
 #[cfg(test)]
 mod tests;

@@ -1,6 +1,9 @@
 //! Values of the printed types are read, looked at, and written back as the same octets.
 
 mod ec_private_key;
+mod kerberos;
+mod spellings;
+mod tags;
 
 use crate::items::{
     AnyContent, AnyContentUnknown, AnySequence, Content, Entry, Letter, Listed, MySequence,

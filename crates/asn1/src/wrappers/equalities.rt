@@ -10,6 +10,8 @@ ghost use Rattle.asn1_values.specs.Values.{owned_big_uint_octets};
 ghost use Rattle.asn1_values.specs.TextValues.{ia5_octets, printable_octets, utf8_octets, visible_octets, bmp_octets};
 ghost use Rattle.asn1_values.specs.TextValues.{universal_octets};
 ghost use Rattle.asn1.specs.InHand.{explicit_inner, implicit_inner, octet_string_inner, octets_of_set, sequence_octets};
+ghost use Rattle.asn1.specs.InHand.{tagged_explicit_inner, tagged_implicit_inner};
+ghost use Rattle.asn1.specs.Tagged.{explicit_tag_in, implicit_tag_in};
 ghost use Rattle.asn1.specs.Lemmas.Equalities.{big_content_tells, big_tells, bits_content_tells, bits_decide};
 ghost use Rattle.asn1.specs.Lemmas.Equalities.{bits_tell, bools_content_tells, bools_tell};
 ghost use Rattle.asn1.specs.Lemmas.Equalities.{generalized_times_content_tells, generalized_times_tell};
@@ -20,7 +22,10 @@ ghost use Rattle.asn1.specs.Lemmas.Equalities.{utc_times_content_tells, utc_time
 ghost use Rattle.asn1.specs.Lemmas.Equalities.{x509_times_tell};
 
 use crate::lists::{Sequence, Set};
-use crate::wrappers::{Explicit, Implicit, MeaningEq, OctetStringEncoded, SimpleMeaningEq};
+use crate::wrappers::{
+    Explicit, Implicit, MeaningEq, OctetStringEncoded, SimpleMeaningEq, TaggedExplicit,
+    TaggedImplicit,
+};
 use asn1_values::{
     BMPString, BigInt, BigUint, BitString, Enumerated, GeneralizedTime, IA5String,
     ObjectIdentifier, OwnedBigInt, OwnedBigUint, OwnedBitString, PrintableString, UniversalString,
@@ -346,6 +351,32 @@ impl<T: SimpleMeaningEq, const TAG: u32> MeaningEq for Implicit<T, TAG> {
 
 impl<T: SimpleMeaningEq, const TAG: u32> SimpleMeaningEq for Implicit<T, TAG> {
     ghost content_tells = { λ a b. T.content_tells (implicit_inner a) (implicit_inner b) };
+}
+
+impl<T: MeaningEq, const CLASS: u8, const NUMBER: u32> MeaningEq
+    for TaggedExplicit<T, CLASS, NUMBER> {
+    ghost tells = { λ a b. inside_tells tagged_explicit_inner T.der.meaning (explicit_tag_in CLASS
+        NUMBER) T.der.text T.eq a b (T.tells (tagged_explicit_inner a) (tagged_explicit_inner b)) };
+}
+
+impl<T: MeaningEq, const CLASS: u8, const NUMBER: u32> SimpleMeaningEq
+    for TaggedExplicit<T, CLASS, NUMBER> {
+    ghost content_tells = { λ a b. (T.tells (tagged_explicit_inner a)
+        (tagged_explicit_inner b)).equal };
+}
+
+impl<T: SimpleMeaningEq, const CLASS: u8, const NUMBER: u32> MeaningEq
+    for TaggedImplicit<T, CLASS, NUMBER> {
+    ghost tells = { λ a b. retagged_tells tagged_implicit_inner T.der.meaning (implicit_tag_in CLASS
+        NUMBER T.der.content.tag) T.der.text T.der.content.text T.eq a b
+        (T.tells (tagged_implicit_inner a) (tagged_implicit_inner b))
+        (T.content_tells (tagged_implicit_inner a) (tagged_implicit_inner b)) };
+}
+
+impl<T: SimpleMeaningEq, const CLASS: u8, const NUMBER: u32> SimpleMeaningEq
+    for TaggedImplicit<T, CLASS, NUMBER> {
+    ghost content_tells = { λ a b. T.content_tells (tagged_implicit_inner a)
+        (tagged_implicit_inner b) };
 }
 
 impl<T: MeaningEq> MeaningEq for Box<T> {

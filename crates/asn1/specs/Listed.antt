@@ -1,0 +1,28 @@
+-- Lists of numbers, and what reading one of these numbers returns.
+use Rattle.std.specs.Prelude.{ℕ, ℤ, pos, negsuc, ◌-ℤ◌, ◌^◌, ◌≡◌, List, [], ◌∷◌, Bool, true, false, nat_eq, ◌||◌, if◌then◌else◌, Result, Ok, Err}
+use Rattle.asn1_core.specs.declared.parser.ParseErrorKind.TheVariants.{InvalidValue}
+use Rattle.asn1_core.specs.Fault.{Fault, fault}
+use Rattle.asn1_core.specs.Element.{◌>>=◌}
+use Rattle.asn1_core.specs.Integer.{read_sized}
+
+-- The largest number.
+abbrev pub largest : ℤ
+largest = pos (2 ^ 32) -ℤ pos 1
+
+-- Whether the list has the number.
+abbrev pub lists : List ℕ → ℕ → Bool
+lists [] n = false
+lists (m ∷ numbers) n = nat_eq m n || lists numbers n
+
+abbrev pub IsListed : List ℕ → ℤ → Type 0
+IsListed numbers (pos n) = lists numbers n ≡ true
+IsListed numbers (negsuc n) = ⊥
+
+-- Rejects a number that the list hasn't.
+abbrev pub if_listed : List ℕ → ℤ → Result ℤ Fault
+if_listed numbers (pos n) = if lists numbers n then Ok (pos n) else Err (fault InvalidValue)
+if_listed numbers (negsuc n) = Err (fault InvalidValue)
+
+-- What reading contents octets returns: a number of the list, or the first error of reading one of 32 bits.
+abbrev pub read_listed : List ℕ → List ℕ → Result ℤ Fault
+read_listed numbers c = read_sized (pos 0) largest c >>= if_listed numbers

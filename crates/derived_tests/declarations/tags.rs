@@ -1,0 +1,89 @@
+//! Tags of every class, sets, and enums whose values have numbers: each form of the script for them, once.
+
+/// How a search ended (RFC 4511, 4.1.9, some of its codes).
+#[derive(asn1::Asn1Read, asn1::Asn1Write, Debug, Clone, Copy, PartialEq, Eq, Hash)]
+pub enum ResultCode {
+    /// The search found what there is.
+    Success = 0,
+    /// It took too long.
+    TimeLimitExceeded = 3,
+    /// The server has too much to do.
+    Busy = 0x33,
+    /// Any other reason.
+    Other = 80,
+}
+
+/// INTEGER { v1(0), v2(1), v3(2) }, with these numbers alone.
+#[derive(asn1::Asn1Read, asn1::Asn1Write, PartialEq)]
+#[universal(2, implicit)]
+pub enum Version {
+    V1 = 0,
+    V2 = 1,
+    V3 = 2,
+}
+
+/// [PRIVATE 31] IMPLICIT ENUMERATED { off(0), on(1) }
+#[derive(asn1::Asn1Read, asn1::Asn1Write, PartialEq)]
+#[private(31, implicit)]
+pub enum Switch {
+    Off = 0,
+    On = 1,
+}
+
+/// NumericString's tag on the characters of an IA5String.
+#[universal(18, implicit)]
+pub type Numeric<'a> = asn1::IA5String<'a>;
+
+/// [APPLICATION 3] IMPLICIT SEQUENCE
+#[derive(asn1::Asn1Read, asn1::Asn1Write, PartialEq)]
+#[application(3, implicit)]
+pub struct Report<'a> {
+    /// How it ended.
+    pub code: ResultCode,
+    /// How often, under a tag in place of its own.
+    #[application(1, implicit)]
+    pub count: Option<u8>,
+    /// Who wrote it, under a tag around the string's own.
+    #[private(2, explicit)]
+    pub by: Numeric<'a>,
+}
+
+/// [APPLICATION 4] EXPLICIT Report
+#[application(4, explicit)]
+pub type Sealed<'a> = Report<'a>;
+
+/// A set, whose fields are in the order of their tags.
+#[derive(asn1::Asn1Read, asn1::Asn1Write, PartialEq)]
+#[set]
+pub struct Settings {
+    /// The version.
+    pub version: Version,
+    /// The code.
+    #[default(7)]
+    #[implicit(0)]
+    pub level: u8,
+    /// Whether it is on.
+    pub switch: Switch,
+}
+
+/// A choice of a report, a choice under a tag, and a number under a tag of the application.
+#[derive(asn1::Asn1Read, asn1::Asn1Write, PartialEq)]
+pub enum Entry<'a> {
+    /// A report.
+    Report(Report<'a>),
+    /// A choice, which has no tag of its own.
+    #[explicit(1)]
+    Either(Either<'a>),
+    /// A number.
+    #[application(9, implicit)]
+    Number(u16),
+}
+
+/// Octets, or none.
+#[derive(asn1::Asn1Read, asn1::Asn1Write, PartialEq)]
+pub enum Either<'a> {
+    /// Octets.
+    Octets(&'a [u8]),
+    /// None.
+    None(asn1::Null),
+}

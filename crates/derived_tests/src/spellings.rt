@@ -1,0 +1,132 @@
+//! Spellings of Rust that the script reads: numbers, comments, attributes, lifetimes and visibility.
+// Printed by scripts/derive from declarations/spellings.rs, with the sum 1b0eeb6c.
+
+ghost use Rattle.std.specs.Prelude.{◌≡◌, ◌∷◌, [], negsuc, IsTrue};
+ghost use Rattle.asn1.specs.Options.{option_meaning};
+ghost use Rattle.asn1.specs.Reads.{HasOneEncoding, ReadsContents};
+ghost use Rattle.asn1.specs.Structures.{defaulted, explicit, field_names, implicit, structure, fields6};
+
+use asn1::fields::{Fields6, Row};
+use asn1::{
+    Asn1Type, DefaultValue, Defaulted, Explicit, IA5String, Implicit, ParseResult, SequenceOf,
+    SimpleAsn1Readable, SimpleAsn1Writable, Tag, WriteBuf, WriteError, WriteResult, fields_length,
+    known_fields, read_fields, write_fields,
+};
+use std::alloc::Global;
+
+/// Fields in many spellings.
+#[derive(PartialEq, Drop)]
+pub struct Spelled<'b> {
+    /// Sixteen octets.
+    pub hash: [u8; 16],
+    /// At least one number, and at most four.
+    pub items: SequenceOf<'b, u8, 1, 4>,
+    /// Any number of numbers, from two on.
+    pub more: Option<SequenceOf<'b, u8, 2, { usize::MAX }>>,
+    /// The field.
+    pub low: i8,
+    /// The field.
+    pub high: u8,
+    /// The field.
+    pub text: IA5String<'b>,
+}
+
+/// What `low` is if it is left out.
+pub struct SpelledLow;
+
+impl DefaultValue<Implicit<i8, 10>> for SpelledLow {
+    ghost default = { record { inner = negsuc 127 } };
+
+    fn value() -> Implicit<i8, 10> {
+        Implicit::new(-128)
+    }
+}
+
+/// What `high` is if it is left out.
+pub struct SpelledHigh;
+
+impl DefaultValue<Explicit<u8, 4>> for SpelledHigh {
+    ghost default = { record { inner = 255 } };
+
+    fn value() -> Explicit<u8, 4> {
+        Explicit::new(255)
+    }
+}
+
+type SpelledMoreField<'b> = Option<Implicit<SequenceOf<'b, u8, 2, { usize::MAX }>, 31>>;
+
+type SpelledLowField = Defaulted<Implicit<i8, 10>, SpelledLow>;
+
+type SpelledHighField = Defaulted<Explicit<u8, 4>, SpelledHigh>;
+
+type SpelledFields<'b> = Fields6<
+    [u8; 16],
+    SequenceOf<'b, u8, 1, 4>,
+    SpelledMoreField<'b>,
+    SpelledLowField,
+    SpelledHighField,
+    IA5String<'b>,
+>;
+
+macro_rules! fields_of_spelled {
+    ($body:ident, $($of:tt)*) => { $body!($($of)*;
+        hash, items, more: SpelledMoreField<'b>, low: SpelledLowField, high: SpelledHighField,
+        text) };
+}
+
+impl<'b> Asn1Type for Spelled<'b> {
+    ghost der = { structure (λ v. fields6 v.hash v.items (option_meaning implicit v.more) (defaulted
+        (implicit v.low)) (defaulted (explicit v.high)) v.text) ⟦<SpelledFields<'b> as Row>⟧.list
+        (field_names "Spelled" ("hash" ∷ "items" ∷ "more" ∷ "low" ∷ "high" ∷ "text" ∷ [])) };
+
+    fn known(&self) {
+        fields_of_spelled!(known_fields, self)
+    }
+}
+
+impl<'b> SimpleAsn1Readable<'b> for Spelled<'b> {
+    fn tag() -> Tag
+        ensures value { result ≡ ⟦<Spelled<'b> as Asn1Type>⟧.der.content.tag }
+        ensures simple { ⟦<Spelled<'b> as Asn1Type>⟧.der.is_simple }
+        ensures plain { ⟦<Spelled<'b> as Asn1Type>⟧.der.plain }
+    {
+        Tag::constructed(0x10)
+    }
+
+    fn parse_data(alloc: Global, data: &'b [u8]) -> ParseResult<Spelled<'b>>
+        ensures { ReadsContents ⟦<Spelled<'b> as Asn1Type>⟧.der «data».entry.now result }
+    {
+        fields_of_spelled!(read_fields, SpelledFields<'b>, alloc, data => Spelled)
+    }
+}
+
+impl<'b> SimpleAsn1Writable for Spelled<'b> {
+    type Error = WriteError;
+
+    fn tag() -> Tag
+        ensures value { result ≡ ⟦<Spelled<'b> as Asn1Type>⟧.der.content.tag }
+        ensures simple { ⟦<Spelled<'b> as Asn1Type>⟧.der.is_simple }
+    {
+        Tag::constructed(0x10)
+    }
+
+    fn write_data(&self, dest: &mut WriteBuf) -> WriteResult<()> {
+        fields_of_spelled!(write_fields, self, dest)
+    }
+
+    fn data_length(&self) -> Option<usize> {
+        fields_of_spelled!(fields_length, self)
+    }
+
+    fn writes_as_read() -> bool
+        ensures { IsTrue result }
+    {
+        true
+    }
+}
+
+/// Each value of `Spelled` has one encoding, which is read back.
+#[tactic(auto, using(asn1::specs::Lemmas::Fields::tags_differ))]
+pub fn spelled_is_lawful()
+    ensures { HasOneEncoding ⟦<Spelled<'static> as Asn1Type>⟧.der }
+{}

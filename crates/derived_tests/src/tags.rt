@@ -1,0 +1,598 @@
+//! Tags of every class, sets, and enums whose values have numbers: each form of the script for them, once.
+// Printed by scripts/derive from declarations/tags.rs, with the sum 7e53f581.
+
+ghost use Rattle.std.specs.Prelude.{◌≡◌, ◌∷◌, [], true, false, IsTrue, OnErr, IfOk};
+ghost use Rattle.std.proofs.Common.{inl, inr};
+ghost use Rattle.asn1.specs.Choices.{choice_der, only, or};
+ghost use Rattle.asn1.specs.Listing.{set_tag};
+ghost use Rattle.asn1.specs.Numbered.{numbered};
+ghost use Rattle.asn1.specs.Reading.{EndsWith};
+ghost use Rattle.asn1.specs.Reads.{BeginsWithEncodingOf, HasOneEncoding, ReadsContents, ReadsPrefix};
+ghost use Rattle.asn1.specs.Structures.{defaulted, field_names, implicit, structure_with_tag, fields3};
+ghost use Rattle.asn1.specs.Tag.{universal};
+ghost use Rattle.asn1.specs.Tagged.{application_tag, private_tag};
+
+use asn1::fields::{Fields3, Row};
+use asn1::{
+    ApplicationExplicit, ApplicationImplicit, Asn1Readable, Asn1Type, Asn1Writable, Choice2,
+    Choice3, DefaultValue, Defaulted, Explicit, IA5String, Implicit, Null, Numbered, ParseResult,
+    Parser, PrivateExplicit, SimpleAsn1Readable, SimpleAsn1Writable, Tag, TagClass,
+    UniversalImplicit, WriteBuf, WriteError, WriteResult, Writer, fields_length, known_fields,
+    known_number, read_fields, read_number, write_fields,
+};
+use std::alloc::Global;
+
+/// How a search ended (RFC 4511, 4.1.9, some of its codes).
+#[derive(Debug, Clone, Copy, PartialEq, Eq, Hash)]
+pub enum ResultCode {
+    /// The search found what there is.
+    Success = 0,
+    /// It took too long.
+    TimeLimitExceeded = 3,
+    /// The server has too much to do.
+    Busy = 51,
+    /// Any other reason.
+    Other = 80,
+}
+
+impl Numbered for ResultCode {
+    ghost use Rattle.derived_tests.specs.declared.tags.ResultCode.TheVariants.{Success, TimeLimitExceeded, Busy, Other};
+
+    ghost number_of = { elim [ Success ↦ 0 | TimeLimitExceeded ↦ 3 | Busy ↦ 51 | Other ↦ 80 ] };
+
+    ghost numbers = { 0 ∷ 3 ∷ 51 ∷ 80 ∷ [] };
+
+    fn number(self) -> u32 {
+        self as u32
+    }
+
+    fn from_number(number: u32) -> Option<ResultCode> {
+        match number {
+            0 => Some(ResultCode::Success),
+            3 => Some(ResultCode::TimeLimitExceeded),
+            51 => Some(ResultCode::Busy),
+            80 => Some(ResultCode::Other),
+            _ => None,
+        }
+    }
+}
+
+impl Asn1Type for ResultCode {
+    ghost der = { numbered (universal 10) ⟦<ResultCode as Numbered>⟧.number_of
+        ⟦<ResultCode as Numbered>⟧.numbers };
+
+    fn known(&self) {
+        known_number(*self)
+    }
+}
+
+impl<'a> SimpleAsn1Readable<'a> for ResultCode {
+    fn tag() -> Tag {
+        Tag::primitive(10)
+    }
+
+    fn parse_data(alloc: Global, data: &'a [u8]) -> ParseResult<ResultCode> {
+        read_number(alloc, data)
+    }
+}
+
+impl SimpleAsn1Writable for ResultCode {
+    type Error = WriteError;
+
+    ghost length_known = { λ _. Unit {0} };
+
+    fn tag() -> Tag {
+        Tag::primitive(10)
+    }
+
+    fn write_data(&self, dest: &mut WriteBuf) -> WriteResult<()> {
+        self.number().write_data(dest)
+    }
+
+    fn data_length(&self) -> Option<usize> {
+        self.number().data_length()
+    }
+
+    fn writes_as_read() -> bool {
+        true
+    }
+}
+
+/// INTEGER { v1(0), v2(1), v3(2) }, with these numbers alone.
+#[derive(Clone, Copy, PartialEq)]
+pub enum Version {
+    /// This value.
+    V1 = 0,
+    /// This value.
+    V2 = 1,
+    /// This value.
+    V3 = 2,
+}
+
+impl Numbered for Version {
+    ghost use Rattle.derived_tests.specs.declared.tags.Version.TheVariants.{V1, V2, V3};
+
+    ghost number_of = { elim [ V1 ↦ 0 | V2 ↦ 1 | V3 ↦ 2 ] };
+
+    ghost numbers = { 0 ∷ 1 ∷ 2 ∷ [] };
+
+    fn number(self) -> u32 {
+        self as u32
+    }
+
+    fn from_number(number: u32) -> Option<Version> {
+        match number {
+            0 => Some(Version::V1),
+            1 => Some(Version::V2),
+            2 => Some(Version::V3),
+            _ => None,
+        }
+    }
+}
+
+impl Asn1Type for Version {
+    ghost der = { numbered (universal 2) ⟦<Version as Numbered>⟧.number_of
+        ⟦<Version as Numbered>⟧.numbers };
+
+    fn known(&self) {
+        known_number(*self)
+    }
+}
+
+impl<'a> SimpleAsn1Readable<'a> for Version {
+    fn tag() -> Tag {
+        Tag::primitive(2)
+    }
+
+    fn parse_data(alloc: Global, data: &'a [u8]) -> ParseResult<Version> {
+        read_number(alloc, data)
+    }
+}
+
+impl SimpleAsn1Writable for Version {
+    type Error = WriteError;
+
+    ghost length_known = { λ _. Unit {0} };
+
+    fn tag() -> Tag {
+        Tag::primitive(2)
+    }
+
+    fn write_data(&self, dest: &mut WriteBuf) -> WriteResult<()> {
+        self.number().write_data(dest)
+    }
+
+    fn data_length(&self) -> Option<usize> {
+        self.number().data_length()
+    }
+
+    fn writes_as_read() -> bool {
+        true
+    }
+}
+
+/// [PRIVATE 31] IMPLICIT ENUMERATED { off(0), on(1) }
+#[derive(Clone, Copy, PartialEq)]
+pub enum Switch {
+    /// This value.
+    Off = 0,
+    /// This value.
+    On = 1,
+}
+
+impl Numbered for Switch {
+    ghost use Rattle.derived_tests.specs.declared.tags.Switch.TheVariants.{Off, On};
+
+    ghost number_of = { elim [ Off ↦ 0 | On ↦ 1 ] };
+
+    ghost numbers = { 0 ∷ 1 ∷ [] };
+
+    fn number(self) -> u32 {
+        self as u32
+    }
+
+    fn from_number(number: u32) -> Option<Switch> {
+        match number {
+            0 => Some(Switch::Off),
+            1 => Some(Switch::On),
+            _ => None,
+        }
+    }
+}
+
+impl Asn1Type for Switch {
+    ghost der = { numbered (private_tag false 31) ⟦<Switch as Numbered>⟧.number_of
+        ⟦<Switch as Numbered>⟧.numbers };
+
+    fn known(&self) {
+        known_number(*self)
+    }
+}
+
+impl<'a> SimpleAsn1Readable<'a> for Switch {
+    fn tag() -> Tag {
+        Tag::new(31, TagClass::Private, false)
+    }
+
+    fn parse_data(alloc: Global, data: &'a [u8]) -> ParseResult<Switch> {
+        read_number(alloc, data)
+    }
+}
+
+impl SimpleAsn1Writable for Switch {
+    type Error = WriteError;
+
+    ghost length_known = { λ _. Unit {0} };
+
+    fn tag() -> Tag {
+        Tag::new(31, TagClass::Private, false)
+    }
+
+    fn write_data(&self, dest: &mut WriteBuf) -> WriteResult<()> {
+        self.number().write_data(dest)
+    }
+
+    fn data_length(&self) -> Option<usize> {
+        self.number().data_length()
+    }
+
+    fn writes_as_read() -> bool {
+        true
+    }
+}
+
+/// NumericString's tag on the characters of an IA5String.
+pub type Numeric<'a> = UniversalImplicit<IA5String<'a>, 18>;
+
+/// [APPLICATION 3] IMPLICIT SEQUENCE
+#[derive(PartialEq, Drop)]
+pub struct Report<'a> {
+    /// How it ended.
+    pub code: ResultCode,
+    /// How often, under a tag in place of its own.
+    pub count: Option<ApplicationImplicit<u8, 1>>,
+    /// Who wrote it, under a tag around the string's own.
+    pub by: PrivateExplicit<Numeric<'a>, 2>,
+}
+
+type ReportFields<'a> = Fields3<
+    ResultCode,
+    Option<ApplicationImplicit<u8, 1>>,
+    PrivateExplicit<Numeric<'a>, 2>,
+>;
+
+impl<'a> Asn1Type for Report<'a> {
+    ghost der = { structure_with_tag (application_tag true 3) (λ v. fields3 v.code v.count v.by)
+        ⟦<ReportFields<'a> as Row>⟧.list (field_names "Report" ("code" ∷ "count" ∷ "by" ∷ [])) };
+
+    fn known(&self) {
+        known_fields!(self; code, count, by)
+    }
+}
+
+impl<'a> SimpleAsn1Readable<'a> for Report<'a> {
+    fn tag() -> Tag
+        ensures value { result ≡ ⟦<Report<'a> as Asn1Type>⟧.der.content.tag }
+        ensures simple { ⟦<Report<'a> as Asn1Type>⟧.der.is_simple }
+        ensures plain { ⟦<Report<'a> as Asn1Type>⟧.der.plain }
+    {
+        Tag::new(3, TagClass::Application, true)
+    }
+
+    fn parse_data(alloc: Global, data: &'a [u8]) -> ParseResult<Report<'a>>
+        ensures { ReadsContents ⟦<Report<'a> as Asn1Type>⟧.der «data».entry.now result }
+    {
+        read_fields!(ReportFields<'a>, alloc, data => Report; code, count, by)
+    }
+}
+
+impl<'a> SimpleAsn1Writable for Report<'a> {
+    type Error = WriteError;
+
+    fn tag() -> Tag
+        ensures value { result ≡ ⟦<Report<'a> as Asn1Type>⟧.der.content.tag }
+        ensures simple { ⟦<Report<'a> as Asn1Type>⟧.der.is_simple }
+    {
+        Tag::new(3, TagClass::Application, true)
+    }
+
+    fn write_data(&self, dest: &mut WriteBuf) -> WriteResult<()> {
+        write_fields!(self, dest; code, count, by)
+    }
+
+    fn data_length(&self) -> Option<usize> {
+        fields_length!(self; code, count, by)
+    }
+
+    fn writes_as_read() -> bool
+        ensures { IsTrue result }
+    {
+        true
+    }
+}
+
+/// [APPLICATION 4] EXPLICIT Report
+pub type Sealed<'a> = ApplicationExplicit<Report<'a>, 4>;
+
+/// A set, whose fields are in the order of their tags.
+#[derive(PartialEq, Drop)]
+pub struct Settings {
+    /// The version.
+    pub version: Version,
+    /// The code.
+    pub level: u8,
+    /// Whether it is on.
+    pub switch: Switch,
+}
+
+/// What `level` is if it is left out.
+pub struct SettingsLevel;
+
+impl DefaultValue<Implicit<u8, 0>> for SettingsLevel {
+    ghost default = { record { inner = 7 } };
+
+    fn value() -> Implicit<u8, 0> {
+        Implicit::new(7)
+    }
+}
+
+type SettingsLevelField = Defaulted<Implicit<u8, 0>, SettingsLevel>;
+
+type SettingsFields = Fields3<Version, SettingsLevelField, Switch>;
+
+impl Asn1Type for Settings {
+    ghost der = { structure_with_tag set_tag (λ v. fields3 v.version (defaulted (implicit v.level))
+        v.switch) ⟦<SettingsFields as Row>⟧.list (field_names "Settings" ("version" ∷ "level" ∷
+        "switch" ∷ [])) };
+
+    fn known(&self) {
+        known_fields!(self; version, level: SettingsLevelField, switch)
+    }
+}
+
+impl<'a> SimpleAsn1Readable<'a> for Settings {
+    fn tag() -> Tag {
+        Tag::constructed(0x11)
+    }
+
+    fn parse_data(alloc: Global, data: &'a [u8]) -> ParseResult<Settings> {
+        read_fields!(SettingsFields, alloc, data => Settings;
+            version, level: SettingsLevelField, switch)
+    }
+}
+
+impl SimpleAsn1Writable for Settings {
+    type Error = WriteError;
+
+    fn tag() -> Tag {
+        Tag::constructed(0x11)
+    }
+
+    fn write_data(&self, dest: &mut WriteBuf) -> WriteResult<()> {
+        write_fields!(self, dest; version, level: SettingsLevelField, switch)
+    }
+
+    fn data_length(&self) -> Option<usize> {
+        fields_length!(self; version, level: SettingsLevelField, switch)
+    }
+
+    fn writes_as_read() -> bool {
+        true
+    }
+}
+
+type EntryChoice<'a> = Choice3<Report<'a>, Explicit<Either<'a>, 1>, ApplicationImplicit<u16, 9>>;
+
+/// A choice of a report, a choice under a tag, and a number under a tag of the application.
+#[derive(PartialEq, Drop)]
+pub enum Entry<'a> {
+    /// A report.
+    Report(Report<'a>),
+    /// A choice, which has no tag of its own.
+    Either(Explicit<Either<'a>, 1>),
+    /// A number.
+    Number(ApplicationImplicit<u16, 9>),
+}
+
+impl<'a> Asn1Type for Entry<'a> {
+    ghost use Rattle.derived_tests.specs.declared.tags.Entry.TheVariants.{Report, Either, Number};
+
+    ghost der = { choice_der (elim [
+      | Report x ↦ inl (⟦<Report<'a> as Asn1Type>⟧.der.meaning x)
+      | Either x ↦ inr (inl (⟦<Explicit<Either<'a>, 1> as Asn1Type>⟧.der.meaning x))
+      | Number x ↦ inr (inr (⟦<ApplicationImplicit<u16, 9> as Asn1Type>⟧.der.meaning x))
+    ]) (or
+        ⟦<Report<'a> as Asn1Type>⟧.der (or ⟦<Explicit<Either<'a>, 1> as Asn1Type>⟧.der (only
+        ⟦<ApplicationImplicit<u16, 9> as Asn1Type>⟧.der))) };
+
+    fn known(&self) {
+        match self {
+            Entry::Report(x) => x.known(),
+            Entry::Either(x) => x.known(),
+            Entry::Number(x) => x.known(),
+        }
+    }
+}
+
+impl<'a> Asn1Readable<'a> for Entry<'a> {
+    fn parse(parser: &mut Parser<'a>) -> ParseResult<Entry<'a>>
+        ensures answers { ReadsPrefix ⟦<Entry<'a> as Asn1Type>⟧.der parser.old parser.new result }
+        ensures found { IfOk result (λ v. BeginsWithEncodingOf ⟦<Entry<'a> as Asn1Type>⟧.der v
+            parser.old parser.new) }
+        ensures rest { EndsWith parser.old parser.new }
+        ensures stops { OnErr result (⟦<Entry<'a> as Asn1Type>⟧.der.stops parser.old parser.new) }
+    {
+        match parser.read_element::<EntryChoice<'a>>()? {
+            Choice3::ChoiceA(x) => Ok(Entry::Report(x)),
+            Choice3::ChoiceB(x) => Ok(Entry::Either(x)),
+            Choice3::ChoiceC(x) => Ok(Entry::Number(x)),
+        }
+    }
+
+    fn can_parse(tag: Tag) -> bool
+        ensures value { result ≡ ⟦<Entry<'a> as Asn1Type>⟧.der.accepts tag }
+        ensures plain { ⟦<Entry<'a> as Asn1Type>⟧.der.plain }
+    {
+        <EntryChoice<'a> as Asn1Readable<'a>>::can_parse(tag)
+    }
+}
+
+impl<'a> Asn1Writable for Entry<'a> {
+    type Error = WriteError;
+
+    fn write(&self, dest: &mut Writer<'_>) -> WriteResult<()> {
+        match self {
+            Entry::Report(x) => dest.write_element(x),
+            Entry::Either(x) => dest.write_element(x),
+            Entry::Number(x) => dest.write_element(x),
+        }
+    }
+
+    fn encoded_length(&self) -> Option<usize> {
+        match self {
+            Entry::Report(x) => x.encoded_length(),
+            Entry::Either(x) => x.encoded_length(),
+            Entry::Number(x) => x.encoded_length(),
+        }
+    }
+
+    fn writes_as_read() -> bool
+        ensures { IsTrue result }
+    {
+        true
+    }
+}
+
+type EitherChoice<'a> = Choice2<&'a [u8], Null>;
+
+/// Octets, or none.
+#[derive(PartialEq, Drop)]
+pub enum Either<'a> {
+    /// Octets.
+    Octets(&'a [u8]),
+    /// None.
+    None(Null),
+}
+
+impl<'a> Asn1Type for Either<'a> {
+    ghost use Rattle.derived_tests.specs.declared.tags.Either.TheVariants.{Octets, None};
+
+    ghost der = { choice_der (elim [
+      | Octets x ↦ inl (⟦<&'a [u8] as Asn1Type>⟧.der.meaning x)
+      | None x ↦ inr (⟦<Null as Asn1Type>⟧.der.meaning x)
+    ]) (or ⟦<&'a [u8] as Asn1Type>⟧.der
+        (only ⟦<Null as Asn1Type>⟧.der)) };
+
+    fn known(&self) {
+        match self {
+            Either::Octets(x) => x.known(),
+            Either::None(x) => x.known(),
+        }
+    }
+}
+
+impl<'a> Asn1Readable<'a> for Either<'a> {
+    fn parse(parser: &mut Parser<'a>) -> ParseResult<Either<'a>>
+        ensures answers { ReadsPrefix ⟦<Either<'a> as Asn1Type>⟧.der parser.old parser.new result }
+        ensures found { IfOk result (λ v. BeginsWithEncodingOf ⟦<Either<'a> as Asn1Type>⟧.der v
+            parser.old parser.new) }
+        ensures rest { EndsWith parser.old parser.new }
+        ensures stops { OnErr result (⟦<Either<'a> as Asn1Type>⟧.der.stops parser.old parser.new) }
+    {
+        match parser.read_element::<EitherChoice<'a>>()? {
+            Choice2::ChoiceA(x) => Ok(Either::Octets(x)),
+            Choice2::ChoiceB(x) => Ok(Either::None(x)),
+        }
+    }
+
+    fn can_parse(tag: Tag) -> bool
+        ensures value { result ≡ ⟦<Either<'a> as Asn1Type>⟧.der.accepts tag }
+        ensures plain { ⟦<Either<'a> as Asn1Type>⟧.der.plain }
+    {
+        <EitherChoice<'a> as Asn1Readable<'a>>::can_parse(tag)
+    }
+}
+
+impl<'a> Asn1Writable for Either<'a> {
+    type Error = WriteError;
+
+    fn write(&self, dest: &mut Writer<'_>) -> WriteResult<()> {
+        match self {
+            Either::Octets(x) => dest.write_element(x),
+            Either::None(x) => dest.write_element(x),
+        }
+    }
+
+    fn encoded_length(&self) -> Option<usize> {
+        match self {
+            Either::Octets(x) => x.encoded_length(),
+            Either::None(x) => x.encoded_length(),
+        }
+    }
+
+    fn writes_as_read() -> bool
+        ensures { IsTrue result }
+    {
+        true
+    }
+}
+
+/// Each value of `ResultCode` has one encoding, which is read back.
+pub fn result_code_is_lawful()
+    ensures { HasOneEncoding ⟦<ResultCode as Asn1Type>⟧.der }
+{}
+
+/// Each value of `Version` has one encoding, which is read back.
+pub fn version_is_lawful()
+    ensures { HasOneEncoding ⟦<Version as Asn1Type>⟧.der }
+{}
+
+/// Each value of `Switch` has one encoding, which is read back.
+pub fn switch_is_lawful()
+    ensures { HasOneEncoding ⟦<Switch as Asn1Type>⟧.der }
+{}
+
+/// Each value of `Numeric` has one encoding, which is read back.
+pub fn numeric_is_lawful()
+    ensures { HasOneEncoding ⟦<Numeric<'static> as Asn1Type>⟧.der }
+{}
+
+/// Each value of `Report` has one encoding, which is read back.
+#[tactic(auto, using(asn1::specs::Lemmas::Fields::tags_differ))]
+pub fn report_is_lawful()
+    ensures { HasOneEncoding ⟦<Report<'static> as Asn1Type>⟧.der }
+{
+    result_code_is_lawful();
+    numeric_is_lawful();
+}
+
+/// Each value of `Sealed` has one encoding, which is read back.
+pub fn sealed_is_lawful()
+    ensures { HasOneEncoding ⟦<Sealed<'static> as Asn1Type>⟧.der }
+{
+    report_is_lawful();
+}
+
+/// Each value of `Settings` has one encoding, which is read back.
+#[tactic(auto, using(asn1::specs::Lemmas::Fields::tags_differ))]
+pub fn settings_is_lawful()
+    ensures { HasOneEncoding ⟦<Settings as Asn1Type>⟧.der }
+{
+    version_is_lawful();
+    switch_is_lawful();
+}
+
+/// Each value of `Entry` has one encoding, which is read back.
+#[tactic(auto, using(asn1::specs::Lemmas::Fields::tags_differ))]
+pub fn entry_is_lawful()
+    ensures { HasOneEncoding ⟦<Entry<'static> as Asn1Type>⟧.der }
+{
+    report_is_lawful();
+    either_is_lawful();
+}
+
+/// Each value of `Either` has one encoding, which is read back.
+#[tactic(auto, using(asn1::specs::Lemmas::Fields::tags_differ))]
+pub fn either_is_lawful()
+    ensures { HasOneEncoding ⟦<Either<'static> as Asn1Type>⟧.der }
+{}
