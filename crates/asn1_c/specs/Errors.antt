@@ -1,5 +1,5 @@
 -- The errors of include/asn1.h: their numbers and details.
-use Rattle.std.specs.Prelude.{ℕ, ◌≡◌, false, Result, Ok, Err}
+use Rattle.std.specs.Prelude.{ℕ, false, Result, Ok, Err}
 use Rattle.asn1.specs.declared.ParseErrorKind.{ParseErrorKind}
 use Rattle.asn1.specs.declared.ParseErrorKind.TheVariants.{InvalidValue, InvalidTag, InvalidLength, InvalidSize, UnexpectedTag, ShortData, IntegerOverflow, ExtraData, InvalidSetOrdering, EncodedDefault, OidTooLong, UnknownDefinedBy, AllocationError}
 use Rattle.asn1.specs.Tag.{tag_class, tag_constructed, tag_number, class_number}

@@ -3,8 +3,8 @@
 ghost use Rattle.std.specs.Prelude.{◌≡◌, List, ℕ, None, IfSome, IfNone, IsTrue};
 ghost use Rattle.asn1.specs.Reading.{Fits};
 ghost use Rattle.asn1_c.specs.Errors.{unknown_type, without_details};
-ghost use Rattle.asn1_c.specs.Objects.{IsNoObject, TellsOf};
-ghost use Rattle.asn1_c.specs.Objects.{key_number, signature_number, object_number, object_numbered};
+ghost use Rattle.asn1_c.specs.Objects.{IsNoObject, TellsOf, key_number, signature_number};
+ghost use Rattle.asn1_c.specs.Objects.{object_number, object_numbered};
 ghost use Rattle.asn1_c.specs.Texts.{LeavesText};
 ghost use Rattle.asn1_c.specs.Types.{ChecksForm, Form, IsEncoding, either, form};
 ghost use Rattle.asn1_c.specs.declared.objects.Object.TheVariants as objects;
