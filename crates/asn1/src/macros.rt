@@ -5,6 +5,10 @@
 //!   `Defaulted<bool, No>` do;
 //! - `name of value: Type`, the position of an item of this type, which the field `value` determines;
 //! - `name by Type`, a value that an item of this type defines.
+//!
+//! Macros for the bodies of a choice's impls have the list of alternatives, the enum and its variants, in order, as in
+//! `Alternatives => ResponderId; ByName: tagged, Other`. `tagged` says that the alternative is under a tag, and the
+//! value in the variant is without it.
 
 /// States that the fields are valid: the body of `known`. `known_fields!(self; r, s)`
 #[macro_export]
@@ -141,4 +145,87 @@ macro_rules! row {
         $crate::fields::Field { value: $value, rest: $crate::row!($($rest),+) }
     };
     ($value:expr) => { $crate::fields::Last { value: $value } };
+}
+
+/// States that the value in each variant is valid: the body of `known`.
+/// `known_choice!(self; Alternatives => ResponderId; ByName: tagged, ByKey: tagged)`
+#[macro_export]
+macro_rules! known_choice {
+    ($of:expr; $row:ty => $choice:ident; $($list:tt)+) => {
+        $crate::each_variant!(known_variant($of), $row => $choice; []; []; $($list)+)
+    };
+}
+
+/// Appends the encoding of the value in the variant: the body of `write`. Errors are those of the variant's write.
+/// `write_choice!(self, dest; Alternatives => ResponderId; ByName: tagged, ByKey: tagged)`
+#[macro_export]
+macro_rules! write_choice {
+    ($of:expr, $dest:expr; $row:ty => $choice:ident; $($list:tt)+) => {
+        $crate::each_variant!(write_variant($of, $dest), $row => $choice; []; []; $($list)+)
+    };
+}
+
+/// How many octets the encoding of the value in the variant has, if that is known: the body of `encoded_length`.
+/// `choice_length!(self; Alternatives => ResponderId; ByName: tagged, ByKey: tagged)`
+#[macro_export]
+macro_rules! choice_length {
+    ($of:expr; $row:ty => $choice:ident; $($list:tt)+) => {
+        $crate::each_variant!(variant_length($of), $row => $choice; []; []; $($list)+)
+    };
+}
+
+/// Calls a function of `asn1::alternatives` for each variant, with the variant's position. Arms are made one by one.
+#[macro_export]
+macro_rules! each_variant {
+    ($call:ident($of:expr $(, $dest:expr)?), $row:ty => $choice:ident; [$($arms:tt)*]; [$($next:ident)*];) => {
+        match $of {
+            $($arms)*
+        }
+    };
+    ($call:ident($of:expr $(, $dest:expr)?), $row:ty => $choice:ident; [$($arms:tt)*]; [$($next:ident)*];
+        $name:ident $(: $mark:ident)? $(, $($rest:tt)*)?) => {
+        $crate::each_variant!($call($of $(, $dest)?), $row => $choice; [
+            $($arms)*
+            $choice::$name(x) => $crate::alternatives::$call::<
+                _,
+                $row,
+                $crate::position!($($next)*; $($mark)?),
+                _,
+            >($of, x $(, $dest)?),
+        ]; [$($next)* next]; $($($rest)*)?)
+    };
+}
+
+/// The position of a variant, after as many as there are words.
+#[macro_export]
+macro_rules! position {
+    (;) => { $crate::alternatives::Here };
+    (; tagged) => { $crate::alternatives::UnderTag };
+    ($first:ident $($next:ident)*; $($mark:ident)?) => {
+        $crate::alternatives::Next<$crate::position!($($next)*; $($mark)?)>
+    };
+}
+
+/// Moves the value of an alternative to its variant: the body of `from_one_of`.
+/// `take_choice!(value; Alternatives => ResponderId; ByName: tagged, ByKey: tagged)`
+#[macro_export]
+macro_rules! take_choice {
+    ($value:expr; $row:ty => $choice:ident;) => { match $value {} };
+    ($value:expr; $row:ty => $choice:ident; $name:ident $(: $mark:ident)? $(, $($rest:tt)*)?) => {
+        match $value {
+            $crate::alternatives::OneOf::First(x) => {
+                $choice::$name($crate::taken_variant!(x $(, $mark)?))
+            }
+            $crate::alternatives::OneOf::Other(others) => {
+                $crate::take_choice!(others; $row => $choice; $($($rest)*)?)
+            }
+        }
+    };
+}
+
+/// The value of an alternative as a variant has it.
+#[macro_export]
+macro_rules! taken_variant {
+    ($value:expr) => { $value };
+    ($value:expr, tagged) => { $crate::fields::into_plain::<_, _>($value) };
 }
