@@ -19,6 +19,11 @@ use Rattle.asn1.specs.Base128.{number_front}
 use Rattle.asn1.specs.Identifier.{numbers_in, read_identifier}
 use Rattle.asn1.specs.Lemmas.Results.{ok_is}
 """
+# What the proof of a large choice's law uses; and the most alternatives of which the search proves it.
+LAW_USES = """use Rattle.std.proofs.Common.{arith, refl, rules}
+use Rattle.asn1.specs.Lemmas.Fields.{tags_differ}
+"""
+MOST_SEARCHED = 6
 COMPUTED = "unfolding read_identifier numbers_in number_front\n"
 IDENTIFIER_ANSWERS = ANSWER.format("known_identifier-requires", "refl", COMPUTED)
 IDENTIFIER_ANSWERS += ANSWER.format("returns", "sym (ok_is _ _ c.known_identifier.ensures)", COMPUTED)
@@ -74,6 +79,21 @@ class Form:
         text = text if self.item.life else re.sub(r"\n *ensures .*", "", text)
         generics = f"<{self.life}>" if "'" in head else ""
         return f"\nimpl{generics} {head} {{\n{text}\n}}\n"
+
+    def list_in_macro(self, what, words, of=""):
+        """The macro that has the list of the fields or the variants, if the list is too long to stand in each body."""
+        self.words, is_long = f"{of}{words}", len(of + words) > MOST_IN_BODY
+        self.listed = f"{what}_of_{snake(self.name)}" if is_long else ""
+        return self.listed and f"""
+macro_rules! {self.listed} {{
+    ($body:ident, $($of:tt)*) => {{ $body!($($of)*;{of}
+        {in_columns(words + ") };", 8)}
+}}
+"""
+
+    def body(self, macro, of):
+        """The body of a method: a macro with the list, or with this list from another macro."""
+        return f"{self.listed}!({macro}, {of})" if self.listed else f"{macro}!({of};{self.words})"
 
     def writes_as_read(self):
         """Says that no write of a type that is also read fails but for memory."""
@@ -153,7 +173,9 @@ class Structure(Form):
         text += "".join(self.default(part) for part in self.parts if part.default)
         text += "".join(f"\ntype {part.row} = {part.form};\n" for part in self.parts if part.is_wrapped)
         names = "".join(f'"{part.name}" ∷ ' for part in self.parts)
-        text += f"\ntype {row} = {row_type};\n" + self.list_of_fields() + self.impl("Asn1Type", f"""
+        text += f"\ntype {row} = {row_type};\n"
+        text += self.list_in_macro("fields", ",".join(f" {part.words}" for part in self.parts))
+        text += self.impl("Asn1Type", f"""
             ghost der = {{ {word} (λ v. {view}) {quoted(row, 'Row')}.list (field_names "{self.name}" ({names}[])) }};
             fn known(&self) {{ {self.body("known_fields", "self")} }}""")
         tag = f"""
@@ -177,21 +199,6 @@ class Structure(Form):
             fn data_length(&self) -> Option<usize> {{ {self.body("fields_length", "self")} }}""",
             "" if lists else self.writes_as_read())
         return text
-
-    def list_of_fields(self):
-        """The macro that has the list of the fields, if the list is too long to stand in each body."""
-        self.fields = ",".join(f" {part.words}" for part in self.parts)
-        self.listed = f"fields_of_{snake(self.name)}" if len(self.fields) > MOST_IN_BODY else ""
-        return self.listed and f"""
-macro_rules! {self.listed} {{
-    ($body:ident, $($of:tt)*) => {{ $body!($($of)*;
-        {in_columns(self.fields + ") };", 8)}
-}}
-"""
-
-    def body(self, macro, of):
-        """The body of a method: a macro with the list of the fields, or with this list from another macro."""
-        return f"{self.listed}!({macro}, {of})" if self.listed else f"{macro}!({of};{self.fields})"
 
     def set_rows(self):
         """Gives each marker the value that its item defines, and each of these values the type of its item. Each field
@@ -244,32 +251,40 @@ class Choice(Form):
     """An enum whose variants are told by their tags; and what one has whose variants are told by an item."""
 
     def __str__(self):
-        choices = choices_of(self.item, self.parts, "Choice")
-        alias, forms = choices[0]
-        text = "".join(f"\ntype {name} = Choice{len(some)}<{', '.join(map(str, some))}>;\n" for name, some in choices)
+        row, own = self.item.own("Choice"), self.item.own()
+        text = f"\ntype {row} = {one_of([str(part.form) for part in self.parts])};\n"
+        names = ",".join(f" {part.name}{': tagged' if part.tag else ''}" for part in self.parts)
+        text += self.list_in_macro("variants", names, f" {row} => {self.name};")
         text += self.stated(part.base for part in self.parts)
-        values = [part.place.format(f"({der(part.base)}.meaning x)")[1:-1] for part in self.parts]
-        *firsts, last = map(der, forms)
-        record = "".join(f"or {first} (" for first in firsts) + f"only {last}" + ")" * len(firsts)
-        text += self.impl("Asn1Type", self.variants(), f"""
-            ghost der = {{ choice_der {self.elim(values)} ({record}) }};
-            fn known(&self) {{ {self.match("x.known()")} }}""")
+        seen = quoted(own, f"AsOneOf<{row}>") + ".seen"
+        values = [in_place(at, f"({part.tag} x)" if part.tag else "x") for at, part in enumerate(self.parts)]
+        text += self.impl(f"AsOneOf<{row}>", self.variants(), f"""
+            ghost seen = {{ {self.elim(values)[1:-1]} }};
+            fn from_one_of(value: {row}) -> {own}
+                ensures {{ {seen} result ≡ value.entry }}
+            {{ {self.body("take_choice", "value")} }}""")
+        text += self.impl("Asn1Type", f"""
+            ghost der = {{ choice {seen} {quoted(row, "Alternatives")}.list }};
+            fn known(&self) {{ {self.body("known_choice", "self")} }}""")
         if self.item.reads:
-            arms = " ".join(f"{part.pattern.format('x')} => Ok({self.made(part, 'x')})," for part in self.parts)
-            body = f"match parser.read_element::<{alias}>()? {{ {arms} }}"
             found = f"IfOk result (λ v. BeginsWithEncodingOf {self.means} v parser.old parser.new)"
+            body = f"read_choice::<{row}, {own}>(parser)"
             parse = self.parse("", body, f"ReadsPrefix {self.means}", f"{self.means}.stops", found)
             text += self.impl(f"Asn1Readable<{self.life}>", parse, f"""
             fn can_parse(tag: Tag) -> bool
                 ensures value {{ result ≡ {self.means}.accepts tag }}
                 ensures plain {{ {self.means}.plain }}
-            {{ <{alias} as Asn1Readable<{self.item.life or "'_"}>>::can_parse(tag) }}""")
-        return text + self.written("Asn1Writable", last=self.writes_as_read()) if self.item.writes else text
+            {{ <{row} as AlternativesReadable<{self.item.life or "'_"}>>::accepts(tag) }}""")
+        if self.item.writes:
+            text += self.impl("Asn1Writable", ERROR, f"""
+            fn write(&self, dest: &mut Writer<'_>) -> WriteResult<()> {{ {self.body("write_choice", "self, dest")} }}
+            fn encoded_length(&self) -> Option<usize> {{ {self.body("choice_length", "self")} }}""",
+            self.writes_as_read())
+        return text
 
     def variants(self):
-        """The import of the variants, in the impl: there no other enum's variants have these names."""
-        names = ", ".join(part.name for part in self.parts)
-        return f"ghost use Rattle.{self.module.specs}{self.name}.TheVariants.{{{names}}};"
+        """The import of the variants."""
+        return uses_of_variants(self.module, self.item, self.parts)
 
     def elim(self, values):
         """What each variant means: its value in its place of the sum."""
@@ -298,14 +313,14 @@ class Choice(Form):
                 ensures stops {{ OnErr result ({stops} parser.old parser.new) }}
             {{ {body} }}"""
 
-    def written(self, trait, *members, other="", last=""):
+    def written(self, trait, *members, other=""):
         """The impl of writing: a variant's value is written, and its length told."""
         tagged = "write_plain::<{form}, _>(x, dest)"
         write = self.match("dest.write_element(x)", f"dest.write_element(&{other})", tagged=tagged)
         length = self.match("x.encoded_length()", f"{other}.encoded_length()", tagged="plain_length::<{form}, _>(x)")
         return self.impl(trait, ERROR, *members, f"""
             fn write(&self, dest: &mut Writer<'_>) -> WriteResult<()> {{ {write} }}
-            fn encoded_length(&self) -> Option<usize> {{ {length} }}""", last)
+            fn encoded_length(&self) -> Option<usize> {{ {length} }}""")
 
 
 class Defined(Choice):
@@ -405,20 +420,15 @@ impl<{life}> {of} {{
             {{ Ok({kept} {{ item: self.item.clone()?, value: self.value }}) }}""", of=of)
 
 
-def choices_of(item, parts, name="", pattern="{}", place="{}"):
-    """The library's choices of the variants, the whole one first: of each its name and its alternatives, at most three.
-    The third of up to eighteen is a choice of all others, and more are three choices, since the compiler follows no
-    longer chain. Each variant gets its pattern, and the place of its meaning in the sum of all."""
-    size = -(-len(parts) // 3) if len(parts) > 18 else 1
-    branches = [branch for branch in (parts[:size], parts[size : 2 * size], parts[2 * size :]) if branch]
-    types, inner = [], []
-    for at, (first, *others) in enumerate(branches):
-        start = f"From{item.parts.index(first) + 1}"
-        types.append(item.own(start) if others else first.form)
-        first.pattern = pattern.format(f"Choice{len(branches)}::Choice{'ABC'[at]}({{}})")
-        first.place = place.format(side(at, len(branches)))
-        inner += choices_of(item, [first, *others], start, first.pattern, first.place) if others else []
-    return [(item.own(name), types), *inner]
+def one_of(types):
+    """The type of a list of alternatives of these types: twelve at a time, the most that have a list with a name."""
+    firsts = ", ".join(types[:12])
+    return f"OneOf12Or<{firsts}, {one_of(types[12:])}>" if len(types) > 12 else f"OneOf{len(types)}<{firsts}>"
+
+
+def in_place(at, value):
+    """A value of the alternative at a place of the list, counted from 0."""
+    return f"after12 ({in_place(at - 12, value)})" if at >= 12 else f"alternative{at + 1} {value}"
 
 
 def side(at, count):
@@ -427,31 +437,27 @@ def side(at, count):
 
 
 def lawful(item, module):
-    """The functions that say that each value of the type has one encoding: first those of the choices in a choice. They
-    call the laws of the types in the type. If one of these may be missing, or for a choice, tags differ."""
+    """The function that says that each value of the type has one encoding. It calls the laws of the types in the type.
+    If one of these may be missing, or for a choice, tags differ."""
     if item.kind == "const" or item.is_defined or item.kind != "type" and not item.reads:
         return ""
-    types = [(item.own(), [item.type] if item.type else [part.form for part in item.parts])]
-    text, is_choice = "", item.kind == "enum"
-    for own, parts in reversed(choices_of(item, item.parts) if is_choice else types):
-        name = own.split("<")[0]
-        by_tags = BY_TAGS if is_choice or any(module.known(part).is_missing for part in parts[:-1]) else ""
-        called = dict.fromkeys(called for part in parts for called in laws_of(module, part))
-        text += f"""
-/// Each value of `{name}` has one encoding, which is read back.
-{by_tags}{'pub ' if name == item.name else ''}fn {laws_of(module, own)[0]}()
-    ensures {{ HasOneEncoding {der(re.sub("'.*>", "'static>", own))} }}
+    parts = [item.type] if item.type else [part.form for part in item.parts]
+    is_told = item.kind == "enum" or any(module.known(part).is_missing for part in parts[:-1])
+    called = dict.fromkeys(called for part in parts for called in laws_of(module, part))
+    return f"""
+/// Each value of `{item.name}` has one encoding, which is read back.
+{BY_TAGS if is_told else ''}pub fn {snake(item.name)}_is_lawful()
+    ensures {{ HasOneEncoding {der(re.sub("'.*>", "'static>", item.own()))} }}
 {{ {' '.join(f'{law}();' for law in called)} }}
 """
-    return text
 
 
 def laws_of(module, type):
-    """The names of the laws of the types in a type: those said here or imported, and those of a choice's choices."""
+    """The names of the laws of the types in a type: those said here or imported."""
     word = str(type).split("<")[0]
     name = snake(word) + "_is_lawful"
     declared = module.items.get(word)
-    if isinstance(type, str) or declared and not declared.is_defined or name in module.imported:
+    if declared and not declared.is_defined or name in module.imported:
         return [name]
     inner = [part.form for part in declared.parts] if declared else type.inner
     return [name for part in inner for name in laws_of(module, part)]
@@ -492,16 +498,28 @@ def alias(item, _):
 FORMS = {"struct": Structure, "enum": Choice, "numbers": Numbers, "type": alias, "const": identifier}
 
 
+def law_of_choice(item):
+    """The proof of a choice's law, alternative by alternative: the search would end at its limit in more than six."""
+    lawful, others = "tt", "tt"
+    for part in reversed(item.parts):
+        apart = "λ tag accepted. refl" if part is item.parts[-1] else "grind (arith, tags_differ)"
+        lawful, others = f"(search rules, search rules, {lawful}, {apart})", f"(search rules, {others})"
+    term = textwrap.fill(f"({lawful}, {others}, {others})", 4 * WIDTH, subsequent_indent="    ", break_on_hyphens=False)
+    return ANSWER.format("returns", term, "")
+
+
 def answers(item, module):
-    """The proofs that are owed for an item: their function, what they use, and the proofs, if any. The write of large
-    variants owes some, in which the search would end at its limit: their types have one encoding, so nothing more is
-    asked; and of what an item defines, that an error leaves the buffer as it was. Large is an enum of the file; of what
-    an item defines, each type that is declared or imported."""
-    if item.kind != "enum" or not item.writes:
+    """The proofs that are owed for an item: their function, what they use, and the proofs, if any. The write of what an
+    item defines owes some, if a variant's type is declared or imported, in which the search would end at its limit: the
+    types have one encoding, so nothing more is asked; and an error leaves the buffer as it was. The law of a large choice
+    owes some."""
+    if item.kind == "enum" and not item.is_defined:
+        is_large = item.reads and len(item.parts) > MOST_SEARCHED
+        return f"{snake(item.name)}_is_lawful", LAW_USES, law_of_choice(item) if is_large else ""
+    if not (item.is_defined and item.writes):
         return (item.name.lower(), IDENTIFIER_USES, IDENTIFIER_ANSWERS) if item.kind == "const" else ("", "", "")
-    enums = [name for name, other in module.items.items() if other.kind == "enum"]
-    names = {*module.items, *module.imported} if item.is_defined else enums
-    plain, large, kept = [part for part in item.parts if not part.tag], "", ""
+    names, large, kept = {*module.items, *module.imported}, "", ""
+    plain = [part for part in item.parts if not part.tag]
     for part in plain:
         # The first call's goals and results have no more than its name, and those of each further one tell where it is.
         at = "" if part is plain[0] else f"-in-{part.name}"
@@ -510,7 +528,5 @@ def answers(item, module):
         term = f"unmoved_keeps_front _ _ c.write_element{at}.result c.write_element{at}.ensures.err"
         kept += ANSWER.format(f"returns-in-{part.name}-clause-err", term, "")
     uses = "use Rattle.std.proofs.Common.{inl, rules}\n"
-    if not item.is_defined:
-        return f"{item.name}Asn1Writable/write", uses, large
     uses += "use Rattle.asn1.specs.Lemmas.Variants.{unmoved_keeps_front}\n"
     return f"{item.name}Asn1DefinedByWritable{ITEM}/write", uses, large and large + kept

@@ -1,19 +1,20 @@
 //! Structures and choices: each attribute of the original's derives for them, once.
-// Printed by scripts/derive from declarations/page.rs, with the sum b069c0e2.
+// Printed by scripts/derive from declarations/page.rs, with the sum 5d628a9e.
 
 ghost use Rattle.std.specs.Prelude.{◌≡◌, ◌∷◌, [], negsuc, IsTrue, OnErr, IfOk};
-ghost use Rattle.std.proofs.Common.{inl, inr};
-ghost use Rattle.asn1.specs.Choices.{choice_der, only, or};
+ghost use Rattle.asn1.specs.AlternativeLists.{choice, alternative1, alternative2};
 ghost use Rattle.asn1.specs.Reading.{EndsWith};
 ghost use Rattle.asn1.specs.Reads.{BeginsWithEncodingOf, HasOneEncoding, ReadsContents, ReadsPrefix};
 ghost use Rattle.asn1.specs.Structures.{defaulted, explicit, field_names, implicit, structure, fields0, fields1, fields2, fields4};
 
-use asn1::fields::{Fields2, Fields4, Last, NoFields, Row, plain_length, write_plain};
+use asn1::alternatives::{Alternatives, AlternativesReadable, AsOneOf, OneOf2, read_choice};
+use asn1::fields::{Fields2, Fields4, Last, NoFields, Row};
 use asn1::{
-    Asn1Readable, Asn1Type, Asn1Writable, Choice2, DefaultValue, Defaulted, Explicit, Implicit,
-    ParseResult, Parser, PrintableString, SequenceOf, SetOf, SetOfWriter, SimpleAsn1Readable,
-    SimpleAsn1Writable, Tag, WriteBuf, WriteError, WriteResult, Writer, fields_length,
-    known_fields, read_fields, write_fields,
+    Asn1Readable, Asn1Type, Asn1Writable, DefaultValue, Defaulted, Explicit, Implicit, ParseResult,
+    Parser, PrintableString, SequenceOf, SetOf, SetOfWriter, SimpleAsn1Readable,
+    SimpleAsn1Writable, Tag, WriteBuf, WriteError, WriteResult, Writer, choice_length,
+    fields_length, known_choice, known_fields, read_fields, take_choice, write_choice,
+    write_fields,
 };
 use std::alloc::Global;
 
@@ -222,7 +223,7 @@ impl<'a> SimpleAsn1Writable for Tagged<'a> {
 /// Strings, in the order of a set.
 pub type Strings<'a> = SetOf<'a, PrintableString<'a>>;
 
-type ResponderIdChoice<'a> = Choice2<Explicit<Strings<'a>, 1>, Explicit<&'a [u8], 2>>;
+type ResponderIdChoice<'a> = OneOf2<Explicit<Strings<'a>, 1>, Explicit<&'a [u8], 2>>;
 
 /// Who answers (RFC 6960, 4.2.1).
 #[derive(Debug, Clone, PartialEq, Eq, Hash, Drop)]
@@ -233,21 +234,27 @@ pub enum ResponderId<'a> {
     ByKey(&'a [u8]),
 }
 
-impl<'a> Asn1Type for ResponderId<'a> {
+impl<'a> AsOneOf<ResponderIdChoice<'a>> for ResponderId<'a> {
     ghost use Rattle.derived_tests.specs.declared.page.ResponderId.TheVariants.{ByName, ByKey};
 
-    ghost der = { choice_der (elim [
-      | ByName x ↦ inl (⟦<Strings<'a> as Asn1Type>⟧.der.meaning x)
-      | ByKey x ↦ inr (⟦<&'a [u8] as Asn1Type>⟧.der.meaning x)
-    ]) (or
-        ⟦<Explicit<Strings<'a>, 1> as Asn1Type>⟧.der (only
-        ⟦<Explicit<&'a [u8], 2> as Asn1Type>⟧.der)) };
+    ghost seen = { elim [
+      | ByName x ↦ alternative1 (explicit x)
+      | ByKey x ↦ alternative2 (explicit x)
+    ] };
+
+    fn from_one_of(value: ResponderIdChoice<'a>) -> ResponderId<'a>
+        ensures { ⟦<ResponderId<'a> as AsOneOf<ResponderIdChoice<'a>>>⟧.seen result ≡ value.entry }
+    {
+        take_choice!(value; ResponderIdChoice<'a> => ResponderId; ByName: tagged, ByKey: tagged)
+    }
+}
+
+impl<'a> Asn1Type for ResponderId<'a> {
+    ghost der = { choice ⟦<ResponderId<'a> as AsOneOf<ResponderIdChoice<'a>>>⟧.seen
+        ⟦<ResponderIdChoice<'a> as Alternatives>⟧.list };
 
     fn known(&self) {
-        match self {
-            ResponderId::ByName(x) => x.known(),
-            ResponderId::ByKey(x) => x.known(),
-        }
+        known_choice!(self; ResponderIdChoice<'a> => ResponderId; ByName: tagged, ByKey: tagged)
     }
 }
 
@@ -261,17 +268,14 @@ impl<'a> Asn1Readable<'a> for ResponderId<'a> {
         ensures stops { OnErr result (⟦<ResponderId<'a> as Asn1Type>⟧.der.stops parser.old
             parser.new) }
     {
-        match parser.read_element::<ResponderIdChoice<'a>>()? {
-            Choice2::ChoiceA(x) => Ok(ResponderId::ByName(x.into_inner())),
-            Choice2::ChoiceB(x) => Ok(ResponderId::ByKey(x.into_inner())),
-        }
+        read_choice::<ResponderIdChoice<'a>, ResponderId<'a>>(parser)
     }
 
     fn can_parse(tag: Tag) -> bool
         ensures value { result ≡ ⟦<ResponderId<'a> as Asn1Type>⟧.der.accepts tag }
         ensures plain { ⟦<ResponderId<'a> as Asn1Type>⟧.der.plain }
     {
-        <ResponderIdChoice<'a> as Asn1Readable<'a>>::can_parse(tag)
+        <ResponderIdChoice<'a> as AlternativesReadable<'a>>::accepts(tag)
     }
 }
 
@@ -279,17 +283,12 @@ impl<'a> Asn1Writable for ResponderId<'a> {
     type Error = WriteError;
 
     fn write(&self, dest: &mut Writer<'_>) -> WriteResult<()> {
-        match self {
-            ResponderId::ByName(x) => write_plain::<Explicit<Strings<'a>, 1>, _>(x, dest),
-            ResponderId::ByKey(x) => write_plain::<Explicit<&'a [u8], 2>, _>(x, dest),
-        }
+        write_choice!(self, dest;
+            ResponderIdChoice<'a> => ResponderId; ByName: tagged, ByKey: tagged)
     }
 
     fn encoded_length(&self) -> Option<usize> {
-        match self {
-            ResponderId::ByName(x) => plain_length::<Explicit<Strings<'a>, 1>, _>(x),
-            ResponderId::ByKey(x) => plain_length::<Explicit<&'a [u8], 2>, _>(x),
-        }
+        choice_length!(self; ResponderIdChoice<'a> => ResponderId; ByName: tagged, ByKey: tagged)
     }
 
     fn writes_as_read() -> bool

@@ -1,9 +1,8 @@
 //! Tags of every class, sets, and enums whose values have numbers: each form of the script for them, once.
-// Printed by scripts/derive from declarations/tags.rs, with the sum 7e53f581.
+// Printed by scripts/derive from declarations/tags.rs, with the sum dfc2786b.
 
 ghost use Rattle.std.specs.Prelude.{◌≡◌, ◌∷◌, [], true, false, IsTrue, OnErr, IfOk};
-ghost use Rattle.std.proofs.Common.{inl, inr};
-ghost use Rattle.asn1.specs.Choices.{choice_der, only, or};
+ghost use Rattle.asn1.specs.AlternativeLists.{choice, alternative1, alternative2, alternative3};
 ghost use Rattle.asn1.specs.Listing.{set_tag};
 ghost use Rattle.asn1.specs.Numbered.{numbered};
 ghost use Rattle.asn1.specs.Reading.{EndsWith};
@@ -12,13 +11,16 @@ ghost use Rattle.asn1.specs.Structures.{defaulted, field_names, implicit, struct
 ghost use Rattle.asn1.specs.Tag.{universal};
 ghost use Rattle.asn1.specs.Tagged.{application_tag, private_tag};
 
+use asn1::alternatives::{
+    Alternatives, AlternativesReadable, AsOneOf, OneOf2, OneOf3, read_choice,
+};
 use asn1::fields::{Fields3, Row};
 use asn1::{
-    ApplicationExplicit, ApplicationImplicit, Asn1Readable, Asn1Type, Asn1Writable, Choice2,
-    Choice3, DefaultValue, Defaulted, Explicit, IA5String, Implicit, Null, Numbered, ParseResult,
-    Parser, PrivateExplicit, SimpleAsn1Readable, SimpleAsn1Writable, Tag, TagClass,
-    UniversalImplicit, WriteBuf, WriteError, WriteResult, Writer, fields_length, known_fields,
-    known_number, read_fields, read_number, write_fields,
+    ApplicationExplicit, ApplicationImplicit, Asn1Readable, Asn1Type, Asn1Writable, DefaultValue,
+    Defaulted, Explicit, IA5String, Implicit, Null, Numbered, ParseResult, Parser, PrivateExplicit,
+    SimpleAsn1Readable, SimpleAsn1Writable, Tag, TagClass, UniversalImplicit, WriteBuf, WriteError,
+    WriteResult, Writer, choice_length, fields_length, known_choice, known_fields, known_number,
+    read_fields, read_number, take_choice, write_choice, write_fields,
 };
 use std::alloc::Global;
 
@@ -381,7 +383,7 @@ impl SimpleAsn1Writable for Settings {
     }
 }
 
-type EntryChoice<'a> = Choice3<Report<'a>, Explicit<Either<'a>, 1>, ApplicationImplicit<u16, 9>>;
+type EntryChoice<'a> = OneOf3<Report<'a>, Explicit<Either<'a>, 1>, ApplicationImplicit<u16, 9>>;
 
 /// A choice of a report, a choice under a tag, and a number under a tag of the application.
 #[derive(PartialEq, Drop)]
@@ -394,23 +396,28 @@ pub enum Entry<'a> {
     Number(ApplicationImplicit<u16, 9>),
 }
 
-impl<'a> Asn1Type for Entry<'a> {
+impl<'a> AsOneOf<EntryChoice<'a>> for Entry<'a> {
     ghost use Rattle.derived_tests.specs.declared.tags.Entry.TheVariants.{Report, Either, Number};
 
-    ghost der = { choice_der (elim [
-      | Report x ↦ inl (⟦<Report<'a> as Asn1Type>⟧.der.meaning x)
-      | Either x ↦ inr (inl (⟦<Explicit<Either<'a>, 1> as Asn1Type>⟧.der.meaning x))
-      | Number x ↦ inr (inr (⟦<ApplicationImplicit<u16, 9> as Asn1Type>⟧.der.meaning x))
-    ]) (or
-        ⟦<Report<'a> as Asn1Type>⟧.der (or ⟦<Explicit<Either<'a>, 1> as Asn1Type>⟧.der (only
-        ⟦<ApplicationImplicit<u16, 9> as Asn1Type>⟧.der))) };
+    ghost seen = { elim [
+      | Report x ↦ alternative1 x
+      | Either x ↦ alternative2 x
+      | Number x ↦ alternative3 x
+    ] };
+
+    fn from_one_of(value: EntryChoice<'a>) -> Entry<'a>
+        ensures { ⟦<Entry<'a> as AsOneOf<EntryChoice<'a>>>⟧.seen result ≡ value.entry }
+    {
+        take_choice!(value; EntryChoice<'a> => Entry; Report, Either, Number)
+    }
+}
+
+impl<'a> Asn1Type for Entry<'a> {
+    ghost der = { choice ⟦<Entry<'a> as AsOneOf<EntryChoice<'a>>>⟧.seen
+        ⟦<EntryChoice<'a> as Alternatives>⟧.list };
 
     fn known(&self) {
-        match self {
-            Entry::Report(x) => x.known(),
-            Entry::Either(x) => x.known(),
-            Entry::Number(x) => x.known(),
-        }
+        known_choice!(self; EntryChoice<'a> => Entry; Report, Either, Number)
     }
 }
 
@@ -422,18 +429,14 @@ impl<'a> Asn1Readable<'a> for Entry<'a> {
         ensures rest { EndsWith parser.old parser.new }
         ensures stops { OnErr result (⟦<Entry<'a> as Asn1Type>⟧.der.stops parser.old parser.new) }
     {
-        match parser.read_element::<EntryChoice<'a>>()? {
-            Choice3::ChoiceA(x) => Ok(Entry::Report(x)),
-            Choice3::ChoiceB(x) => Ok(Entry::Either(x)),
-            Choice3::ChoiceC(x) => Ok(Entry::Number(x)),
-        }
+        read_choice::<EntryChoice<'a>, Entry<'a>>(parser)
     }
 
     fn can_parse(tag: Tag) -> bool
         ensures value { result ≡ ⟦<Entry<'a> as Asn1Type>⟧.der.accepts tag }
         ensures plain { ⟦<Entry<'a> as Asn1Type>⟧.der.plain }
     {
-        <EntryChoice<'a> as Asn1Readable<'a>>::can_parse(tag)
+        <EntryChoice<'a> as AlternativesReadable<'a>>::accepts(tag)
     }
 }
 
@@ -441,19 +444,11 @@ impl<'a> Asn1Writable for Entry<'a> {
     type Error = WriteError;
 
     fn write(&self, dest: &mut Writer<'_>) -> WriteResult<()> {
-        match self {
-            Entry::Report(x) => dest.write_element(x),
-            Entry::Either(x) => dest.write_element(x),
-            Entry::Number(x) => dest.write_element(x),
-        }
+        write_choice!(self, dest; EntryChoice<'a> => Entry; Report, Either, Number)
     }
 
     fn encoded_length(&self) -> Option<usize> {
-        match self {
-            Entry::Report(x) => x.encoded_length(),
-            Entry::Either(x) => x.encoded_length(),
-            Entry::Number(x) => x.encoded_length(),
-        }
+        choice_length!(self; EntryChoice<'a> => Entry; Report, Either, Number)
     }
 
     fn writes_as_read() -> bool
@@ -463,7 +458,7 @@ impl<'a> Asn1Writable for Entry<'a> {
     }
 }
 
-type EitherChoice<'a> = Choice2<&'a [u8], Null>;
+type EitherChoice<'a> = OneOf2<&'a [u8], Null>;
 
 /// Octets, or none.
 #[derive(PartialEq, Drop)]
@@ -474,20 +469,24 @@ pub enum Either<'a> {
     None(Null),
 }
 
-impl<'a> Asn1Type for Either<'a> {
+impl<'a> AsOneOf<EitherChoice<'a>> for Either<'a> {
     ghost use Rattle.derived_tests.specs.declared.tags.Either.TheVariants.{Octets, None};
 
-    ghost der = { choice_der (elim [
-      | Octets x ↦ inl (⟦<&'a [u8] as Asn1Type>⟧.der.meaning x)
-      | None x ↦ inr (⟦<Null as Asn1Type>⟧.der.meaning x)
-    ]) (or ⟦<&'a [u8] as Asn1Type>⟧.der
-        (only ⟦<Null as Asn1Type>⟧.der)) };
+    ghost seen = { elim [ Octets x ↦ alternative1 x | None x ↦ alternative2 x ] };
+
+    fn from_one_of(value: EitherChoice<'a>) -> Either<'a>
+        ensures { ⟦<Either<'a> as AsOneOf<EitherChoice<'a>>>⟧.seen result ≡ value.entry }
+    {
+        take_choice!(value; EitherChoice<'a> => Either; Octets, None)
+    }
+}
+
+impl<'a> Asn1Type for Either<'a> {
+    ghost der = { choice ⟦<Either<'a> as AsOneOf<EitherChoice<'a>>>⟧.seen
+        ⟦<EitherChoice<'a> as Alternatives>⟧.list };
 
     fn known(&self) {
-        match self {
-            Either::Octets(x) => x.known(),
-            Either::None(x) => x.known(),
-        }
+        known_choice!(self; EitherChoice<'a> => Either; Octets, None)
     }
 }
 
@@ -499,17 +498,14 @@ impl<'a> Asn1Readable<'a> for Either<'a> {
         ensures rest { EndsWith parser.old parser.new }
         ensures stops { OnErr result (⟦<Either<'a> as Asn1Type>⟧.der.stops parser.old parser.new) }
     {
-        match parser.read_element::<EitherChoice<'a>>()? {
-            Choice2::ChoiceA(x) => Ok(Either::Octets(x)),
-            Choice2::ChoiceB(x) => Ok(Either::None(x)),
-        }
+        read_choice::<EitherChoice<'a>, Either<'a>>(parser)
     }
 
     fn can_parse(tag: Tag) -> bool
         ensures value { result ≡ ⟦<Either<'a> as Asn1Type>⟧.der.accepts tag }
         ensures plain { ⟦<Either<'a> as Asn1Type>⟧.der.plain }
     {
-        <EitherChoice<'a> as Asn1Readable<'a>>::can_parse(tag)
+        <EitherChoice<'a> as AlternativesReadable<'a>>::accepts(tag)
     }
 }
 
@@ -517,17 +513,11 @@ impl<'a> Asn1Writable for Either<'a> {
     type Error = WriteError;
 
     fn write(&self, dest: &mut Writer<'_>) -> WriteResult<()> {
-        match self {
-            Either::Octets(x) => dest.write_element(x),
-            Either::None(x) => dest.write_element(x),
-        }
+        write_choice!(self, dest; EitherChoice<'a> => Either; Octets, None)
     }
 
     fn encoded_length(&self) -> Option<usize> {
-        match self {
-            Either::Octets(x) => x.encoded_length(),
-            Either::None(x) => x.encoded_length(),
-        }
+        choice_length!(self; EitherChoice<'a> => Either; Octets, None)
     }
 
     fn writes_as_read() -> bool

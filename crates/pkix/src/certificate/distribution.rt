@@ -1,9 +1,8 @@
 //! Where revocation lists are found, and what they have (RFC 5280, 4.2.1.13 and 5.2.5).
-// Printed by scripts/derive from declarations/certificate/distribution.rs, with the sum af91041b.
+// Printed by scripts/derive from declarations/certificate/distribution.rs, with the sum 5eaa64be.
 
 ghost use Rattle.std.specs.Prelude.{◌≡◌, ◌∷◌, [], false, IsTrue, OnErr, IfOk};
-ghost use Rattle.std.proofs.Common.{inl, inr};
-ghost use Rattle.asn1.specs.Choices.{choice_der, only, or};
+ghost use Rattle.asn1.specs.AlternativeLists.{choice, alternative1, alternative2};
 ghost use Rattle.asn1.specs.Options.{option_meaning};
 ghost use Rattle.asn1.specs.Reading.{EndsWith};
 ghost use Rattle.asn1.specs.Reads.{BeginsWithEncodingOf, HasOneEncoding, ReadsContents, ReadsPrefix};
@@ -13,18 +12,25 @@ use crate::common::{
     AttributeTypeAndValue, GeneralNames, NamedBits, attribute_type_and_value_is_lawful,
     general_names_is_lawful, named_bits_is_lawful,
 };
-use asn1::fields::{Fields3, Fields6, Row, plain_length, write_plain};
+use asn1::alternatives::{Alternatives, AlternativesReadable, AsOneOf, OneOf2, read_choice};
+use asn1::fields::{Fields3, Fields6, Row};
 use asn1::{
-    Asn1Readable, Asn1Type, Asn1Writable, Choice2, DefaultValue, Defaulted, Explicit, Implicit,
-    ParseResult, Parser, SequenceOf, SetOf, SimpleAsn1Readable, SimpleAsn1Writable, Tag, WriteBuf,
-    WriteError, WriteResult, Writer, fields_length, known_fields, read_fields, write_fields,
+    Asn1Readable, Asn1Type, Asn1Writable, DefaultValue, Defaulted, Explicit, Implicit, ParseResult,
+    Parser, SequenceOf, SetOf, SimpleAsn1Readable, SimpleAsn1Writable, Tag, WriteBuf, WriteError,
+    WriteResult, Writer, choice_length, fields_length, known_choice, known_fields, read_fields,
+    take_choice, write_choice, write_fields,
 };
 use std::alloc::Global;
 
-type DistributionPointNameChoice<'a> = Choice2<
+type DistributionPointNameChoice<'a> = OneOf2<
     Implicit<GeneralNames<'a>, 0>,
     Implicit<SetOf<'a, AttributeTypeAndValue<'a>>, 1>,
 >;
+
+macro_rules! variants_of_distribution_point_name {
+    ($body:ident, $($of:tt)*) => { $body!($($of)*; DistributionPointNameChoice<'a> => DistributionPointName;
+        FullName: tagged, NameRelativeToCrlIssuer: tagged) };
+}
 
 /// DistributionPointName (RFC 5280, 4.2.1.13), a CHOICE.
 #[derive(Debug, Clone, PartialEq, Eq, Drop)]
@@ -36,23 +42,29 @@ pub enum DistributionPointName<'a> {
     NameRelativeToCrlIssuer(SetOf<'a, AttributeTypeAndValue<'a>>),
 }
 
-impl<'a> Asn1Type for DistributionPointName<'a> {
+impl<'a> AsOneOf<DistributionPointNameChoice<'a>> for DistributionPointName<'a> {
     ghost use Rattle.pkix.specs.declared.certificate.distribution.DistributionPointName.TheVariants.{FullName, NameRelativeToCrlIssuer};
 
-    ghost der = { choice_der (elim [
-      | FullName x ↦ inl (⟦<GeneralNames<'a> as Asn1Type>⟧.der.meaning
-          x)
-      | NameRelativeToCrlIssuer x ↦ inr
-          (⟦<SetOf<'a, AttributeTypeAndValue<'a>> as Asn1Type>⟧.der.meaning x)
-    ]) (or
-        ⟦<Implicit<GeneralNames<'a>, 0> as Asn1Type>⟧.der (only
-        ⟦<Implicit<SetOf<'a, AttributeTypeAndValue<'a>>, 1> as Asn1Type>⟧.der)) };
+    ghost seen = { elim [
+      | FullName x ↦ alternative1 (implicit x)
+      | NameRelativeToCrlIssuer x ↦ alternative2 (implicit x)
+    ] };
+
+    fn from_one_of(value: DistributionPointNameChoice<'a>) -> DistributionPointName<'a>
+        ensures { ⟦<DistributionPointName<'a> as AsOneOf<DistributionPointNameChoice<'a>>>⟧.seen
+            result ≡ value.entry }
+    {
+        variants_of_distribution_point_name!(take_choice, value)
+    }
+}
+
+impl<'a> Asn1Type for DistributionPointName<'a> {
+    ghost der = { choice
+        ⟦<DistributionPointName<'a> as AsOneOf<DistributionPointNameChoice<'a>>>⟧.seen
+        ⟦<DistributionPointNameChoice<'a> as Alternatives>⟧.list };
 
     fn known(&self) {
-        match self {
-            DistributionPointName::FullName(x) => x.known(),
-            DistributionPointName::NameRelativeToCrlIssuer(x) => x.known(),
-        }
+        variants_of_distribution_point_name!(known_choice, self)
     }
 }
 
@@ -66,19 +78,14 @@ impl<'a> Asn1Readable<'a> for DistributionPointName<'a> {
         ensures stops { OnErr result (⟦<DistributionPointName<'a> as Asn1Type>⟧.der.stops parser.old
             parser.new) }
     {
-        match parser.read_element::<DistributionPointNameChoice<'a>>()? {
-            Choice2::ChoiceA(x) => Ok(DistributionPointName::FullName(x.into_inner())),
-            Choice2::ChoiceB(x) => Ok(DistributionPointName::NameRelativeToCrlIssuer(
-                x.into_inner(),
-            )),
-        }
+        read_choice::<DistributionPointNameChoice<'a>, DistributionPointName<'a>>(parser)
     }
 
     fn can_parse(tag: Tag) -> bool
         ensures value { result ≡ ⟦<DistributionPointName<'a> as Asn1Type>⟧.der.accepts tag }
         ensures plain { ⟦<DistributionPointName<'a> as Asn1Type>⟧.der.plain }
     {
-        <DistributionPointNameChoice<'a> as Asn1Readable<'a>>::can_parse(tag)
+        <DistributionPointNameChoice<'a> as AlternativesReadable<'a>>::accepts(tag)
     }
 }
 
@@ -86,27 +93,11 @@ impl<'a> Asn1Writable for DistributionPointName<'a> {
     type Error = WriteError;
 
     fn write(&self, dest: &mut Writer<'_>) -> WriteResult<()> {
-        match self {
-            DistributionPointName::FullName(x) => write_plain::<Implicit<GeneralNames<'a>, 0>, _>(
-                x, dest,
-            ),
-            DistributionPointName::NameRelativeToCrlIssuer(x) => write_plain::<
-                Implicit<SetOf<'a, AttributeTypeAndValue<'a>>, 1>,
-                _,
-            >(x, dest),
-        }
+        variants_of_distribution_point_name!(write_choice, self, dest)
     }
 
     fn encoded_length(&self) -> Option<usize> {
-        match self {
-            DistributionPointName::FullName(x) => plain_length::<Implicit<GeneralNames<'a>, 0>, _>(
-                x,
-            ),
-            DistributionPointName::NameRelativeToCrlIssuer(x) => plain_length::<
-                Implicit<SetOf<'a, AttributeTypeAndValue<'a>>, 1>,
-                _,
-            >(x),
-        }
+        variants_of_distribution_point_name!(choice_length, self)
     }
 
     fn writes_as_read() -> bool

@@ -1,21 +1,21 @@
 //! General names (RFC 5280, 4.2.1.6).
-// Printed by scripts/derive from declarations/common/general_name.rs, with the sum e774d308.
+// Printed by scripts/derive from declarations/common/general_name.rs, with the sum fe38c22c.
 
 ghost use Rattle.std.specs.Prelude.{◌≡◌, ◌∷◌, [], IsTrue, OnErr, IfOk};
-ghost use Rattle.std.proofs.Common.{inl, inr};
-ghost use Rattle.asn1.specs.Choices.{choice_der, only, or};
+ghost use Rattle.asn1.specs.AlternativeLists.{choice, alternative1, alternative2, alternative3, alternative4, alternative5, alternative6, alternative7, alternative8, alternative9};
 ghost use Rattle.asn1.specs.Options.{option_meaning};
 ghost use Rattle.asn1.specs.Reading.{EndsWith};
 ghost use Rattle.asn1.specs.Reads.{BeginsWithEncodingOf, HasOneEncoding, ReadsContents, ReadsPrefix};
-ghost use Rattle.asn1.specs.Structures.{explicit, field_names, structure, fields2};
+ghost use Rattle.asn1.specs.Structures.{explicit, field_names, implicit, structure, fields2};
 
 use crate::common::{Name, name_is_lawful};
-use asn1::fields::{Fields2, Row, plain_length, write_plain};
+use asn1::alternatives::{Alternatives, AlternativesReadable, AsOneOf, OneOf9, read_choice};
+use asn1::fields::{Fields2, Row};
 use asn1::{
-    Asn1Readable, Asn1Type, Asn1Writable, Choice3, Explicit, IA5String, Implicit, ObjectIdentifier,
+    Asn1Readable, Asn1Type, Asn1Writable, Explicit, IA5String, Implicit, ObjectIdentifier,
     ParseResult, Parser, Sequence, SequenceOf, SimpleAsn1Readable, SimpleAsn1Writable, Tag, Tlv,
-    WriteBuf, WriteError, WriteResult, Writer, fields_length, known_fields, read_fields,
-    write_fields,
+    WriteBuf, WriteError, WriteResult, Writer, choice_length, fields_length, known_choice,
+    known_fields, read_fields, take_choice, write_choice, write_fields,
 };
 use std::alloc::Global;
 
@@ -158,29 +158,24 @@ impl<'a> SimpleAsn1Writable for EdiPartyName<'a> {
     }
 }
 
-type GeneralNameChoice<'a> = Choice3<
+type GeneralNameChoice<'a> = OneOf9<
     Implicit<OtherName<'a>, 0>,
     Implicit<IA5String<'a>, 1>,
-    GeneralNameFrom3<'a>,
->;
-
-type GeneralNameFrom3<'a> = Choice3<
     Implicit<IA5String<'a>, 2>,
     Implicit<Sequence<'a>, 3>,
-    GeneralNameFrom5<'a>,
->;
-
-type GeneralNameFrom5<'a> = Choice3<
     Explicit<Name<'a>, 4>,
     Implicit<EdiPartyName<'a>, 5>,
-    GeneralNameFrom7<'a>,
->;
-
-type GeneralNameFrom7<'a> = Choice3<
     Implicit<IA5String<'a>, 6>,
     Implicit<&'a [u8], 7>,
     Implicit<ObjectIdentifier, 8>,
 >;
+
+macro_rules! variants_of_general_name {
+    ($body:ident, $($of:tt)*) => { $body!($($of)*; GeneralNameChoice<'a> => GeneralName;
+        OtherName: tagged, Rfc822Name: tagged, DnsName: tagged, X400Address: tagged,
+        DirectoryName: tagged, EdiPartyName: tagged, UniformResourceIdentifier: tagged,
+        IpAddress: tagged, RegisteredId: tagged) };
+}
 
 /// GeneralName (RFC 5280, 4.2.1.6), a CHOICE of nine.
 #[derive(Debug, Clone, PartialEq, Eq, Drop)]
@@ -206,40 +201,37 @@ pub enum GeneralName<'a> {
     RegisteredId(ObjectIdentifier),
 }
 
-impl<'a> Asn1Type for GeneralName<'a> {
-    ghost use Rattle.pkix.specs.declared.common.general_name.GeneralName.TheVariants.{OtherName, Rfc822Name, DnsName, X400Address, DirectoryName, EdiPartyName, UniformResourceIdentifier, IpAddress, RegisteredId};
+impl<'a> AsOneOf<GeneralNameChoice<'a>> for GeneralName<'a> {
+    ghost use Rattle.pkix.specs.declared.common.general_name.GeneralName.TheVariants.{OtherName, Rfc822Name, DnsName};
+    ghost use Rattle.pkix.specs.declared.common.general_name.GeneralName.TheVariants.{X400Address, DirectoryName};
+    ghost use Rattle.pkix.specs.declared.common.general_name.GeneralName.TheVariants.{EdiPartyName, UniformResourceIdentifier};
+    ghost use Rattle.pkix.specs.declared.common.general_name.GeneralName.TheVariants.{IpAddress, RegisteredId};
 
-    ghost der = { choice_der (elim [
-      | OtherName x ↦ inl (⟦<OtherName<'a> as Asn1Type>⟧.der.meaning x)
-      | Rfc822Name x ↦ inr (inl (⟦<IA5String<'a> as Asn1Type>⟧.der.meaning x))
-      | DnsName x ↦ inr (inr (inl (⟦<IA5String<'a> as Asn1Type>⟧.der.meaning x)))
-      | X400Address x ↦ inr (inr (inr (inl (⟦<Sequence<'a> as Asn1Type>⟧.der.meaning x))))
-      | DirectoryName x ↦ inr (inr (inr (inr (inl (⟦<Name<'a> as Asn1Type>⟧.der.meaning x)))))
-      | EdiPartyName x ↦ inr (inr (inr (inr (inr (inl
-          (⟦<EdiPartyName<'a> as Asn1Type>⟧.der.meaning x))))))
-      | UniformResourceIdentifier x ↦ inr (inr (inr (inr (inr (inr (inl
-          (⟦<IA5String<'a> as Asn1Type>⟧.der.meaning x)))))))
-      | IpAddress x ↦ inr (inr (inr (inr (inr (inr (inr (inl (⟦<&'a [u8] as Asn1Type>⟧.der.meaning
-          x))))))))
-      | RegisteredId x ↦ inr (inr (inr (inr (inr (inr (inr (inr
-          (⟦<ObjectIdentifier as Asn1Type>⟧.der.meaning x))))))))
-    ]) (or
-        ⟦<Implicit<OtherName<'a>, 0> as Asn1Type>⟧.der (or
-        ⟦<Implicit<IA5String<'a>, 1> as Asn1Type>⟧.der (only
-        ⟦<GeneralNameFrom3<'a> as Asn1Type>⟧.der))) };
+    ghost seen = { elim [
+      | OtherName x ↦ alternative1 (implicit x)
+      | Rfc822Name x ↦ alternative2 (implicit x)
+      | DnsName x ↦ alternative3 (implicit x)
+      | X400Address x ↦ alternative4 (implicit x)
+      | DirectoryName x ↦ alternative5 (explicit x)
+      | EdiPartyName x ↦ alternative6 (implicit x)
+      | UniformResourceIdentifier x ↦ alternative7 (implicit x)
+      | IpAddress x ↦ alternative8 (implicit x)
+      | RegisteredId x ↦ alternative9 (implicit x)
+    ] };
+
+    fn from_one_of(value: GeneralNameChoice<'a>) -> GeneralName<'a>
+        ensures { ⟦<GeneralName<'a> as AsOneOf<GeneralNameChoice<'a>>>⟧.seen result ≡ value.entry }
+    {
+        variants_of_general_name!(take_choice, value)
+    }
+}
+
+impl<'a> Asn1Type for GeneralName<'a> {
+    ghost der = { choice ⟦<GeneralName<'a> as AsOneOf<GeneralNameChoice<'a>>>⟧.seen
+        ⟦<GeneralNameChoice<'a> as Alternatives>⟧.list };
 
     fn known(&self) {
-        match self {
-            GeneralName::OtherName(x) => x.known(),
-            GeneralName::Rfc822Name(x) => x.known(),
-            GeneralName::DnsName(x) => x.known(),
-            GeneralName::X400Address(x) => x.known(),
-            GeneralName::DirectoryName(x) => x.known(),
-            GeneralName::EdiPartyName(x) => x.known(),
-            GeneralName::UniformResourceIdentifier(x) => x.known(),
-            GeneralName::IpAddress(x) => x.known(),
-            GeneralName::RegisteredId(x) => x.known(),
-        }
+        variants_of_general_name!(known_choice, self)
     }
 }
 
@@ -253,34 +245,14 @@ impl<'a> Asn1Readable<'a> for GeneralName<'a> {
         ensures stops { OnErr result (⟦<GeneralName<'a> as Asn1Type>⟧.der.stops parser.old
             parser.new) }
     {
-        match parser.read_element::<GeneralNameChoice<'a>>()? {
-            Choice3::ChoiceA(x) => Ok(GeneralName::OtherName(x.into_inner())),
-            Choice3::ChoiceB(x) => Ok(GeneralName::Rfc822Name(x.into_inner())),
-            Choice3::ChoiceC(Choice3::ChoiceA(x)) => Ok(GeneralName::DnsName(x.into_inner())),
-            Choice3::ChoiceC(Choice3::ChoiceB(x)) => Ok(GeneralName::X400Address(x.into_inner())),
-            Choice3::ChoiceC(Choice3::ChoiceC(Choice3::ChoiceA(x))) => Ok(
-                GeneralName::DirectoryName(x.into_inner()),
-            ),
-            Choice3::ChoiceC(Choice3::ChoiceC(Choice3::ChoiceB(x))) => Ok(GeneralName::EdiPartyName(
-                x.into_inner(),
-            )),
-            Choice3::ChoiceC(Choice3::ChoiceC(Choice3::ChoiceC(Choice3::ChoiceA(x)))) => Ok(
-                GeneralName::UniformResourceIdentifier(x.into_inner()),
-            ),
-            Choice3::ChoiceC(Choice3::ChoiceC(Choice3::ChoiceC(Choice3::ChoiceB(x)))) => Ok(
-                GeneralName::IpAddress(x.into_inner()),
-            ),
-            Choice3::ChoiceC(Choice3::ChoiceC(Choice3::ChoiceC(Choice3::ChoiceC(x)))) => Ok(
-                GeneralName::RegisteredId(x.into_inner()),
-            ),
-        }
+        read_choice::<GeneralNameChoice<'a>, GeneralName<'a>>(parser)
     }
 
     fn can_parse(tag: Tag) -> bool
         ensures value { result ≡ ⟦<GeneralName<'a> as Asn1Type>⟧.der.accepts tag }
         ensures plain { ⟦<GeneralName<'a> as Asn1Type>⟧.der.plain }
     {
-        <GeneralNameChoice<'a> as Asn1Readable<'a>>::can_parse(tag)
+        <GeneralNameChoice<'a> as AlternativesReadable<'a>>::accepts(tag)
     }
 }
 
@@ -288,41 +260,11 @@ impl<'a> Asn1Writable for GeneralName<'a> {
     type Error = WriteError;
 
     fn write(&self, dest: &mut Writer<'_>) -> WriteResult<()> {
-        match self {
-            GeneralName::OtherName(x) => write_plain::<Implicit<OtherName<'a>, 0>, _>(x, dest),
-            GeneralName::Rfc822Name(x) => write_plain::<Implicit<IA5String<'a>, 1>, _>(x, dest),
-            GeneralName::DnsName(x) => write_plain::<Implicit<IA5String<'a>, 2>, _>(x, dest),
-            GeneralName::X400Address(x) => write_plain::<Implicit<Sequence<'a>, 3>, _>(x, dest),
-            GeneralName::DirectoryName(x) => write_plain::<Explicit<Name<'a>, 4>, _>(x, dest),
-            GeneralName::EdiPartyName(x) => write_plain::<Implicit<EdiPartyName<'a>, 5>, _>(
-                x, dest,
-            ),
-            GeneralName::UniformResourceIdentifier(x) => write_plain::<
-                Implicit<IA5String<'a>, 6>,
-                _,
-            >(x, dest),
-            GeneralName::IpAddress(x) => write_plain::<Implicit<&'a [u8], 7>, _>(x, dest),
-            GeneralName::RegisteredId(x) => write_plain::<Implicit<ObjectIdentifier, 8>, _>(
-                x, dest,
-            ),
-        }
+        variants_of_general_name!(write_choice, self, dest)
     }
 
     fn encoded_length(&self) -> Option<usize> {
-        match self {
-            GeneralName::OtherName(x) => plain_length::<Implicit<OtherName<'a>, 0>, _>(x),
-            GeneralName::Rfc822Name(x) => plain_length::<Implicit<IA5String<'a>, 1>, _>(x),
-            GeneralName::DnsName(x) => plain_length::<Implicit<IA5String<'a>, 2>, _>(x),
-            GeneralName::X400Address(x) => plain_length::<Implicit<Sequence<'a>, 3>, _>(x),
-            GeneralName::DirectoryName(x) => plain_length::<Explicit<Name<'a>, 4>, _>(x),
-            GeneralName::EdiPartyName(x) => plain_length::<Implicit<EdiPartyName<'a>, 5>, _>(x),
-            GeneralName::UniformResourceIdentifier(x) => plain_length::<
-                Implicit<IA5String<'a>, 6>,
-                _,
-            >(x),
-            GeneralName::IpAddress(x) => plain_length::<Implicit<&'a [u8], 7>, _>(x),
-            GeneralName::RegisteredId(x) => plain_length::<Implicit<ObjectIdentifier, 8>, _>(x),
-        }
+        variants_of_general_name!(choice_length, self)
     }
 
     fn writes_as_read() -> bool
@@ -346,37 +288,14 @@ pub fn edi_party_name_is_lawful()
     ensures { HasOneEncoding ⟦<EdiPartyName<'static> as Asn1Type>⟧.der }
 {}
 
-/// Each value of `GeneralNameFrom7` has one encoding, which is read back.
-#[tactic(auto, using(asn1::specs::Lemmas::Fields::tags_differ))]
-fn general_name_from7_is_lawful()
-    ensures { HasOneEncoding ⟦<GeneralNameFrom7<'static> as Asn1Type>⟧.der }
-{}
-
-/// Each value of `GeneralNameFrom5` has one encoding, which is read back.
-#[tactic(auto, using(asn1::specs::Lemmas::Fields::tags_differ))]
-fn general_name_from5_is_lawful()
-    ensures { HasOneEncoding ⟦<GeneralNameFrom5<'static> as Asn1Type>⟧.der }
-{
-    name_is_lawful();
-    edi_party_name_is_lawful();
-    general_name_from7_is_lawful();
-}
-
-/// Each value of `GeneralNameFrom3` has one encoding, which is read back.
-#[tactic(auto, using(asn1::specs::Lemmas::Fields::tags_differ))]
-fn general_name_from3_is_lawful()
-    ensures { HasOneEncoding ⟦<GeneralNameFrom3<'static> as Asn1Type>⟧.der }
-{
-    general_name_from5_is_lawful();
-}
-
 /// Each value of `GeneralName` has one encoding, which is read back.
 #[tactic(auto, using(asn1::specs::Lemmas::Fields::tags_differ))]
 pub fn general_name_is_lawful()
     ensures { HasOneEncoding ⟦<GeneralName<'static> as Asn1Type>⟧.der }
 {
     other_name_is_lawful();
-    general_name_from3_is_lawful();
+    name_is_lawful();
+    edi_party_name_is_lawful();
 }
 
 /// Each value of `GeneralNames` has one encoding, which is read back.

@@ -1,16 +1,17 @@
 //! Times (RFC 5280, 4.1.2.5).
-// Printed by scripts/derive from declarations/common/time.rs, with the sum 206e53a4.
+// Printed by scripts/derive from declarations/common/time.rs, with the sum 787cd662.
 
-ghost use Rattle.std.proofs.Common.{inl, inr};
-ghost use Rattle.asn1.specs.Choices.{choice_der, only, or};
+ghost use Rattle.asn1.specs.AlternativeLists.{choice, alternative1, alternative2};
 ghost use Rattle.asn1.specs.Reads.{HasOneEncoding};
 
+use asn1::alternatives::{Alternatives, AlternativesReadable, AsOneOf, OneOf2, read_choice};
 use asn1::{
-    Asn1Readable, Asn1Type, Asn1Writable, Choice2, ParseResult, Parser, Tag, UtcTime, WriteError,
-    WriteResult, Writer, X509GeneralizedTime,
+    Asn1Readable, Asn1Type, Asn1Writable, ParseResult, Parser, Tag, UtcTime, WriteError,
+    WriteResult, Writer, X509GeneralizedTime, choice_length, known_choice, take_choice,
+    write_choice,
 };
 
-type TimeChoice = Choice2<UtcTime, X509GeneralizedTime>;
+type TimeChoice = OneOf2<UtcTime, X509GeneralizedTime>;
 
 /// Time (RFC 5280, 4.1), a CHOICE of two forms of a time in UTC, distinguished by the tag. Which form a year has to
 /// have isn't checked.
@@ -22,33 +23,31 @@ pub enum Time {
     GeneralTime(X509GeneralizedTime),
 }
 
-impl Asn1Type for Time {
+impl AsOneOf<TimeChoice> for Time {
     ghost use Rattle.pkix.specs.declared.common.time.Time.TheVariants.{UtcTime, GeneralTime};
 
-    ghost der = { choice_der (elim [
-      | UtcTime x ↦ inl (⟦<UtcTime as Asn1Type>⟧.der.meaning x)
-      | GeneralTime x ↦ inr (⟦<X509GeneralizedTime as Asn1Type>⟧.der.meaning x)
-    ]) (or
-        ⟦<UtcTime as Asn1Type>⟧.der (only ⟦<X509GeneralizedTime as Asn1Type>⟧.der)) };
+    ghost seen = { elim [ UtcTime x ↦ alternative1 x | GeneralTime x ↦ alternative2 x ] };
+
+    fn from_one_of(value: TimeChoice) -> Time {
+        take_choice!(value; TimeChoice => Time; UtcTime, GeneralTime)
+    }
+}
+
+impl Asn1Type for Time {
+    ghost der = { choice ⟦<Time as AsOneOf<TimeChoice>>⟧.seen ⟦<TimeChoice as Alternatives>⟧.list };
 
     fn known(&self) {
-        match self {
-            Time::UtcTime(x) => x.known(),
-            Time::GeneralTime(x) => x.known(),
-        }
+        known_choice!(self; TimeChoice => Time; UtcTime, GeneralTime)
     }
 }
 
 impl<'a> Asn1Readable<'a> for Time {
     fn parse(parser: &mut Parser<'a>) -> ParseResult<Time> {
-        match parser.read_element::<TimeChoice>()? {
-            Choice2::ChoiceA(x) => Ok(Time::UtcTime(x)),
-            Choice2::ChoiceB(x) => Ok(Time::GeneralTime(x)),
-        }
+        read_choice::<TimeChoice, Time>(parser)
     }
 
     fn can_parse(tag: Tag) -> bool {
-        <TimeChoice as Asn1Readable<'_>>::can_parse(tag)
+        <TimeChoice as AlternativesReadable<'_>>::accepts(tag)
     }
 }
 
@@ -56,17 +55,11 @@ impl Asn1Writable for Time {
     type Error = WriteError;
 
     fn write(&self, dest: &mut Writer<'_>) -> WriteResult<()> {
-        match self {
-            Time::UtcTime(x) => dest.write_element(x),
-            Time::GeneralTime(x) => dest.write_element(x),
-        }
+        write_choice!(self, dest; TimeChoice => Time; UtcTime, GeneralTime)
     }
 
     fn encoded_length(&self) -> Option<usize> {
-        match self {
-            Time::UtcTime(x) => x.encoded_length(),
-            Time::GeneralTime(x) => x.encoded_length(),
-        }
+        choice_length!(self; TimeChoice => Time; UtcTime, GeneralTime)
     }
 
     fn writes_as_read() -> bool {

@@ -1,9 +1,8 @@
 //! Who signed (RFC 5652, 5.3).
-// Printed by scripts/derive from declarations/signatures/signer.rs, with the sum 5b4427fc.
+// Printed by scripts/derive from declarations/signatures/signer.rs, with the sum 7f9c3cd2.
 
 ghost use Rattle.std.specs.Prelude.{◌≡◌, ◌∷◌, [], IsTrue, OnErr, IfOk};
-ghost use Rattle.std.proofs.Common.{inl, inr};
-ghost use Rattle.asn1.specs.Choices.{choice_der, only, or};
+ghost use Rattle.asn1.specs.AlternativeLists.{choice, alternative1, alternative2};
 ghost use Rattle.asn1.specs.Options.{option_meaning};
 ghost use Rattle.asn1.specs.Reading.{EndsWith};
 ghost use Rattle.asn1.specs.Reads.{BeginsWithEncodingOf, HasOneEncoding, ReadsContents, ReadsPrefix};
@@ -13,11 +12,13 @@ use crate::common::{
     AlgorithmIdentifier, Attributes, Name, algorithm_identifier_is_lawful, attributes_is_lawful,
     name_is_lawful,
 };
-use asn1::fields::{Fields2, Fields7, Row, plain_length, write_plain};
+use asn1::alternatives::{Alternatives, AlternativesReadable, AsOneOf, OneOf2, read_choice};
+use asn1::fields::{Fields2, Fields7, Row};
 use asn1::{
-    Asn1Readable, Asn1Type, Asn1Writable, BigInt, Choice2, Implicit, ParseResult, Parser,
+    Asn1Readable, Asn1Type, Asn1Writable, BigInt, Implicit, ParseResult, Parser,
     SimpleAsn1Readable, SimpleAsn1Writable, Tag, WriteBuf, WriteError, WriteResult, Writer,
-    fields_length, known_fields, read_fields, write_fields,
+    choice_length, fields_length, known_choice, known_fields, read_fields, take_choice,
+    write_choice, write_fields,
 };
 use std::alloc::Global;
 
@@ -85,7 +86,12 @@ impl<'a> SimpleAsn1Writable for IssuerAndSerialNumber<'a> {
     }
 }
 
-type SignerIdentifierChoice<'a> = Choice2<IssuerAndSerialNumber<'a>, Implicit<&'a [u8], 0>>;
+type SignerIdentifierChoice<'a> = OneOf2<IssuerAndSerialNumber<'a>, Implicit<&'a [u8], 0>>;
+
+macro_rules! variants_of_signer_identifier {
+    ($body:ident, $($of:tt)*) => { $body!($($of)*; SignerIdentifierChoice<'a> => SignerIdentifier;
+        IssuerAndSerialNumber, SubjectKeyIdentifier: tagged) };
+}
 
 /// SignerIdentifier (RFC 5652, 5.3), a CHOICE.
 #[derive(Debug, Clone, PartialEq, Eq, Drop)]
@@ -96,22 +102,29 @@ pub enum SignerIdentifier<'a> {
     SubjectKeyIdentifier(&'a [u8]),
 }
 
-impl<'a> Asn1Type for SignerIdentifier<'a> {
-    ghost use Rattle.pkix.specs.declared.signatures.signer.SignerIdentifier.TheVariants.{IssuerAndSerialNumber, SubjectKeyIdentifier};
+impl<'a> AsOneOf<SignerIdentifierChoice<'a>> for SignerIdentifier<'a> {
+    ghost use Rattle.pkix.specs.declared.signatures.signer.SignerIdentifier.TheVariants.{IssuerAndSerialNumber};
+    ghost use Rattle.pkix.specs.declared.signatures.signer.SignerIdentifier.TheVariants.{SubjectKeyIdentifier};
 
-    ghost der = { choice_der (elim [
-      | IssuerAndSerialNumber x ↦ inl
-          (⟦<IssuerAndSerialNumber<'a> as Asn1Type>⟧.der.meaning x)
-      | SubjectKeyIdentifier x ↦ inr (⟦<&'a [u8] as Asn1Type>⟧.der.meaning x)
-    ]) (or
-        ⟦<IssuerAndSerialNumber<'a> as Asn1Type>⟧.der (only
-        ⟦<Implicit<&'a [u8], 0> as Asn1Type>⟧.der)) };
+    ghost seen = { elim [
+      | IssuerAndSerialNumber x ↦ alternative1 x
+      | SubjectKeyIdentifier x ↦ alternative2 (implicit x)
+    ] };
+
+    fn from_one_of(value: SignerIdentifierChoice<'a>) -> SignerIdentifier<'a>
+        ensures { ⟦<SignerIdentifier<'a> as AsOneOf<SignerIdentifierChoice<'a>>>⟧.seen result ≡
+            value.entry }
+    {
+        variants_of_signer_identifier!(take_choice, value)
+    }
+}
+
+impl<'a> Asn1Type for SignerIdentifier<'a> {
+    ghost der = { choice ⟦<SignerIdentifier<'a> as AsOneOf<SignerIdentifierChoice<'a>>>⟧.seen
+        ⟦<SignerIdentifierChoice<'a> as Alternatives>⟧.list };
 
     fn known(&self) {
-        match self {
-            SignerIdentifier::IssuerAndSerialNumber(x) => x.known(),
-            SignerIdentifier::SubjectKeyIdentifier(x) => x.known(),
-        }
+        variants_of_signer_identifier!(known_choice, self)
     }
 }
 
@@ -125,17 +138,14 @@ impl<'a> Asn1Readable<'a> for SignerIdentifier<'a> {
         ensures stops { OnErr result (⟦<SignerIdentifier<'a> as Asn1Type>⟧.der.stops parser.old
             parser.new) }
     {
-        match parser.read_element::<SignerIdentifierChoice<'a>>()? {
-            Choice2::ChoiceA(x) => Ok(SignerIdentifier::IssuerAndSerialNumber(x)),
-            Choice2::ChoiceB(x) => Ok(SignerIdentifier::SubjectKeyIdentifier(x.into_inner())),
-        }
+        read_choice::<SignerIdentifierChoice<'a>, SignerIdentifier<'a>>(parser)
     }
 
     fn can_parse(tag: Tag) -> bool
         ensures value { result ≡ ⟦<SignerIdentifier<'a> as Asn1Type>⟧.der.accepts tag }
         ensures plain { ⟦<SignerIdentifier<'a> as Asn1Type>⟧.der.plain }
     {
-        <SignerIdentifierChoice<'a> as Asn1Readable<'a>>::can_parse(tag)
+        <SignerIdentifierChoice<'a> as AlternativesReadable<'a>>::accepts(tag)
     }
 }
 
@@ -143,21 +153,11 @@ impl<'a> Asn1Writable for SignerIdentifier<'a> {
     type Error = WriteError;
 
     fn write(&self, dest: &mut Writer<'_>) -> WriteResult<()> {
-        match self {
-            SignerIdentifier::IssuerAndSerialNumber(x) => dest.write_element(x),
-            SignerIdentifier::SubjectKeyIdentifier(x) => write_plain::<Implicit<&'a [u8], 0>, _>(
-                x, dest,
-            ),
-        }
+        variants_of_signer_identifier!(write_choice, self, dest)
     }
 
     fn encoded_length(&self) -> Option<usize> {
-        match self {
-            SignerIdentifier::IssuerAndSerialNumber(x) => x.encoded_length(),
-            SignerIdentifier::SubjectKeyIdentifier(x) => plain_length::<Implicit<&'a [u8], 0>, _>(
-                x,
-            ),
-        }
+        variants_of_signer_identifier!(choice_length, self)
     }
 
     fn writes_as_read() -> bool
