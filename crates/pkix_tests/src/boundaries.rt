@@ -6,10 +6,10 @@
 //! name alone.
 //!
 //! The octets are a whole encoding, or after `+` or `?` a field of a structure, whose fields are in the rows in their
-//! order; `?` marks those that may be left out. Such a row has three answers: for the structure without this field, with
-//! the field twice, and with the field under the tag `[14]`. In a row that begins with `=` the octets stand in place of
-//! the field above. The structure is also read with all fields, and with each of them and no other that may be left out;
-//! as a SET it is rejected.
+//! order; `?` marks those that may be left out. Such a row has three answers: for the structure without this field,
+//! with the field twice, and with the field under the tag `[14]`. In a row that begins with `=` the octets stand in
+//! place of the field above. The structure is also read with all fields, and with each of them and no other that may be
+//! left out; as a SET it is rejected.
 //!
 //! The answers are those of the modules of the RFCs, and of the comments of the declarations where these allow more.
 

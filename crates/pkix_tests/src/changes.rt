@@ -1,5 +1,5 @@
-//! Objects in which one octet is replaced, with the answers that are due, in the words of `boundaries`. These were worked
-//! out from the modules of the RFCs, apart from the types.
+//! Objects in which one octet is replaced, with the answers that are due, in the words of `boundaries`. These were
+//! worked out from the modules of the RFCs, apart from the types.
 
 use crate::boundaries::are_octets_answered;
 use crate::objects::{DELTA_CRL, FULL, STAMP_RESPONSE};

@@ -1,5 +1,5 @@
-//! Tests of `pkix`: each type at its boundaries; real objects, made with throwaway keys, are read and written back; what
-//! is cut, changed or not DER is rejected. The lines of objects are in the cases of `pkix_cli`.
+//! Tests of `pkix`: each type at its boundaries; real objects, made with throwaway keys, are read and written back;
+//! what is cut, changed or not DER is rejected. The lines of objects are in the cases of `pkix_cli`.
 #![tactic(auto)]
 
 #[cfg(test)]
