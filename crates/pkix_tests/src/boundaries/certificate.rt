@@ -75,6 +75,7 @@ const AUTHORITY_KEY_IDENTIFIER: &str = "\
 = 8000: read
 ? a103820161: read; ExtraData; ExtraData
 = a100: 0 items authority_cert_issuer
+= a106820162820161: read
 ? 820105: read; ExtraData; ExtraData
 = 8209010000000000000000: read
 = 8201ff: read
@@ -224,9 +225,11 @@ const NAME_CONSTRAINTS: &str = "\
 ? a0053003820161: read; ExtraData; ExtraData
 = a000: 0 items permitted_subtrees
 = a0023000: short 1 permitted_subtrees 0 GeneralSubtree::base
+= a00a30038201623003820161: read
 ? a1053003820161: read; ExtraData; ExtraData
 = a100: 0 items excluded_subtrees
 = a1023000: short 1 excluded_subtrees 0 GeneralSubtree::base
+= a10a30038201623003820161: read
 303aa017300982076578616d706c65300a8708c0000200ffffff00a11f300a81082e6578616d706c653011a40f300d310b30090603550406\
     13024154: read
 300ea00c300a8201618001018102012c: read
@@ -278,6 +281,8 @@ a003820161: read
 a100: read
 a000: 0 items
 a10a300806035504030c0161: read
+a006820162820161: read
+a110300606022a040500300606022a030500: InvalidSetOrdering 1
 8000: tag 80
 8100: tag 81
 8200: tag 82
@@ -296,7 +301,8 @@ const DISTRIBUTION_POINT: &str = "\
 = 81020460: InvalidValue reasons
 = 81020001: read
 ? a203820161: read; ExtraData; ExtraData
-= a200: 0 items crl_issuer";
+= a200: 0 items crl_issuer
+= a206820162820161: read";
 
 /// CrlDistributionPoints (RFC 5280, 4.2.1.13).
 const CRL_DISTRIBUTION_POINTS: &str = "\

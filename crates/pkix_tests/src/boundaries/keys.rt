@@ -19,6 +19,7 @@ const ONE_ASYMMETRIC_KEY: &str = "\
 = 0400: read
 ? a000: read; ExtraData; ExtraData
 = a0023000: short 1 attributes 0 Attribute::type_id
+= a010300606022a043100300606022a033100: InvalidSetOrdering attributes 1
 ? 81020001: read; ExtraData; ExtraData
 = 810200a0: read
 = 810207ff: InvalidValue public_key";

@@ -105,7 +105,8 @@ const CERTIFICATION_REQUEST_INFO: &str = "\
 = 30023100: read
 + 300a300406022a0303020001: tag a0 subject_pk_info; tag 30 attributes; tag ae subject_pk_info
 + a000: short 1 attributes; ExtraData; tag ae attributes
-= a0023000: short 1 attributes 0 Attribute::type_id";
+= a0023000: short 1 attributes 0 Attribute::type_id
+= a010300606022a043100300606022a033100: InvalidSetOrdering attributes 1";
 
 /// CertificationRequest (RFC 2986, 4.2).
 const CERTIFICATION_REQUEST: &str = "\

@@ -55,8 +55,13 @@ const SIGNED_DATA: &str = "\
 + 300406022a03: tag a0 encap_content_info; tag 30 signer_infos; tag ae encap_content_info
 ? a000: read; tag a0 signer_infos; tag ae signer_infos
 = a0023000: short 1 certificates 0 Certificate::tbs_certificate
+= a0818e30453039020105300406022a043000301e170d3236313132343130353031305a170d3236313132343130353031305a3000300a30\
+    0406022a0303020001300406022a030302000130453039020105300406022a033000301e170d3236313132343130353031305a170d323631\
+    3132343130353031305a3000300a300406022a0303020001300406022a0303020001: InvalidSetOrdering certificates 1
 ? a100: read; tag a1 signer_infos; tag ae signer_infos
 = a1023000: short 1 crls 0 CertificateList::tbs_cert_list
+= a14a30233017300406022a043000170d3236313132343130353031305a300406022a030302000130233017300406022a033000170d3236\
+    313132343130353031305a300406022a0303020001: InvalidSetOrdering crls 1
 + 3100: short 1 signer_infos; ExtraData; tag ae signer_infos
 = 31023000: short 1 signer_infos 0 SignerInfo::version";
 
@@ -91,11 +96,13 @@ const SIGNER_INFO: &str = "\
 + 300406022a03: tag a0 digest_algorithm; tag a0 signature; tag ae digest_algorithm
 ? a000: read; tag a0 signature_algorithm; tag ae signature_algorithm
 = a0023000: short 1 signed_attrs 0 Attribute::type_id
+= a010300606022a043100300606022a033100: InvalidSetOrdering signed_attrs 1
 + 300406022a03: tag 04 signature_algorithm; tag 30 signature; tag ae signature_algorithm
 + 0401ab: tag a1 signature; ExtraData; tag 8e signature
 = 0400: read
 ? a100: read; ExtraData; ExtraData
-= a1023000: short 1 unsigned_attrs 0 Attribute::type_id";
+= a1023000: short 1 unsigned_attrs 0 Attribute::type_id
+= a110300606022a043100300606022a033100: InvalidSetOrdering unsigned_attrs 1";
 
 /// Each of these types answers as its rows say.
 pub fn signed_data(alloc: Global) -> Result<(), Fail> {

@@ -32,6 +32,7 @@ const TIME_STAMP_REQ: &str = "\
 ? a009300706022a030401ab: read; ExtraData; ExtraData
 = a000: 0 items extensions
 = a0023000: short 1 extensions 0 Extension::extn_id
+= a012300706022a040401ab300706022a030401ab: read
 301d020101300b300406022a030403616263a00b300906032a030404020500: read";
 
 /// PkiStatusInfo (RFC 3161, 2.4.2).
@@ -112,6 +113,7 @@ const TST_INFO: &str = "\
 ? a109300706022a030401ab: read; ExtraData; ExtraData
 = a100: 0 items extensions
 = a1023000: short 1 extensions 0 Extension::extn_id
+= a112300706022a040401ab300706022a030401ab: read
 303502010106022a03300b300406022a030403616263020105180f32303236313132363132303030305aa10b300906032a030404020500: \
     read";
 
