@@ -43,8 +43,8 @@ MOST_FIELDS, MOST_VARIANTS, MOST_DEEP, LARGEST = 30, 36, 30, 2**32 - 1
 ANY = "any"
 
 
-# The sections of docs/OWN_TYPES.md, each with words of the reasons for which the section has a form by hand, or says that
-# there is none. The last one is for all others.
+# The sections of docs/OWN_TYPES.md, each with words of the reasons for which the section has a form by hand, or says
+# that there is none. The last one is for all others.
 SECTIONS = {
     "What has no form": r"recursive|more than \d|has to follow|it is there|marks an item|missing itself|a field alone",
     "A default of another type": r"the default of|is no value of",
@@ -369,7 +369,8 @@ class Module:
                 one.reject(one.name in [before.name for before in named[:at]], "is declared twice")
         for item in items:
             # It isn't named like a type of the library, its size has a form, and it uses the lifetime that it declares.
-            item.reject(item.name in (*SHAPES, *LIBRARY, *imported), "is imported, or a type of the library: name it otherwise")
+            is_known = item.name in (*SHAPES, *LIBRARY, *imported)
+            item.reject(is_known, "is imported, or a type of the library: name it otherwise")
             item.reject(item.kind == "struct" and len(item.parts) > MOST_FIELDS, f"has more than {MOST_FIELDS} fields")
             has_no_form = item.kind == "enum" and not 0 < len(item.parts) <= MOST_VARIANTS
             item.reject(has_no_form, f"has no variant, or more than {MOST_VARIANTS}")
@@ -546,8 +547,8 @@ def under(tag, type):
 
 
 def set_tag(item):
-    """Gives a declaration the tag that it states, if it is a struct or an enum with numbers; and an alias the type under
-    the tag."""
+    """Gives a declaration the tag that it states, if it is a struct or an enum with numbers; and an alias the type
+    under the tag."""
     tag, item.is_set = class_tag(item), "set" in item.attributes
     item.tag = tag and tag[:2]
     item.reject(item.is_set and (item.kind != "struct" or tag), "is a set, and no struct, or has another tag too")
