@@ -3,7 +3,7 @@ use Rattle.std.specs.Prelude.{◌≡◌, ◌⊎◌, [], Result, Err, false}
 use Rattle.std.proofs.Common.{inl, inr}
 use Rattle.asn1_core.specs.declared.parser.ParseErrorKind.TheVariants.{UnexpectedTag}
 use Rattle.asn1_core.specs.Element.{Element, element_text}
-use Rattle.asn1_core.specs.Fault.{Fault, fault}
+use Rattle.asn1_core.specs.Fault.{Fault, fault, IsOfText}
 use Rattle.asn1_core.specs.Reading.{Answers}
 use Rattle.asn1_core.specs.Der.{Der}
 use Rattle.asn1.specs.declared.alternatives.NoOther.{NoOther}
@@ -18,6 +18,10 @@ pub record AlternativeList (V : Type 0) : Type 1 where
   pub Meaning : Type 0
   pub meaning : V → Meaning
   pub all : Alternatives Meaning
+
+-- The error of a tag that no alternative accepts is one of the input.
+pub none_faults : (e : Element) → IsOfText (fault (UnexpectedTag e.tag))
+none_faults e h = cc
 
 -- no alternative: each tag is unexpected
 abbrev pub none : Alternatives ⊥
@@ -45,7 +49,7 @@ none = record {
   again = λ m. absurd m;
   unbounded = λ free m. absurd m;
   memory = λ e places out. out;
-  faults = λ e h. cc;
+  faults = none_faults;
 }
 
 -- The list of no alternatives.
