@@ -1,3 +1,4 @@
+use Rattle.std.proofs.Common.{refl, rules}
 use Rattle.asn1_c.proofs.objects.check_one.Goals as goal
 
 pub returns-in-Certificate-clause-exact : goal.returns-in-Certificate-clause-exact
@@ -116,3 +117,6 @@ returns-in-TimestampResponse-clause-number c = c.check_object-in-TimestampRespon
 
 pub returns-in-TimestampResponse-clause-place : goal.returns-in-TimestampResponse-clause-place
 returns-in-TimestampResponse-clause-place c = c.check_object-in-TimestampResponse.ensures.place
+
+pub check_object-requires-in-Crl : goal.check_object-requires-in-Crl
+check_object-requires-in-Crl c κs = ((refl, tt), (c.certificate_list_is_lawful.ensures.0, search rules))
