@@ -504,8 +504,7 @@ def law_of_choice(item):
     for part in reversed(item.parts):
         apart = "λ tag accepted. refl" if part is item.parts[-1] else "grind (arith, tags_differ)"
         lawful, others = f"(search rules, search rules, {lawful}, {apart})", f"(search rules, {others})"
-    term = textwrap.fill(f"({lawful}, {others}, {others})", 4 * WIDTH, subsequent_indent="    ", break_on_hyphens=False)
-    return ANSWER.format("returns", term, "")
+    return ANSWER.format("returns", f"({lawful}, {others}, {others})", "")
 
 
 def answers(item, module):

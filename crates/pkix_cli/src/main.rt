@@ -42,10 +42,7 @@ fn main(rt: HostRuntime) -> ExitCode {
         Err(fault) => Some(Err(fault)),
     };
     let _ = match &answer {
-        None => eprintln!(rt;
-            "pkix: the argument has to be one of {}",
-            Kind::NAMES
-        ),
+        None => eprintln!(rt; "pkix: the argument has to be one of {}", Kind::NAMES),
         Some(Ok(report)) => eprint!(rt; "{}", report.reasons),
         Some(Err(fault)) => eprintln!(rt; "pkix: {fault}"),
     };
