@@ -20,7 +20,7 @@ mod name;
 
 use crate::tag::{LONG_FORM, Tag, explicit_tag, implicit_tag};
 use crate::types::{Asn1Readable, Asn1Type, SimpleAsn1Readable, Tlv};
-use name::Name;
+pub use name::FieldName;
 use std::alloc::Global;
 use std::error::Error;
 use std::fmt;
@@ -88,10 +88,12 @@ pub const MAX_PLACES: usize = 8;
 
 /// A location as an error keeps it, with no reference.
 #[derive(Drop)]
-enum Place {
+pub enum Place {
     // First, so that the slots of a new error are zeros.
+    /// In the item with this index, counted from 0.
     Index(usize),
-    Field(Name),
+    /// In the field with this name.
+    Field(FieldName),
 }
 
 impl PartialEq for Place {
@@ -117,7 +119,7 @@ impl From<ParseLocation> for Place {
 
     fn from(location: ParseLocation) -> Place {
         match location {
-            ParseLocation::Field(name) => Place::Field(Name::new(name)),
+            ParseLocation::Field(name) => Place::Field(FieldName::new(name)),
             ParseLocation::Index(index) => Place::Index(index),
         }
     }
@@ -175,6 +177,13 @@ impl ParseError {
         ensures { result ≡ self.now.kind }
     {
         self.kind
+    }
+
+    /// The error's locations, the innermost first.
+    pub fn places(&self) -> &[Place]
+        ensures { result.now ≡ self.now.places }
+    {
+        &self.places[..self.depth]
     }
 
     /// Adds a location around the locations that the error has. The innermost [`MAX_PLACES`] are kept, and further
@@ -241,7 +250,7 @@ impl fmt::Debug for ParseError {
         let kind = self.kind;
         write!(f, "ParseError {{ kind: {kind:?}")?;
         let mut is_first = true;
-        for place in self.places[..self.depth].iter().rev() {
+        for place in self.places().iter().rev() {
             let mark = if is_first { ", location: [" } else { ", " };
             write!(f, "{mark}{place:?}")?;
             is_first = false;

@@ -1,6 +1,6 @@
 use crate::elements::with_places;
 use asn1_core::parser::{
-    ParseError, ParseErrorKind, ParseLocation, ParseResult, Parser, parse, parse_single,
+    ParseError, ParseErrorKind, ParseLocation, ParseResult, Parser, Place, parse, parse_single,
 };
 use asn1_core::tag::Tag;
 use std::alloc::Global;
@@ -155,6 +155,15 @@ fn places_of_an_error(rt: HostRuntime) -> Result<(), Fail> {
         is_shown(rt.alloc(), &error, text)?;
     }
     Ok(())
+}
+
+#[test]
+fn places_are_seen() -> Result<(), Fail> {
+    let error = with_places(ParseErrorKind::InvalidValue, 2);
+    let [Place::Index(index), Place::Field(name)] = error.places() else {
+        return Err(Fail::new(format_args!("other places than of {error:?}")));
+    };
+    same((*index, name.as_str()), (12, "Abc::123"))
 }
 
 /// An error with the locations `Index(1)` to `Index(count)`, with 99 instead of the number `other`.

@@ -42,15 +42,15 @@ impl Lasting {
     }
 }
 
-/// A name that lasts as long as the program.
+/// The name of a field, which lasts as long as the program.
 #[derive(Drop)]
-pub(super) struct Name {
+pub struct FieldName {
     start: *const u8,
     count: usize,
     lasting: Lasting,
 }
 
-impl Model for Name {
+impl Model for FieldName {
     ghost use Rattle.std.specs.Prelude.{◌≡◌, ℕ, List, length, IsUtf8};
 
     ghost Value = { List ℕ };
@@ -62,18 +62,18 @@ impl Model for Name {
 }
 
 // The octets are never changed, and nothing of them is freed.
-unsafe impl Send for Name {}
+unsafe impl Send for FieldName {}
 
-unsafe impl Sync for Name {}
+unsafe impl Sync for FieldName {}
 
-impl Name {
+impl FieldName {
     /// Keeps the name. Allocates nothing.
-    pub fn new(text: &'static str) -> Name
+    pub(super) fn new(text: &'static str) -> FieldName
         ensures { result ≡ text.now }
     {
         let octets = text.as_bytes();
         let (start, lasting) = Lasting::new(octets);
-        Name {
+        FieldName {
             start,
             count: octets.len(),
             lasting,
