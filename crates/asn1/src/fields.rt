@@ -232,7 +232,11 @@ impl<'a, A: Asn1Readable<'a>> RowReadable<'a> for Last<A> {
     #[inline(always)]
     fn read<S: NameSource>(parser: Parser<'a>, names: S) -> ParseResult<Self> {
         let mut parser = parser;
-        let value = placed(parser.read_element::<A>(), names.first())?;
+        // The error is returned from here: a `?` after `placed` would move the value and the error once more.
+        let value = match parser.read_element::<A>() {
+            Ok(value) => value,
+            Err(error) => return Err(error.add_location(ParseLocation::Field(names.first()))),
+        };
         finish(parser)?;
         Ok(Last { value })
     }
@@ -248,7 +252,10 @@ impl<'a, A: Asn1Readable<'a>, R: RowReadable<'a>> RowReadable<'a> for Field<A, R
     #[inline(always)]
     fn read<S: NameSource>(parser: Parser<'a>, names: S) -> ParseResult<Self> {
         let mut parser = parser;
-        let value = placed(parser.read_element::<A>(), names.first())?;
+        let value = match parser.read_element::<A>() {
+            Ok(value) => value,
+            Err(error) => return Err(error.add_location(ParseLocation::Field(names.first()))),
+        };
         let rest = R::read(parser, names.others())?;
         Ok(Field { value, rest })
     }

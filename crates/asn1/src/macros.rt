@@ -41,17 +41,18 @@ macro_rules! known_field {
 #[macro_export]
 macro_rules! read_fields {
     ($row:ty, $alloc:expr, $data:expr => $of:ident;
-        $($name:ident $(of $value:ident)? $(by $item:ty)? $(: $type:ty)?),* $(,)?) => {
-        match $crate::fields::read_fields::<$row, $crate::fields::Names>(
+        $($name:ident $(of $value:ident)? $(by $item:ty)? $(: $type:ty)?),* $(,)?) => {{
+        let row = match $crate::fields::read_fields::<$row, $crate::fields::Names>(
             $alloc,
             $data,
             $crate::fields::Names { list: &[$(concat!(stringify!($of), "::", stringify!($name))),*] },
         ) {
-            Ok(row) => Ok($crate::take_fields!(row; $of {};
-                $($name $(of $value)? $(by $item)? $(: $type)?),*)),
-            Err(error) => Err(error),
-        }
-    };
+            Ok(row) => row,
+            Err(error) => return Err(error),
+        };
+        Ok($crate::take_fields!(row; $of {};
+            $($name $(of $value)? $(by $item)? $(: $type)?),*))
+    }};
 }
 
 /// Moves the fields of a row to those of a struct.
