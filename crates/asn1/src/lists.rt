@@ -1,17 +1,20 @@
 //! SEQUENCE, SEQUENCE OF, SET and SET OF (X.690 8.9 to 8.12, X.680 25 to 28): as they are encoded, as lists of items,
 //! and written by a closure.
 
-ghost use Rattle.std.specs.Prelude.{◌≡◌};
+ghost use Rattle.std.specs.Prelude.{◌≡◌, ◌<◌, ◌^◌, ℕ, List};
 ghost use Rattle.asn1_core.specs.declared.parser.Place.TheVariants.{Index};
 ghost use Rattle.asn1_core.specs.Fault.{within};
+ghost use Rattle.asn1_core.specs.declared.tag.Tag.{Tag};
+ghost use Rattle.asn1_core.specs.Element.{element, element_text};
 ghost use Rattle.asn1.specs.Lists.{AreOctets};
+ghost use Rattle.asn1.specs.MadeLists.{AreContents};
 
 mod sequence;
 mod sequence_of;
 mod sets;
 mod writers;
 
-use asn1_core::{ParseError, ParseLocation};
+use asn1_core::{Asn1Type, ParseError, ParseLocation, ParseResult, strip_tlv};
 pub use sequence::Sequence;
 pub use sequence_of::SequenceOf;
 pub use sets::{Set, SetOf};
@@ -31,4 +34,14 @@ pub(crate) fn are_octets(octets: &[u8])
     ensures { AreOctets octets.now }
 {
     let _count = octets.len();
+}
+
+/// The contents octets of the element that these octets are.
+pub(crate) fn contents_of<'a>(octets: &'a [u8]) -> ParseResult<&'a [u8]>
+    ensures { (tag : Tag) (content : List ℕ) → tag.value < 2 ^ 32
+        → octets.entry.now ≡ element_text (element tag content) → AreContents content result }
+{
+    octets.known();
+    let (tlv, _rest) = strip_tlv(octets)?;
+    Ok(tlv.data())
 }

@@ -108,6 +108,25 @@ fn items_left_are_written(rt: HostRuntime) -> Result<(), Fail> {
     is_written(alloc, &whole, FIVE_AND_SEVEN)
 }
 
+#[test]
+fn lists_are_made_of_items(rt: HostRuntime) -> Result<(), Fail> {
+    let alloc = rt.alloc();
+    let mut store = Vec::new(alloc);
+    let list = SequenceOf::<'_, u64, 2, 3>::of(alloc, &[5, 7], &mut store)??;
+    is_written(alloc, &list, FIVE_AND_SEVEN)?;
+    let read = parse_single::<SequenceOf<'_, u64, 2, 3>>(alloc, FIVE_AND_SEVEN)?;
+    assert!(rt; list == read && list.len() == 2);
+    let few = SequenceOf::<'_, u64, 2, 3>::of(alloc, &[5], &mut store)?;
+    is_refusal(
+        few,
+        ParseErrorKind::InvalidSize {
+            min: 2,
+            max: 3,
+            actual: 1,
+        },
+    )
+}
+
 /// These items remain: 2 and 3.
 fn two_and_three_are_left(list: &mut List<'_, u64>) -> Result<(), Fail> {
     same(list.next().transpose()?, Some(2))?;

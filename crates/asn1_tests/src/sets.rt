@@ -26,6 +26,21 @@ fn sets_have_the_items_left(rt: HostRuntime) -> Result<(), Fail> {
 }
 
 #[test]
+fn sets_are_made_of_items(rt: HostRuntime) -> Result<(), Fail> {
+    let alloc = rt.alloc();
+    let mut store = Vec::new(alloc);
+    let set = SetOf::of(alloc, &[7u64, 5], &mut store)??;
+    is_written(
+        alloc,
+        &set,
+        &[0x31, 0x06, 0x02, 0x01, 0x05, 0x02, 0x01, 0x07],
+    )?;
+    let mut other_store = Vec::new(alloc);
+    let twice = SetOf::of(alloc, &[5u64, 5], &mut other_store)??;
+    is_written(alloc, &twice, FIVE_TWICE)
+}
+
+#[test]
 fn copies_of_sets(rt: HostRuntime) -> Result<(), Fail> {
     let alloc = rt.alloc();
     let mut set = parse_single::<SetOf<'_, u64>>(alloc, FIVE_TWICE)?;

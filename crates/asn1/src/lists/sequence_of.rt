@@ -1,6 +1,6 @@
 //! SEQUENCE OF (X.690 8.10).
 
-ghost use Rattle.std.specs.Prelude.{◌≡◌, ◌↔◌, IsTrue, ◌<◌, ◌≤◌, ◌-◌, ◌==◌, List, ℕ, length, nat_eq, Ok, OnOk, OnErr, IfErr, IsSome, Some};
+ghost use Rattle.std.specs.Prelude.{◌≡◌, ◌↔◌, IsTrue, ◌<◌, ◌≤◌, ◌-◌, ◌==◌, List, ℕ, length, map, nat_eq, Ok, OnOk, OnErr, IfOk, IfErr, IsSome, Some};
 ghost use Rattle.std.specs.Iterator.{at_most};
 ghost use Rattle.std.specs.Hash as fed;
 ghost use Rattle.std.specs.Cmp.{partial_equiv_from_equiv, on_per, on_equiv};
@@ -9,18 +9,18 @@ ghost use Rattle.std.specs.Cmp.Rules.{hashing};
 ghost use Rattle.std.proofs.Common.{rules};
 ghost use Rattle.asn1_core.specs.Buffer.{Appends, KeepsFront};
 ghost use Rattle.asn1_core.specs.Element.{Element, front};
-ghost use Rattle.asn1_core.specs.Reading.{Answers, EndsWith};
+ghost use Rattle.asn1_core.specs.Reading.{Answers, EndsWith, Fits};
 ghost use Rattle.asn1_core.specs.Reads.{ReadsContents};
 ghost use Rattle.asn1_core.specs.Der.{simple_der};
-ghost use Rattle.asn1_core.specs.Listing.{Each, Joins, OneNames, sequence_tag};
+ghost use Rattle.asn1_core.specs.Listing.{AnyNames, Each, Joins, OneNames, joined, sequence_tag};
 ghost use Rattle.asn1_core.specs.Writing.{buffer_name, octets_of, GivesLength, Refuses};
 ghost use Rattle.asn1.specs.Lists.{AreItems, AreOctets, left, item, counted, item_out, items_out, sequence_read, NextItem};
 ghost use Rattle.asn1.specs.ListTypes.{items_inside};
 
-use crate::lists::{are_octets, at_item};
+use crate::lists::{SequenceOfWriter, are_octets, at_item, contents_of};
 use asn1_core::{
     Asn1Readable, Asn1Type, Asn1Writable, ParseError, ParseErrorKind, ParseResult, Parser,
-    SimpleAsn1Readable, SimpleAsn1Writable, Tag, Tlv, WriteBuf, WriteError, Writer,
+    SimpleAsn1Readable, SimpleAsn1Writable, Tag, Tlv, WriteBuf, WriteError, Writer, write_single,
 };
 use std::alloc::{AllocError, Global};
 use std::fmt;
@@ -98,6 +98,67 @@ impl<'a, T: Asn1Readable<'a>, const MINIMUM_LEN: usize, const MAXIMUM_LEN: usize
         ensures { Each T.der.allowed
             (⟦<SequenceOf<'a, T, MINIMUM_LEN, MAXIMUM_LEN> as Asn1Type>⟧.der.meaning self.now) }
     {}
+}
+
+impl<
+    'a,
+    T: Asn1Readable<'a> + Asn1Writable,
+    const MINIMUM_LEN: usize,
+    const MAXIMUM_LEN: usize,
+> SequenceOf<'a, T, MINIMUM_LEN, MAXIMUM_LEN> {
+    /// The list of these items. Its encoding is written into `store`, in place of what is there, and read back; the
+    /// list borrows it from there. So a list that is made is in all a list that is read.
+    ///
+    /// The outer error is that of writing an item: `AllocationError` if out of memory, or one that an item names. The
+    /// inner one is that of reading: `InvalidSize` if the items are fewer or more than the list's bounds allow,
+    /// `AllocationError` if reading an item allocates and memory ran out, `InvalidLength` if the encoding has 2^32
+    /// contents octets or more.
+    ///
+    /// ```text
+    /// let mut store = Vec::new(alloc);
+    /// let list = SequenceOf::<'_, u64, 2, 3>::of(alloc, &[5, 7], &mut store)??;
+    /// is_written(alloc, &list, FIVE_AND_SEVEN)?;
+    /// ```
+    pub fn of(
+        alloc: Global,
+        items: &[T],
+        store: &'a mut Vec<u8>,
+    ) -> Result<ParseResult<Self>, T::Error>
+        // The list is what reading the items' encodings returns, if they are short enough to be read.
+        ensures read { Fits (⟦<SequenceOf<'a, T, MINIMUM_LEN, MAXIMUM_LEN> as Asn1Type>⟧.der.text
+            (map T.der.meaning items.now)) → IfOk result (ReadsContents
+            ⟦<SequenceOf<'a, T, MINIMUM_LEN, MAXIMUM_LEN> as Asn1Type>⟧.der
+            (joined T.der.text (map T.der.meaning items.now))) }
+
+        // The list means the items, in their order.
+        ensures items { T.der.lawful → T.der.is_element
+            → Each T.der.allowed (map T.der.meaning items.now) → IfOk result (λ read. IfOk read
+            (λ list. ⟦<SequenceOf<'a, T, MINIMUM_LEN, MAXIMUM_LEN> as Asn1Type>⟧.der.meaning list
+            ≡ map T.der.meaning items.now)) }
+
+        // There is such a list if the items are as many as it may have, and their encoding is short enough to be read.
+        ensures made { T.der.lawful → T.der.is_element
+            → ⟦<SequenceOf<'a, T, MINIMUM_LEN, MAXIMUM_LEN> as Asn1Type>⟧.der.allowed
+            (map T.der.meaning items.now)
+            → Fits (⟦<SequenceOf<'a, T, MINIMUM_LEN, MAXIMUM_LEN> as Asn1Type>⟧.der.text
+            (map T.der.meaning items.now)) → IfOk result (λ read. Answers
+            ⟦<SequenceOf<'a, T, MINIMUM_LEN, MAXIMUM_LEN> as Asn1Type>⟧.der.meaning
+            (⟦<SequenceOf<'a, T, MINIMUM_LEN, MAXIMUM_LEN> as Asn1Type>⟧.der.content.runs_out
+            (joined T.der.text (map T.der.meaning items.now))) read
+            (Ok (map T.der.meaning items.now))) }
+        ensures error { IfErr result (Refuses T.Error.from_gives
+            (AnyNames T.write_errors items.now)) }
+    {
+        // By this call's contract each item has one encoding.
+        let _accepted = T::can_parse(Tag::constructed(0x10));
+        let list = SequenceOfWriter::new(items);
+        list.known();
+        *store = write_single(alloc, &list)?;
+        match contents_of(store.as_slice()) {
+            Ok(contents) => Ok(<Self as SimpleAsn1Readable<'a>>::parse_data(alloc, contents)),
+            Err(error) => Ok(Err(error)),
+        }
+    }
 }
 
 impl<'a, T: Asn1Type, const MINIMUM_LEN: usize, const MAXIMUM_LEN: usize> Clone

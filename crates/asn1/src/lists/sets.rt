@@ -1,7 +1,7 @@
 //! SET and SET OF (X.690 8.11, 8.12): SET as it is encoded, its elements in the order of their tags (10.3), and SET OF
 //! as an iterator, its items in the order of their encodings (11.6).
 
-ghost use Rattle.std.specs.Prelude.{◌≡◌, ◌↔◌, ◌<◌, IsTrue, List, ℕ, [], length, Result, Some, OnOk, OnErr, IfErr, IsSome, nat_eq};
+ghost use Rattle.std.specs.Prelude.{◌≡◌, ◌↔◌, ◌<◌, IsTrue, List, ℕ, [], length, map, Ok, Result, Some, OnOk, OnErr, IfOk, IfErr, IsSome, nat_eq};
 ghost use Rattle.std.specs.Fn.{FnOnceReturnsAtMut};
 ghost use Rattle.std.specs.Iterator.{at_most};
 ghost use Rattle.std.specs.Hash as fed;
@@ -10,22 +10,23 @@ ghost use Rattle.std.specs.Cmp.Lexicographic.{pointwise, nat_list_eq_equiv};
 ghost use Rattle.std.specs.Cmp.Rules.{hashing};
 ghost use Rattle.std.proofs.Common.{rules};
 ghost use Rattle.asn1_core.specs.Buffer.{Appends, KeepsFront};
-ghost use Rattle.asn1_core.specs.Listing.{text_less, Each, Joins, OneNames, set_tag};
+ghost use Rattle.asn1_core.specs.Listing.{text_less, AnyNames, Each, Joins, OneNames, joined, set_tag};
 ghost use Rattle.asn1_core.specs.Tag.{tag_less};
 ghost use Rattle.asn1_core.specs.Tlv.{element_of};
-ghost use Rattle.asn1_core.specs.Reading.{Answers, EndsWith, IsHandedOn, element_front};
+ghost use Rattle.asn1_core.specs.Reading.{Answers, EndsWith, Fits, IsHandedOn, element_front};
 ghost use Rattle.asn1_core.specs.Reads.{ReadsContents};
 ghost use Rattle.asn1_core.specs.Der.{simple_der};
 ghost use Rattle.asn1_core.specs.Writing.{buffer_name, octets_of, GivesLength, Refuses};
 ghost use Rattle.asn1.specs.Lists.{AreOctets, NextItem};
 ghost use Rattle.asn1.specs.Sets.{AreOrdered, set_left, set_item, checked, set_item_out, set_out, first_out, set_read, set_octets, element_behind};
 ghost use Rattle.asn1.specs.SetTypes.{set_inside, set_content};
+ghost use Rattle.asn1.specs.MadeLists.{in_order};
 
-use crate::lists::{are_octets, at_item};
+use crate::lists::{are_octets, at_item, contents_of};
 use asn1_core::{
     Asn1Readable, Asn1Type, Asn1Writable, ParseError, ParseErrorKind, ParseResult, Parser,
-    SimpleAsn1Readable, SimpleAsn1Writable, Tag, Tlv, WriteBuf, WriteError, WriteResult, Writer,
-    parse,
+    SetOfWriter, SimpleAsn1Readable, SimpleAsn1Writable, Tag, Tlv, WriteBuf, WriteError,
+    WriteResult, Writer, parse, write_single,
 };
 use std::alloc::{AllocError, Global};
 use std::fmt;
@@ -261,6 +262,59 @@ impl<'a, T: Asn1Readable<'a>> SetOf<'a, T> {
     pub fn known_items(&self)
         ensures { Each T.der.allowed (⟦<SetOf<'a, T> as Asn1Type>⟧.der.meaning self.now) }
     {}
+}
+
+impl<'a, T: Asn1Readable<'a> + Asn1Writable> SetOf<'a, T> {
+    /// The set of these items, which may come in any order. Its encoding is written into `store`, in place of what is
+    /// there, and read back; the set borrows it from there. It has the items in ascending order of their encodings,
+    /// equal ones as often as the slice has them.
+    ///
+    /// Errors are those of [`SequenceOf::of`]. A set has no bounds.
+    ///
+    /// ```text
+    /// let mut store = Vec::new(alloc);
+    /// let set = SetOf::of(alloc, &[7u64, 5], &mut store)??;
+    /// is_written(alloc, &set, &[0x31, 0x06, 0x02, 0x01, 0x05, 0x02, 0x01, 0x07])?;
+    /// ```
+    pub fn of(
+        alloc: Global,
+        items: &[T],
+        store: &'a mut Vec<u8>,
+    ) -> Result<ParseResult<Self>, T::Error>
+        // The set is what reading the items' encodings in order returns, if they are short enough to be read.
+        ensures read { Fits (⟦<SetOf<'a, T> as Asn1Type>⟧.der.text
+            (in_order T.der.text (map T.der.meaning items.now)))
+            → IfOk result (ReadsContents ⟦<SetOf<'a, T> as Asn1Type>⟧.der
+            (joined T.der.text (in_order T.der.text (map T.der.meaning items.now)))) }
+
+        // The set means the items, in ascending order of their encodings.
+        ensures items { T.der.lawful → T.der.is_element
+            → Each T.der.allowed (map T.der.meaning items.now) → IfOk result (λ read. IfOk read
+            (λ set. ⟦<SetOf<'a, T> as Asn1Type>⟧.der.meaning set
+            ≡ in_order T.der.text (map T.der.meaning items.now))) }
+
+        // There is such a set if the items' encodings are short enough to be read.
+        ensures made { T.der.lawful → T.der.is_element
+            → Each T.der.allowed (map T.der.meaning items.now)
+            → Fits (⟦<SetOf<'a, T> as Asn1Type>⟧.der.text
+            (in_order T.der.text (map T.der.meaning items.now))) → IfOk result (λ read. Answers
+            ⟦<SetOf<'a, T> as Asn1Type>⟧.der.meaning
+            (⟦<SetOf<'a, T> as Asn1Type>⟧.der.content.runs_out
+            (joined T.der.text (in_order T.der.text (map T.der.meaning items.now)))) read
+            (Ok (in_order T.der.text (map T.der.meaning items.now)))) }
+        ensures error { IfErr result (Refuses T.Error.from_gives
+            (AnyNames T.write_errors items.now)) }
+    {
+        // By this call's contract each item has one encoding.
+        let _accepted = T::can_parse(Tag::constructed(0x11));
+        let set = SetOfWriter::new(items);
+        set.known();
+        *store = write_single(alloc, &set)?;
+        match contents_of(store.as_slice()) {
+            Ok(contents) => Ok(<Self as SimpleAsn1Readable<'a>>::parse_data(alloc, contents)),
+            Err(error) => Ok(Err(error)),
+        }
+    }
 }
 
 impl<'a, T: Asn1Type> Clone for SetOf<'a, T> {
