@@ -350,7 +350,8 @@ LIBRARY = {
         (COPY, "n", "4 [u8; N]"),
         (ALL, "", "2 OwnedBigInt, 2 OwnedBigUint, 3 OwnedBitString, 6 ObjectIdentifier"),
         (ALL, "", "23 UtcTime, 24 GeneralizedTime, 24 X509GeneralizedTime"),
-        (ALL, "'", "3 BitString, 12 Utf8String, 17 Set, 19 PrintableString, 28 UniversalString, 30 BMPString"),
+        (ALL, "'", "3 BitString, 12 Utf8String, 17 Set, 28 UniversalString, 30 BMPString"),
+        (ALL, "'", "18 NumericString, 19 PrintableString"),
         (ALL - {"Hash"}, "'", "22 IA5String, 26 VisibleString"),
         (frozenset({"Debug", "PartialEq", "Eq"}), "", "10 Enumerated"),
     )

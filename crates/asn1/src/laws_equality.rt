@@ -5,11 +5,13 @@ ghost use Rattle.asn1_core.specs.Fault.{place_of};
 ghost use Rattle.asn1_core.specs.Tlv.{element_of};
 ghost use Rattle.asn1_values.specs.Comparisons.{ClonesAreEqual, HashesAlike, IsEqualityOf, NeverFails};
 ghost use Rattle.asn1.specs.InHand.{octets_of_set, sequence_octets};
+ghost use Rattle.asn1.specs.NumericValues.{numeric_octets};
 
 use crate::{
     Choice1, Choice2, Choice3, DefaultValue, Defaulted, DefinedByMarker, ErrorInto, Explicit,
-    Implicit, MeaningEq, OctetStringEncoded, ParseErrorKind, ParseLocation, Sequence, SequenceOf,
-    SequenceOfWriter, Set, SetOf, SetOfWriter, Tag, TagClass, Tlv, WriteError,
+    Implicit, MeaningEq, NumericString, OctetStringEncoded, ParseErrorKind, ParseLocation,
+    Sequence, SequenceOf, SequenceOfWriter, Set, SetOf, SetOfWriter, Tag, TagClass, Tlv,
+    WriteError,
 };
 use asn1_core::Asn1Type;
 use std::hash::Hash;
@@ -60,6 +62,16 @@ pub fn sets_compare<'a, T: Asn1Type + 'a>()
     ensures infallible { NeverFails ⟦<SetOf<'a, T> as Clone>⟧.is_infallible }
     ensures clone { ClonesAreEqual ⟦<SetOf<'a, T> as Clone>⟧.is_clone
         ⟦<SetOf<'a, T> as PartialEq>⟧.eq }
+{}
+
+/// Two `NumericString`s are equal exactly if their octets are the same, and then have the same hash. A clone never
+/// fails, and equals its source.
+pub fn numeric_strings_compare()
+    ensures equality { IsEqualityOf numeric_octets ⟦<NumericString<'static> as PartialEq>⟧.eq }
+    ensures hash { HashesAlike numeric_octets ⟦<NumericString<'static> as Hash>⟧.hash_input }
+    ensures clone { ClonesAreEqual ⟦<NumericString<'static> as Clone>⟧.is_clone
+        ⟦<NumericString<'static> as PartialEq>⟧.eq }
+    ensures infallible { NeverFails ⟦<NumericString<'static> as Clone>⟧.is_infallible }
 {}
 
 /// If the equality of a type compares what values mean, so does the equality of its wrappers.

@@ -11,6 +11,7 @@ ghost use Rattle.asn1.specs.Comparisons.{ClonesAreEqual, HashesAlike, IsEquality
 ghost use Rattle.asn1.specs.Alternatives.{Disjoint};
 ghost use Rattle.asn1.specs.Sets.{set_read};
 ghost use Rattle.asn1.specs.InHand.{octets_of_set, sequence_octets};
+ghost use Rattle.asn1.specs.NumericValues.{numeric_octets};
 ghost use Rattle.asn1.specs.TypeLaws.{IsListingOf};
 ghost use Rattle.asn1.specs.Structures.{structure, IsReadAs, IsWrittenAs};
 
@@ -23,8 +24,9 @@ use asn1::laws::{equal_items, equal_multisets, sets_read_listings};
 use asn1::laws_equality::{
     choices_are_cloned, choices_compare, choices_hash, contents_compare, defaults_compare,
     elements_compare, error_into_compares, error_into_hashes, error_into_is_cloned, errors_compare,
-    lists_compare, markers_compare, sets_compare, slices_are_cloned, slices_compare, slices_hash,
-    tags_compare, wrappers_are_cloned, wrappers_compare, wrappers_hash,
+    lists_compare, markers_compare, numeric_strings_compare, sets_compare, slices_are_cloned,
+    slices_compare, slices_hash, tags_compare, wrappers_are_cloned, wrappers_compare,
+    wrappers_hash,
 };
 use asn1::laws_types::{
     choices_inherit, defaults_inherit, elements_are_sound, error_into_inherits, lists_are_lawful,
@@ -40,8 +42,9 @@ use asn1::laws_wrappers::{
 use asn1::{
     Asn1DefinedBy, Asn1DefinedByReadable, Asn1DefinedByWritable, Asn1Readable, Asn1Type,
     Asn1Writable, Choice2, DefaultValue, Defaulted, DefinedByMarker, ErrorInto, Explicit, Implicit,
-    MeaningEq, OwnedBigInt, ParseErrorKind, ParseLocation, Sequence, SequenceOf, SequenceOfWriter,
-    Set, SetOf, SetOfWriter, SimpleAsn1Writable, SimpleMeaningEq, Tag, Tlv, WriteError,
+    MeaningEq, NumericString, OwnedBigInt, ParseErrorKind, ParseLocation, Sequence, SequenceOf,
+    SequenceOfWriter, Set, SetOf, SetOfWriter, SimpleAsn1Writable, SimpleMeaningEq, Tag, Tlv,
+    WriteError,
 };
 use std::hash::Hash;
 use std::test::Fail;
@@ -328,7 +331,9 @@ pub fn other_equalities<T: MeaningEq + PartialEq + Hash, D: DefaultValue<T>, E>(
     ensures element { IsEqualityOf element_of ⟦<Tlv<'static> as PartialEq>⟧.eq }
     ensures sequence { IsEqualityOf sequence_octets ⟦<Sequence<'static> as PartialEq>⟧.eq }
     ensures set { IsEqualityOf octets_of_set ⟦<Set<'static> as PartialEq>⟧.eq }
+    ensures numeric { IsEqualityOf numeric_octets ⟦<NumericString<'static> as PartialEq>⟧.eq }
 {
+    numeric_strings_compare();
     defaults_compare::<T, D>();
     error_into_compares::<T, E>();
     elements_compare();

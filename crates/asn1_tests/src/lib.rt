@@ -28,6 +28,8 @@ mod memory;
 #[cfg(test)]
 mod nested;
 #[cfg(test)]
+mod numeric;
+#[cfg(test)]
 mod page;
 #[cfg(test)]
 mod readme;
