@@ -80,6 +80,10 @@ ReadsAlternative list e result = Answers list.meaning (list.all.runs_out e) resu
 abbrev pub IsAlternative : {V : Type 0} → AlternativeList V → V → Element → Type 0
 IsAlternative list v e = (element_text e ≡ list.all.text (list.meaning v)) × (list.all.valid (list.meaning v) × list.all.allowed (list.meaning v))
 
+-- Each value of the list has one encoding, which is read back.
+abbrev pub EachHasOneEncoding : {V : Type 0} → AlternativeList V → Type 0
+EachHasOneEncoding list = list.all.lawful × list.all.plain × list.all.is_read
+
 -- ---- choices
 
 -- A choice of the alternatives of a list. Each value is seen as one of these.

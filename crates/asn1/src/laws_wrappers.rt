@@ -2,12 +2,15 @@
 
 ghost use Rattle.std.specs.Borrow.{Bor};
 ghost use Rattle.asn1_core.specs.Options.{option_meaning};
+ghost use Rattle.asn1_core.specs.Reads.{HasOneEncoding};
 ghost use Rattle.asn1.specs.declared.fields.Field.{Field};
 ghost use Rattle.asn1.specs.declared.fields.Last.{Last};
+ghost use Rattle.asn1.specs.AlternativeLists.{choice, EachHasOneEncoding};
 ghost use Rattle.asn1.specs.Alternatives.{Disjoint};
 ghost use Rattle.asn1.specs.Structures.{defaulted, explicit, implicit, IsEncoded, IsPlainBehind, IsReadAs};
 ghost use Rattle.asn1.specs.Structures.{IsReadBehind, IsWrittenAs};
 
+use crate::alternatives::{Alternatives, AsOneOf, NoOther, OneOf};
 use crate::fields::{
     Before, DefinedField, Field, FieldWritable, Item, ItemOf, Last, LastValue, NoFields, Plain,
     Row, RowBehind, RowBehindReadable, RowReadable, RowWritable, Value, ValueOf,
@@ -60,6 +63,22 @@ pub fn choices_are_lawful<T1: Asn1Type, T2: Asn1Type, T3: Asn1Type>()
     ensures choice3 { T1.der.lawful → T1.der.is_element → ⟦<Choice2<T2, T3> as Asn1Type>⟧.der.lawful
         → Disjoint T1.der.accepts T2.der.accepts → Disjoint T1.der.accepts T3.der.accepts
         → ⟦<Choice3<T1, T2, T3> as Asn1Type>⟧.der.lawful }
+{}
+
+/// Each value of a list of alternatives has one encoding if it is so of the first alternative, which has to be an
+/// element, and of the others, and if no tag is accepted by the first and by one of the others. So the law holds of
+/// lists of any length.
+pub fn alternatives_are_lawful<A: Asn1Type, R: Alternatives>()
+    ensures none { EachHasOneEncoding ⟦<NoOther as Alternatives>⟧.list }
+    ensures first { HasOneEncoding A.der → A.der.is_element → EachHasOneEncoding R.list
+        → Disjoint A.der.accepts R.list.all.accepts
+        → EachHasOneEncoding ⟦<OneOf<A, R> as Alternatives>⟧.list }
+{}
+
+/// So has a choice of one's own, whose values are seen as those of such a list; and it is an element.
+pub fn choices_of_alternatives_are_lawful<R: Alternatives, C: AsOneOf<R>>()
+    ensures one { EachHasOneEncoding R.list → HasOneEncoding (choice C.seen R.list) }
+    ensures element { (choice C.seen R.list).is_element }
 {}
 
 /// The wrappers other than options are elements: they may be the part of an option or an alternative of a choice.

@@ -2,6 +2,8 @@
 #![tactic(auto)]
 
 #[cfg(test)]
+mod alternatives;
+#[cfg(test)]
 mod application;
 #[cfg(test)]
 mod callers;
