@@ -12,6 +12,8 @@ mod changed;
 #[cfg(test)]
 mod defaults;
 #[cfg(test)]
+mod error_octets;
+#[cfg(test)]
 mod examples;
 #[cfg(test)]
 mod headline;

@@ -1,0 +1,422 @@
+//! At which octet of the input an error is.
+//!
+//! An error keeps no octet, so that reading doesn't compute any. It is found afterwards: by reading copies of the input
+//! in which the octets from some place on are replaced. As long as these decide the error, it changes.
+
+ghost use Rattle.std.specs.Prelude.{◌≡◌, ℕ, Option, Some, true, false, IfSome, IsTrue};
+ghost use Rattle.std.specs.Fn.{FnReturnsAt};
+ghost use Rattle.asn1_core.specs.Fault.{Fault};
+ghost use Rattle.asn1.specs.ErrorOctets.{Decide, IsElement, IsErrorOctet, IsWrongElement, IsWrongHeader};
+ghost use Rattle.asn1.specs.ErrorOctets.{LeaveOpen, kept, replacement, takes_tag, with_tag};
+
+use asn1_core::{ParseError, ParseErrorKind, Tag, strip_tlv};
+
+/// An element of the input: where its parts begin and where it ends, in octets counted from 0.
+#[derive(Clone, Copy, Drop)]
+struct Frame {
+    start: usize,
+    length: usize,
+    contents: usize,
+    end: usize,
+    is_constructed: bool,
+}
+
+/// An input, what rejects it, and the error.
+#[derive(Drop)]
+struct Rejected<'a, F> {
+    octets: &'a [u8],
+    rejects: &'a F,
+    error: ParseError,
+}
+
+/// The element that begins at `start`, if it ends at `limit` or before.
+fn frame_at(octets: &[u8], start: usize, limit: usize) -> Option<Frame> {
+    let there = octets.get(start..limit)?;
+    let (element, rest) = strip_tlv(there).ok()?;
+    let (tag, behind) = Tag::from_bytes(there).ok()?;
+    let end = limit.saturating_sub(rest.len());
+    Some(Frame {
+        start,
+        length: limit.saturating_sub(behind.len()),
+        contents: end.saturating_sub(element.data().len()),
+        end,
+        is_constructed: tag.is_constructed(),
+    })
+}
+
+/// The first of the elements from `start` to `limit` that ends behind this octet; or where one begins that is none.
+fn element_behind(octets: &[u8], start: usize, limit: usize, octet: usize) -> Result<Frame, usize> {
+    let mut start = start;
+    for _ in start..limit {
+        match frame_at(octets, start, limit) {
+            Some(frame) if octet < frame.end => return Ok(frame),
+            Some(frame) => start = frame.end,
+            None => break,
+        }
+    }
+    Err(start)
+}
+
+/// Where the element that begins at `start` ends.
+fn element_end(octets: &[u8], start: usize) -> Option<usize>
+    ensures { IfSome result (IsElement octets.now start) }
+{
+    if start > octets.len() {
+        return None;
+    }
+    let (_before, there) = octets.split_at(start);
+    match strip_tlv(there) {
+        Ok((_element, rest)) => Some(octets.len().saturating_sub(rest.len())),
+        Err(_) => None,
+    }
+}
+
+/// What is around an octet.
+#[derive(Drop)]
+struct Around {
+    /// The innermost element.
+    innermost: Option<Frame>,
+    /// The innermost that is read at the location of the error.
+    read_there: Option<Frame>,
+    /// Where what is around ends.
+    limit: usize,
+    /// Where an element begins that is broken off.
+    broken: Option<usize>,
+}
+
+/// A copy in `scratch`, in which the first octets are kept and each other is replaced. `None` if there is no room for
+/// it.
+fn kept_in<'a>(
+    scratch: &'a mut [u8],
+    octets: &[u8],
+    count: usize,
+    other: u8,
+) -> Option<&'a mut [u8]>
+    ensures { IfSome result (λ copy. copy.now ≡ kept count other octets.now) }
+{
+    let copy = scratch.get_mut(..octets.len())?;
+    let count = count.min(copy.len());
+    let (first, others) = copy.split_at_mut(count);
+    first.copy_from_slice(&octets[..count]);
+    others.fill(other);
+    Some(copy)
+}
+
+/// A copy in `scratch` of the octets up to `end`, in which one is the identifier octet of this tag. `None` if there is
+/// no room for it, or if the tag has several octets.
+fn with_tag_in<'a>(
+    scratch: &'a mut [u8],
+    octets: &[u8],
+    octet: usize,
+    end: usize,
+    tag: Tag,
+) -> Option<&'a mut [u8]>
+    ensures { IfSome result (λ copy. copy.now ≡ with_tag octet end tag octets.now) }
+{
+    let identifier = tag.as_u8()?;
+    let copy = kept_in(scratch, octets, end, 0)?;
+    if octet >= copy.len() {
+        return None;
+    }
+    copy[octet] = identifier;
+    Some(copy)
+}
+
+/// What replaces octets to find an error of this kind.
+fn replacement(kind: ParseErrorKind) -> u8
+    ensures { result ≡ replacement kind }
+{
+    match kind {
+        ParseErrorKind::InvalidTag | ParseErrorKind::InvalidLength => 0x7f,
+        ParseErrorKind::ShortData { .. } => 0x00,
+        _ => 0xff,
+    }
+}
+
+impl<F: Fn(&[u8]) -> Option<ParseError>> Rejected<'_, F> {
+    /// The error of a copy, in `scratch`, in which only the first octets are kept. `None` if there is no room for it.
+    fn error_of(&self, count: usize, other: u8, scratch: &mut [u8]) -> Option<Option<ParseError>>
+        requires { F.IsAlwaysCallable self.now.rejects.now }
+        ensures { IfSome result (FnReturnsAt F.Fn self.now.rejects.now
+            (kept count other self.now.octets.now)) }
+    {
+        let copy = kept_in(scratch, self.octets, count, other)?;
+        Some((self.rejects)(copy))
+    }
+
+    /// Whether the first octets decide the error. `None` if there is no room for a copy.
+    fn is_same(&self, count: usize, scratch: &mut [u8]) -> Option<bool>
+        requires { F.IsAlwaysCallable self.now.rejects.now }
+        ensures yes { result ≡ Some true → Decide (FnReturnsAt F.Fn self.now.rejects.now)
+            self.now.octets.now self.now.error count }
+        ensures no { result ≡ Some false → LeaveOpen (FnReturnsAt F.Fn self.now.rejects.now)
+            self.now.octets.now self.now.error count }
+    {
+        let other = replacement(self.error.kind());
+        match self.error_of(count, other, scratch)? {
+            Some(error) => Some(error == self.error),
+            None => Some(false),
+        }
+    }
+
+    /// Whether the element at this octet is the one at which the input is rejected.
+    fn is_at_element(&self, octet: usize, scratch: &mut [u8]) -> bool
+        requires { F.IsAlwaysCallable self.now.rejects.now }
+        ensures { IsTrue result → IsWrongElement (FnReturnsAt F.Fn self.now.rejects.now)
+            self.now.octets.now self.now.error octet }
+    {
+        match element_end(self.octets, octet) {
+            Some(end) => {
+                self.is_same(octet, scratch) == Some(false)
+                    && self.is_same(end, scratch) == Some(true)
+            }
+            None => false,
+        }
+    }
+
+    /// Whether the header at this octet is the one for which the input is rejected.
+    fn is_at_header(&self, octet: usize, scratch: &mut [u8]) -> bool
+        requires { F.IsAlwaysCallable self.now.rejects.now }
+        ensures { IsTrue result → IsWrongHeader (FnReturnsAt F.Fn self.now.rejects.now)
+            self.now.octets.now self.now.error octet }
+    {
+        if octet > self.octets.len() {
+            return false;
+        }
+        match strip_tlv(&self.octets[octet..]) {
+            Ok(_) => false,
+            Err(error) => {
+                error == ParseError::new(self.error.kind())
+                    && self.is_same(octet, scratch) == Some(false)
+            }
+        }
+    }
+
+    /// Whether the error is at this octet.
+    fn is_at(&self, octet: usize, scratch: &mut [u8]) -> bool
+        requires { F.IsAlwaysCallable self.now.rejects.now }
+        ensures { IsTrue result → IsErrorOctet (FnReturnsAt F.Fn self.now.rejects.now)
+            self.now.octets.now self.now.error octet }
+    {
+        match self.error.kind() {
+            ParseErrorKind::ShortData { .. } | ParseErrorKind::ExtraData => {
+                octet <= self.octets.len() && self.is_same(octet, scratch) == Some(true)
+            }
+            ParseErrorKind::InvalidTag | ParseErrorKind::InvalidLength => {
+                self.is_at_header(octet, scratch)
+            }
+            _ => self.is_at_element(octet, scratch),
+        }
+    }
+
+    /// Whether the element is read at the location of the error, as a wrong length of it shows.
+    fn is_read_there(&self, frame: &Frame, scratch: &mut [u8]) -> bool
+        requires { F.IsAlwaysCallable self.now.rejects.now }
+    {
+        match self.error_of(frame.length, 0xff, scratch) {
+            Some(Some(error)) => {
+                error.kind() == ParseErrorKind::InvalidLength
+                    && error.places() == self.error.places()
+            }
+            _ => false,
+        }
+    }
+
+    /// How many octets decide the error, if one less leaves it open; at least `low`.
+    fn deciding(&self, low: usize, scratch: &mut [u8]) -> usize
+        requires { F.IsAlwaysCallable self.now.rejects.now }
+    {
+        let (mut low, mut high) = (low, self.octets.len());
+        // Each turn halves what is between.
+        for _ in 0..usize::BITS {
+            let middle = low.saturating_add(high.saturating_sub(low) / 2);
+            if low >= high {
+                break;
+            }
+            if self.is_same(middle, scratch) == Some(true) {
+                high = middle;
+            } else {
+                low = middle.saturating_add(1);
+            }
+        }
+        high
+    }
+
+    /// The elements around an octet.
+    fn around(&self, octet: usize, scratch: &mut [u8]) -> Around
+        requires { F.IsAlwaysCallable self.now.rejects.now }
+    {
+        let mut found = Around {
+            innermost: None,
+            read_there: None,
+            limit: self.octets.len(),
+            broken: None,
+        };
+        let mut start = 0;
+        for _ in 0..self.octets.len() {
+            let frame = match element_behind(self.octets, start, found.limit, octet) {
+                Ok(frame) => frame,
+                Err(broken) => {
+                    found.broken = Some(broken);
+                    break;
+                }
+            };
+            found.innermost = Some(frame);
+            if self.is_read_there(&frame, scratch) {
+                found.read_there = Some(frame);
+            }
+            let is_empty = frame.contents == frame.end;
+            if !frame.is_constructed || (octet < frame.contents && !is_empty) {
+                break;
+            }
+            start = frame.contents;
+            found.limit = frame.end;
+            if is_empty {
+                break;
+            }
+        }
+        found
+    }
+
+    /// Where the first element begins within this one that isn't read, or else where this one ends.
+    fn unread_in(&self, frame: Frame, deciding: usize, scratch: &mut [u8]) -> usize
+        requires { F.IsAlwaysCallable self.now.rejects.now }
+    {
+        if !frame.is_constructed {
+            return frame.end;
+        }
+        let mut start = frame.contents;
+        for _ in frame.contents..frame.end {
+            let Some(inner) = frame_at(self.octets, start, frame.end) else {
+                return start;
+            };
+            if inner.length >= deciding && self.is_same(inner.length, scratch) == Some(true) {
+                return start;
+            }
+            start = inner.end;
+        }
+        frame.end
+    }
+
+    /// Where the error is, if what is read is read in the order of the input.
+    fn octet(&self, scratch: &mut [u8]) -> Option<usize>
+        requires { F.IsAlwaysCallable self.now.rejects.now }
+    {
+        let deciding = self.deciding(0, scratch);
+        let around = self.around(deciding.saturating_sub(1), scratch);
+        let wrong = around.read_there.or(around.innermost);
+        match self.error.kind() {
+            ParseErrorKind::AllocationError => None,
+            ParseErrorKind::ShortData { .. } => Some(around.limit),
+            ParseErrorKind::ExtraData => Some(self.unread_in(wrong?, deciding, scratch)),
+            ParseErrorKind::InvalidTag | ParseErrorKind::InvalidLength => match around.broken {
+                Some(broken) => Some(broken),
+                None => {
+                    let deciding = self.deciding(around.innermost?.contents, scratch);
+                    self.around(deciding.saturating_sub(1), scratch).broken
+                }
+            },
+            _ => Some(wrong?.start),
+        }
+    }
+}
+
+/// The octet, counted from 0, at which `data` is rejected: as `openssl asn1parse` counts.
+///
+/// - For most kinds of errors the element is wrong that begins there: its tag, its contents octets, its count of items,
+///   its place in a set, or that it is there though it equals its default.
+/// - For `InvalidTag` and `InvalidLength` its identifier or length octets are.
+/// - For `ShortData` octets are missing there: it is the end of the element around them, or of the input.
+/// - For `ExtraData` the octets from there on are left over.
+///
+/// `rejects` reads octets, and returns the error. It is called once for each time that the count of octets can be
+/// halved, and once for each element around the error, each time with a copy of the input in `scratch`. The caller has
+/// to prove that `rejects` may always be called (`requires`).
+///
+/// `None` if `data` isn't rejected, if memory ran out, or if `scratch` is shorter than `data`; or if the copies show no
+/// such octet, as may be if a type of one's own rejects contents octets for some others.
+///
+/// ```text
+/// let octet = error_octet(octets, scratch.as_mut_slice(), |octets: &[u8]| {
+///     parse_single::<bool>(alloc, octets).err()
+/// });
+/// ```
+pub fn error_octet<F: Fn(&[u8]) -> Option<ParseError>>(
+    data: &[u8],
+    scratch: &mut [u8],
+    rejects: F,
+) -> Option<usize>
+    requires { F.IsAlwaysCallable rejects }
+    ensures { IfSome result (λ octet. (error : Fault)
+        × FnReturnsAt F.Fn rejects «data».now (Some error)
+        × IsErrorOctet (FnReturnsAt F.Fn rejects) «data».now error octet) }
+{
+    let error = rejects(data)?;
+    let rejected = Rejected {
+        octets: data,
+        rejects: &rejects,
+        error,
+    };
+    let octet = rejected.octet(scratch)?;
+    if rejected.is_at(octet, scratch) {
+        Some(octet)
+    } else {
+        None
+    }
+}
+
+/// Whether an input with this tag, which is rejected so, or isn't rejected, may have the tag.
+fn takes_tag(tag: Tag, error: &ParseError, other: Option<ParseError>) -> bool
+    ensures { result ≡ takes_tag tag error.now other }
+{
+    let Some(other) = other else {
+        return true;
+    };
+    match other.kind() {
+        ParseErrorKind::UnexpectedTag { actual } => {
+            !(actual == tag && other.places() == error.places())
+        }
+        ParseErrorKind::InvalidSetOrdering => false,
+        _ => true,
+    }
+}
+
+/// Whether an element with this tag may begin at `octet` of `data`, which is rejected with `error` since one with
+/// another tag does.
+///
+/// `rejects` reads octets, and returns the error. It is called once, with a copy of `data` in `scratch` in which the
+/// element has the tag, and zeros follow it. A tag that is out of order in a set isn't expected there.
+///
+/// `None` if `data` ends before `octet`, if the tag has a number from 31 on, or if `scratch` is shorter than `data`.
+///
+/// ```text
+/// let is_expected = expects_tag(
+///     octets,
+///     &error,
+///     octet,
+///     tag,
+///     scratch.as_mut_slice(),
+///     |octets: &[u8]| { parse_single::<Holder<'_>>(alloc, octets).err() },
+/// );
+/// ```
+pub fn expects_tag<F: Fn(&[u8]) -> Option<ParseError>>(
+    data: &[u8],
+    error: &ParseError,
+    octet: usize,
+    tag: Tag,
+    scratch: &mut [u8],
+    rejects: F,
+) -> Option<bool>
+    requires { F.IsAlwaysCallable rejects }
+    ensures { IfSome result (λ yes. (end : ℕ) × (other : Option Fault)
+        × FnReturnsAt F.Fn rejects (with_tag octet end tag «data».now) other
+        × (yes ≡ takes_tag tag error.now other)) }
+{
+    // Of an element whose tag has several octets none is kept.
+    let end = match data.get(octet)? & 0x1f {
+        0x1f => octet,
+        _ => element_end(data, octet).unwrap_or(octet),
+    };
+    let copy = with_tag_in(scratch, data, octet, end, tag)?;
+    Some(takes_tag(tag, error, rejects(copy)))
+}
