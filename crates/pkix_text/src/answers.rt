@@ -6,6 +6,7 @@ ghost use Rattle.pkix_text.specs.declared.answers.Fault.TheVariants.{Memory};
 ghost use Rattle.pkix_text.specs.declared.kinds.Kind.TheVariants as kinds;
 
 use crate::errors::{UNIVERSAL, in_words};
+use crate::forms::{BEGINNINGS, around, identifiers, other_document};
 use crate::kinds::Kind;
 use crate::pem::{Object, PemError, objects};
 use crate::show::{Page, Show, escaped, lines_of};
@@ -59,8 +60,10 @@ impl From<AllocError> for Fault {
 pub enum Refusal {
     /// No kind was named, and the object is of none.
     NoKind,
-    /// No kind was named, and the object has the form of several.
+    /// No kind was named, and the object has the form of several: it is two integers.
     SeveralKinds,
+    /// It is two integers, the second of which is even, and so is no exponent of an RSA key.
+    EvenExponent,
     /// Its label is of another kind, or of none that is known.
     Label(String),
     /// It is an encrypted key.
@@ -79,12 +82,19 @@ impl fmt::Display for Refusal {
     fn fmt<W: fmt::Write>(&self, f: &mut fmt::Formatter<W>) -> fmt::Result {
         match self {
             Refusal::NoKind => write!(f, "this has the form of none of {}", Kind::NAMES),
-            Refusal::SeveralKinds => f.write_str("several kinds have this form: name one"),
+            Refusal::SeveralKinds => {
+                f.write_str("two integers are a key, a signature or parameters: name the kind")
+            }
+            Refusal::EvenExponent => {
+                f.write_str(
+                    "two integers, the second of which is even: no RSA key has such an exponent",
+                )
+            }
             Refusal::Label(label) => write!(f, "the label {label} is of another kind, or of none"),
             Refusal::Encrypted => f.write_str("an encrypted key; `openssl pkey` decrypts it"),
             Refusal::Pem(error) => write!(f, "{error}"),
             Refusal::Empty => f.write_str("the input has no octets"),
-            Refusal::Der(error) => write!(f, "{error}"),
+            Refusal::Der(error) => write!(f, "this isn't DER: {error}"),
             Refusal::Told(words) => f.write_str(words.as_str()),
         }
     }
@@ -148,6 +158,8 @@ struct Start {
     has_more: bool,
     /// Whether the first is the algorithm of an encrypted key.
     is_encrypted: bool,
+    /// Whether the last octet of the second is an even number.
+    is_even: bool,
 }
 
 /// How the algorithms of encrypted keys begin: those of RFC 8018 and of RFC 7292, appendix C.
@@ -160,15 +172,16 @@ const ENCRYPTIONS: [&[u8]; 2] = [
 fn start_of(octets: &[u8]) -> Option<Start> {
     let (whole, _) = strip_tlv(octets).ok()?;
     let (first, after) = strip_tlv(whole.data()).ok()?;
-    let (second, after) = match strip_tlv(after) {
-        Ok((second, after)) => (Some(second.tag()), after),
-        Err(_) => (None, after),
+    let (second, after, last) = match strip_tlv(after) {
+        Ok((second, after)) => (Some(second.tag()), after, second.data().last()),
+        Err(_) => (None, after, None),
     };
     Some(Start {
         first: Some(first.tag()),
         second,
         has_more: !after.is_empty(),
         is_encrypted: ENCRYPTIONS.iter().any(|it| first.data().starts_with(it)),
+        is_even: matches!(last, Some(octet) if *octet % 2 == 0),
     })
 }
 
@@ -197,6 +210,8 @@ fn key<'a>(
         shown::<OneAsymmetricKey<'_>>(alloc, octets, page)
     } else if start.has_more {
         shown::<RsaPrivateKey<'_>>(alloc, octets, page)
+    } else if start.is_even {
+        Ok(Answer::Rejected(Refusal::EvenExponent))
     } else {
         shown::<RsaPublicKey<'_>>(alloc, octets, page)
     }
@@ -382,40 +397,112 @@ fn told(alloc: Global, kind: Kind, octets: &[u8], page: Page<'_>) -> Result<Answ
     };
     let mut octet = octet_of(alloc, kind, octets, error)?;
     let mut expected = Vec::new(alloc);
-    if let (Some(count), ParseErrorKind::UnexpectedTag { .. }) = (octet, error.kind()) {
-        if let Some((start, contents)) = last_element(octets, count) {
+    let mut element = None;
+    let count = octet.unwrap_or(0);
+    if let Some((start, contents)) = last_element(octets, count) {
+        if let ParseErrorKind::UnexpectedTag { .. } = error.kind() {
             octet = Some(contents);
             expected = expected_at(alloc, kind, octets, start)?;
+        } else if contents == count {
+            element = octets.get(start..);
         }
     }
-    let mut words = in_words(alloc, error, expected.as_slice())?;
+    let mut words = in_words(alloc, error, expected.as_slice(), element)?;
     if let Some(octet) = octet {
         write!(words, " (octet {octet})")?;
     }
     Ok(Answer::Rejected(Refusal::Told(words)))
 }
 
-/// The result for an object in DER if no kind is named: the lines of the only kind that reads it.
-fn answer_to_any(alloc: Global, octets: &[u8], page: Page<'_>) -> Result<Answer, Fault>
-    ensures { IfErr result IsMemoryOrWrite }
+/// Whether each tag is as in this kind: the octets are read, or rejected for another reason.
+fn has_tags(alloc: Global, kind: Kind, octets: &[u8]) -> Result<bool, Fault>
+    ensures { IfErr result (λ fault. fault ≡ Memory) }
+{
+    let answer = answer_to(alloc, kind, octets, None)?;
+    let Answer::Rejected(Refusal::Der(error)) = &answer else {
+        return Ok(true);
+    };
+    Ok(!matches!(error.kind(), ParseErrorKind::UnexpectedTag { .. }))
+}
+
+/// The kind whose objects begin as these octets do: of several the one whose tags they have, or else the likeliest.
+fn kind_begun(alloc: Global, octets: &[u8]) -> Result<Option<Kind>, Fault>
+    ensures { IfErr result (λ fault. fault ≡ Memory) }
+{
+    let identifiers = identifiers(alloc, octets)?;
+    let mut begun = None;
+    for (beginning, kind) in BEGINNINGS {
+        if identifiers.as_slice().starts_with(*beginning) {
+            if has_tags(alloc, *kind, octets)? {
+                return Ok(Some(*kind));
+            }
+            begun = begun.or(Some(*kind));
+        }
+    }
+    Ok(begun)
+}
+
+/// The only kind that reads the octets, if there is one; or why there is none.
+fn kind_of(alloc: Global, octets: &[u8]) -> Result<Result<Kind, Refusal>, Fault>
+    ensures { IfErr result (λ fault. fault ≡ Memory) }
 {
     let mut found = None;
     for kind in Kind::ALL.iter().copied() {
         match answer_to(alloc, kind, octets, None)? {
-            Answer::Rejected(Refusal::Encrypted) => {
-                return Ok(Answer::Rejected(Refusal::Encrypted));
-            }
+            Answer::Rejected(Refusal::Encrypted) => return Ok(Err(Refusal::Encrypted)),
+            Answer::Rejected(Refusal::EvenExponent) => return Ok(Err(Refusal::SeveralKinds)),
             Answer::Rejected(_refusal) => {}
             _answer => {
                 if found.replace(kind).is_some() {
-                    return Ok(Answer::Rejected(Refusal::SeveralKinds));
+                    return Ok(Err(Refusal::SeveralKinds));
                 }
             }
         }
     }
-    match found {
-        Some(kind) => answer_to(alloc, kind, octets, Some(page)),
-        None => Ok(Answer::Rejected(Refusal::NoKind)),
+    Ok(match found {
+        Some(kind) => Ok(kind),
+        None => Err(Refusal::NoKind),
+    })
+}
+
+/// The result for an object in DER if no kind is named: the lines of the only kind that reads it. If none does, it is
+/// rejected as an object of the kind that its first elements tell, whose name comes before the reason.
+fn answer_to_any(alloc: Global, octets: &[u8], page: Page<'_>) -> Result<Answer, Fault>
+    ensures { IfErr result IsMemoryOrWrite }
+{
+    match kind_of(alloc, octets)? {
+        Ok(kind) => return answer_to(alloc, kind, octets, Some(page)),
+        Err(Refusal::NoKind) => {}
+        Err(refusal) => return Ok(Answer::Rejected(refusal)),
+    }
+    let Some(kind) = kind_begun(alloc, octets)? else {
+        return Ok(Answer::Rejected(match strip_tlv(octets) {
+            Ok(_) => Refusal::NoKind,
+            Err(error) => Refusal::Der(error),
+        }));
+    };
+    match told(alloc, kind, octets, page)? {
+        Answer::Rejected(Refusal::Told(words)) => {
+            let name = str::from_utf8(kind.name()).unwrap_or("");
+            let words = format!(in alloc; "{name}: {words}")?;
+            Ok(Answer::Rejected(Refusal::Told(words)))
+        }
+        answer => Ok(answer),
+    }
+}
+
+/// Why an input that isn't in PEM is rejected: it is another document, or else the reason that was found, to which what
+/// is around the object is added.
+fn explained(alloc: Global, input: &[u8], refusal: Refusal) -> Result<Refusal, AllocError> {
+    if let Some(document) = other_document(alloc, input)? {
+        return Ok(Refusal::Told(format!(in alloc; "this is {document}")?));
+    }
+    match refusal {
+        Refusal::Told(words) => {
+            let around = around(input);
+            Ok(Refusal::Told(format!(in alloc; "{words}{around}")?))
+        }
+        refusal => Ok(refusal),
     }
 }
 
@@ -428,10 +515,16 @@ fn answer_to_der(
 ) -> Result<Answer, Fault>
     ensures { IfErr result IsMemoryOrWrite }
 {
-    match kind {
-        _ if input.is_empty() => Ok(Answer::Rejected(Refusal::Empty)),
-        Some(kind) => told(alloc, kind, input, page),
-        None => answer_to_any(alloc, input, page),
+    if input.is_empty() {
+        return Ok(Answer::Rejected(Refusal::Empty));
+    }
+    let answer = match kind {
+        Some(kind) => told(alloc, kind, input, page)?,
+        None => answer_to_any(alloc, input, page)?,
+    };
+    match answer {
+        Answer::Rejected(refusal) => Ok(Answer::Rejected(explained(alloc, input, refusal)?)),
+        answer => Ok(answer),
     }
 }
 

@@ -1,6 +1,7 @@
 //! Errors of DER in words.
 
-use asn1::{ParseError, ParseErrorKind, Tag, TagClass};
+use crate::show::{escaped, marked};
+use asn1::{BitString, ParseError, ParseErrorKind, Tag, TagClass, is_integer_content, strip_tlv};
 use std::alloc::{AllocError, Global};
 
 /// Universal types by their identifier octets, in the words of X.680.
@@ -71,7 +72,7 @@ fn push_tag(out: &mut String, tag: Tag, expected: &[Tag]) -> Result<(), AllocErr
 
 /// Appends the expected tags, if there are up to eight, and the one that was found.
 fn push_found(out: &mut String, found: Tag, expected: &[Tag]) -> Result<(), AllocError> {
-    if expected.is_empty() || expected.len() > 8 {
+    if expected.is_empty() {
         push_tag(out, found, &[])?;
         return out.push_str(" isn't expected");
     }
@@ -121,10 +122,106 @@ fn push_location(alloc: Global, out: &mut String, error: &ParseError) -> Result<
     out.push_str(": ")
 }
 
+/// How many contents octets are shown of those that encode no value.
+const LONG: usize = 40;
+
+/// What contents octets that encode no value aren't, by the identifier octet of a type with one rule.
+const RULES: &[(u8, &str)] = &[
+    (0x01, "a BOOLEAN is 00 or ff"),
+    (0x05, "a NULL has none"),
+    (
+        0x06,
+        "an arc has its fewest octets, the last of which is below 80, and is below 2^128",
+    ),
+    (0x0c, "they aren't UTF-8"),
+    (
+        0x13,
+        "a PrintableString has letters, digits, blanks and '()+,-./:=? alone",
+    ),
+    (0x16, "an IA5String has octets below 80"),
+    (0x1a, "a VisibleString has octets from 20 to 7e"),
+    (0x1c, "four octets are a character"),
+    (0x1e, "they aren't UTF-16"),
+];
+
+/// Which rule the contents octets of a time break that encode no value. A date and a time of day have so many digits.
+fn rule_of_time(contents: &[u8], count: usize) -> &'static str {
+    let mut pieces = contents.split(|octet| !octet.is_ascii_digit());
+    let digits = pieces.next().unwrap_or(&[]).len();
+    match contents.get(digits..).unwrap_or(&[]) {
+        _ if digits.saturating_add(2) == count => "the seconds are missing",
+        _ if digits != count => "a date and time of day have 14 digits, and in a UTCTime 12",
+        b"Z" => "there is no such date or time of day",
+        [b'.' | b',', ..] => "no fraction of a second is allowed, or not one of these digits",
+        [b'+' | b'-', ..] => "the time isn't in UTC",
+        _ => "Z isn't the last",
+    }
+}
+
+/// Which rule the contents octets of a BIT STRING break that encode no value.
+fn rule_of_bits(contents: &[u8]) -> &'static str {
+    match contents {
+        [unused, octets @ ..] if BitString::new(octets, *unused).is_some() => {
+            "the last of bits with names is zero"
+        }
+        _ => "the first octet counts bits at the end, which are zero and at most 7",
+    }
+}
+
+/// Which rule of its type these contents octets break that encode no value. `None` if the tag doesn't tell the type.
+fn rule_of(tag: Tag, contents: &[u8]) -> Option<&'static str> {
+    let identifier = tag.as_u8()?;
+    match identifier {
+        0x02 | 0x0a if is_integer_content(contents) => Some("the number is negative"),
+        0x02 | 0x0a => Some("the first nine bits are the same"),
+        0x03 => Some(rule_of_bits(contents)),
+        0x17 => Some(rule_of_time(contents, 12)),
+        0x18 => Some(rule_of_time(contents, 14)),
+        _ => Some(RULES.iter().find(|row| row.0 == identifier)?.1),
+    }
+}
+
+/// Contents octets, of which the first are enough: as text if the tag is that of a string or a time, else in hex.
+fn shown(alloc: Global, tag: Tag, contents: &[u8]) -> Result<String, AllocError> {
+    let (first, dots) = match contents.get(..LONG) {
+        Some(first) => (first, ".."),
+        None => (contents, ""),
+    };
+    let is_text = matches!(tag.as_u8(), Some(octet) if octet >= 0x0c && octet < 0x1c);
+    let shown = match str::from_utf8(first) {
+        Ok(text) if is_text => escaped(alloc, text)?,
+        _ => marked(alloc, first)?,
+    };
+    format!(in alloc; "{shown}{dots}")
+}
+
+/// Appends that the contents octets of an element encode no value, and why, if it is known which element it is.
+fn push_value(alloc: Global, out: &mut String, element: Option<&[u8]>) -> Result<(), AllocError> {
+    let Ok((element, _rest)) = strip_tlv(element.unwrap_or(&[])) else {
+        return out.push_str("the contents octets encode no value");
+    };
+    let (tag, contents) = (element.tag(), element.data());
+    if contents.is_empty() {
+        return out.push_str("there are no contents octets");
+    }
+    let shown = shown(alloc, tag, contents)?;
+    write!(out, "the contents octets {shown} encode no value")?;
+    match rule_of(tag, contents) {
+        Some(rule) => write!(out, ": {rule}"),
+        None => Ok(()),
+    }
+}
+
 /// Appends why octets aren't the encoding of a value.
-fn push_reason(out: &mut String, kind: ParseErrorKind, expected: &[Tag]) -> Result<(), AllocError> {
+fn push_reason(
+    alloc: Global,
+    out: &mut String,
+    kind: ParseErrorKind,
+    expected: &[Tag],
+    element: Option<&[u8]>,
+) -> Result<(), AllocError> {
     let words = match kind {
-        ParseErrorKind::InvalidValue => "the contents octets encode no value",
+        ParseErrorKind::InvalidValue => return push_value(alloc, out, element),
         ParseErrorKind::InvalidTag => "the identifier octets are malformed",
         ParseErrorKind::InvalidLength => {
             "the length is indefinite, too large, or not in its fewest octets"
@@ -150,14 +247,15 @@ fn push_reason(out: &mut String, kind: ParseErrorKind, expected: &[Tag]) -> Resu
 }
 
 /// Why octets aren't the encoding of a value, in words, after the location in the value. For a tag that isn't expected,
-/// these are.
+/// these are. If the error is at an element that is known, the octets from its first on are given.
 pub(crate) fn in_words(
     alloc: Global,
     error: &ParseError,
     expected: &[Tag],
+    element: Option<&[u8]>,
 ) -> Result<String, AllocError> {
     let mut out = String::new(alloc);
     push_location(alloc, &mut out, error)?;
-    push_reason(&mut out, error.kind(), expected)?;
+    push_reason(alloc, &mut out, error.kind(), expected, element)?;
     Ok(out)
 }

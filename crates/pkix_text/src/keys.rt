@@ -4,8 +4,10 @@ use crate::show::{Lines, Show};
 use pkix::algorithm_parameters::KnownAlgorithm::{self, EcPublicKey, RsaEncryption};
 use pkix::keys::{EcPrivateKey, OneAsymmetricKey, RsaPrivateKey, RsaPublicKey};
 
+/// The first line says what two integers are taken for.
 impl Show for RsaPublicKey<'_> {
     fn show(&self, lines: &mut Lines) {
+        lines.part("form", &"two integers, read as an RSAPublicKey");
         lines.part("modulus", &self.modulus);
         lines.part("publicExponent", &self.public_exponent);
     }

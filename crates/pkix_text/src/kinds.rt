@@ -56,7 +56,7 @@ impl Kind {
         "certificate, crl, request, key, signature, timestamp-request, timestamp-response";
 
     /// The name, as it is in an argument.
-    fn name(self) -> &'static [u8]
+    pub(crate) fn name(self) -> &'static [u8]
         ensures { result.now ≡ kind_name self }
     {
         match self {

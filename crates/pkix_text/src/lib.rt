@@ -6,6 +6,7 @@ mod certificate;
 mod common;
 mod errors;
 mod extensions;
+mod forms;
 mod general_names;
 mod identifiers;
 mod keys;

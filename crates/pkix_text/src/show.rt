@@ -9,8 +9,8 @@ use crate::errors::in_words;
 use crate::identifiers::name_of;
 use asn1::{
     Asn1Readable, Asn1Type, BMPString, BigInt, BigUint, BitString, DateTime, GeneralizedTime,
-    IA5String, ObjectIdentifier, ParseError, ParseResult, PrintableString, SequenceOf, SetOf, Tlv,
-    Utf8String, VisibleString, X509GeneralizedTime, parse_single,
+    IA5String, ObjectIdentifier, ParseError, ParseErrorKind, ParseResult, PrintableString,
+    SequenceOf, SetOf, Tlv, Utf8String, VisibleString, X509GeneralizedTime, parse_single,
 };
 use pkix::common::{NamedBits, Time};
 use std::alloc::{AllocError, Global};
@@ -128,7 +128,13 @@ impl Lines {
             Err(error) => {
                 self.part(name, &octets);
                 let name = self.kept(format!(in self.alloc; "{name}.rejected"));
-                self.part(name.as_str(), &error);
+                // An error without a location is at the whole.
+                let is_whole = error == ParseError::new(ParseErrorKind::InvalidValue);
+                let element = if is_whole { Some(octets) } else { None };
+                self.part(
+                    name.as_str(),
+                    &in_words(self.alloc, &error, &[], element),
+                );
             }
         }
     }
@@ -210,6 +216,13 @@ impl<'a, T: Asn1Readable<'a> + Show> Show for Numbered<'_, 'a, T> {
     }
 }
 
+/// Words as they are.
+impl Show for &str {
+    fn show(&self, lines: &mut Lines) {
+        lines.line(*self);
+    }
+}
+
 impl Show for bool {
     fn show(&self, lines: &mut Lines) {
         lines.line(if *self { "true" } else { "false" });
@@ -219,7 +232,7 @@ impl Show for bool {
 /// In words.
 impl Show for ParseError {
     fn show(&self, lines: &mut Lines) {
-        in_words(lines.alloc, self, &[]).show(lines);
+        in_words(lines.alloc, self, &[], None).show(lines);
     }
 }
 

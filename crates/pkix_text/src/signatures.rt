@@ -7,8 +7,10 @@ use pkix::signatures::{
 };
 use pkix::timestamps::TstInfo;
 
+/// The first line says what two integers are taken for.
 impl Show for EcdsaSigValue<'_> {
     fn show(&self, lines: &mut Lines) {
+        lines.part("form", &"two integers, read as an ECDSA-Sig-Value");
         lines.part("r", &self.r);
         lines.part("s", &self.s);
     }
