@@ -105,14 +105,9 @@ impl Show for AttributeTypeAndValue<'_> {
 /// The attributes of a set, which is a part of a name: each at the set's own location.
 impl<'a> Show for SetOf<'a, AttributeTypeAndValue<'a>> {
     fn show(&self, lines: &mut Lines) {
-        let mut is_empty = true;
         for item in self.clone().unwrap() {
             let Some(item) = lines.item(item) else { return };
             item.show(lines);
-            is_empty = false;
-        }
-        if is_empty {
-            lines.line("(empty)");
         }
     }
 }

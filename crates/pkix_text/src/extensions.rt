@@ -42,12 +42,13 @@ const REASONS: &str = "unused keyCompromise cACompromise affiliationChanged supe
 
 /// Bits, if there are any, and the names of all in their order.
 #[derive(Drop)]
-struct Named<'a>(Option<&'a NamedBits<'a>>, &'a str);
+pub(crate) struct Named<'a>(pub(crate) Option<&'a NamedBits<'a>>, pub(crate) &'a str);
 
 /// The bits, and the name of each that is set.
 impl Show for Named<'_> {
     fn show(&self, lines: &mut Lines) {
         let Named(Some(bits), names) = self else {
+            lines.is_absent = true;
             return;
         };
         bits.show(lines);

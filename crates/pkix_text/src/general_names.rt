@@ -16,13 +16,17 @@ fn groups(alloc: Global, octets: &[u8]) -> Result<String, AllocError> {
     Ok(groups)
 }
 
-/// An address of IPv4, or two that are a range (RFC 5280, 4.2.1.10), in decimal; one of IPv6 in hex with colons; other
-/// octets in hex after `#`.
+/// An address of IPv4 in decimal, and one of IPv6 in hex with colons; of a range the address and its mask (RFC 5280,
+/// 4.2.1.10); other octets in hex after `#`.
 fn address(alloc: Global, octets: &[u8]) -> Result<String, AllocError> {
     match octets {
         [a, b, c, d] => format!(in alloc; "{a}.{b}.{c}.{d}"),
         [a, b, c, d, e, f, g, h] => format!(in alloc; "{a}.{b}.{c}.{d}/{e}.{f}.{g}.{h}"),
         _ if octets.len() == 16 => groups(alloc, octets),
+        _ if octets.len() == 32 => {
+            let (address, mask) = octets.split_at(16);
+            format!(in alloc; "{}/{}", groups(alloc, address)?, groups(alloc, mask)?)
+        }
         _ => marked(alloc, octets),
     }
 }

@@ -9,8 +9,9 @@ use crate::errors::in_words;
 use crate::identifiers::name_of;
 use asn1::{
     Asn1Readable, Asn1Type, BMPString, BigInt, BigUint, BitString, DateTime, GeneralizedTime,
-    IA5String, ObjectIdentifier, ParseError, ParseErrorKind, ParseResult, PrintableString,
-    SequenceOf, SetOf, Tlv, Utf8String, VisibleString, X509GeneralizedTime, parse_single,
+    IA5String, Null, ObjectIdentifier, ParseError, ParseErrorKind, ParseResult, PrintableString,
+    SequenceOf, SetOf, Tag, Tlv, UniversalString, UtcTime, Utf8String, VisibleString,
+    X509GeneralizedTime, parse_single,
 };
 use pkix::common::{NamedBits, Time};
 use std::alloc::{AllocError, Global};
@@ -38,12 +39,15 @@ const PIECE: usize = 65_536;
 
 /// The lines of an object, as they grow, and the location of the value that is shown next. The empty location is the
 /// whole. They are written in pieces. They remember that memory ran out, or that they couldn't be written, and then
-/// show no more parts, so that showing a value never fails.
+/// show no more parts, so that showing a value never fails. They count themselves, and know whether the part that was
+/// shown last is an optional one that isn't there.
 #[derive(Drop)]
 pub(crate) struct Lines {
     pub(crate) alloc: Global,
     pub(crate) is_out_of_memory: bool,
+    pub(crate) is_absent: bool,
     is_unwritten: bool,
+    count: usize,
     out: Stdout,
     place: String,
     text: String,
@@ -60,7 +64,9 @@ pub(crate) fn lines_of<T: Show>(alloc: Global, value: &T, page: Page<'_>) -> Res
     let mut lines = Lines {
         alloc,
         is_out_of_memory: false,
+        is_absent: false,
         is_unwritten: false,
+        count: 0,
         out: page.out,
         place: String::new(alloc),
         text,
@@ -76,19 +82,24 @@ pub(crate) fn lines_of<T: Show>(alloc: Global, value: &T, page: Page<'_>) -> Res
 }
 
 impl Lines {
-    /// Appends the lines of the value at this part of the location.
+    /// Appends the lines of the value at this part of the location: one for a value without lines, unless it is absent.
     pub(crate) fn part<T: Show>(&mut self, name: &str, value: &T) {
         let dot = if self.place.is_empty() { "" } else { "." };
         let inner = format!(in self.alloc; "{}{dot}{name}", self.place);
         let inner = self.kept(inner);
         if !self.is_out_of_memory && !self.is_unwritten {
             let outer = mem::replace(&mut self.place, inner);
+            let count = self.count;
             value.show(self);
+            if self.count == count && !self.is_absent {
+                self.line("(empty)");
+            }
+            self.is_absent = false;
             self.place = outer;
         }
     }
 
-    /// Appends the lines of each item of a list, with its number in its location, or else one for the empty list.
+    /// Appends the lines of each item of a list, with its number in its location.
     fn items<T: Show + Drop, I: Iterator<Item = ParseResult<T>> + Drop>(&mut self, items: I)
         requires can { I.can_next items }
         requires ends { IsFinite (I.remaining items) }
@@ -99,9 +110,6 @@ impl Lines {
             let number = self.kept(format!(in self.alloc; "{count}"));
             self.part(number.as_str(), &item);
             count = count.saturating_add(1);
-        }
-        if count == 0 {
-            self.line("(empty)");
         }
     }
 
@@ -131,10 +139,7 @@ impl Lines {
                 // An error without a location is at the whole.
                 let is_whole = error == ParseError::new(ParseErrorKind::InvalidValue);
                 let element = if is_whole { Some(octets) } else { None };
-                self.part(
-                    name.as_str(),
-                    &in_words(self.alloc, &error, &[], element),
-                );
+                self.part(name.as_str(), &in_words(self.alloc, &error, &[], element));
             }
         }
     }
@@ -149,6 +154,7 @@ impl Lines {
     pub(crate) fn line(&mut self, text: &str) {
         let appended = writeln!(self.text, "{}: {text}", self.place);
         self.is_out_of_memory |= appended.is_err();
+        self.count = self.count.saturating_add(1);
         if self.text.len() >= PIECE && !self.is_out_of_memory {
             self.is_unwritten |= self.out.write_all(self.text.as_bytes()).is_err();
             self.text.clear();
@@ -179,8 +185,9 @@ impl Lines {
 /// The value, if there is one.
 impl<T: Show> Show for Option<T> {
     fn show(&self, lines: &mut Lines) {
-        if let Some(value) = self {
-            value.show(lines);
+        match self {
+            Some(value) => value.show(lines),
+            None => lines.is_absent = true,
         }
     }
 }
@@ -210,8 +217,9 @@ pub(crate) struct Numbered<'s, 'a, T: Asn1Type>(pub(crate) Option<&'s SetOf<'a, 
 
 impl<'a, T: Asn1Readable<'a> + Show> Show for Numbered<'_, 'a, T> {
     fn show(&self, lines: &mut Lines) {
-        if let Some(set) = self.0 {
-            lines.items(set.clone().unwrap());
+        match self.0 {
+            Some(set) => lines.items(set.clone().unwrap()),
+            None => lines.is_absent = true,
         }
     }
 }
@@ -236,17 +244,10 @@ impl Show for ParseError {
     }
 }
 
-/// A number in hex, by whole octets.
-fn whole_octets(alloc: Global, number: u32) -> Result<String, AllocError> {
-    let zeros = (number.leading_zeros() as usize / 8).min(3);
-    hex::encode(alloc, &number.to_be_bytes()[zeros..])
-}
-
-/// A number in hex, and its name among these, of which the first is that of 0.
+/// A number, and its name among these, of which the first is that of 0.
 pub(crate) fn with_name(alloc: Global, number: u32, names: &str) -> Result<String, AllocError> {
-    let digits = whole_octets(alloc, number)?;
     let name = names.split(' ').nth(number as usize).unwrap_or("unknown");
-    format!(in alloc; "{digits} ({name})")
+    format!(in alloc; "{number} ({name})")
 }
 
 impl Show for u8 {
@@ -261,10 +262,10 @@ impl Show for u16 {
     }
 }
 
-/// In hex, by whole octets.
+/// In decimal.
 impl Show for u32 {
     fn show(&self, lines: &mut Lines) {
-        whole_octets(lines.alloc, *self).show(lines);
+        format!(in lines.alloc; "{self}").show(lines);
     }
 }
 
@@ -275,15 +276,52 @@ impl Show for &[u8] {
     }
 }
 
+/// Where the last octet is that isn't zero.
+fn lowest(octets: &[u8]) -> usize {
+    let mut lowest = 0;
+    for (number, octet) in octets.iter().enumerate() {
+        if *octet != 0 {
+            lowest = number;
+        }
+    }
+    lowest
+}
+
+/// The octets of an integer without its sign: of a negative one those before the last that isn't zero are inverted, and
+/// that one is subtracted from 0x100.
+fn magnitude(alloc: Global, octets: &[u8], is_negative: bool) -> Result<Vec<u8>, AllocError> {
+    let mut magnitude = Vec::new(alloc);
+    let lowest = lowest(octets);
+    for (number, octet) in octets.iter().enumerate() {
+        let inverted = !*octet;
+        magnitude.push(match (is_negative, number < lowest) {
+            (false, _) => *octet,
+            (true, true) => inverted,
+            (true, false) => inverted.wrapping_add(1),
+        })?;
+    }
+    Ok(magnitude)
+}
+
+/// An integer in hex, by whole octets, after its type, if that has to be told, its sign and `0x`.
+fn integer(alloc: Global, its_type: &str, octets: &[u8]) -> Result<String, AllocError> {
+    let is_negative = matches!(octets.first(), Some(octet) if *octet >= 0x80);
+    let sign = if is_negative { "-" } else { "" };
+    let magnitude = magnitude(alloc, octets, is_negative)?;
+    let zeros = usize::from(matches!(magnitude.as_slice(), [0, _, ..]));
+    let digits = hex::encode(alloc, magnitude.get(zeros..).unwrap_or(&[]))?;
+    format!(in alloc; "{its_type}{sign}0x{digits}")
+}
+
 impl Show for BigInt<'_> {
     fn show(&self, lines: &mut Lines) {
-        self.as_bytes().show(lines);
+        integer(lines.alloc, "", self.as_bytes()).show(lines);
     }
 }
 
 impl Show for BigUint<'_> {
     fn show(&self, lines: &mut Lines) {
-        self.as_bytes().show(lines);
+        integer(lines.alloc, "", self.as_bytes()).show(lines);
     }
 }
 
@@ -304,39 +342,51 @@ impl Show for NamedBits<'_> {
     }
 }
 
-/// Dotted, and with its name if it is a known one.
-impl Show for ObjectIdentifier {
-    fn show(&self, lines: &mut Lines) {
-        let dotted = lines.kept(format!(in lines.alloc; "{self}"));
-        match name_of(dotted.as_str()) {
-            Some(name) => format!(in lines.alloc; "{dotted} ({name})").show(lines),
-            None => lines.line(dotted.as_str()),
-        }
+/// An identifier after its type, if that has to be told: dotted, and with its name if it is a known one.
+fn named(alloc: Global, its_type: &str, id: &ObjectIdentifier) -> Result<String, AllocError> {
+    let dotted = format!(in alloc; "{id}")?;
+    match name_of(dotted.as_str()) {
+        Some(name) => format!(in alloc; "{its_type}{dotted} ({name})"),
+        None => format!(in alloc; "{its_type}{dotted}"),
     }
 }
 
-/// Appends the line of a date and time with this fraction of a second.
-fn date(lines: &mut Lines, time: &DateTime, fraction: &str) {
-    let (year, month, day) = (time.year(), time.month(), time.day());
-    let (hour, minute, second) = (time.hour(), time.minute(), time.second());
-    let text = format!(in lines.alloc;
-        "{year:04}-{month:02}-{day:02}T{hour:02}:{minute:02}:{second:02}{fraction}Z"
-    );
-    text.show(lines);
+impl Show for ObjectIdentifier {
+    fn show(&self, lines: &mut Lines) {
+        named(lines.alloc, "", self).show(lines);
+    }
 }
 
+/// A date and time with this fraction of a second, after its type, if that has to be told.
+fn date(
+    alloc: Global,
+    its_type: &str,
+    time: &DateTime,
+    fraction: &str,
+) -> Result<String, AllocError> {
+    let (year, month, day) = (time.year(), time.month(), time.day());
+    let (hour, minute, second) = (time.hour(), time.minute(), time.second());
+    format!(in alloc;
+        "{its_type}{year:04}-{month:02}-{day:02}T{hour:02}:{minute:02}:{second:02}{fraction}Z"
+    )
+}
+
+/// A GeneralizedTime after its type, since another time is a UTCTime.
 impl Show for Time {
     fn show(&self, lines: &mut Lines) {
-        match self {
-            Time::UtcTime(time) => date(lines, time.as_datetime(), ""),
-            Time::GeneralTime(time) => time.show(lines),
-        }
+        let text = match self {
+            Time::UtcTime(time) => date(lines.alloc, "", time.as_datetime(), ""),
+            Time::GeneralTime(time) => {
+                date(lines.alloc, "(GeneralizedTime) ", time.as_datetime(), "")
+            }
+        };
+        text.show(lines);
     }
 }
 
 impl Show for X509GeneralizedTime {
     fn show(&self, lines: &mut Lines) {
-        date(lines, self.as_datetime(), "");
+        date(lines.alloc, "", self.as_datetime(), "").show(lines);
     }
 }
 
@@ -346,16 +396,22 @@ impl Show for GeneralizedTime {
             Some(fraction) => lines.kept(format!(in lines.alloc; ".{fraction:09}")),
             None => String::new(lines.alloc),
         };
-        date(lines, self.as_datetime(), fraction.trim_end_matches('0'));
+        let fraction = fraction.trim_end_matches('0');
+        date(lines.alloc, "", self.as_datetime(), fraction).show(lines);
     }
 }
 
-/// The characters, with those escaped that can't be printed.
+/// The characters, with those escaped that can't be printed or seen, and with blanks escaped if one is at an end.
 pub(crate) fn escaped(alloc: Global, text: &str) -> Result<String, AllocError> {
     let mut out = String::new(alloc);
+    let has_blank_end = text.trim_matches(' ').len() != text.len();
     for c in text.chars() {
         match c {
             '"' | '\'' => out.push(c)?,
+            ' ' if !has_blank_end => out.push(c)?,
+            ' ' | '\u{115f}' | '\u{1160}' | '\u{2800}' | '\u{3164}' | '\u{ffa0}' => {
+                write!(out, "{}", c.escape_unicode())?
+            }
             _ => write!(out, "{}", c.escape_debug())?,
         }
     }
@@ -382,7 +438,7 @@ impl Show for IA5String<'_> {
     }
 }
 
-/// The characters of a BMPString.
+/// The characters of a BMPString after its type.
 fn bmp_characters(alloc: Global, text: &BMPString<'_>) -> Result<String, AllocError> {
     let units = text.as_utf16_be_bytes().chunks(2).map(|unit| {
         match unit {
@@ -390,11 +446,11 @@ fn bmp_characters(alloc: Global, text: &BMPString<'_>) -> Result<String, AllocEr
             _ => 0,
         }
     });
-    let mut characters = String::new(alloc);
+    let mut text = String::new(alloc);
     for c in decode_utf16(units) {
-        characters.push(c.unwrap_or('\u{fffd}'))?;
+        text.push(c.unwrap_or('\u{fffd}'))?;
     }
-    Ok(characters)
+    characters(alloc, "(BMPString) ", text.as_str())
 }
 
 /// Octets in hex after `#`, which tells them from characters.
@@ -403,30 +459,97 @@ pub(crate) fn marked(alloc: Global, octets: &[u8]) -> Result<String, AllocError>
     format!(in alloc; "#{digits}")
 }
 
-/// A character string as its characters, with its type if that is neither PrintableString nor UTF8String; another
-/// element as its octets.
-fn element(alloc: Global, octets: &[u8]) -> Result<String, AllocError> {
-    if let Ok(text) = parse_single::<Utf8String<'_>>(alloc, octets) {
-        characters(alloc, "", text.as_str())
-    } else if let Ok(text) = parse_single::<PrintableString<'_>>(alloc, octets) {
-        characters(alloc, "", text.as_str())
-    } else if let Ok(text) = parse_single::<IA5String<'_>>(alloc, octets) {
-        characters(alloc, "(IA5String) ", text.as_str())
-    } else if let Ok(text) = parse_single::<VisibleString<'_>>(alloc, octets) {
-        characters(alloc, "(VisibleString) ", text.as_str())
-    } else if let Ok(text) = parse_single::<BMPString<'_>>(alloc, octets) {
-        characters(
-            alloc,
-            "(BMPString) ",
-            bmp_characters(alloc, &text)?.as_str(),
-        )
-    } else {
-        marked(alloc, octets)
+/// The octets of an OCTET STRING in hex after its type.
+fn octets_in_hex(alloc: Global, octets: &[u8]) -> Result<String, AllocError> {
+    let digits = hex::encode(alloc, octets)?;
+    format!(in alloc; "(OCTET STRING) {digits}")
+}
+
+/// The contents octets of an element as text in ASCII after its type, or else the element in hex after `#`.
+fn ascii(alloc: Global, its_type: &str, element: Tlv<'_>) -> Result<String, AllocError> {
+    match str::from_utf8(element.data()) {
+        Ok(text) if text.is_ascii() => characters(alloc, its_type, text),
+        _ => marked(alloc, element.full_data()),
     }
 }
 
+/// The value of an element of a universal type, after its type if that is neither PrintableString nor UTF8String; or
+/// its octets in hex. The error is that of its type; without memory there is no text.
+fn value_of(alloc: Global, element: Tlv<'_>) -> ParseResult<Result<String, AllocError>> {
+    let octets = element.full_data();
+    Ok(match element.tag().as_u8() {
+        Some(0x02) => {
+            let number = parse_single::<BigInt<'_>>(alloc, octets)?;
+            integer(alloc, "(INTEGER) ", number.as_bytes())
+        }
+        Some(0x04) => octets_in_hex(alloc, element.data()),
+        Some(0x06) => {
+            let identifier = parse_single::<ObjectIdentifier>(alloc, octets)?;
+            named(alloc, "(OBJECT IDENTIFIER) ", &identifier)
+        }
+        Some(0x0c) => {
+            let text = parse_single::<Utf8String<'_>>(alloc, octets)?;
+            characters(alloc, "", text.as_str())
+        }
+        Some(0x13) => {
+            let text = parse_single::<PrintableString<'_>>(alloc, octets)?;
+            characters(alloc, "", text.as_str())
+        }
+        Some(0x16) => {
+            let text = parse_single::<IA5String<'_>>(alloc, octets)?;
+            characters(alloc, "(IA5String) ", text.as_str())
+        }
+        Some(0x17) => {
+            let time = parse_single::<UtcTime>(alloc, octets)?;
+            date(alloc, "(UTCTime) ", time.as_datetime(), "")
+        }
+        Some(0x1a) => {
+            let text = parse_single::<VisibleString<'_>>(alloc, octets)?;
+            characters(alloc, "(VisibleString) ", text.as_str())
+        }
+        Some(0x1e) => bmp_characters(alloc, &parse_single::<BMPString<'_>>(alloc, octets)?),
+        Some(0x12) => ascii(alloc, "(NumericString) ", element),
+        Some(0x14) => ascii(alloc, "(TeletexString) ", element),
+        Some(0x1b) => ascii(alloc, "(GeneralString) ", element),
+        _ => {
+            check(alloc, element)?;
+            marked(alloc, octets)
+        }
+    })
+}
+
+/// A sequence of any elements.
+type AnySequence<'a> = SequenceOf<'a, Tlv<'a>, 0, { usize::MAX }>;
+
+/// Reads an element of one of these universal types, whose value is shown as octets. Of a sequence or a set the
+/// elements within are framed, and those of a set in order.
+fn check(alloc: Global, element: Tlv<'_>) -> ParseResult<()> {
+    let octets = element.full_data();
+    match element.tag().as_u8() {
+        Some(0x01) => parse_single::<bool>(alloc, octets).map(|_value| ()),
+        Some(0x03) => parse_single::<BitString<'_>>(alloc, octets).map(|_value| ()),
+        Some(0x05) => parse_single::<Null>(alloc, octets).map(|_value| ()),
+        Some(0x18) => parse_single::<GeneralizedTime>(alloc, octets).map(|_value| ()),
+        Some(0x1c) => parse_single::<UniversalString<'_>>(alloc, octets).map(|_value| ()),
+        Some(0x30) => parse_single::<AnySequence<'_>>(alloc, octets).map(|_value| ()),
+        Some(0x31) => parse_single::<SetOf<'_, Tlv<'_>>>(alloc, octets).map(|_value| ()),
+        _ => Ok(()),
+    }
+}
+
+/// The value, and the reason if the contents octets aren't those of the element's type.
 impl Show for Tlv<'_> {
     fn show(&self, lines: &mut Lines) {
-        element(lines.alloc, self.full_data()).show(lines);
+        match value_of(lines.alloc, *self) {
+            Ok(text) => text.show(lines),
+            Err(error) => {
+                let octets = self.full_data();
+                marked(lines.alloc, octets).show(lines);
+                lines.part(
+                    "rejected",
+                    &in_words(lines.alloc, &error, &[], Some(octets)),
+                );
+            }
+        }
     }
 }

@@ -1,5 +1,6 @@
 //! Requests for time stamps, responses, and what is stamped (RFC 3161, 2.4).
 
+use crate::extensions::Named;
 use crate::show::{Lines, Show, with_name};
 use pkix::timestamps::{
     Accuracy, MessageImprint, PkiStatusInfo, TimeStampReq, TimeStampResp, TstInfo,
@@ -27,11 +28,16 @@ impl Show for TimeStampReq<'_> {
 const STATUSES: &str = "granted grantedWithMods rejection waiting revocationWarning \
     revocationNotification";
 
+/// The names of each failure, in the order of their bits (RFC 3161, 2.4.2). The others aren't used.
+const FAILURES: &str = "badAlg unused badRequest unused unused badDataFormat unused unused unused \
+    unused unused unused unused unused timeNotAvailable unacceptedPolicy unacceptedExtension \
+    addInfoNotAvailable unused unused unused unused unused unused unused systemFailure";
+
 impl Show for PkiStatusInfo<'_> {
     fn show(&self, lines: &mut Lines) {
         lines.part("status", &with_name(lines.alloc, self.status, STATUSES));
         lines.part("statusString", &self.status_string);
-        lines.part("failInfo", &self.fail_info);
+        lines.part("failInfo", &Named(self.fail_info.as_ref(), FAILURES));
     }
 }
 
