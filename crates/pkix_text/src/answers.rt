@@ -11,8 +11,8 @@ use crate::kinds::Kind;
 use crate::pem::{Object, PemError, objects};
 use crate::show::{Page, Show, escaped, lines_of};
 use asn1::{
-    Asn1Readable, Asn1Type, Asn1Writable, ParseError, ParseErrorKind, Tag, WriteError,
-    parse_single, strip_tlv, write_readable,
+    Asn1Readable, Asn1Type, Asn1Writable, ParseError, ParseErrorKind, Tag, WriteError, error_octet,
+    expects_tag, parse_single, strip_tlv, write_readable,
 };
 use pkix::certificate::Certificate;
 use pkix::common::SubjectPublicKeyInfo;
@@ -55,6 +55,58 @@ impl From<AllocError> for Fault {
     }
 }
 
+/// The type of an object: that of a kind, or of one of the forms of a kind.
+#[derive(Debug, Clone, Copy)]
+pub enum Form {
+    /// Certificate (RFC 5280, 4.1).
+    Certificate,
+    /// CertificateList (RFC 5280, 5.1).
+    Crl,
+    /// CertificationRequest (RFC 2986, 4.2).
+    Request,
+    /// SubjectPublicKeyInfo (RFC 5280, 4.1).
+    PublicKey,
+    /// ECPrivateKey (RFC 5915, 3).
+    EcKey,
+    /// RSAPrivateKey (RFC 8017, A.1.2).
+    RsaKey,
+    /// RSAPublicKey (RFC 8017, A.1.1).
+    RsaPublicKey,
+    /// OneAsymmetricKey (RFC 5958, 2).
+    PrivateKey,
+    /// ECDSA-Sig-Value (RFC 3279, 2.2.3).
+    EcdsaSignature,
+    /// DigestInfo (RFC 8017, 9.2).
+    DigestInfo,
+    /// ContentInfo (RFC 5652, 3).
+    SignedData,
+    /// TimeStampReq (RFC 3161, 2.4.1).
+    TimestampRequest,
+    /// TimeStampResp (RFC 3161, 2.4.2).
+    TimestampResponse,
+}
+
+impl Form {
+    /// Why the octets are rejected, if they are, as an object of this form.
+    fn error_of(self, alloc: Global, octets: &[u8]) -> Option<ParseError> {
+        match self {
+            Form::Certificate => parse_single::<Certificate<'_>>(alloc, octets).err(),
+            Form::Crl => parse_single::<CertificateList<'_>>(alloc, octets).err(),
+            Form::Request => parse_single::<CertificationRequest<'_>>(alloc, octets).err(),
+            Form::PublicKey => parse_single::<SubjectPublicKeyInfo<'_>>(alloc, octets).err(),
+            Form::EcKey => parse_single::<EcPrivateKey<'_>>(alloc, octets).err(),
+            Form::RsaKey => parse_single::<RsaPrivateKey<'_>>(alloc, octets).err(),
+            Form::RsaPublicKey => parse_single::<RsaPublicKey<'_>>(alloc, octets).err(),
+            Form::PrivateKey => parse_single::<OneAsymmetricKey<'_>>(alloc, octets).err(),
+            Form::EcdsaSignature => parse_single::<EcdsaSigValue<'_>>(alloc, octets).err(),
+            Form::DigestInfo => parse_single::<DigestInfo<'_>>(alloc, octets).err(),
+            Form::SignedData => parse_single::<ContentInfo<'_>>(alloc, octets).err(),
+            Form::TimestampRequest => parse_single::<TimeStampReq<'_>>(alloc, octets).err(),
+            Form::TimestampResponse => parse_single::<TimeStampResp<'_>>(alloc, octets).err(),
+        }
+    }
+}
+
 /// Why an object is rejected.
 #[derive(Debug, Drop)]
 pub enum Refusal {
@@ -72,8 +124,10 @@ pub enum Refusal {
     Pem(PemError),
     /// The input has no octets.
     Empty,
-    /// It isn't the encoding of what it should be.
-    Der(ParseError),
+    /// It isn't the encoding of a value of this type.
+    Der(Form, ParseError),
+    /// It doesn't begin with an element.
+    NoElement(ParseError),
     /// The same error in words: its location, and why.
     Told(String),
 }
@@ -94,7 +148,8 @@ impl fmt::Display for Refusal {
             Refusal::Encrypted => f.write_str("an encrypted key; `openssl pkey` decrypts it"),
             Refusal::Pem(error) => write!(f, "{error}"),
             Refusal::Empty => f.write_str("the input has no octets"),
-            Refusal::Der(error) => write!(f, "this isn't DER: {error}"),
+            Refusal::Der(_form, error) => write!(f, "{error}"),
+            Refusal::NoElement(error) => write!(f, "this isn't DER: {error}"),
             Refusal::Told(words) => f.write_str(words.as_str()),
         }
     }
@@ -123,10 +178,11 @@ fn digest_of<'a, T: Asn1Readable<'a> + Asn1Writable<Error = WriteError>>(
     Ok(hex::encode(alloc, &Sha256::digest(written.as_slice()))?)
 }
 
-/// The lines of the value whose encoding the octets are, if there is a page for them. The value has one encoding, so
-/// these octets are written back.
+/// The lines of the value of this form whose encoding the octets are, if there is a page for them. The value has one
+/// encoding, so these octets are written back.
 fn shown<'a, T: Asn1Readable<'a> + Asn1Writable<Error = WriteError> + Show>(
     alloc: Global,
+    form: Form,
     octets: &'a [u8],
     page: Option<Page<'_>>,
 ) -> Result<Answer, Fault>
@@ -135,7 +191,7 @@ fn shown<'a, T: Asn1Readable<'a> + Asn1Writable<Error = WriteError> + Show>(
 {
     let value = match parse_single::<T>(alloc, octets) {
         Ok(value) => value,
-        Err(error) => return Ok(Answer::Rejected(Refusal::Der(error))),
+        Err(error) => return Ok(Answer::Rejected(Refusal::Der(form, error))),
     };
     let Some(page) = page else {
         return Ok(Answer::Read);
@@ -203,17 +259,17 @@ fn key<'a>(
     ensures error { IfErr result (IsFaultOf page.entry) }
 {
     if start.first == Some(Tag::constructed(0x10)) {
-        shown::<SubjectPublicKeyInfo<'_>>(alloc, octets, page)
+        shown::<SubjectPublicKeyInfo<'_>>(alloc, Form::PublicKey, octets, page)
     } else if start.second == Some(Tag::primitive(0x04)) {
-        shown::<EcPrivateKey<'_>>(alloc, octets, page)
+        shown::<EcPrivateKey<'_>>(alloc, Form::EcKey, octets, page)
     } else if start.second != Some(Tag::primitive(0x02)) {
-        shown::<OneAsymmetricKey<'_>>(alloc, octets, page)
+        shown::<OneAsymmetricKey<'_>>(alloc, Form::PrivateKey, octets, page)
     } else if start.has_more {
-        shown::<RsaPrivateKey<'_>>(alloc, octets, page)
+        shown::<RsaPrivateKey<'_>>(alloc, Form::RsaKey, octets, page)
     } else if start.is_even {
         Ok(Answer::Rejected(Refusal::EvenExponent))
     } else {
-        shown::<RsaPublicKey<'_>>(alloc, octets, page)
+        shown::<RsaPublicKey<'_>>(alloc, Form::RsaPublicKey, octets, page)
     }
 }
 
@@ -232,11 +288,11 @@ fn signature<'a>(
     ensures error { IfErr result (IsFaultOf page.entry) }
 {
     if start.first == Some(Tag::primitive(0x02)) {
-        shown::<EcdsaSigValue<'_>>(alloc, octets, page)
+        shown::<EcdsaSigValue<'_>>(alloc, Form::EcdsaSignature, octets, page)
     } else if start.first == Some(Tag::constructed(0x10)) {
-        shown::<DigestInfo<'_>>(alloc, octets, page)
+        shown::<DigestInfo<'_>>(alloc, Form::DigestInfo, octets, page)
     } else {
-        shown::<ContentInfo<'_>>(alloc, octets, page)
+        shown::<ContentInfo<'_>>(alloc, Form::SignedData, octets, page)
     }
 }
 
@@ -272,119 +328,78 @@ pub fn answer_to<'a>(
         return Ok(Answer::Rejected(Refusal::Encrypted));
     }
     match kind {
-        Kind::Certificate => shown::<Certificate<'_>>(alloc, octets, page),
-        Kind::Crl => shown::<CertificateList<'_>>(alloc, octets, page),
-        Kind::Request => shown::<CertificationRequest<'_>>(alloc, octets, page),
+        Kind::Certificate => shown::<Certificate<'_>>(alloc, Form::Certificate, octets, page),
+        Kind::Crl => shown::<CertificateList<'_>>(alloc, Form::Crl, octets, page),
+        Kind::Request => shown::<CertificationRequest<'_>>(alloc, Form::Request, octets, page),
         Kind::Key => key(alloc, start, octets, page),
         Kind::Signature => signature(alloc, start, octets, page),
-        Kind::TimestampRequest => shown::<TimeStampReq<'_>>(alloc, octets, page),
-        Kind::TimestampResponse => shown::<TimeStampResp<'_>>(alloc, octets, page),
+        Kind::TimestampRequest => shown::<TimeStampReq<'_>>(
+            alloc,
+            Form::TimestampRequest,
+            octets,
+            page,
+        ),
+        Kind::TimestampResponse => shown::<TimeStampResp<'_>>(
+            alloc,
+            Form::TimestampResponse,
+            octets,
+            page,
+        ),
     }
 }
 
-/// Whether the octets are rejected with this error. One of a tag may be at another location: tags after it may tell the
-/// form of a key, whose fields have other names.
-fn has_error(alloc: Global, kind: Kind, octets: &[u8], error: &ParseError) -> Result<bool, Fault>
-    ensures { IfErr result (λ fault. fault ≡ Memory) }
-{
-    let answer = answer_to(alloc, kind, octets, None)?;
-    let Answer::Rejected(Refusal::Der(other)) = &answer else {
-        return Ok(false);
-    };
-    let is_of_tag = matches!(error.kind(), ParseErrorKind::UnexpectedTag { .. });
-    Ok(other == error || (is_of_tag && other.kind() == error.kind()))
-}
+/// The identifier octet of `[0]`, constructed. No other context-specific tag is expected where an error tells a wrong
+/// one: elements after the last field that has to be there are left over.
+const CONTEXT: u8 = 0xa0;
 
-/// The octets, of which only this many at the start stay, and each of the others is replaced by one octet.
-fn changed(alloc: Global, octets: &[u8], count: usize, other: u8) -> Result<Vec<u8>, AllocError> {
-    let mut changed = Vec::new(alloc);
-    changed.extend_from_slice(octets.get(..count).unwrap_or(octets))?;
-    changed.resize(octets.len(), other)?;
-    Ok(changed)
-}
-
-/// How many octets at the start decide this error: with any others after them, here 0xff, the error is the same.
-fn octets_of(alloc: Global, kind: Kind, octets: &[u8], error: &ParseError) -> Result<usize, Fault>
-    ensures { IfErr result (λ fault. fault ≡ Memory) }
-{
-    let (mut low, mut high) = (0usize, octets.len());
-    // Each turn halves what is between.
-    for _ in 0..usize::BITS {
-        let middle = low.saturating_add(high.saturating_sub(low) / 2);
-        let changed = changed(alloc, octets, middle, 0xff)?;
-        if has_error(alloc, kind, changed.as_slice(), error)? {
-            high = middle;
-        } else {
-            low = middle.saturating_add(1);
-        }
-        if low >= high {
-            break;
-        }
-    }
-    Ok(high)
-}
-
-/// The element in whose identifier and length octets this many octets end: where it begins, and where its contents
-/// octets begin.
-fn last_element(octets: &[u8], count: usize) -> Option<(usize, usize)> {
-    let mut start = 0usize;
-    for _ in 0..count {
-        let (element, _) = strip_tlv(octets.get(start..)?).ok()?;
-        let end = start.saturating_add(element.full_data().len());
-        let contents = end.saturating_sub(element.data().len());
-        if count <= contents {
-            return Some((start, contents));
-        }
-        start = if count > end { end } else { contents };
-    }
-    None
-}
-
-/// The identifier octets of `[0]` to `[8]`, primitive and constructed.
-const CONTEXT: &[u8] = b"\x80\xa0\x81\xa1\x82\xa2\x83\xa3\x84\xa4\x85\xa5\x86\xa6\x87\xa7\x88\xa8";
-
-/// The tags of the elements that may start here. Each is tried with no contents octets, and before elements whose tag
-/// no type has, so that it isn't unexpected elsewhere.
-fn expected_at(alloc: Global, kind: Kind, octets: &[u8], start: usize) -> Result<Vec<Tag>, Fault>
-    ensures { IfErr result (λ fault. fault ≡ Memory) }
-{
+/// The tags that an element may have at this octet.
+fn expected_at(
+    alloc: Global,
+    form: Form,
+    octets: &[u8],
+    error: &ParseError,
+    octet: usize,
+    scratch: &mut [u8],
+) -> Result<Vec<Tag>, AllocError> {
     let mut tags = Vec::new(alloc);
-    let mut changed = changed(alloc, octets, start, 0x00)?;
     let identifiers = UNIVERSAL.iter().map(|row| row.0);
-    for identifier in identifiers.chain(CONTEXT.iter().copied()) {
-        if let Some(octet) = changed.get_mut(start) {
-            *octet = identifier;
-        }
-        if let Ok((actual, _)) = Tag::from_bytes(&[identifier]) {
-            let unexpected = ParseError::new(ParseErrorKind::UnexpectedTag { actual });
-            if !has_error(alloc, kind, changed.as_slice(), &unexpected)? {
-                tags.extend_from_slice(&[actual])?;
-            }
+    for identifier in identifiers.chain([CONTEXT]) {
+        let Ok((tag, _)) = Tag::from_bytes(&[identifier]) else {
+            continue;
+        };
+        let is_expected = expects_tag(octets, error, octet, tag, scratch, |octets: &[u8]| {
+            form.error_of(alloc, octets)
+        });
+        if is_expected == Some(true) {
+            tags.extend_from_slice(&[tag])?;
         }
     }
     Ok(tags)
 }
 
-/// The octet of an error, counted from 0: where the contents octets begin that encode no value or are under another
-/// tag; or the first octet after the whole value. `None` if octets are missing, or follow a value within.
-fn octet_of(
+/// The error in words, with its octet, and with the tags that are expected there in place of another one.
+fn words_of(
     alloc: Global,
-    kind: Kind,
+    form: Form,
     octets: &[u8],
     error: &ParseError,
-) -> Result<Option<usize>, Fault>
-    ensures { IfErr result (λ fault. fault ≡ Memory) }
-{
-    match error.kind() {
-        ParseErrorKind::ShortData { .. } => Ok(None),
-        ParseErrorKind::ExtraData => match strip_tlv(octets) {
-            Ok((whole, _rest)) if *error == ParseError::new(ParseErrorKind::ExtraData) => {
-                Ok(Some(whole.full_data().len()))
-            }
-            _ => Ok(None),
-        },
-        _ => Ok(Some(octets_of(alloc, kind, octets, error)?)),
-    }
+) -> Result<String, AllocError> {
+    let mut scratch = Vec::from_slice(alloc, octets)?;
+    let octet = error_octet(octets, scratch.as_mut_slice(), |octets: &[u8]| {
+        form.error_of(alloc, octets)
+    });
+    let Some(octet) = octet else {
+        return in_words(alloc, error, &[], None);
+    };
+    let expected = match error.kind() {
+        ParseErrorKind::UnexpectedTag { .. } => {
+            expected_at(alloc, form, octets, error, octet, scratch.as_mut_slice())?
+        }
+        _ => Vec::new(alloc),
+    };
+    let mut words = in_words(alloc, error, expected.as_slice(), octets.get(octet..))?;
+    write!(words, " (octet {octet})")?;
+    Ok(words)
 }
 
 /// The result for an object in DER if this kind is asked for, with an error in words and its octet.
@@ -392,25 +407,10 @@ fn told(alloc: Global, kind: Kind, octets: &[u8], page: Page<'_>) -> Result<Answ
     ensures { IfErr result IsMemoryOrWrite }
 {
     let answer = answer_to(alloc, kind, octets, Some(page))?;
-    let Answer::Rejected(Refusal::Der(error)) = &answer else {
+    let Answer::Rejected(Refusal::Der(form, error)) = &answer else {
         return Ok(answer);
     };
-    let mut octet = octet_of(alloc, kind, octets, error)?;
-    let mut expected = Vec::new(alloc);
-    let mut element = None;
-    let count = octet.unwrap_or(0);
-    if let Some((start, contents)) = last_element(octets, count) {
-        if let ParseErrorKind::UnexpectedTag { .. } = error.kind() {
-            octet = Some(contents);
-            expected = expected_at(alloc, kind, octets, start)?;
-        } else if contents == count {
-            element = octets.get(start..);
-        }
-    }
-    let mut words = in_words(alloc, error, expected.as_slice(), element)?;
-    if let Some(octet) = octet {
-        write!(words, " (octet {octet})")?;
-    }
+    let words = words_of(alloc, *form, octets, error)?;
     Ok(Answer::Rejected(Refusal::Told(words)))
 }
 
@@ -419,7 +419,7 @@ fn has_tags(alloc: Global, kind: Kind, octets: &[u8]) -> Result<bool, Fault>
     ensures { IfErr result (λ fault. fault ≡ Memory) }
 {
     let answer = answer_to(alloc, kind, octets, None)?;
-    let Answer::Rejected(Refusal::Der(error)) = &answer else {
+    let Answer::Rejected(Refusal::Der(_form, error)) = &answer else {
         return Ok(true);
     };
     Ok(!matches!(error.kind(), ParseErrorKind::UnexpectedTag { .. }))
@@ -478,7 +478,7 @@ fn answer_to_any(alloc: Global, octets: &[u8], page: Page<'_>) -> Result<Answer,
     let Some(kind) = kind_begun(alloc, octets)? else {
         return Ok(Answer::Rejected(match strip_tlv(octets) {
             Ok(_) => Refusal::NoKind,
-            Err(error) => Refusal::Der(error),
+            Err(error) => Refusal::NoElement(error),
         }));
     };
     match told(alloc, kind, octets, page)? {
