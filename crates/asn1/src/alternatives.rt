@@ -11,6 +11,7 @@ ghost use Rattle.asn1_core.specs.Writing.{buffer_name, octets_of, GivesLength, R
 ghost use Rattle.asn1.specs.declared.alternatives.OneOf.TheVariants.{First, Other};
 ghost use Rattle.asn1.specs.AlternativeLists.{AlternativeList, IsAlternative, ReadsAlternative};
 ghost use Rattle.asn1.specs.AlternativeLists.{choice, no_list, one_of};
+ghost use Rattle.asn1.specs.Structures.{explicit, implicit};
 
 use crate::fields::{Wraps, explicit_length, implicit_length};
 use crate::wrappers::{Explicit, Implicit};
@@ -130,19 +131,27 @@ pub struct Next<P> {
     of: PhantomData<P>,
 }
 
-/// A list of alternatives that has one at the position `P`, of which a choice has the values as a `V`.
-pub trait At<P, V>: Alternatives {
+/// A list of alternatives that has one at the position `P`, of which a choice has the values as a `V`. With
+/// [`Alternatives`] as a supertrait the prover would compare what the two say of the list at each position up to this
+/// one. So `list` is stated once more, and a caller is proved only if it is that of the choice.
+pub trait At<P, V>: Sized {
+    ghost list: { AlternativeList Self };
+
     ghost put: { V → Self };
 
     /// States that the value is valid. The call does nothing at run time.
     fn known_at(value: &V)
-        ensures { Self.list.all.valid (Self.list.meaning (put value.now)) };
+        ensures { list.all.valid (list.meaning (put value.now)) };
 }
 
 /// The same of an alternative that is written.
-pub trait WritableAt<P, V>: At<P, V> {
+pub trait WritableAt<P, V>: Sized {
     /// The error of a write that fails.
     type Error: From<WriteError>;
+
+    ghost list: { AlternativeList Self };
+
+    ghost put: { V → Self };
 
     // The errors that a write may return, other than out of memory; and the values whose length is known without
     // writing them.
@@ -153,20 +162,22 @@ pub trait WritableAt<P, V>: At<P, V> {
     /// Appends the encoding of the value. Errors and what the caller has to prove are those of
     /// [`Asn1Writable::write`].
     fn write_at(value: &V, dest: &mut Writer<'_>) -> Result<(), Self::Error>
-        requires { Self.list.all.closures (Self.list.meaning (Self.put value.now)) }
+        requires { list.all.closures (list.meaning (put value.now)) }
         ensures same_buffer { buffer_name dest.new ≡ buffer_name dest.old }
-        ensures ok { OnOk result (Appends (Self.list.all.texts (Self.list.meaning
-            (Self.put value.now))) (octets_of dest.old) (octets_of dest.new)) }
+        ensures ok { OnOk result (Appends (list.all.texts (list.meaning (put value.now)))
+            (octets_of dest.old) (octets_of dest.new)) }
         ensures err { OnErr result (KeepsFront (octets_of dest.old) (octets_of dest.new)) }
         ensures error { IfErr result (Refuses Self.Error.from_gives (write_errors_at value.now)) };
 
     /// How many octets the encoding of the value has, if that is known without writing it.
     fn length_at(value: &V) -> Option<usize>
-        ensures { GivesLength (length_known_at value.now) (Self.list.all.texts (Self.list.meaning
-            (Self.put value.now))) result };
+        ensures { GivesLength (length_known_at value.now) (list.all.texts (list.meaning
+            (put value.now))) result };
 }
 
 impl<A: Asn1Type, R: Alternatives> At<Here, A> for OneOf<A, R> {
+    ghost list = { one_of A.der R.list };
+
     ghost put = { First };
 
     fn known_at(value: &A) {
@@ -175,6 +186,8 @@ impl<A: Asn1Type, R: Alternatives> At<Here, A> for OneOf<A, R> {
 }
 
 impl<V, A: Wraps<V>, R: Alternatives> At<UnderTag, V> for OneOf<A, R> {
+    ghost list = { one_of A.der R.list };
+
     ghost put = { λ v. First (A.wrap v) };
 
     fn known_at(value: &V) {
@@ -183,6 +196,8 @@ impl<V, A: Wraps<V>, R: Alternatives> At<UnderTag, V> for OneOf<A, R> {
 }
 
 impl<P, V, A: Asn1Type, R: At<P, V>> At<Next<P>, V> for OneOf<A, R> {
+    ghost list = { one_of A.der R.list };
+
     ghost put = { λ v. Other (R.put v) };
 
     fn known_at(value: &V) {
@@ -192,6 +207,10 @@ impl<P, V, A: Asn1Type, R: At<P, V>> At<Next<P>, V> for OneOf<A, R> {
 
 impl<A: Asn1Writable, R: Alternatives> WritableAt<Here, A> for OneOf<A, R> {
     type Error = A::Error;
+
+    ghost list = { one_of A.der R.list };
+
+    ghost put = { First };
 
     ghost write_errors_at = { A.write_errors };
 
@@ -210,6 +229,10 @@ impl<T: SimpleAsn1Writable, R: Alternatives, const N: u32> WritableAt<UnderTag, 
     for OneOf<Implicit<T, N>, R> {
     type Error = T::Error;
 
+    ghost list = { one_of ⟦<Implicit<T, N> as Asn1Type>⟧.der R.list };
+
+    ghost put = { λ v. First (implicit v) };
+
     ghost write_errors_at = { T.write_errors };
 
     ghost length_known_at = { T.length_known };
@@ -227,6 +250,10 @@ impl<T: Asn1Writable, R: Alternatives, const N: u32> WritableAt<UnderTag, T>
     for OneOf<Explicit<T, N>, R> {
     type Error = T::Error;
 
+    ghost list = { one_of ⟦<Explicit<T, N> as Asn1Type>⟧.der R.list };
+
+    ghost put = { λ v. First (explicit v) };
+
     ghost write_errors_at = { T.write_errors };
 
     ghost length_known_at = { T.length_known };
@@ -242,6 +269,10 @@ impl<T: Asn1Writable, R: Alternatives, const N: u32> WritableAt<UnderTag, T>
 
 impl<P, V, A: Asn1Type, R: WritableAt<P, V>> WritableAt<Next<P>, V> for OneOf<A, R> {
     type Error = R::Error;
+
+    ghost list = { one_of A.der R.list };
+
+    ghost put = { λ v. Other (R.put v) };
 
     ghost write_errors_at = { R.write_errors_at };
 
