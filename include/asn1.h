@@ -211,7 +211,9 @@ uint32_t pkix_form(uint32_t object, const uint8_t *octets, size_t count);
  *
  * The location of the error, such as `tbsCertificate.validity.notAfter`, is left in `place`, which has `size` octets,
  * if it has room for it; and `place_length` is set to how many octets the location has. It has none if there is no
- * error, or if the error is that of the whole. If `place_length` is above `size`, then `place` stays as it was. */
+ * error, or if the error is that of the whole. If `place_length` is above `size`, then `place` stays as it was.
+ * A location has names of fields, as the documents have them, and numbers of items, counted from 0. The outermost is
+ * first, and points are between. */
 uint32_t pkix_check(uint32_t object, const uint8_t *octets, size_t count, char *place, size_t size,
                     size_t *place_length, struct asn1_error *error);
 

@@ -1,4 +1,5 @@
 mod Calls
 mod Forms
 mod InOrder
+mod Places
 mod Told

@@ -1,7 +1,8 @@
 pub mod Errors
+pub mod Texts
+pub mod Locations
 pub mod Elements
 pub mod Types
-pub mod Texts
 pub mod SetOf
 pub mod Values
 pub mod Objects

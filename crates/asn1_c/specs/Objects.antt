@@ -41,4 +41,4 @@ IsNoObject number = (object_numbered number ≡ None) × ¬ (number ≡ key_numb
 
 -- What is told of octets at one form is right of another.
 abbrev pub TellsOf : Form → Form → List ℕ → Type 0
-TellsOf one all octets = (number : ℕ) (error : Asn1Error) → ChecksForm one octets number error → ChecksForm all octets number error
+TellsOf one all octets = (number : ℕ) (error : Asn1Error) (location : List ℕ) → ChecksForm one octets number error location → ChecksForm all octets number error location

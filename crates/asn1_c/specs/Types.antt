@@ -22,6 +22,8 @@ use Rattle.asn1_c.specs.declared.types.TypeName.{TypeName}
 use Rattle.asn1_c.specs.declared.types.TypeName.TheVariants as types
 use Rattle.asn1_c.specs.declared.types.TheConstants.TypeName.{ALL}
 use Rattle.asn1_c.specs.Errors.{told_read, without_details, unknown_type, left_by}
+use Rattle.asn1_c.specs.Locations.{told_location}
+use Rattle.asn1_c.specs.Texts.{LeavesText}
 
 -- ---- the numbers
 
@@ -129,27 +131,39 @@ told_at (Some one) octets = told_read (reading one octets)
 abbrev pub IsEncoding : {V : Type 0} → Der V → List ℕ → Type 0
 IsEncoding d octets = (value : d.Meaning) × (octets ≡ d.text value) × d.valid value × d.allowed value
 
--- What octets have to be, and what may be told of them.
+-- A call returned this number and told this error of octets, at a type: the error that reading all of them gives. The number
+-- is 0 exactly if they are the encoding of a value, as far as the library reads any.
+abbrev pub Checks : {V : Type 0} → Der V → List ℕ → ℕ → Asn1Error → Type 0
+Checks d octets number error = (error ≡ told_read (whole (d.read octets))) × (number ≡ error.number) × (number ≡ 0 → IsEncoding d octets)
+    × (IsEncoding d octets → Fits octets → number ≡ 0)
+
+-- What octets have to be, and what error and location may be told of them.
 pub record Form : Type 1 where
   pub IsOne : List ℕ → Type 0
-  pub IsTold : List ℕ → Asn1Error → Type 0
+  pub IsTold : List ℕ → Asn1Error → List ℕ → Type 0
 
 -- The encoding of a value of a type: what reading all of the octets gives is told.
 abbrev pub form : {V : Type 0} → Der V → Form
-form d = record { IsOne = IsEncoding d; IsTold = λ octets error. error ≡ told_read (whole (d.read octets)) }
+form d = record {
+  IsOne = IsEncoding d;
+  IsTold = λ octets error location. (error ≡ told_read (whole (d.read octets))) × (location ≡ told_location (whole (d.read octets)));
+}
 
 -- One form or another.
 abbrev pub either : Form → Form → Form
-either a b = record { IsOne = λ octets. a.IsOne octets ⊎ b.IsOne octets; IsTold = λ octets error. a.IsTold octets error ⊎ b.IsTold octets error }
+either a b = record {
+  IsOne = λ octets. a.IsOne octets ⊎ b.IsOne octets;
+  IsTold = λ octets error location. a.IsTold octets error location ⊎ b.IsTold octets error location;
+}
 
--- A call returned this number and told this error of octets. The number is 0 exactly if they have the form, as far as the
--- library reads any. `Checks` is the same at a type.
-abbrev pub ChecksForm : Form → List ℕ → ℕ → Asn1Error → Type 0
-ChecksForm f octets number error = f.IsTold octets error × (number ≡ error.number) × (number ≡ 0 → f.IsOne octets)
+-- The same as `Checks` at a form, with the location of the error.
+abbrev pub ChecksForm : Form → List ℕ → ℕ → Asn1Error → List ℕ → Type 0
+ChecksForm f octets number error location = f.IsTold octets error location × (number ≡ error.number) × (number ≡ 0 → f.IsOne octets)
     × (f.IsOne octets → Fits octets → number ≡ 0)
 
-abbrev pub Checks : {V : Type 0} → Der V → List ℕ → ℕ → Asn1Error → Type 0
-Checks d = ChecksForm (form d)
+-- The same of a call that leaves the location in a buffer.
+abbrev pub LeavesChecked : Form → List ℕ → ℕ → Asn1Error → List ℕ → List ℕ → ℕ → Type 0
+LeavesChecked f octets number error old new count = (location : List ℕ) × ChecksForm f octets number error location × LeavesText location old new count
 
 -- What a call leaves in the places for a value and for an error, if reading gives this.
 pub record LeavesRead {M S : Type 0} (shown : M → S) (old new : S) (found : Asn1Error) (read : Result M Fault) : Type 0 where

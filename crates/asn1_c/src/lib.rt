@@ -4,6 +4,7 @@
 
 mod elements;
 mod errors;
+mod locations;
 mod objects;
 mod set_of;
 mod texts;

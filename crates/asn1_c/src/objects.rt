@@ -1,17 +1,19 @@
 //! Whether octets are the one encoding of an object of `pkix`, such as a certificate, and where it has an error.
 
-ghost use Rattle.std.specs.Prelude.{◌≡◌, List, ℕ, None, IfSome, IfNone, IsTrue};
-ghost use Rattle.asn1.specs.Reading.{Fits};
+ghost use Rattle.std.specs.Prelude.{◌≡◌, [], None, IfSome, IfNone, IsTrue};
+ghost use Rattle.asn1.specs.Reading.{Fits, whole};
 ghost use Rattle.asn1_c.specs.Errors.{unknown_type, without_details};
+ghost use Rattle.asn1_c.specs.Locations.{told_location};
 ghost use Rattle.asn1_c.specs.Objects.{IsNoObject, TellsOf, key_number, signature_number};
 ghost use Rattle.asn1_c.specs.Objects.{object_number, object_numbered};
 ghost use Rattle.asn1_c.specs.Texts.{LeavesText};
-ghost use Rattle.asn1_c.specs.Types.{ChecksForm, Form, IsEncoding, either, form};
+ghost use Rattle.asn1_c.specs.Types.{Checks, Form, IsEncoding, LeavesChecked, either, form};
 ghost use Rattle.asn1_c.specs.declared.objects.Object.TheVariants as objects;
 
 use crate::errors::{Asn1Error, UNKNOWN_TYPE, error_of};
+use crate::locations::leave_location;
 use crate::texts::leave_text;
-use asn1::{Asn1Readable, Asn1Type, ParseError, Tag, parse_single, strip_tlv};
+use asn1::{Asn1Readable, Asn1Type, Tag, parse_single, strip_tlv};
 use pkix::certificate::{Certificate, certificate_is_lawful};
 use pkix::common::{SubjectPublicKeyInfo, subject_public_key_info_is_lawful};
 use pkix::keys::{
@@ -28,7 +30,6 @@ use pkix::timestamps::{
     TimeStampReq, TimeStampResp, time_stamp_req_is_lawful, time_stamp_resp_is_lawful,
 };
 use std::alloc::Global;
-use std::fmt::{InlineText, Write};
 
 /// An object that has a number.
 #[derive(Clone, Copy, Debug, PartialEq, Eq)]
@@ -153,55 +154,6 @@ impl Object {
     }
 }
 
-/// Fields whose names in the documents have other capitals than their words have here.
-const NAMES: &[(&str, &str)] = &[
-    ("ca", "cA"),
-    ("crl_issuer", "cRLIssuer"),
-    ("extn_id", "extnID"),
-    ("issuer_unique_id", "issuerUniqueID"),
-    ("subject_pk_info", "subjectPKInfo"),
-    ("subject_unique_id", "subjectUniqueID"),
-    ("type_id", "type"),
-];
-
-/// The longest location that is shown: eight names.
-type Place = InlineText<512>;
-
-/// Appends a location, as the documents have it: the number of an item, or the name of a field, which an error has in
-/// quotes and after that of its struct.
-fn push_field(out: &mut Place, location: &str) {
-    let field = location.trim_matches('"').rsplit("::").next();
-    let field = field.unwrap_or(location);
-    if let Some((_, name)) = NAMES.iter().find(|row| row.0 == field) {
-        let _is_whole = out.write_str(name).is_ok();
-        return;
-    }
-    let mut is_next = false;
-    for letter in field.chars() {
-        if letter != '_' {
-            let upper = letter.to_ascii_uppercase();
-            let _is_whole = out.write_char(if is_next { upper } else { letter }).is_ok();
-        }
-        is_next = letter == '_';
-    }
-}
-
-/// The location of an error, the outermost field first, with points between.
-fn place_of(error: &ParseError) -> Place {
-    // An error shows its locations in its `Debug` alone: names of fields, and numbers of items.
-    let mut shown = InlineText::<1024>::new();
-    let _is_whole = write!(shown, "{error:?}").is_ok();
-    let mut out = Place::new();
-    if let Some((_, locations)) = shown.as_str().split_once(", location: [") {
-        let locations = locations.trim_end_matches("] }").split(", ");
-        for (number, location) in locations.enumerate() {
-            let _is_whole = out.write_str(if number > 0 { "." } else { "" }).is_ok();
-            push_field(&mut out, location);
-        }
-    }
-    out
-}
-
 /// Whether the octets are the encoding of a value of the type `T`. Returns the number of the error, and sets `error`
 /// and the error's location.
 fn check_object<'a, T: Asn1Readable<'a>>(
@@ -213,9 +165,10 @@ fn check_object<'a, T: Asn1Readable<'a>>(
 ) -> u32
     requires lawful { T.der.lawful }
     requires needs_no_memory { T.der.takes_memory → ⊥ }
-    ensures exact { ChecksForm (form T.der) octets.entry.now result error.new }
+    ensures exact { Checks T.der octets.entry.now result error.new }
     ensures number { result ≡ error.new.number }
-    ensures place { (text : List ℕ) × LeavesText text place.old place.new count.new }
+    ensures place { LeavesText (told_location (whole (T.der.read octets.entry.now)))
+        place.old place.new count.new }
 {
     match parse_single::<T>(alloc, octets) {
         Ok(_value) => {
@@ -224,7 +177,7 @@ fn check_object<'a, T: Asn1Readable<'a>>(
         }
         Err(fault) => {
             *error = error_of(fault.kind());
-            leave_text(place_of(&fault).as_str().as_bytes(), place, count);
+            leave_location(fault.places(), place, count);
         }
     }
     error.number
@@ -239,9 +192,9 @@ fn check_one(
     count: &mut usize,
     error: &mut Asn1Error,
 ) -> u32
-    ensures exact { ChecksForm (⟦<Object as Described>⟧.form one) octets.now result error.new }
+    ensures exact { LeavesChecked (⟦<Object as Described>⟧.form one) octets.now result error.new
+        place.old place.new count.new }
     ensures number { result ≡ error.new.number }
-    ensures place { (text : List ℕ) × LeavesText text place.old place.new count.new }
 {
     certificate_is_lawful();
     certificate_list_is_lawful();
@@ -433,16 +386,18 @@ pub extern "C" fn pkix_check(
     error: &mut Asn1Error,
 ) -> u32
     ensures exact { IfSome (object_numbered number) (λ one.
-        ChecksForm (⟦<Object as Described>⟧.form one) octets.now result error.new) }
+        LeavesChecked (⟦<Object as Described>⟧.form one) octets.now result error.new
+        place.old place.new count.new) }
 
     // A key is one of its forms, and so is a signature.
-    ensures key { number ≡ key_number
-        → ChecksForm ⟦<Object as Described>⟧.key octets.now result error.new }
-    ensures signature { number ≡ signature_number
-        → ChecksForm ⟦<Object as Described>⟧.signature octets.now result error.new }
+    ensures key { number ≡ key_number → LeavesChecked ⟦<Object as Described>⟧.key octets.now
+        result error.new place.old place.new count.new }
+    ensures signature { number ≡ signature_number → LeavesChecked
+        ⟦<Object as Described>⟧.signature octets.now result error.new
+        place.old place.new count.new }
     ensures none { IsNoObject number → error.new ≡ without_details unknown_type }
+    ensures no_place { IsNoObject number → LeavesText [] place.old place.new count.new }
     ensures number { result ≡ error.new.number }
-    ensures place { (text : List ℕ) × LeavesText text place.old place.new count.new }
 {
     match form_of(alloc, number, octets) {
         Some(one) => check_one(alloc, one, octets, place, count, error),
