@@ -5,8 +5,10 @@ import re
 from dataclasses import dataclass, field, replace
 
 WORD, LIFE, NUMBER = r"[A-Za-z_][A-Za-z_0-9]*", r"'[A-Za-z_][A-Za-z_0-9]*", r"[0-9][A-Za-z_0-9]*"
-SKIP, STRING = r"\s+|//(?!/)[^\n]*|/\*.*?\*/", r"\"(?:\\.|[^\"\\])*\""
-TOKEN = re.compile(rf"(?P<skip>{SKIP})|///[^\n]*|{LIFE}(?!')|{WORD}|{NUMBER}|{STRING}|::|->|.", re.S)
+COMMENT, STRING = r"/\*(?!\*[^*/])(?:(?!/\*).)*?\*/", r"\"(?:\\.|[^\"\\])*\""
+SKIP = rf"\s+|//(?!/(?!/))[^\n]*|{COMMENT}"
+TOKEN = re.compile(rf"(?P<skip>{SKIP})|///[^\n]*|/\*+|r#|{LIFE}(?!')|{WORD}|{NUMBER}|{STRING}|::|->|.", re.S)
+UNREAD = {"r#": "an identifier by `r#`: name it otherwise", "/*": "a comment by `/**`, around another, or without end"}
 END = "the end of the file"
 # Words of Rust and of Rattle, which no item, field or variant may have as its name; and those of clauses, which no
 # function and no variant may have.
@@ -23,7 +25,7 @@ ATTRIBUTES = ("derive", "implicit", "explicit", "default", "defined_by", "set", 
 ORIGINAL = ("asn1", "std", "core", "alloc")
 # Numbers as Rust writes them, with no more digits than `int` takes.
 DIGITS = r"[0-9][0-9_]{,4299}"
-LITERAL = rf"0x[0-9a-fA-F_]{{1,999}}|0o[0-7_]{{1,999}}|0b[01_]{{1,999}}|{DIGITS}"
+LITERAL = rf"(-?)(0x[0-9a-fA-F]{{1,999}}|0o[0-7]{{1,999}}|0b[01]{{1,999}}|{DIGITS})([ui](8|16|32|64|128|size))?"
 KEPT = ("Debug", "Clone", "Copy", "PartialEq", "Eq", "Hash")
 COPY, ALL = frozenset(KEPT), frozenset(KEPT) - {"Copy"}
 TAGGED = [
@@ -39,6 +41,7 @@ SHAPES = {
 }
 INTEGERS = {f"u{bits}": range(2**bits) for bits in (8, 16, 32, 64)}
 INTEGERS.update({f"i{bits}": range(-(2**bits) // 2, 2**bits // 2) for bits in (8, 16, 32, 64)})
+ITEM = "ObjectIdentifier"
 MOST_FIELDS, MOST_VARIANTS, MOST_DEEP, LARGEST = 30, 36, 30, 2**32 - 1
 ANY = "any"
 
@@ -46,13 +49,14 @@ ANY = "any"
 # The sections of docs/OWN_TYPES.md, each with words of the reasons for which the section has a form by hand, or says
 # that there is none. The last one is for all others.
 SECTIONS = {
-    "What has no form": r"recursive|more than \d|has to follow|it is there|marks an item|missing itself|a field alone",
-    "A default of another type": r"the default of|is no value of",
-    "A simple type": r"is no type of the library|a reference other",
+    "What has no form": r"recursive|\d fields|63 octets|type p|no bounds|item that|is there|missing itself|d alone",
+    "Tags of other classes": r"(String|Oid)` is no|tag that isn't|universal|two classes|alias('s| [hs])|no tag here",
+    "A default of another type": r"is no value of",
+    "A simple type": r"is no type of the library",
     "An error of one's own": r"a list made in code",
-    "A set": r"\bset\b",
-    "Tags of other classes": r"a tag that isn't|a tag of|tags of two|two tags|no tag of its own|no tag here",
-    "A value that an identifier defines": r"identifier|defined by",
+    "A set": r" (is a|in a) set,",
+    "Values with numbers": r"the number|has numbers|no number",
+    "A value that an item defines": r"(an|its|the) item\b|is the default|no constant|no identifier:|defined_by",
     "A choice": r"alternative|variant",
     "What the script prints": "",
 }
@@ -74,10 +78,9 @@ def reject(wrong, line, reason):
 
 
 def number_of(text):
-    """The number that a literal states, without the name of a type behind it; `None` if it is no literal."""
-    found = re.fullmatch(rf"({LITERAL})(?:[ui](?:8|16|32|64|128|size))?", text)
-    digits = found[1].replace("_", "") if found else ""
-    return int(digits, 0 if digits[:1] == "0" and not digits.isdigit() else 10) if digits else None
+    """The number that a literal states, maybe with its type; one that no type has if this is no literal."""
+    found = re.fullmatch(LITERAL, text.replace("_", ""))
+    return int(found[1] + found[2], 10 if found[2].isdigit() else 0) if found else 2**128
 
 
 @dataclass
@@ -109,6 +112,7 @@ class Item:
     line: int = 0
     kind: str = ""
     name: str = ""
+    visibility: str = ""
     life: str = ""
     type: Type = None
     doc: list = field(default_factory=list)
@@ -117,6 +121,9 @@ class Item:
     # The variants of an enum with numbers, and the number of one.
     values: list = field(default_factory=list)
     number: int = None
+    # Whether one of them is a field's default; the type of a constant, or of the item that defines a value.
+    is_default: bool = False
+    of: str = ""
     # What is said of the derives that are left out.
     note: str = ""
 
@@ -139,7 +146,9 @@ class Reader:
         found = [token for token in TOKEN.finditer(source) if not token["skip"]]
         self.tokens = [*(token[0] for token in found), END, END, END]
         self.lines = [source.count("\n", 0, token.start()) + 1 for token in found] + [source.count("\n") + 1] * 3
-        self.at, self.depth = 0, 0
+        self.at = 0
+        for token, line in zip(self.tokens, self.lines):
+            reject(token[:2] in UNREAD, line, UNREAD.get(token[:2]))
 
     def takes(self, *patterns):
         """The next token, if these match it and those after it; else nothing is taken."""
@@ -163,15 +172,17 @@ class Reader:
         return words
 
     def item(self, what, is_part=True):
-        """A declaration, or a field or a variant, up to its name. Its visibility isn't kept."""
+        """A declaration, or a field or a variant, up to its name."""
         found = Item()
         while word := self.takes("///.*|#"):
             found.doc += self.attribute(found.attributes) if word == "#" else [word]
-        if self.takes("pub") and self.takes(r"\("):
-            self.until(r"\)")
+        found.visibility = self.takes("pub")
+        if found.visibility and self.takes(r"\("):
+            where = " ".join(self.until(r"\)")).replace(" :: ", "::")
+            found.visibility = f"pub({where})"
         found.line, found.kind = self.lines[self.at], "" if is_part else self.expect(WORD, "a declaration")
         is_other = found.kind not in ("", "struct", "enum", "type", "const")
-        reject(is_other, found.line, f"`{found.kind}` isn't a struct, an enum, an alias or an identifier's constant")
+        reject(is_other, found.line, f"`{found.kind}` isn't a struct, an enum, an alias or a constant")
         line, found.name = self.lines[self.at], self.expect(WORD, what)
         reject(found.name in WORDS, line, f"`{found.name}` is a word of Rust or Rattle: name it otherwise")
         return found
@@ -196,34 +207,29 @@ class Reader:
             names.append(self.expect(WORD, "a name"))
         return names[-1] if names[0] in ORIGINAL else "::".join(names)
 
-    def type(self):
-        self.depth += 1
-        reject(self.depth > MOST_DEEP, self.lines[self.at], f"types within one another more deeply than {MOST_DEEP}")
-        found = self.type_itself()
-        self.depth -= 1
-        return found
-
-    def type_itself(self):
+    def type(self, depth=1):
         line = self.lines[self.at]
+        reject(depth > MOST_DEEP, line, f"types within one another more deeply than {MOST_DEEP}")
         if self.takes("&"):
-            return Type("&", [self.expect(LIFE, "a lifetime"), self.type()], line)
+            return Type("&", [self.expect(LIFE, "a lifetime"), self.type(depth + 1)], line)
         if self.takes(r"\[", "u8", ";"):
             length = number_of("".join(self.until("]")))
-            reject(length is None or length > LARGEST, line, f"the length of an array isn't a number up to {LARGEST}")
+            reject(length not in range(LARGEST + 1), line, f"the length of an array isn't a number up to {LARGEST}")
             return Type("[u8; N]", [str(length)], line)
         plain = "()" if self.takes(r"\(", r"\)") else "[u8]" if self.takes(r"\[", "u8", "]") else ""
-        return Type(plain or self.path(), self.parts(self.argument, ">") if not plain and self.takes("<") else [], line)
+        name, read = plain or self.path(), lambda: self.argument(depth + 1)
+        return Type(name, self.parts(read, ">") if not plain and self.takes("<") else [], line)
 
-    def argument(self):
+    def argument(self, depth):
         """What is in a type's brackets: a lifetime, a number, which may be in braces, or a type."""
         line, is_braced = self.lines[self.at], self.takes("{")
         text = "".join(self.until("}")) if is_braced else self.takes(NUMBER)
         if not text and not is_braced:
-            return self.takes(LIFE) or self.type()
+            return self.takes(LIFE) or self.type(depth)
         if text == "usize::MAX":
             return "{ usize::MAX }"
         number = number_of(text)
-        reject(number is None or number >= 2**64, line, f"`{text}` isn't a number below 2^64, or `usize::MAX`")
+        reject(number not in INTEGERS["u64"], line, f"`{text}` isn't a number below 2^64, or `usize::MAX`")
         return str(number)
 
     def field(self):
@@ -236,10 +242,9 @@ class Reader:
         found = self.item("a variant's name")
         found.reject(found.name in OF_CLAUSES, "is a word of clauses, and a variant's name there: name it otherwise")
         if self.takes("="):
-            text = "".join(self.until_comma())
+            text = self.takes("-") + self.expect(rf"{NUMBER}|{WORD}", "a number")
             found.number = number_of(text)
-            is_wrong = found.number is None or found.number > LARGEST
-            found.reject(is_wrong, f"has the number `{text}`, which isn't one from 0 to {LARGEST}")
+            found.reject(found.number not in INTEGERS["u32"], f"has the number `{text}`, which is no `u32`")
             return found
         found.parts = self.parts(self.type, r"\)") if self.takes(r"\(") else []
         found.reject(not found.parts, "has no unnamed field and no number: a variant has exactly one")
@@ -247,13 +252,6 @@ class Reader:
         found.reject(has_more, "has more than one field: a variant has exactly one")
         found.type = found.parts[-1]
         return found
-
-    def until_comma(self):
-        """The tokens up to a comma or the bracket that closes the list, which are left."""
-        words = []
-        while self.tokens[self.at] not in (",", "}", END):
-            words.append(self.expect(r"[\s\S]*"))
-        return words
 
     def parts(self, read, end):
         """What is between brackets, with commas between."""
@@ -282,16 +280,21 @@ class Reader:
             self.expect("=")
             found.type = self.type()
         else:
-            function = found.name.lower()
-            is_word = function in (*WORDS, *OF_CLAUSES)
-            reject(is_word, found.line, f"`{function}` is a word, and a function's name here: name it otherwise")
             self.expect(":")
-            found.reject(self.type().name != "ObjectIdentifier", "isn't an object identifier")
+            found.of = self.type().name
             self.expect("=")
-            found.reject(self.path() != "oid" or not self.takes("!", r"\("), "isn't made by `oid!`")
+            if found.of in INTEGERS:
+                text = "".join(self.until(";"))
+                found.kind, found.number = "number", number_of(text)
+                found.reject(found.number not in INTEGERS[found.of], f"is `{text}`, which is no `{found.of}`")
+                return found
+            is_made = found.of == ITEM and self.path() == "oid" and self.takes("!", r"\(")
+            found.reject(not is_made, "is a constant that is neither a number nor made by `oid!`")
             found.arcs = [word for word in self.until(r"\)") if word != ","]
             are_numbers = re.fullmatch(rf"{DIGITS}( {DIGITS})+", " ".join(found.arcs))
             found.reject(not are_numbers, "isn't written as two or more numbers")
+            function = found.name.lower()
+            found.reject(function in (*WORDS, *OF_CLAUSES), f"is a function `{function}` here, a word of clauses")
         self.expect(";")
         return found
 
@@ -324,7 +327,6 @@ def with_numbers(item):
             part.reject(part.number == other.number, f"has the number of `{other.name}`")
         reject(part.attributes, part.line, f"an attribute that `{part.name}` can't have")
     item.reject(item.is_defined, "has numbers, and is defined by an item")
-    item.reject(item.life, "declares a lifetime, and nothing in it has one")
     item.kind, item.values, item.parts = "numbers", item.parts, []
     return item
 
@@ -370,8 +372,7 @@ class Module:
                 one.reject(one.name in [before.name for before in named[:at]], "is declared twice")
         for item in items:
             # It isn't named like a type of the library, its size has a form, and it uses the lifetime that it declares.
-            is_known = item.name in (*SHAPES, *LIBRARY, *imported)
-            item.reject(is_known, "is imported, or a type of the library: name it otherwise")
+            item.reject(item.name in (*SHAPES, *LIBRARY, *imported), "is imported, or a type of the library")
             item.reject(item.kind == "struct" and len(item.parts) > MOST_FIELDS, f"has more than {MOST_FIELDS} fields")
             has_no_form = item.kind == "enum" and not 0 < len(item.parts) <= MOST_VARIANTS
             item.reject(has_no_form, f"has no variant, or more than {MOST_VARIANTS}")
@@ -380,21 +381,25 @@ class Module:
                 reject(set(type.lives) - {item.life}, type.line, f"a lifetime that `{item.name}` doesn't declare")
             is_unused = item.life and not any(type.lives for type in types)
             item.reject(is_unused, "declares a lifetime, and nothing in it has one")
+            constants = [self.items.get("".join(part.attributes.get("defined_by", [])[:1])) for part in item.parts]
+            item.of = item.of or next((one.of for one in constants if one and one.of), ITEM)
             set_tag(item)
             for part in item.parts:
-                set_form(item, part)
+                set_form(item, part, self.items)
         for item in items:
-            if item.kind != "const":
+            if item.kind not in ("const", "number"):
                 self.known(Type(item.name, [item.life] if item.life else [], item.line))
         for item in items:
             for at, part in enumerate(item.parts):
                 self.check_part(item, part, item.parts[at + 1 :])
 
     def within(self, type):
-        """A type, and those that it is made of."""
-        item = self.items.get(type.name)
-        inner = type.inner if not item else [item.type] if item.type else [part.base for part in item.parts]
-        return [type, *(one for each in inner for one in self.within(each))]
+        """A type, and those in its brackets, in theirs, and in those of aliases."""
+        found = [type]
+        for one in found:
+            item = self.items.get(one.name)
+            found += one.inner if not item else [item.type] if item.type else []
+        return found
 
     def known(self, type):
         """What is known of a type; nothing if it is declared elsewhere."""
@@ -409,6 +414,8 @@ class Module:
         if not item:
             return found or self.known_around(type, *map(self.known, type.inner))
         item.reject(self.seen.get(name, item) is None, "is recursive: it has no form")
+        is_deep = list(self.seen.values()).count(None) > MOST_DEEP
+        reject(is_deep, type.line, f"types within one another more deeply than {MOST_DEEP}")
         if name not in self.seen:
             self.seen[name] = None
             self.seen[name] = self.known(item.type) if item.type else self.known_item(item)
@@ -450,7 +457,9 @@ class Module:
         is_both = by and ("Asn1Read" in item.wanted or "Asn1Write" in item.wanted or item.kind == "struct")
         item.reject(is_both, "is defined by an item: an enum with no other derive of `asn1`")
         item.reject(not (item.reads or item.writes), "derives neither `Asn1Read` nor `Asn1Write`")
-        parts = [(part.name, self.known(type)) for part in item.parts for type in [*part.parts[:-1], part.form]]
+        parts = [(part.name, self.known(part.form)) for part in item.parts]
+        # What a default keeps isn't copied.
+        parts += [(part.name, Known(ANY, ALL)) for part in item.parts if part.parts[1:]]
         lacks, left = {name: part for part, known in reversed(parts) for name in COPY - known.derives}, {}
         item.derives = [name for name in KEPT if name in item.wanted and name not in lacks]
         for name in item.wanted:
@@ -490,15 +499,19 @@ class Module:
         if not in_struct and part.tag and not type.is_simple:
             # A choice has no tag of its own: the variant's type states the tag around it.
             part.type, part.base, part.tag = part.form, part.form, ""
-        for other in (self.items.get(one.name) for one in self.within(part.base)):
+        names = [one.name for one in self.within(part.form)]
+        within = [self.items[name] for name in names if name in self.items]
+        for other in within:
             for does, trait in ("reads", "Read"), ("writes", "Write"):
-                lacks = other and other.kind != "type" and getattr(item, does) and not getattr(other, does)
-                part.reject(lacks, f"has the type `{other and other.name}`, which doesn't derive `Asn1{trait}`")
-        is_other = part.type.name == "DefinedByMarker" and part.type.inner[0].name != "ObjectIdentifier"
-        part.reject(is_other, "marks an item of another type than `ObjectIdentifier`")
+                lacks = other.kind != "type" and getattr(item, does) and not getattr(other, does)
+                part.reject(lacks, f"has the type `{other.name}`, which doesn't derive `Asn1{trait}`")
+        is_item = in_struct and names[0] == "DefinedByMarker" and names[1] in (ITEM, *INTEGERS)
+        why = "marks an item that has a tag, is in another type, or isn't an identifier or an integer"
+        part.reject("DefinedByMarker" in names and not is_item, why)
         declared = self.items.get((part.type.inner[0] if part.type.name == "Option" else part.type).name)
         by, is_value = in_struct and "defined_by" in part.attributes, declared and declared.is_defined
-        part.reject(is_value and not by, "is defined by an item: it follows that, with `#[defined_by(..)]`")
+        why = "is defined by an item: it follows that, with `#[defined_by(..)]`"
+        part.reject(any(one.is_defined for one in within) and not by, why)
         is_wrapped = part.form.name in ("Option", "Implicit", "Defaulted")
         part.reject(by and is_wrapped, "is defined by an item: it is there, with an explicit tag or none")
         is_other = not is_value and (declared or part.base.name in LIBRARY or part.base.name in SHAPES)
@@ -533,7 +546,7 @@ def class_tag(item):
         return None
     number, _, form = "".join(item.attributes.pop(found[0])).rstrip(",").partition(",")
     number = number_of(number)
-    is_wrong = number is None or number > LARGEST or form not in ("implicit", "explicit")
+    is_wrong = number not in INTEGERS["u32"] or form not in ("implicit", "explicit")
     item.reject(is_wrong, f"has a tag that isn't as `#[{found[0]}(1, implicit)]` or `#[{found[0]}(1, explicit)]`")
     item.reject(found[0] == "universal" and form == "explicit", "has a tag of the class universal that is explicit")
     return found[0], number, form == "explicit"
@@ -553,7 +566,7 @@ def set_tag(item):
     tag, item.is_set = class_tag(item), "set" in item.attributes
     item.tag = tag and tag[:2]
     item.reject(item.is_set and (item.kind != "struct" or tag), "is a set, and no struct, or has another tag too")
-    item.reject(tag and item.kind == "const", "is an identifier, which has no tag here")
+    item.reject(tag and item.kind in ("const", "number"), "is a constant, which has no tag here")
     around = f"`type {item.name}2 = asn1::{CLASSES[tag[0]]}Explicit<{item.name}, {tag[1]}>`" if tag else ""
     item.reject(tag and item.kind == "enum", f"is a choice, which has no tag of its own: an alias has one, as {around}")
     has_other = tag and tag[2] and item.kind != "type"
@@ -562,7 +575,7 @@ def set_tag(item):
         item.type = under(tag, item.type)
 
 
-def set_form(item, part):
+def set_form(item, part, items):
     """Gives a field or a variant its type in the row, and what is said of it by its attributes."""
     tag = class_tag(part)
     part.reject(tag and {"implicit", "explicit"} & set(part.attributes), "has two tags: an alias states one of them")
@@ -577,7 +590,7 @@ def set_form(item, part):
     reject(is_wrong, part.line, f"an attribute that `{part.name}` can't have")
     number, *words = attributes.get(part.tag, ["0"])
     number = number_of(number)
-    reject(number is None, part.line, f"`{part.tag}` without a number")
+    reject(number >= 2**128, part.line, f"`{part.tag}` without a number")
     required = {"": False, "required=false": False, "required=true": True}.get("".join(words).strip(","))
     reject(required is None, part.line, f"`{part.tag}` takes a number and `required = true`")
     has_default = in_struct and "default" in attributes
@@ -594,12 +607,22 @@ def set_form(item, part):
     part.title = item.name + "".join(word.capitalize() for word in part.name.split("_"))
     if has_default:
         part.form = Type("Defaulted", [part.form, part.title], part.line)
-        value, type = "".join(word for word in attributes["default"] if word != ","), str(part.base)
-        is_bool, number = value in ("true", "false"), number_of(value.removeprefix("-"))
-        is_literal = is_bool or number is not None
-        reject(not is_literal, part.line, f"the default of `{part.name}` isn't a literal: `true`, `false` or a number")
-        part.default = value = value if is_bool else str(-number if value.startswith("-") else number)
-        fits = is_bool if type == "bool" else not is_bool and int(value) in INTEGERS.get(type, ())
-        reject(not fits, part.line, f"`{value}` is no value of `{type}`: a default is of a Boolean or an integer type")
+        part.default = default_of(part, items)
     # Whether the type in the row is another than the field's.
     part.is_wrapped = in_struct and part.form is not part.type and "defined_by" not in attributes
+
+
+def default_of(part, items):
+    """A field's default in code; `is_default` says of an enum that one of its values is one."""
+    text, type = "".join(part.attributes["default"]).rstrip(","), str(part.base)
+    constant, declared = items.get(text), items.get(type)
+    text = str(constant.number) if constant and constant.kind == "number" else text
+    octets, is_number = [number_of(octet) for octet in text[1:-1].split(",")], number_of(text) in INTEGERS.get(type, ())
+    is_octets = type == f"[u8; {len(octets)}]" and text[0] == "[" and {*octets} <= {*INTEGERS["u8"]}
+    is_value = declared and text in [f"{type}::{one.name}" for one in declared.values]
+    is_fitting = is_octets or is_value or is_number or type == "bool" and text in ("true", "false")
+    why = "a default is a Boolean, a number, octets of a `[u8; N]`, or a value of an enum with numbers"
+    reject(not is_fitting, part.line, f"`{text}` is no value of `{type}`: {why}")
+    if is_value:
+        declared.is_default = True
+    return str(octets) if is_octets else str(number_of(text)) if is_number else text

@@ -3,7 +3,7 @@
 import re
 import textwrap
 
-from declarations import Type, reject
+from declarations import ITEM, Type, reject
 
 BY_TAGS = "#[tactic(auto, using(asn1::specs::Lemmas::Fields::tags_differ))]\n"
 ERROR = "type Error = WriteError;"
@@ -11,7 +11,6 @@ WIDTH = 100
 # The longest list of fields that stands in each body: it takes one line.
 MOST_IN_BODY = WIDTH - 12
 UNKNOWN = "Err(ParseError::new(ParseErrorKind::UnknownDefinedBy))"
-ITEM = "ObjectIdentifier"
 ANSWER = "\npub {0} : goal.{0}\n{2}{0} c = {1}\n"
 # What the proofs of an identifier's function use, and the proofs: the numbers that its octets are read as are computed.
 IDENTIFIER_USES = """use Rattle.std.proofs.Common.{refl, sym}
@@ -50,6 +49,11 @@ def in_columns(words, indent):
     return f"\n{' ' * indent}".join(lines).replace("\0", " ")
 
 
+def integer(number):
+    """A whole number in a contract."""
+    return f"pos {number}" if number >= 0 else f"negsuc {-number - 1}"
+
+
 def group(words):
     return f"({words})" if " " in words else words
 
@@ -57,7 +61,7 @@ def group(words):
 class Form:
     """What is printed for a struct or an enum: how a part is stated, and its comment if it has none of its own."""
 
-    part, default_comment = "{}({})", "This alternative."
+    part, default_comment, by_hand = "{}({})", "This alternative.", ()
 
     def __init__(self, item, module):
         self.item, self.module, self.name, self.parts = item, module, item.name, item.parts
@@ -67,10 +71,12 @@ class Form:
     def stated(self, types):
         """The struct or the enum, with its comments and its derives, and with these types of its parts."""
         kind = "struct" if self.item.kind == "struct" else "enum"
-        text = f"\n{self.item.comment(f'`{self.name}`.')}\n#[derive({', '.join(self.item.derives)})]\n"
-        text += f"pub {kind} {self.item.own()} {{\n"
+        derives = ", ".join(name for name in self.item.derives if name not in self.by_hand)
+        text = f"\n{self.item.comment(f'`{self.name}`.')}\n#[derive({derives})]\n"
+        text += f"{self.item.visibility} {kind} {self.item.own()} {{\n"
         for part, type in zip(self.parts, types):
-            text += f"{part.comment(self.default_comment)}\n{self.part.format(part.name, type)},\n"
+            stated = f"{part.visibility} {self.part.format(part.name, type)}"
+            text += f"{part.comment(self.default_comment)}\n{stated},\n"
         return text + "}\n"
 
     def impl(self, trait, *members, of=""):
@@ -130,6 +136,7 @@ class Numbers(Form):
     def __init__(self, item, module):
         super().__init__(item, module)
         self.parts = item.values
+        self.by_hand = ("PartialEq", "Eq") if item.is_default else ()
 
     def __str__(self):
         own, numbered = self.name, quoted(self.name, "Numbered")
@@ -145,6 +152,17 @@ class Numbers(Form):
         text += self.impl("Asn1Type", f"""
             ghost der = {{ numbered ({tag}) {numbered}.number_of {numbered}.numbers }};
             fn known(&self) {{ known_number(*self) }}""")
+        if self.item.is_default:
+            of, laws, told = f"{numbered}.number_of", f"on_equiv {numbered}.number_of nat_eq_equiv", f"({tag})"
+            means = f"seen_tells {of} (λ n. pos n) (number_text {told}) nat_eq a b"
+            text += self.impl("PartialEq", f"ghost eq = {{ on {of} nat_eq }};", f"""
+            ghost laws = {{ partial_equiv_from_equiv ({laws}) }};
+            fn eq(&self, other: &{own}) -> bool {{ self.number() == other.number() }}""")
+            text += self.impl("Eq", f"ghost laws = {{ {laws} }};")
+            told = f"ghost tells = {{ λ a b. {means} (naturals_tell {told} ({of} a) ({of} b)) }};"
+            text += self.impl("MeaningEq", told)
+            told = f"ghost content_tells = {{ λ a b. naturals_content_tells ({of} a) ({of} b) }};"
+            text += self.impl("SimpleMeaningEq", told)
         if self.item.reads:
             text += self.impl("SimpleAsn1Readable<'a>", f"""
             fn tag() -> Tag {{ {made} }}
@@ -160,7 +178,7 @@ class Numbers(Form):
 class Structure(Form):
     """A struct with its fields as they were declared, and its impls, which go by a row of them."""
 
-    part, default_comment = "pub {}: {}", "The field."
+    part, default_comment = "{}: {}", "The field."
 
     def __str__(self):
         self.set_rows()
@@ -210,6 +228,9 @@ class Structure(Form):
             follows = f"`#[defined_by({marker.name})]` has to follow, with no other marker between"
             marker.reject(not value or "defined_by" not in value.attributes, f"marks an item: {follows}")
             value.reject(value.attributes["defined_by"] != [marker.name, ","], "isn't after the marker of its item")
+            of = getattr(self.module.items.get(value.type.name), "of", "")
+            why = f"marks an item of another type than `{of}`, by which `{value.name}` is defined"
+            marker.reject(of not in ("", marker.type.inner[0].name), why)
             marker.value, value.item = value, marker.type.inner[0]
         for part in self.parts:
             alias = Type(f"{part.title}Field", part.form.lives[:1])
@@ -237,14 +258,19 @@ class Structure(Form):
 
     def default(self, part):
         """The type that says a field's default."""
-        inner, term, made = part.form.inner[0], part.default, part.default
-        if str(part.base).startswith("i"):
-            term = f"negsuc {-int(term) - 1}" if term.startswith("-") else f"pos {term}"
+        inner, base, uses, term, made = part.form.inner[0], str(part.base), "", part.default, part.default
+        if base.startswith("i"):
+            term = integer(int(term))
+        elif base.startswith("["):
+            term = term[1:-1].replace(",", " ∷") + " ∷ []"
+        elif "::" in term:
+            term, declared = term.split("::")[1], self.module.items[base]
+            uses = uses_of_variants(self.module, declared, [one for one in declared.values if one.name == term])
         if part.tag:
             term, made = f"record {{ inner = {term} }}", f"{part.tag.capitalize()}::new({made})"
-        text = f"\n/// What `{part.name}` is if it is left out.\npub struct {part.title};"
+        text = f"\n/// What `{part.name}` is if it is left out.\n{self.item.visibility} struct {part.title};"
         value = f"fn value() -> {inner} {{ {made} }}"
-        return text + self.impl(f"DefaultValue<{inner}>", f"ghost default = {{ {term} }};", value, of=part.title)
+        return text + self.impl(f"DefaultValue<{inner}>", uses, f"ghost default = {{ {term} }};", value, of=part.title)
 
 
 class Choice(Form):
@@ -324,100 +350,116 @@ class Choice(Form):
 
 
 class Defined(Choice):
-    """An enum with a variant for each identifier that is known; the last may serve every other."""
+    """An enum with a variant for each item that is known, an identifier or a number; the last may serve every other."""
 
     def __str__(self):
-        by = quoted(self.item.own(), f"Asn1DefinedBy<{ITEM}>") + ".by"
+        self.of = of = self.item.of
+        by = quoted(self.item.own(), f"Asn1DefinedBy<{of}>") + ".by"
         self.known = [part for part in self.parts if "defined_by" in part.attributes]
         self.other = next((part for part in self.parts if "default" in part.attributes), None)
         # What the default keeps.
         self.kept = self.name + self.other.name if self.other else ""
-        # Each identifier is declared, and told from the others; what serves every other is last, and keeps it.
-        numbers, other = {}, self.other
+        # Each item is declared, and told from the others; what serves every other is last, and keeps it.
+        items, other = {}, self.other
         for part in self.known:
             name = "".join(part.attributes["defined_by"][:-1])
             constant = self.module.items.get(name, self.item)
-            reject(constant.kind != "const", part.line, f"`{name}` is no identifier that is declared here")
-            part.call, part.numbers = f"{name.lower()}()", f"{name}_NUMBERS"
-            first = numbers.setdefault(tuple(octets_of(constant)[0]), part)
-            part.reject(first is not part, f"has the identifier of `{first.name}`")
-        self.item.reject(not self.known, "has no variant of an identifier")
+            is_other = constant.kind not in ("const", "number") or constant.of != of
+            reject(is_other, part.line, f"`{name}` is no constant of the type `{of}` that is declared here")
+            first = items.setdefault(self.set_item(part, name, constant), part)
+            part.reject(first is not part, f"has the item of `{first.name}`")
+        self.item.reject(not self.known, "has no variant of an item")
         if other:
             other.reject(other is not self.parts[-1], "is the default, and not the last variant")
-            is_tlv = [*map(str, other.parts)] == [ITEM, f"Tlv<{self.item.life}>"]
-            other.reject(not is_tlv, f"is the default, and not of an `{ITEM}` and a `Tlv`")
+            is_tlv = [*map(str, other.parts)] == [of, f"Tlv<{self.item.life}>"]
+            other.reject(not is_tlv, f"is the default, and not of the types `{of}` and `Tlv`")
         text = self.other_struct() if other else ""
         text += self.stated([*(part.base for part in self.known), f"{self.kept}<{self.life}>"])
         values = [f"({der(part.base)}.meaning x)" for part in self.known]
-        values += [f"({der(ITEM)}.meaning x.item, {der(other.base)}.meaning x.value)"] if other else []
+        values += [f"({der(of)}.meaning x.item, {der(other.base)}.meaning x.value)"] if other else []
         places = [side(at, len(values)).format(value)[1:-1] for at, value in enumerate(values)]
         # The record of the variants, from the last one on; the first one says what all values mean.
         rest = f"(any_variant {der(other.base)} (λ m. m)) " if other else ""
         for part in reversed(self.known):
             word, view = "or_variant" if rest else "variant", self.elim(places) if part is self.known[0] else "(λ m. m)"
-            rest = f"({word} (identifier_with {part.numbers}) {der(part.form)} {rest}{view}) "
-        text += self.impl(f"Asn1DefinedBy<{ITEM}>", self.variants(), f"""
+            rest = f"({word} {part.with_item} {der(part.form)} {rest}{view}) "
+        text += self.impl(f"Asn1DefinedBy<{of}>", self.variants(), f"""
             ghost by = {{ by_item (record {{
-            item = {der(ITEM)};
+            item = {der(of)};
             value = {rest[1:-2]};
             }}) }};
             fn known_by(&self) {{ {self.match("x.known()", "x.value.known()")} }}""")
-        text += self.impl(f"DefinedField<{ITEM}>", f"""
+        text += self.impl(f"DefinedField<{of}>", f"""
             ghost both = {{ record {{
-            item = {der(ITEM)};
+            item = {der(of)};
             value = {by}.means;
             }} }};
             fn known_item(&self) {{ {self.match("{call}.known()", "x.item.known()", "_")} }}
             ghost agrees = {{ word_for_word _ }};""")
         if self.item.reads:
-            # One identifier after another is tested.
-            read = {part.call: self.made(part, f"parser.read_element::<{part.form}>()?") for part in self.known}
-            tests = "".join(f"if is_identifier(&item, {call}) {{ return Ok({made}); }} " for call, made in read.items())
+            # One item after another is tested.
+            read = {part.test: self.made(part, f"parser.read_element::<{part.form}>()?") for part in self.known}
+            tests = "".join(f"if {test} {{ return Ok({made}); }} " for test, made in read.items())
             value = f"{self.kept} {{ item, value: parser.read_element::<Tlv<{self.life}>>()? }}"
             last = f"Ok({self.made(other, value)})" if other else UNKNOWN
             stops = f"{by}.means.stops ({by}.seen item)"
-            parse = self.parse(f"item: {ITEM}, ", tests + last, f"ReadsDefined {by} item", stops)
-            text += self.impl(f"Asn1DefinedByReadable<{self.life}, {ITEM}>", parse, f"""
+            parse = self.parse(f"item: {of}, ", tests + last, f"ReadsDefined {by} item", stops)
+            text += self.impl(f"Asn1DefinedByReadable<{self.life}, {of}>", parse, f"""
             fn one_text()
                 ensures {{ {by}.means.plain }}
             {{}}""")
         if self.item.writes:
-            told = f"fn item(&self) -> {ITEM} {{ {self.match('{call}', 'x.item.clone().unwrap()', '_')} }}"
-            text += self.written(f"Asn1DefinedByWritable<{ITEM}>", told, other="x.value")
+            kept = "x.item.clone().unwrap()" if of == ITEM else "x.item"
+            told = f"fn item(&self) -> {of} {{ {self.match('{call}', kept, '_')} }}"
+            text += self.written(f"Asn1DefinedByWritable<{of}>", told, other="x.value")
         return text
 
+    def set_item(self, part, name, constant):
+        """Gives a variant its item and the test for it, in code and in clauses. Returns what tells it from others."""
+        if constant.kind == "const":
+            part.call, part.test = f"{name.lower()}()", f"is_identifier(&item, {name.lower()}())"
+            part.fact = f"bytes_eq (identifier_of item) {name}_NUMBERS"
+            part.with_item = f"(identifier_with {name}_NUMBERS)"
+            return tuple(octets_of(constant)[0])
+        number, part.call, part.test = integer(constant.number), name, f"item == {name}"
+        part.fact = f"int_eq item ({number})" if self.of[0] == "i" else f"nat_eq item {constant.number}"
+        part.with_item = f"""(record {{ item = {number}; is = λ n. int_eq n ({number}); itself = refl;
+            alone = λ n same. sym ((Decides-int_eq n ({number})).0 same); }})"""
+        return constant.number
+
     def other_struct(self):
-        """What the default keeps: an identifier that no other variant is for, and the value. `Clone` isn't derived for
-        it, because of the ghost fields."""
-        kept, life = self.kept, self.life
+        """What the default keeps: an item that no other variant is for, and the value. `Clone` isn't derived for it,
+        because of the ghost fields."""
+        kept, life, item = self.kept, self.life, self.of
         of, derives = f"{kept}<{life}>", ", ".join(name for name in self.item.derives if name != "Clone")
-        facts = {part.call: f"bytes_eq (identifier_of item) {part.numbers} ≡" for part in self.known}
-        fields = "".join(f"pub ghost is_not_{call[:-2]}: {{ {fact} false }}, " for call, fact in facts.items())
-        tests = " || ".join(f"is_identifier(&item, {call})" for call in facts)
+        facts = {part.call.lower().removesuffix("()"): f"{part.fact} ≡" for part in self.known}
+        fields = "".join(f"pub ghost is_not_{name}: {{ {fact} false }}, " for name, fact in facts.items())
+        tests = " || ".join(part.test for part in self.known)
         *firsts, last = [f"({fact} true)" for fact in facts.values()]
+        same = "identifier_of y.item ≡ identifier_of x.item" if item == ITEM else "y.item ≡ x.item"
         served = "".join(f"({first} ⊎ " for first in firsts) + last + ")" * len(firsts)
         text = f"""
-/// An identifier that no other variant of `{self.name}` is for, and the value.
+/// An item that no other variant of `{self.name}` is for, and the value.
 #[derive({derives})]
-pub struct {of} {{ item: {ITEM}, value: Tlv<{life}>, {fields} }}
+{self.item.visibility} struct {of} {{ item: {item}, value: Tlv<{life}>, {fields} }}
 impl<{life}> {of} {{
-    /// Of this identifier and this value; `None` if another variant is for the identifier.
-    pub fn new(item: {ITEM}, value: Tlv<{life}>) -> Option<{of}>
+    /// Of this item and this value; `None` if another variant is for the item.
+    pub fn new(item: {item}, value: Tlv<{life}>) -> Option<{of}>
         ensures {{ MatchOption result {served} (λ v. (v.item ≡ item) × (v.value ≡ value.entry)) }}
     {{ if {tests} {{ return None; }} Some({kept} {{ item, value }}) }}
 
-    /// The identifier.
-    pub fn item(&self) -> &{ITEM} ensures {{ result.now ≡ self.now.item }} {{ &self.item }}
+    /// The item.
+    pub fn item(&self) -> &{item} ensures {{ result.now ≡ self.now.item }} {{ &self.item }}
 
     /// The value.
     pub fn value(&self) -> Tlv<{life}> ensures {{ result ≡ self.now.value }} {{ self.value }}
 }}
 """
         return text if "Clone" not in self.item.derives else text + self.impl("Clone", f"""
-            ghost is_clone = {{ λ x y. (identifier_of y.item ≡ identifier_of x.item) × (y.value ≡ x.value) }};
+            ghost is_clone = {{ λ x y. ({same}) × (y.value ≡ x.value) }};
             ghost is_infallible = {{ λ _. ⊤ }};
             fn clone(&self) -> Result<{of}, AllocError>
-            {{ Ok({kept} {{ item: self.item.clone()?, value: self.value }}) }}""", of=of)
+            {{ Ok({kept} {{ item: self.item{'.clone()?' if item == ITEM else ''}, value: self.value }}) }}""", of=of)
 
 
 def one_of(types):
@@ -439,14 +481,14 @@ def side(at, count):
 def lawful(item, module):
     """The function that says that each value of the type has one encoding. It calls the laws of the types in the type.
     If one of these may be missing, or for a choice, tags differ."""
-    if item.kind == "const" or item.is_defined or item.kind != "type" and not item.reads:
+    if item.kind in ("const", "number") or item.is_defined or item.kind != "type" and not item.reads:
         return ""
     parts = [item.type] if item.type else [part.form for part in item.parts]
     is_told = item.kind == "enum" or any(module.known(part).is_missing for part in parts[:-1])
     called = dict.fromkeys(called for part in parts for called in laws_of(module, part))
     return f"""
 /// Each value of `{item.name}` has one encoding, which is read back.
-{BY_TAGS if is_told else ''}pub fn {snake(item.name)}_is_lawful()
+{BY_TAGS if is_told else ''}{item.visibility} fn {snake(item.name)}_is_lawful()
     ensures {{ HasOneEncoding {der(re.sub("'.*>", "'static>", item.own()))} }}
 {{ {' '.join(f'{law}();' for law in called)} }}
 """
@@ -481,21 +523,23 @@ def identifier(item, _):
     contents = "".join(f"\\x{octet:02x}" for octet in octets)
     return f"""
 /// The numbers of [`{item.name.lower()}`], as they are encoded: the first means two.
-pub const {item.name}_NUMBERS: [{"u64" if max(numbers) < 2**64 else "u128"}; {len(numbers)}] = {numbers};
+{item.visibility} const {item.name}_NUMBERS: [{"u64" if max(numbers) < 2**64 else "u128"}; {len(numbers)}] = {numbers};
 
 {item.comment(f"The identifier {'.'.join(item.arcs)}.")}
-pub fn {item.name.lower()}() -> ObjectIdentifier
+{item.visibility} fn {item.name.lower()}() -> ObjectIdentifier
     ensures {{ identifier_of result ≡ {item.name}_NUMBERS }}
 {{ known_identifier(b"{contents}") }}
 """
 
 
 def alias(item, _):
-    return f"\n{item.comment('A list.')}\npub type {item.own()} = {item.type};\n"
+    """Another name of a type, or a name of a number."""
+    said = f"type {item.own()} = {item.type}" if item.type else f"const {item.name}: {item.of} = {item.number}"
+    return f"\n{item.comment('Another name.')}\n{item.visibility} {said};\n"
 
 
 # What prints each kind of declaration.
-FORMS = {"struct": Structure, "enum": Choice, "numbers": Numbers, "type": alias, "const": identifier}
+FORMS = {"struct": Structure, "enum": Choice, "numbers": Numbers, "type": alias, "const": identifier, "number": alias}
 
 
 def law_of_choice(item):
@@ -528,4 +572,4 @@ def answers(item, module):
         kept += ANSWER.format(f"returns-in-{part.name}-clause-err", term, "")
     uses = "use Rattle.std.proofs.Common.{inl, rules}\n"
     uses += "use Rattle.asn1.specs.Lemmas.Variants.{unmoved_keeps_front}\n"
-    return f"{item.name}Asn1DefinedByWritable{ITEM}/write", uses, large and large + kept
+    return f"{item.name}Asn1DefinedByWritable{item.of}/write", uses, large and large + kept

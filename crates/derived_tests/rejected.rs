@@ -1,12 +1,13 @@
-// What scripts/derive rejects: declarations with a line between them, each with the reason at the line that it names.
+// What scripts/derive rejects: declarations with a line between them, each with the reason at the line that it names, and
+// with the section of docs/OWN_TYPES.md that it names, unless this is "What the script prints".
 
 #[derive(asn1::Asn1Read)]
-struct Tree<'a> { //~ `Tree` is recursive: it has no form
+struct Tree<'a> { //~ `Tree` is recursive: it has no form -> What has no form
     branches: Option<asn1::SequenceOf<'a, Tree<'a>>>,
 }
 
 #[derive(asn1::Asn1Read)]
-struct Left<'a> { //~ `Left` is recursive: it has no form
+struct Left<'a> { //~ `Left` is recursive: it has no form -> What has no form
     right: Right<'a>,
 }
 #[derive(asn1::Asn1Read)]
@@ -63,21 +64,21 @@ struct Unnamed(u8); //~ `Unnamed` has no named fields
 
 #[derive(asn1::Asn1Read)]
 enum NoField {
-    Nothing, //~ `Nothing` has no unnamed field and no number: a variant has exactly one
+    Nothing, //~ `Nothing` has no unnamed field and no number: a variant has exactly one -> Values with numbers
 }
 
 #[derive(asn1::Asn1Read)]
 enum TwoFields {
-    Both(u8, bool), //~ `Both` has more than one field: a variant has exactly one
+    Both(u8, bool), //~ `Both` has more than one field: a variant has exactly one -> A choice
 }
 
 #[derive(asn1::Asn1Read)]
-struct Generic<T> { //~ type parameters have no form here: a declaration has one lifetime at most
+struct Generic<T> { //~ type parameters have no form here: a declaration has one lifetime at most -> What has no form
     value: T,
 }
 
 #[derive(asn1::Asn1Read)]
-struct TwoLives<'a, 'b> { //~ a declaration has one lifetime at most, and no bounds
+struct TwoLives<'a, 'b> { //~ a declaration has one lifetime at most, and no bounds -> What has no form
     value: &'a [u8],
 }
 
@@ -113,12 +114,12 @@ enum Either {
 
 #[derive(asn1::Asn1Read)]
 struct TwiceMissing {
-    value: Option<Option<u8>>, //~ an option or a default of what may be missing itself
+    value: Option<Option<u8>>, //~ an option or a default of what may be missing itself -> What has no form
 }
 
 #[derive(asn1::Asn1Read)]
 struct Written<'a> {
-    items: asn1::SequenceOfWriter<'a, u8>, //~ `items` is a list made in code, and may be only in a struct that isn't read
+    items: asn1::SequenceOfWriter<'a, u8>, //~ `items` is a list made in code, and may be only in a struct that isn't read -> An error of one's own
 }
 
 #[derive(asn1::Asn1Read)]
@@ -130,7 +131,7 @@ struct NoNumber {
 #[derive(asn1::Asn1Read)]
 struct NoLiteral {
     #[default(VERSION)]
-    value: u8, //~ the default of `value` isn't a literal: `true`, `false` or a number
+    value: u8, //~ `VERSION` is no value of `u8`: a default is a Boolean, a number, octets of a `[u8; N]`, or a value of an enum with numbers -> A default of another type
 }
 
 #[derive(asn1::Asn1Read)]
@@ -147,7 +148,7 @@ struct NoDerive { //~ `NoDerive` derives neither `Asn1Read` nor `Asn1Write`
 #[derive(asn1::Asn1DefinedByRead, asn1::Asn1DefinedByWrite)]
 enum Undeclared {
     #[defined_by(SOME_OID)]
-    Number(i32), //~ `SOME_OID` is no identifier that is declared here
+    Number(i32), //~ `SOME_OID` is no constant of the type `ObjectIdentifier` that is declared here -> A value that an item defines
 }
 
 const SOME_OID: asn1::ObjectIdentifier = asn1::oid!(1, 2, 3);
@@ -157,14 +158,14 @@ enum SameIdentifier {
     #[defined_by(SOME_OID)]
     Number(i32),
     #[defined_by(SAME_OID)]
-    Flag(bool), //~ `Flag` has the identifier of `Number`
+    Flag(bool), //~ `Flag` has the item of `Number` -> A value that an item defines
 }
 
 const SOME_OID: asn1::ObjectIdentifier = asn1::oid!(1, 2, 3);
 #[derive(asn1::Asn1DefinedByRead, asn1::Asn1DefinedByWrite)]
 enum DefaultFirst<'a> {
     #[default]
-    Other(asn1::ObjectIdentifier, asn1::Tlv<'a>), //~ `Other` is the default, and not the last variant
+    Other(asn1::ObjectIdentifier, asn1::Tlv<'a>), //~ `Other` is the default, and not the last variant -> A value that an item defines
     #[defined_by(SOME_OID)]
     Number(i32),
 }
@@ -175,18 +176,18 @@ enum DefaultOfANumber {
     #[defined_by(SOME_OID)]
     Number(i32),
     #[default]
-    Other(asn1::ObjectIdentifier, u8), //~ `Other` is the default, and not of an `ObjectIdentifier` and a `Tlv`
+    Other(asn1::ObjectIdentifier, u8), //~ `Other` is the default, and not of the types `ObjectIdentifier` and `Tlv` -> A value that an item defines
 }
 
 #[derive(asn1::Asn1DefinedByRead, asn1::Asn1DefinedByWrite)]
-enum DefaultAlone<'a> { //~ `DefaultAlone` has no variant of an identifier
+enum DefaultAlone<'a> { //~ `DefaultAlone` has no variant of an item -> A value that an item defines
     #[default]
     Other(asn1::ObjectIdentifier, asn1::Tlv<'a>),
 }
 
 #[derive(asn1::Asn1DefinedByRead, asn1::Asn1DefinedByWrite)]
 enum NoIdentifier {
-    Number(i32), //~ `Number` has neither `#[defined_by(..)]` nor `#[default]` alone
+    Number(i32), //~ `Number` has neither `#[defined_by(..)]` nor `#[default]` alone -> A value that an item defines
 }
 
 #[derive(asn1::Asn1Read)]
@@ -197,7 +198,7 @@ enum ChoiceWithDefault {
 
 const SOME_OID: asn1::ObjectIdentifier = asn1::oid!(1, 2, 3);
 #[derive(asn1::Asn1Read, asn1::Asn1DefinedByRead)]
-enum BothDerives { //~ `BothDerives` is defined by an item: an enum with no other derive of `asn1`
+enum BothDerives { //~ `BothDerives` is defined by an item: an enum with no other derive of `asn1` -> A value that an item defines
     #[defined_by(SOME_OID)]
     Number(i32),
 }
@@ -210,7 +211,7 @@ enum Content {
 }
 #[derive(asn1::Asn1Read)]
 struct NoItem {
-    content: Content, //~ `content` is defined by an item: it follows that, with `#[defined_by(..)]`
+    content: Content, //~ `content` is defined by an item: it follows that, with `#[defined_by(..)]` -> A value that an item defines
 }
 
 const SOME_OID: asn1::ObjectIdentifier = asn1::oid!(1, 2, 3);
@@ -223,20 +224,20 @@ enum Content {
 struct MayBeMissing {
     kind: asn1::DefinedByMarker<asn1::ObjectIdentifier>,
     #[defined_by(kind)]
-    content: Option<Content>, //~ `content` is defined by an item: it is there, with an explicit tag or none
+    content: Option<Content>, //~ `content` is defined by an item: it is there, with an explicit tag or none -> What has no form
 }
 
 #[derive(asn1::Asn1Read)]
 struct NumberByItem {
     kind: asn1::DefinedByMarker<asn1::ObjectIdentifier>,
     #[defined_by(kind)]
-    content: u8, //~ `content` is defined by an item, and its type is not
+    content: u8, //~ `content` is defined by an item, and its type is not -> A value that an item defines
 }
 
 use crate::content::Content;
 #[derive(asn1::Asn1Read)]
 struct TwoMarkers {
-    kind: asn1::DefinedByMarker<asn1::ObjectIdentifier>, //~ `kind` marks an item: `#[defined_by(kind)]` has to follow, with no other marker between
+    kind: asn1::DefinedByMarker<asn1::ObjectIdentifier>, //~ `kind` marks an item: `#[defined_by(kind)]` has to follow, with no other marker between -> A value that an item defines
     other: asn1::DefinedByMarker<asn1::ObjectIdentifier>,
     #[defined_by(kind)]
     content: Content,
@@ -244,7 +245,7 @@ struct TwoMarkers {
 
 #[derive(asn1::Asn1Read)]
 struct OnlyMarked {
-    kind: asn1::DefinedByMarker<asn1::ObjectIdentifier>, //~ `kind` marks an item: `#[defined_by(kind)]` has to follow, with no other marker between
+    kind: asn1::DefinedByMarker<asn1::ObjectIdentifier>, //~ `kind` marks an item: `#[defined_by(kind)]` has to follow, with no other marker between -> A value that an item defines
     number: u8,
 }
 
@@ -253,16 +254,16 @@ use crate::content::Content;
 struct Unmarked {
     kind: asn1::ObjectIdentifier,
     #[defined_by(kind)]
-    content: Content, //~ `content` isn't after the marker of its item
+    content: Content, //~ `content` isn't after the marker of its item -> A value that an item defines
 }
 
-const WRONG: asn1::ObjectIdentifier = asn1::oid!(1, 40, 1); //~ `WRONG` is no identifier: its second number is below 40 after 0 and 1
+const WRONG: asn1::ObjectIdentifier = asn1::oid!(1, 40, 1); //~ `WRONG` is no identifier: its second number is below 40 after 0 and 1 -> A value that an item defines
 
 const LONE: asn1::ObjectIdentifier = asn1::oid!(1); //~ `LONE` isn't written as two or more numbers
 
 #[derive(asn1::Asn1Read)]
 struct NoType {
-    value: Vec<u8>, //~ `Vec` is no type of the library, and neither declared nor imported here
+    value: Vec<u8>, //~ `Vec` is no type of the library, and neither declared nor imported here -> A simple type
 }
 
 #[derive(asn1::Asn1Read)]
@@ -284,7 +285,7 @@ struct Twice { //~ `Twice` is declared twice
     value: bool,
 }
 
-fn main() {} //~ `fn` isn't a struct, an enum, an alias or an identifier's constant
+fn main() {} //~ `fn` isn't a struct, an enum, an alias or a constant
 
 #[derive(asn1::Asn1Read)]
 struct OfRattle {
@@ -298,7 +299,7 @@ struct Ghost {
 
 #[derive(asn1::Asn1Read)]
 struct Raw {
-    r#type: bool, //~ `:` was expected, and found `#`
+    r#type: bool, //~ an identifier by `r#`: name it otherwise
 }
 
 #[derive(asn1::Asn1Read)]
@@ -342,25 +343,25 @@ struct LargeTag {
 #[derive(asn1::Asn1Read)]
 struct LargeDefault {
     #[default(300)]
-    value: u8, //~ `300` is no value of `u8`: a default is of a Boolean or an integer type
+    value: u8, //~ `300` is no value of `u8`: a default is a Boolean, a number, octets of a `[u8; N]`, or a value of an enum with numbers -> A default of another type
 }
 
 #[derive(asn1::Asn1Read)]
 struct SmallDefault {
     #[default(-129)]
-    value: i8, //~ `-129` is no value of `i8`: a default is of a Boolean or an integer type
+    value: i8, //~ `-129` is no value of `i8`: a default is a Boolean, a number, octets of a `[u8; N]`, or a value of an enum with numbers -> A default of another type
 }
 
 #[derive(asn1::Asn1Read)]
 struct NumberForBoolean {
     #[default(1)]
-    value: bool, //~ `1` is no value of `bool`: a default is of a Boolean or an integer type
+    value: bool, //~ `1` is no value of `bool`: a default is a Boolean, a number, octets of a `[u8; N]`, or a value of an enum with numbers -> A default of another type
 }
 
 #[derive(asn1::Asn1Read)]
 struct DefaultOfALargeInteger<'a> {
     #[default(1)]
-    value: asn1::BigUint<'a>, //~ `1` is no value of `BigUint<'a>`: a default is of a Boolean or an integer type
+    value: asn1::BigUint<'a>, //~ `1` is no value of `BigUint<'a>`: a default is a Boolean, a number, octets of a `[u8; N]`, or a value of an enum with numbers -> A default of another type
 }
 
 #[derive(asn1::Asn1Read)]
@@ -370,13 +371,13 @@ struct Conditional {
 }
 
 #[derive(asn1::Asn1Read)]
-struct ThirtyOne { //~ `ThirtyOne` has more than 30 fields
+struct ThirtyOne { //~ `ThirtyOne` has more than 30 fields -> What has no form
     a: u8, b: u8, c: u8, d: u8, e: u8, f: u8, g: u8, h: u8, i: u8, j: u8, k: u8, l: u8, m: u8, n: u8, o: u8, p: u8,
     q: u8, r: u8, s: u8, t: u8, u: u8, v: u8, w: u8, x: u8, y: u8, z: u8, aa: u8, ab: u8, ac: u8, ad: u8, ae: u8,
 }
 
 #[derive(asn1::Asn1Read)]
-enum NoVariant {} //~ `NoVariant` has no variant, or more than 36
+enum NoVariant {} //~ `NoVariant` has no variant, or more than 36 -> A choice
 
 #[derive(asn1::Asn1Read)]
 struct LifeOfNothing<'a> { //~ `LifeOfNothing` declares a lifetime, and nothing in it has one
@@ -385,13 +386,13 @@ struct LifeOfNothing<'a> { //~ `LifeOfNothing` declares a lifetime, and nothing 
 
 #[derive(asn1::Asn1Read)]
 enum OptionalVariant {
-    Flag(Option<bool>), //~ `Flag` may be missing, and is an alternative of a choice
+    Flag(Option<bool>), //~ `Flag` may be missing, and is an alternative of a choice -> A choice
     Number(u8),
 }
 
 #[derive(asn1::Asn1Write)]
 enum ListOfCode<'a> {
-    List(asn1::SetOfWriter<'a, u8>), //~ `List` is a list made in code, and may be only in a struct that isn't read
+    List(asn1::SetOfWriter<'a, u8>), //~ `List` is a list made in code, and may be only in a struct that isn't read -> An error of one's own
     Number(u8),
 }
 
@@ -437,7 +438,7 @@ struct FlagBehindFlag {
     flag: bool, //~ a tag of `flag` is one of `value` too, from which it is told by its tag
 }
 
-const DATA: asn1::ObjectIdentifier = asn1::oid!(1, 2, 840, 113549, 1, 7, 1); //~ `data` is a word, and a function's name here: name it otherwise
+const DATA: asn1::ObjectIdentifier = asn1::oid!(1, 2, 840, 113549, 1, 7, 1); //~ `DATA` is a function `data` here, a word of clauses
 
 #[derive(asn1::Asn1Read)]
 enum OfTypes {
@@ -453,7 +454,7 @@ struct AfterNoPath {
 #[derive(asn1::Asn1Read)]
 struct DefaultAbove {
     #[default(256)]
-    value: u8, //~ `256` is no value of `u8`: a default is of a Boolean or an integer type
+    value: u8, //~ `256` is no value of `u8`: a default is a Boolean, a number, octets of a `[u8; N]`, or a value of an enum with numbers -> A default of another type
 }
 
 #[derive(asn1::Asn1Read)]
@@ -492,7 +493,7 @@ struct OverlapOfUniversal<'a> {
 use crate::content::Content;
 #[derive(asn1::Asn1Read)]
 struct CrossedMarkers {
-    kind: asn1::DefinedByMarker<asn1::ObjectIdentifier>, //~ `kind` marks an item: `#[defined_by(kind)]` has to follow, with no other marker between
+    kind: asn1::DefinedByMarker<asn1::ObjectIdentifier>, //~ `kind` marks an item: `#[defined_by(kind)]` has to follow, with no other marker between -> A value that an item defines
     other: asn1::DefinedByMarker<asn1::ObjectIdentifier>,
     #[defined_by(kind)]
     content: Content,
@@ -501,18 +502,18 @@ struct CrossedMarkers {
 }
 
 #[derive(asn1::Asn1Read)]
-struct MarkerOfANumber {
-    kind: asn1::DefinedByMarker<u8>, //~ `kind` marks an item of another type than `ObjectIdentifier`
+struct MarkerOfABoolean {
+    kind: asn1::DefinedByMarker<bool>, //~ `kind` marks an item that has a tag, is in another type, or isn't an identifier or an integer -> What has no form
     #[defined_by(kind)]
     content: Content,
 }
 use crate::content::Content;
 
-const TOP: asn1::ObjectIdentifier = asn1::oid!(3, 1); //~ `TOP` is no identifier: its second number is below 40 after 0 and 1
+const TOP: asn1::ObjectIdentifier = asn1::oid!(3, 1); //~ `TOP` is no identifier: its second number is below 40 after 0 and 1 -> A value that an item defines
 
-const LARGE: asn1::ObjectIdentifier = asn1::oid!(2, 5, 340282366920938463463374607431768211456); //~ `LARGE` has more than 63 octets, or a number from 2^128 on
+const LARGE: asn1::ObjectIdentifier = asn1::oid!(2, 5, 340282366920938463463374607431768211456); //~ `LARGE` has more than 63 octets, or a number from 2^128 on -> What has no form
 
-const LONG: asn1::ObjectIdentifier = asn1::oid!(2, 5, 340282366920938463463374607431768211455, 340282366920938463463374607431768211455, 340282366920938463463374607431768211455, 268435455, 127, 127); //~ `LONG` has more than 63 octets, or a number from 2^128 on
+const LONG: asn1::ObjectIdentifier = asn1::oid!(2, 5, 340282366920938463463374607431768211455, 340282366920938463463374607431768211455, 340282366920938463463374607431768211455, 268435455, 127, 127); //~ `LONG` has more than 63 octets, or a number from 2^128 on -> What has no form
 
 #[derive(asn1::Asn1Read, asn1::Asn1Write)]
 struct Half {
@@ -550,12 +551,12 @@ struct BoundsThatCross<'a> {
 
 #[derive(asn1::Asn1Read)]
 struct ListOfOptions<'a> {
-    value: asn1::SetOf<'a, Option<u8>>, //~ an option or a default is in a field alone, and in no list or under no tag
+    value: asn1::SetOf<'a, Option<u8>>, //~ an option or a default is in a field alone, and in no list or under no tag -> What has no form
 }
 
 #[derive(asn1::Asn1Read)]
 struct OptionUnderATag {
-    value: asn1::Explicit<Option<u8>, 1>, //~ an option or a default is in a field alone, and in no list or under no tag
+    value: asn1::Explicit<Option<u8>, 1>, //~ an option or a default is in a field alone, and in no list or under no tag -> What has no form
 }
 
 #[derive(asn1::Asn1Read)]
@@ -573,11 +574,11 @@ struct Letters {
 
 #[derive(asn1::Asn1Read)]
 enum OfClauses {
-    elim(u8), //~ `elim` is a word of clauses, and a variant's name there: name it otherwise
+    elim(u8), //~ `elim` is a word of clauses, and a variant's name there: name it otherwise -> A choice
 }
 
 #[derive(asn1::Asn1Read)]
-struct u8 { //~ `u8` is imported, or a type of the library: name it otherwise
+struct u8 { //~ `u8` is imported, or a type of the library
     value: bool,
 }
 
@@ -591,33 +592,33 @@ struct Boxes {
 
 #[derive(asn1::Asn1Read)]
 #[application(1, explicit)]
-struct AroundItself { //~ `AroundItself` has a tag of its own, and an explicit tag around it is an alias's, as `type AroundItself2 = asn1::ApplicationExplicit<AroundItself, 1>`
+struct AroundItself { //~ `AroundItself` has a tag of its own, and an explicit tag around it is an alias's, as `type AroundItself2 = asn1::ApplicationExplicit<AroundItself, 1>` -> Tags of other classes
     value: u8,
 }
 
 #[derive(asn1::Asn1Read)]
 #[private(1, implicit)]
-enum TaggedChoice { //~ `TaggedChoice` is a choice, which has no tag of its own: an alias has one, as `type TaggedChoice2 = asn1::PrivateExplicit<TaggedChoice, 1>`
+enum TaggedChoice { //~ `TaggedChoice` is a choice, which has no tag of its own: an alias has one, as `type TaggedChoice2 = asn1::PrivateExplicit<TaggedChoice, 1>` -> Tags of other classes
     One(u8),
     Other(bool),
 }
 
 #[derive(asn1::Asn1Read)]
 #[application(1)]
-struct NoForm { //~ `NoForm` has a tag that isn't as `#[application(1, implicit)]` or `#[application(1, explicit)]`
+struct NoForm { //~ `NoForm` has a tag that isn't as `#[application(1, implicit)]` or `#[application(1, explicit)]` -> Tags of other classes
     value: u8,
 }
 
 #[derive(asn1::Asn1Read)]
 #[universal(27, explicit)]
-struct ExplicitUniversal { //~ `ExplicitUniversal` has a tag of the class universal that is explicit
+struct ExplicitUniversal { //~ `ExplicitUniversal` has a tag of the class universal that is explicit -> Tags of other classes
     value: u8,
 }
 
 #[derive(asn1::Asn1Read)]
 #[application(1, implicit)]
 #[private(1, implicit)]
-struct TwoClasses { //~ `TwoClasses` has tags of two classes
+struct TwoClasses { //~ `TwoClasses` has tags of two classes -> Tags of other classes
     value: u8,
 }
 
@@ -625,15 +626,15 @@ struct TwoClasses { //~ `TwoClasses` has tags of two classes
 struct TwoTagsOfAField {
     #[implicit(1)]
     #[application(1, implicit)]
-    value: Option<u8>, //~ `value` has two tags: an alias states one of them
+    value: Option<u8>, //~ `value` has two tags: an alias states one of them -> Tags of other classes
 }
 
 #[application(1, implicit)]
-const TAGGED: asn1::ObjectIdentifier = asn1::oid!(1, 2, 3); //~ `TAGGED` is an identifier, which has no tag here
+const TAGGED: asn1::ObjectIdentifier = asn1::oid!(1, 2, 3); //~ `TAGGED` is a constant, which has no tag here -> Tags of other classes
 
 #[derive(asn1::Asn1Read)]
 #[set]
-enum SetOfVariants { //~ `SetOfVariants` is a set, and no struct, or has another tag too
+enum SetOfVariants { //~ `SetOfVariants` is a set, and no struct, or has another tag too -> A set
     One(u8),
 }
 
@@ -647,7 +648,7 @@ struct SetOfAField {
 #[set]
 struct Unordered {
     number: u8,
-    flag: bool, //~ `flag` is in a set, and its tag doesn't come after that of the field before it
+    flag: bool, //~ `flag` is in a set, and its tag doesn't come after that of the field before it -> A set
 }
 
 #[derive(asn1::Asn1Read)]
@@ -656,39 +657,39 @@ struct UnorderedClasses {
     #[implicit(0)]
     number: Option<u8>,
     #[application(1, implicit)]
-    flag: bool, //~ `flag` is in a set, and its tag doesn't come after that of the field before it
+    flag: bool, //~ `flag` is in a set, and its tag doesn't come after that of the field before it -> A set
 }
 
 #[derive(asn1::Asn1Read)]
 #[set]
 struct AnyInASet<'a> {
-    any: asn1::Tlv<'a>, //~ `any` is in a set, and hasn't one tag that is known
+    any: asn1::Tlv<'a>, //~ `any` is in a set, and hasn't one tag that is known -> A set
 }
 
 #[derive(asn1::Asn1Read)]
 enum HalfNumbered {
     One = 1,
-    Other(u8), //~ `Other` has no number, and `One` has one
+    Other(u8), //~ `Other` has no number, and `One` has one -> Values with numbers
 }
 
 #[derive(asn1::Asn1Read)]
 enum SameNumber {
     One = 1,
-    Other = 0x1, //~ `Other` has the number of `One`
+    Other = 0x1, //~ `Other` has the number of `One` -> Values with numbers
 }
 
 #[derive(asn1::Asn1Read)]
 enum NegativeNumber {
-    Below = -1, //~ `Below` has the number `-1`, which isn't one from 0 to 4294967295
+    Below = -1, //~ `Below` has the number `-1`, which is no `u32` -> Values with numbers
 }
 
 #[derive(asn1::Asn1Read)]
 enum LargeNumber {
-    Above = 4294967296, //~ `Above` has the number `4294967296`, which isn't one from 0 to 4294967295
+    Above = 4294967296, //~ `Above` has the number `4294967296`, which is no `u32` -> Values with numbers
 }
 
 #[derive(asn1::Asn1DefinedByRead)]
-enum NumbersByItem { //~ `NumbersByItem` has numbers, and is defined by an item
+enum NumbersByItem { //~ `NumbersByItem` has numbers, and is defined by an item -> Values with numbers
     One = 1,
 }
 
@@ -714,7 +715,7 @@ use crate::content::Content;
 struct MarkersOfEachOther {
     kind: asn1::DefinedByMarker<asn1::ObjectIdentifier>,
     #[defined_by(other)]
-    content: Content, //~ `content` isn't after the marker of its item
+    content: Content, //~ `content` isn't after the marker of its item -> A value that an item defines
     other: asn1::DefinedByMarker<asn1::ObjectIdentifier>,
     #[defined_by(kind)]
     more: Content,
@@ -744,5 +745,147 @@ enum Numbers {
 #[set]
 struct SameTagTwice {
     number: u8,
-    other: u16, //~ `other` is in a set, and its tag doesn't come after that of the field before it
+    other: u16, //~ `other` is in a set, and its tag doesn't come after that of the field before it -> A set
+}
+
+/* A comment * of several
+lines */ /**/ /*** and one more ***/
+//// This is no comment of an item.
+#[derive(asn1::Asn1Read)]
+struct Commented {
+    /** The value. */ //~ a comment by `/**`, around another, or without end
+    value: u8,
+}
+
+#[derive(asn1::Asn1Read)]
+struct Nested {
+    value: u8, /* one comment /* in another */ */ //~ a comment by `/**`, around another, or without end
+}
+
+type A0 = A1; type A1 = A2; type A2 = A3; type A3 = A4; type A4 = A5; type A5 = A6; type A6 = A7; type A7 = A8; type
+A8 = A9; type A9 = A10; type A10 = A11; type A11 = A12; type A12 = A13; type A13 = A14; type A14 = A15; type A15 =
+A16; type A16 = A17; type A17 = A18; type A18 = A19; type A19 = A20; type A20 = A21; type A21 = A22; type A22 = A23;
+type A23 = A24; type A24 = A25; type A25 = A26; type A26 = A27; type A27 = A28; type A28 = A29; type A29 = A30; type
+A30 = A31; //~ types within one another more deeply than 30
+type A31 = u8;
+
+#[derive(asn1::Asn1Read)]
+struct MarkerOfANumber {
+    kind: asn1::DefinedByMarker<u8>, //~ `kind` marks an item of another type than `ObjectIdentifier`, by which `content` is defined -> A value that an item defines
+    #[defined_by(kind)]
+    content: Content,
+}
+const SOME_OID: asn1::ObjectIdentifier = asn1::oid!(1, 2, 3);
+#[derive(asn1::Asn1DefinedByRead)]
+enum Content {
+    #[defined_by(SOME_OID)]
+    Number(i32),
+}
+
+#[derive(asn1::Asn1DefinedByRead)]
+enum ItemsOfTwoTypes {
+    #[defined_by(ONE)]
+    Number(i32),
+    #[defined_by(TWO)]
+    Flag(bool), //~ `TWO` is no constant of the type `u8` that is declared here -> A value that an item defines
+}
+const ONE: u8 = 1;
+const TWO: u16 = 2;
+
+#[derive(asn1::Asn1DefinedByRead)]
+enum SameItem {
+    #[defined_by(ONE)]
+    Number(i32),
+    #[defined_by(FIRST)]
+    Flag(bool), //~ `Flag` has the item of `Number` -> A value that an item defines
+}
+const ONE: i8 = 1;
+const FIRST: i8 = 0x1;
+
+#[derive(asn1::Asn1DefinedByRead)]
+enum LiteralItem {
+    #[defined_by(1)]
+    Number(i32), //~ `1` is no constant of the type `ObjectIdentifier` that is declared here -> A value that an item defines
+}
+
+const ABOVE: u8 = 256; //~ `ABOVE` is `256`, which is no `u8`
+
+const SUM: u8 = 1 + 1; //~ `SUM` is `1+1`, which is no `u8`
+
+const FLAG: bool = true; //~ `FLAG` is a constant that is neither a number nor made by `oid!`
+
+#[application(1, implicit)]
+const TAGGED_NUMBER: u8 = 1; //~ `TAGGED_NUMBER` is a constant, which has no tag here -> Tags of other classes
+
+#[derive(asn1::Asn1Read)]
+struct DefaultOfOtherLength {
+    #[default([1, 2])]
+    value: [u8; 3], //~ `[1,2]` is no value of `[u8; 3]`: a default is a Boolean, a number, octets of a `[u8; N]`, or a value of an enum with numbers -> A default of another type
+}
+
+#[derive(asn1::Asn1Read)]
+struct DefaultOfNoOctet {
+    #[default([256])]
+    value: [u8; 1], //~ `[256]` is no value of `[u8; 1]`: a default is a Boolean, a number, octets of a `[u8; N]`, or a value of an enum with numbers -> A default of another type
+}
+
+#[derive(asn1::Asn1Read)]
+struct DefaultOfNoValue {
+    #[default(Numbers::Two)]
+    value: Numbers, //~ `Numbers::Two` is no value of `Numbers`: a default is a Boolean, a number, octets of a `[u8; N]`, or a value of an enum with numbers -> A default of another type
+}
+#[derive(asn1::Asn1Read)]
+enum Numbers {
+    One = 1,
+}
+
+#[derive(asn1::Asn1Read)]
+struct ClassInWords {
+    #[explicit(1, class = APPLICATION)]
+    value: Option<u8>, //~ `explicit` takes a number and `required = true`
+}
+
+#[derive(asn1::Asn1Read)]
+struct MarkerUnderATag {
+    #[explicit(1, required = true)]
+    kind: asn1::DefinedByMarker<i32>, //~ `kind` marks an item that has a tag, is in another type, or isn't an identifier or an integer -> What has no form
+    #[defined_by(kind)]
+    content: Content,
+}
+use crate::content::Content;
+
+#[derive(asn1::Asn1Read)]
+enum MarkerInAChoice {
+    Kind(Box<asn1::DefinedByMarker<i32>>), //~ `Kind` marks an item that has a tag, is in another type, or isn't an identifier or an integer -> What has no form
+}
+
+#[derive(asn1::Asn1Read)]
+struct ListOfValues<'a> {
+    values: asn1::SequenceOf<'a, Content>, //~ `values` is defined by an item: it follows that, with `#[defined_by(..)]` -> A value that an item defines
+}
+#[derive(asn1::Asn1DefinedByRead)]
+enum Content {
+    #[defined_by(ONE)]
+    Number(i32),
+}
+const ONE: u8 = 1;
+
+#[derive(asn1::Asn1Read)]
+struct NoNumberInIt {
+    value: [u8; 0x_], //~ the length of an array isn't a number up to 4294967295
+}
+
+#[derive(asn1::Asn1Read)]
+enum NameForANumber {
+    One = FIRST, //~ `One` has the number `FIRST`, which is no `u32` -> Values with numbers
+}
+
+#[derive(asn1::Asn1Read)]
+struct Unended {
+    value: u8, /* //~ a comment by `/**`, around another, or without end
+}
+
+#[derive(asn1::Asn1Read)]
+struct OtherString<'a> {
+    value: asn1::RelativeOid<'a>, //~ `RelativeOid` is no type of the library, and neither declared nor imported here -> Tags of other classes
 }

@@ -5,7 +5,7 @@
 use asn1::{Asn1Read, Asn1Write};
 
 /// Fields in many spellings.
-#[derive(Asn1Read, asn1::Asn1Write, Copy, Default, Hash, PartialEq)]
+#[derive(Asn1Read, asn1::Asn1Write, Copy, Default, Hash)]
 #[allow(missing_docs)]
 pub(crate) struct Spelled<'b> { //~ `Copy`, which `items` lacks; `Default`, which isn't kept; `Hash`, which `text` lacks
     #[doc = " Sixteen octets."]
@@ -22,4 +22,17 @@ pub(crate) struct Spelled<'b> { //~ `Copy`, which `items` lacks; `Default`, whic
     #[default(2_55u8)]
     high: u8,
     text: asn1::IA5String<'b>
+}
+
+
+/// A number that is only read.
+#[derive(Asn1Read)]
+pub struct Received {
+    pub number: u8,
+}
+
+/// A number that is only written.
+#[derive(Asn1Write)]
+pub struct Sent {
+    pub number: u8,
 }

@@ -1,5 +1,5 @@
 //! Values that an item before them defines: each attribute of the original's derives for them, once.
-// Printed by scripts/derive from declarations/items.rs, with the sum 11404be0.
+// Printed by scripts/derive from declarations/items.rs, with the sum 36dd6ff3.
 
 ghost use Rattle.std.specs.Prelude.{◌≡◌, ◌⊎◌, ◌∷◌, [], true, false, ⊤, IsTrue, MatchOption, OnErr};
 ghost use Rattle.std.specs.Str.{bytes_eq};
@@ -198,7 +198,7 @@ impl Asn1DefinedByWritable<ObjectIdentifier> for Content {
     }
 }
 
-/// An identifier that no other variant of `AnyContent` is for, and the value.
+/// An item that no other variant of `AnyContent` is for, and the value.
 #[derive(PartialEq, Drop)]
 pub struct AnyContentUnknown<'a> {
     item: ObjectIdentifier,
@@ -210,7 +210,7 @@ pub struct AnyContentUnknown<'a> {
 }
 
 impl<'a> AnyContentUnknown<'a> {
-    /// Of this identifier and this value; `None` if another variant is for the identifier.
+    /// Of this item and this value; `None` if another variant is for the item.
     pub fn new(item: ObjectIdentifier, value: Tlv<'a>) -> Option<AnyContentUnknown<'a>>
         ensures { MatchOption result ((bytes_eq (identifier_of item) SOME_OID_NUMBERS ≡ true) ⊎
             ((bytes_eq (identifier_of item) OTHER_OID_NUMBERS ≡ true) ⊎ (bytes_eq (identifier_of
@@ -226,7 +226,7 @@ impl<'a> AnyContentUnknown<'a> {
         Some(AnyContentUnknown { item, value })
     }
 
-    /// The identifier.
+    /// The item.
     pub fn item(&self) -> &ObjectIdentifier
         ensures { result.now ≡ self.now.item }
     {
@@ -557,7 +557,7 @@ impl SimpleAsn1Writable for Letter {
     }
 }
 
-/// An identifier that no other variant of `Listed` is for, and the value.
+/// An item that no other variant of `Listed` is for, and the value.
 #[derive(PartialEq, Drop)]
 pub struct ListedUnknown<'a> {
     item: ObjectIdentifier,
@@ -566,7 +566,7 @@ pub struct ListedUnknown<'a> {
 }
 
 impl<'a> ListedUnknown<'a> {
-    /// Of this identifier and this value; `None` if another variant is for the identifier.
+    /// Of this item and this value; `None` if another variant is for the item.
     pub fn new(item: ObjectIdentifier, value: Tlv<'a>) -> Option<ListedUnknown<'a>>
         ensures { MatchOption result (bytes_eq (identifier_of item) SOME_OID_NUMBERS ≡ true) (λ v.
             (v.item ≡ item) × (v.value ≡ value.entry)) }
@@ -577,7 +577,7 @@ impl<'a> ListedUnknown<'a> {
         Some(ListedUnknown { item, value })
     }
 
-    /// The identifier.
+    /// The item.
     pub fn item(&self) -> &ObjectIdentifier
         ensures { result.now ≡ self.now.item }
     {

@@ -8,6 +8,8 @@ mod items;
 #[cfg(test)]
 mod kerberos;
 #[cfg(test)]
+mod numbers;
+#[cfg(test)]
 mod page;
 #[cfg(test)]
 mod spellings;

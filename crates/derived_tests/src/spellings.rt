@@ -1,12 +1,12 @@
 //! Spellings of Rust that the script reads: numbers, comments, attributes, lifetimes and visibility.
-// Printed by scripts/derive from declarations/spellings.rs, with the sum 1b0eeb6c.
+// Printed by scripts/derive from declarations/spellings.rs, with the sum 6cbe9bae.
 
 ghost use Rattle.std.specs.Prelude.{◌≡◌, ◌∷◌, [], negsuc, IsTrue};
 ghost use Rattle.asn1.specs.Options.{option_meaning};
 ghost use Rattle.asn1.specs.Reads.{HasOneEncoding, ReadsContents};
-ghost use Rattle.asn1.specs.Structures.{defaulted, explicit, field_names, implicit, structure, fields6};
+ghost use Rattle.asn1.specs.Structures.{defaulted, explicit, field_names, implicit, structure, fields1, fields6};
 
-use asn1::fields::{Fields6, Row};
+use asn1::fields::{Fields6, Last, Row};
 use asn1::{
     Asn1Type, DefaultValue, Defaulted, Explicit, IA5String, Implicit, ParseResult, SequenceOf,
     SimpleAsn1Readable, SimpleAsn1Writable, Tag, WriteBuf, WriteError, WriteResult, fields_length,
@@ -15,24 +15,24 @@ use asn1::{
 use std::alloc::Global;
 
 /// Fields in many spellings.
-#[derive(PartialEq, Drop)]
-pub struct Spelled<'b> {
+#[derive(Drop)]
+pub(crate) struct Spelled<'b> {
     /// Sixteen octets.
-    pub hash: [u8; 16],
+    pub(crate) hash: [u8; 16],
     /// At least one number, and at most four.
     pub items: SequenceOf<'b, u8, 1, 4>,
     /// Any number of numbers, from two on.
-    pub more: Option<SequenceOf<'b, u8, 2, { usize::MAX }>>,
+    pub(in crate::spellings) more: Option<SequenceOf<'b, u8, 2, { usize::MAX }>>,
     /// The field.
-    pub low: i8,
+    low: i8,
     /// The field.
-    pub high: u8,
+    high: u8,
     /// The field.
-    pub text: IA5String<'b>,
+    text: IA5String<'b>,
 }
 
 /// What `low` is if it is left out.
-pub struct SpelledLow;
+pub(crate) struct SpelledLow;
 
 impl DefaultValue<Implicit<i8, 10>> for SpelledLow {
     ghost default = { record { inner = negsuc 127 } };
@@ -43,7 +43,7 @@ impl DefaultValue<Implicit<i8, 10>> for SpelledLow {
 }
 
 /// What `high` is if it is left out.
-pub struct SpelledHigh;
+pub(crate) struct SpelledHigh;
 
 impl DefaultValue<Explicit<u8, 4>> for SpelledHigh {
     ghost default = { record { inner = 255 } };
@@ -125,8 +125,75 @@ impl<'b> SimpleAsn1Writable for Spelled<'b> {
     }
 }
 
+/// A number that is only read.
+#[derive(Drop)]
+pub struct Received {
+    /// The field.
+    pub number: u8,
+}
+
+type ReceivedFields = Last<u8>;
+
+impl Asn1Type for Received {
+    ghost der = { structure (λ v. fields1 v.number) ⟦<ReceivedFields as Row>⟧.list
+        (field_names "Received" ("number" ∷ [])) };
+
+    fn known(&self) {
+        known_fields!(self; number)
+    }
+}
+
+impl<'a> SimpleAsn1Readable<'a> for Received {
+    fn tag() -> Tag {
+        Tag::constructed(0x10)
+    }
+
+    fn parse_data(alloc: Global, data: &'a [u8]) -> ParseResult<Received> {
+        read_fields!(ReceivedFields, alloc, data => Received; number)
+    }
+}
+
+/// A number that is only written.
+#[derive(Drop)]
+pub struct Sent {
+    /// The field.
+    pub number: u8,
+}
+
+type SentFields = Last<u8>;
+
+impl Asn1Type for Sent {
+    ghost der = { structure (λ v. fields1 v.number) ⟦<SentFields as Row>⟧.list (field_names "Sent"
+        ("number" ∷ [])) };
+
+    fn known(&self) {
+        known_fields!(self; number)
+    }
+}
+
+impl SimpleAsn1Writable for Sent {
+    type Error = WriteError;
+
+    fn tag() -> Tag {
+        Tag::constructed(0x10)
+    }
+
+    fn write_data(&self, dest: &mut WriteBuf) -> WriteResult<()> {
+        write_fields!(self, dest; number)
+    }
+
+    fn data_length(&self) -> Option<usize> {
+        fields_length!(self; number)
+    }
+}
+
 /// Each value of `Spelled` has one encoding, which is read back.
 #[tactic(auto, using(asn1::specs::Lemmas::Fields::tags_differ))]
-pub fn spelled_is_lawful()
+pub(crate) fn spelled_is_lawful()
     ensures { HasOneEncoding ⟦<Spelled<'static> as Asn1Type>⟧.der }
+{}
+
+/// Each value of `Received` has one encoding, which is read back.
+pub fn received_is_lawful()
+    ensures { HasOneEncoding ⟦<Received as Asn1Type>⟧.der }
 {}

@@ -2,6 +2,7 @@
 
 mod ec_private_key;
 mod kerberos;
+mod numbers;
 mod spellings;
 mod tags;
 

@@ -1,10 +1,10 @@
 //! Types that were declared in other spellings.
 
 use super::are_written_back;
-use crate::spellings::Spelled;
-use asn1::ParseErrorKind;
+use crate::spellings::{Received, Sent, Spelled};
+use asn1::{ParseErrorKind, parse_single};
 use std::test::Fail;
-use testing::are_refused;
+use testing::{are_refused, is_written, same};
 
 /// Sixteen octets, a list of one number, and a text.
 const FEW: &[u8] = &[
@@ -29,4 +29,12 @@ fn spelled_fields(rt: HostRuntime) -> Result<(), Fail> {
     let alloc = rt.alloc();
     are_written_back::<Spelled<'_>>(alloc, &[FEW, ALL])?;
     are_refused::<Spelled<'_>>(alloc, &[(LOW, ParseErrorKind::EncodedDefault)])
+}
+
+/// A type that is only read, and one that is only written.
+#[test]
+fn one_way(rt: HostRuntime) -> Result<(), Fail> {
+    let octets = &[0x30, 3, 2, 1, 7];
+    same(parse_single::<Received>(rt.alloc(), octets)?.number, 7)?;
+    is_written(rt.alloc(), &Sent { number: 7 }, octets)
 }
