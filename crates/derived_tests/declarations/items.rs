@@ -13,7 +13,7 @@ pub const SHA256_WITH_RSA: asn1::ObjectIdentifier = asn1::oid!(1, 2, 840, 113549
 pub const OTHER_OID: asn1::ObjectIdentifier = asn1::oid!(1, 2, 4);
 
 /// An identifier, and what it defines.
-#[derive(asn1::Asn1Read, asn1::Asn1Write, Debug, Clone, PartialEq, Eq, Hash)]
+#[derive(asn1::Asn1Read, asn1::Asn1Write, PartialEq)]
 pub struct MySequence {
     /// The identifier, which the content tells.
     pub content_type: asn1::DefinedByMarker<asn1::ObjectIdentifier>,
@@ -23,7 +23,7 @@ pub struct MySequence {
 }
 
 /// What an identifier defines that is one of two.
-#[derive(asn1::Asn1DefinedByRead, asn1::Asn1DefinedByWrite, Debug, Clone, PartialEq, Eq, Hash)]
+#[derive(asn1::Asn1DefinedByRead, asn1::Asn1DefinedByWrite, PartialEq)]
 pub enum Content {
     /// A number.
     #[defined_by(SOME_OID)]

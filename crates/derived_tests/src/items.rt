@@ -1,5 +1,5 @@
 //! Values that an item before them defines: each attribute of the original's derives for them, once.
-// Printed by scripts/derive from declarations/items.rs, with the sum 36dd6ff3.
+// Printed by scripts/derive from declarations/items.rs, with the sum d031b2a4.
 
 ghost use Rattle.std.specs.Prelude.{◌≡◌, ◌⊎◌, ◌∷◌, [], true, false, ⊤, IsTrue, MatchOption, OnErr};
 ghost use Rattle.std.specs.Str.{bytes_eq};
@@ -58,7 +58,7 @@ pub fn other_oid() -> ObjectIdentifier
 }
 
 /// An identifier, and what it defines.
-#[derive(Debug, Clone, PartialEq, Eq, Hash, Drop)]
+#[derive(PartialEq, Drop)]
 pub struct MySequence {
     /// The identifier, which the content tells.
     pub content_type: DefinedByMarker<ObjectIdentifier>,
@@ -115,7 +115,7 @@ impl SimpleAsn1Writable for MySequence {
 }
 
 /// What an identifier defines that is one of two.
-#[derive(Debug, Clone, PartialEq, Eq, Hash, Drop)]
+#[derive(PartialEq, Drop)]
 pub enum Content {
     /// A number.
     SomeVariant(i32),
