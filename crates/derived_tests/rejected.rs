@@ -889,3 +889,9 @@ struct Unended {
 struct OtherString<'a> {
     value: asn1::RelativeOid<'a>, //~ `RelativeOid` is no type of the library, and neither declared nor imported here -> Tags of other classes
 }
+
+#[derive(asn1::Asn1Read)]
+struct MarkerByAnAlias {
+    kind: Kind, //~ `kind` marks an item that has a tag, is in another type, or isn't an identifier or an integer -> What has no form
+}
+type Kind = asn1::DefinedByMarker<i32>;

@@ -39,8 +39,8 @@ pub(crate) struct PaData<'a> {
 }
 
 /// What the version alone defines.
-#[derive(asn1::Asn1DefinedByRead, asn1::Asn1DefinedByWrite, PartialEq)]
-pub(crate) enum OfVersion<'a> {
+#[derive(asn1::Asn1DefinedByRead, asn1::Asn1DefinedByWrite, Copy, PartialEq)]
+pub(crate) enum OfVersion<'a> { //~ `Copy`, which `Other` lacks
     #[defined_by(VERSION)]
     Number(u64),
     #[default]
