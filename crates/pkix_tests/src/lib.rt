@@ -7,6 +7,8 @@ mod algorithm_parameters;
 #[cfg(test)]
 mod boundaries;
 #[cfg(test)]
+mod built;
+#[cfg(test)]
 mod changes;
 #[cfg(test)]
 mod extension_values;
