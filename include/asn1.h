@@ -217,6 +217,19 @@ uint32_t pkix_form(uint32_t object, const uint8_t *octets, size_t count);
 uint32_t pkix_check(uint32_t object, const uint8_t *octets, size_t count, char *place, size_t size,
                     size_t *place_length, struct asn1_error *error);
 
+/* At which octet `pkix_check` rejects the octets, counted from 0, as `openssl asn1parse` counts. For most errors it is
+ * where the element begins that is wrong: its identifier. ASN1_INVALID_TAG and ASN1_INVALID_LENGTH are where identifier
+ * and length octets begin that can't be read. ASN1_SHORT_DATA is at the end of the element around what is missing, or
+ * at that of the octets. ASN1_EXTRA_DATA is at the first octet that is left over.
+ *
+ * true: `octet` is set. Else it stays as it was: the octets are the one encoding of the object, no object has this
+ * number, or `size` is below `count`. Of a key or a signature the octet is that of the form which `pkix_form` returns.
+ *
+ * `scratch`, which has `size` octets, is overwritten by copies of the octets, which are read in turn: one each time
+ * that `count` can be halved, and some for each element around the error. */
+bool pkix_error_octet(uint32_t object, const uint8_t *octets, size_t count, uint8_t *scratch, size_t size,
+                      size_t *octet);
+
 /* Leaves what an error's number means, such as `octets follow the value`, in `text`, which has `size` octets, and sets
  * `text_length` to how many octets that has: up to 64. ASN1_BUFFER_TOO_SMALL if `text_length` is above `size`. */
 uint32_t asn1_error_text(uint32_t number, char *text, size_t size, size_t *text_length);

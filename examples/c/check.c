@@ -48,7 +48,13 @@ int main(int argc, char **argv) {
         if (pkix_check(PKIX_CERTIFICATE, octets, count, place, sizeof place, &place_length, &error) == ASN1_OK) {
             printf("  a certificate\n");
         } else {
+            uint8_t *scratch = malloc(count + 1);
+            size_t octet;
             tell(&error, place, place_length <= sizeof place ? place_length : 0);
+            if (scratch && pkix_error_octet(PKIX_CERTIFICATE, octets, count, scratch, count, &octet)) {
+                printf("  at octet %zu\n", octet);
+            }
+            free(scratch);
             status = 1;
         }
         free(octets);

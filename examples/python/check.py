@@ -46,6 +46,8 @@ class Asn1:
         self.library.asn1_strip_tlv.argtypes = [*octets, POINTER(Element), error]
         self.library.pkix_check.argtypes = [c_uint32, *octets, *text, error]
         self.library.asn1_error_text.argtypes = [c_uint32, *text]
+        self.library.pkix_error_octet.argtypes = [c_uint32, *octets, *text]
+        self.library.pkix_error_octet.restype = c_bool
         for call in (self.library.asn1_strip_tlv, self.library.pkix_check, self.library.asn1_error_text):
             call.restype = c_uint32
 
@@ -64,6 +66,12 @@ class Asn1:
             return None
         return self.text(error.number), place.raw[: length.value].decode()
 
+    def error_octet(self, kind, octets):
+        """At which octet the octets are rejected, or None if they aren't."""
+        scratch, octet = ctypes.create_string_buffer(len(octets) or 1), c_size_t()
+        found = self.library.pkix_error_octet(kind, octets, len(octets), scratch, len(octets), byref(octet))
+        return octet.value if found else None
+
     def text(self, number):
         """What an error's number means."""
         text, length = ctypes.create_string_buffer(64), c_size_t()
@@ -81,7 +89,7 @@ def main(path, *names):
             print(f"{name}: a certificate")
         else:
             status = 1
-            print(f"{name}: {': '.join(filter(None, reversed(found)))}")
+            print(f"{name}: {': '.join(filter(None, reversed(found)))} (octet {asn1.error_octet(CERTIFICATE, octets)})")
         # The last octet is still missing: the library says so.
         try:
             asn1.strip_tlv(octets[:-1])

@@ -40,6 +40,14 @@ mod raw {
             place_length: *mut usize,
             error: *mut Error,
         ) -> u32;
+        pub fn pkix_error_octet(
+            object: u32,
+            octets: *const u8,
+            count: usize,
+            scratch: *mut u8,
+            size: usize,
+            octet: *mut usize,
+        ) -> bool;
         pub fn asn1_error_text(number: u32, text: *mut u8, size: usize, text_length: *mut usize) -> u32;
     }
 }
@@ -104,6 +112,23 @@ pub fn check(object: u32, octets: &[u8]) -> Result<(), (Error, String)> {
     Err((error, String::from_utf8_lossy(place).into_owned()))
 }
 
+/// At which octet the octets are rejected, if they are.
+pub fn error_octet(object: u32, octets: &[u8]) -> Option<usize> {
+    let (mut scratch, mut octet) = (vec![0; octets.len()], 0);
+    // SAFETY: the pointers are those of slices and of a reference, none of which overlap.
+    let is_found = unsafe {
+        raw::pkix_error_octet(
+            object,
+            octets.as_ptr(),
+            octets.len(),
+            scratch.as_mut_ptr(),
+            scratch.len(),
+            &mut octet,
+        )
+    };
+    is_found.then_some(octet)
+}
+
 fn main() {
     let mut status = 0;
     for name in env::args().skip(1) {
@@ -120,6 +145,9 @@ fn main() {
             Err((error, place)) => {
                 status = 1;
                 println!("{name}: {place}{}{error}", if place.is_empty() { "" } else { ": " });
+                if let Some(octet) = error_octet(CERTIFICATE, &octets) {
+                    println!("  at octet {octet}");
+                }
             }
         }
         let mut rest = &octets[..octets.len().saturating_sub(1)];

@@ -1,4 +1,5 @@
 mod Calls
+mod ErrorOctet
 mod Forms
 mod InOrder
 mod Places

@@ -6,3 +6,4 @@ pub mod Types
 pub mod SetOf
 pub mod Values
 pub mod Objects
+pub mod Octets

@@ -337,7 +337,7 @@ fn signature_form(alloc: Global, octets: &[u8]) -> Object
 }
 
 /// The object with this number; of keys and of signatures the form that these octets have.
-fn form_of(alloc: Global, number: u32, octets: &[u8]) -> Option<Object>
+pub(crate) fn form_of(alloc: Global, number: u32, octets: &[u8]) -> Option<Object>
     ensures one { IfSome (object_numbered number) (λ one. result ≡ object_numbered number) }
     ensures key { number ≡ key_number → IfSome result (λ one. TellsOf
         (⟦<Object as Described>⟧.form one) ⟦<Object as Described>⟧.key octets.now) }

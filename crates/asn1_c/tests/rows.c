@@ -430,13 +430,37 @@ static void forms(const char *name, uint32_t number, const uint8_t *octets, size
     }
 }
 
+/* The octet of an error is found with as much scratch as there are octets, and not with one octet less. */
+static void error_octet(const char *name, uint32_t number, const uint8_t *octets, size_t count, size_t wanted,
+                        struct pages scratch) {
+    uint8_t *end = scratch.start + scratch.count;
+    size_t octet = SIZE_MAX;
+    bool called;
+    CALL(pkix_error_octet(number, octets, count, end - count, count, &octet));
+    expect(called && octet == wanted, "another octet of an error", name);
+    if (called && octet != wanted) printf("  %zu, and not %zu\n", octet, wanted);
+    if (!count) return;
+    octet = SIZE_MAX;
+    CALL(pkix_error_octet(number, octets, count, end - count + 1, count - 1, &octet));
+    expect(!called && octet == SIZE_MAX, "an octet without scratch for it", name);
+}
+
+/* No octet is left of octets that are the object, or of a number that no object has. */
+static void no_error_octet(const char *name, uint32_t number, const uint8_t *octets, size_t count,
+                           struct pages scratch) {
+    size_t octet = SIZE_MAX;
+    bool called;
+    CALL(pkix_error_octet(number, octets, count, scratch.start, scratch.count, &octet));
+    expect(!called && octet == SIZE_MAX, "an octet of no error", name);
+}
+
 /* A file is the one encoding of that object, of no other; cut anywhere it lacks octets, and with an octet more it has
    one too many. With each octet changed in turn the library answers, within the file. */
 static void object(const char *name, uint32_t number) {
     uint8_t *octets = malloc(1 << 16);
     FILE *file = fopen(name, "rb");
     size_t count = file && octets ? fread(octets, 1, 1 << 16, file) : 0, length;
-    struct pages at = pages_of(count + 1);
+    struct pages at = pages_of(count + 1), scratch = pages_of(count + 1);
     struct asn1_error error;
     char place[128];
     uint32_t called;
@@ -448,9 +472,11 @@ static void object(const char *name, uint32_t number) {
         CALL(pkix_check(number, placed(at, octets, count, in_front), count, place, 128, &length, &error));
         expect(called == ASN1_OK && error.number == 0 && length == 0, "it is one", name);
     }
+    no_error_octet(name, number, placed(at, octets, count, true), count, scratch);
     octets[count] = 0;
     CALL(pkix_check(number, placed(at, octets, count + 1, true), count + 1, place, 128, &length, &error));
     expect(called == ASN1_EXTRA_DATA, "an octet too many", name);
+    error_octet(name, number, placed(at, octets, count + 1, true), count + 1, count, scratch);
     for (uint32_t other = 0; other < 17; other++) {
         CALL(pkix_check(other, placed(at, octets, count, true), count, place, 128, &length, &error));
         expect((called == ASN1_OK) == is_also(number, other), "another object has the same encoding", name);
@@ -461,12 +487,14 @@ static void object(const char *name, uint32_t number) {
     for (size_t cut = 0; cut < count; cut++) {
         CALL(pkix_check(number, placed(at, octets, cut, true), cut, place, 128, &length, &error));
         expect(called == ASN1_SHORT_DATA && error.needed >= 1 && error.needed <= count - cut, "cut", name);
+        error_octet(name, number, placed(at, octets, cut, true), cut, cut, scratch);
     }
     for (size_t i = 0; i < count; i++) {
         octets[i] ^= 0x80;
         CALL(pkix_check(number, placed(at, octets, count, true), count, place, 128, &length, &error));
         expect(called == error.number && length <= sizeof place, "changed", name);
         expect(called != ASN1_ALLOCATION_ERROR, "out of memory", name);
+        if (called == ASN1_OK) no_error_octet(name, number, placed(at, octets, count, true), count, scratch);
         if (i < 64) forms(name, 0, placed(at, octets, count, true), count);
         octets[i] ^= 0x80;
     }
@@ -491,6 +519,48 @@ static void place(const char *name, size_t changed, uint8_t octet, const char *w
     expect(called != ASN1_OK && length == size && end[-1] == '#', "too small", wanted);
 }
 
+/* The octets of errors in a certificate, as `openssl asn1parse` counts: which octet is changed, to what, how many
+   octets more there are, and at which octet the certificate is rejected, or how many before the end. */
+static const struct {
+    const char *what;
+    size_t changed;
+    uint8_t octet;
+    int more;
+    size_t wanted;
+    bool is_from_end;
+} OCTETS[] = {
+    {"a version that is the default", 12, 0x00, 0, 10, false},
+    {"a version of another tag", 10, 0x04, 0, 10, false},
+    {"a serial number of another tag", 13, 0x04, 0, 13, false},
+    {"a serial number with a zero octet too many", 16, 0x00, 0, 13, false},
+    {"a serial number of indefinite length", 14, 0x80, 0, 13, false},
+    {"another outermost tag", 0, 0x31, 0, 0, false},
+    {"octets are missing", 0, 0x30, -1, 0, true},
+    {"octets are left over", 0, 0x30, 1, 1, true},
+};
+
+static void error_octets(const char *name) {
+    uint8_t all[1 << 12];
+    FILE *file = fopen(name, "rb");
+    size_t whole = file ? fread(all, 1, sizeof all - 1, file) : 0;
+    struct pages at = pages_of(whole + 1), scratch = pages_of(whole + 1);
+    if (file) fclose(file);
+    all[whole] = 0;
+    for (size_t i = 0; i < sizeof OCTETS / sizeof *OCTETS; i++) {
+        size_t count = whole + (size_t)OCTETS[i].more;
+        size_t wanted = OCTETS[i].is_from_end ? count - OCTETS[i].wanted : OCTETS[i].wanted;
+        uint8_t before = all[OCTETS[i].changed];
+        all[OCTETS[i].changed] = OCTETS[i].octet;
+        for (int in_front = 0; in_front < 2; in_front++) {
+            uint8_t *octets = placed(at, all, count, in_front);
+            error_octet(OCTETS[i].what, PKIX_CERTIFICATE, octets, count, wanted, scratch);
+            no_error_octet(OCTETS[i].what, 0, octets, count, scratch);
+            no_error_octet(OCTETS[i].what, 16, octets, count, scratch);
+        }
+        all[OCTETS[i].changed] = before;
+    }
+}
+
 int main(int argc, char **argv) {
     struct pages at = pages_of(256), buffer = pages_of(512);
     elements(at);
@@ -502,6 +572,7 @@ int main(int argc, char **argv) {
     large_set();
     for (int i = 1; i + 1 < argc; i += 2) object(argv[i + 1], (uint32_t)atoi(argv[i]));
     if (argc > 2) place(argv[2], 10, 0x04, "tbsCertificate.version", buffer);
+    if (argc > 2) error_octets(argv[2]);
     expect(asn1_version() == ASN1_VERSION, "another version", "asn1_version");
     expect(requests == 0, "a call asked for memory", "malloc");
     printf("%lu passed, %lu failed\n", passed, failed);
