@@ -152,6 +152,15 @@ fn short_scratch(rt: HostRuntime) -> Result<(), Fail> {
     same(octet, Some(0))
 }
 
+/// An error of all inputs is at no octet.
+#[test]
+fn no_octet_decides() -> Result<(), Fail> {
+    let octet = error_octet(&[1, 1, 1], &mut [0; 3], |_octets: &[u8]| {
+        Some(ParseError::new(ParseErrorKind::InvalidValue))
+    });
+    same(octet, None)
+}
+
 /// Places of tags of a mark and a set of pairs, other tags, and whether these are expected there.
 const TAGS: &[(usize, &[u8], Option<bool>)] = &[
     (0, &[0x30], Some(true)),
