@@ -22,9 +22,6 @@ top_of n l small =
     rw (numeral_or 127 (length (digits_of 256 n)) refl few) (sym (length_text_high n l))
 
 module _ (xs : List ℕ) (start more : ℕ) (low : 0 < start) (within : start ≤ length xs) where
-  pub grown_is : (big : List ℕ) → big ≡ take (length xs + more) xs ++ replicate (length xs + more - length xs) 0 → big ≡ xs ++ replicate more 0
-  grown_is big e = grind (arith, common_steps)
-
   pub moved_is : (big moved : List ℕ) → big ≡ xs ++ replicate more 0 → moved ≡ copy_within big start (length xs) (start + more) → moved ≡ take (start + more) big ++ drop start xs
   moved_is big moved e f =
       let l : length big ≡ length xs + more = grind (arith, common_steps) in

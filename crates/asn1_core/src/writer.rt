@@ -1,6 +1,6 @@
 //! Writing: the buffer, and the writer of elements.
 
-ghost use Rattle.std.specs.Prelude.{◌≡◌, ◌+◌, ◌-◌, ◌^◌, ◌<◌, ◌≤◌, ◌++◌, [], ◌∷◌, length, take, drop, List, ℕ, Ok, Some, IfOk, SomeIff, IfErr, OnOk, OnErr, IsOk, IsOkUnless};
+ghost use Rattle.std.specs.Prelude.{◌≡◌, ◌+◌, ◌-◌, ◌^◌, ◌<◌, ◌≤◌, ◌++◌, [], ◌∷◌, length, replicate, take, drop, vec_capacity, vec_len, List, ℕ, Ok, Some, IfOk, SomeIff, IfErr, OnOk, OnErr, IsOk, IsOkUnless};
 ghost use Rattle.asn1_core.specs.Tag.{explicit_tag_of, implicit_tag_of};
 ghost use Rattle.asn1_core.specs.Length.{length_text};
 ghost use Rattle.asn1_core.specs.Fault.{write_error_text};
@@ -57,6 +57,10 @@ const MAX_LENGTH_OCTETS: usize = 9;
 
 /// The index of the last of them.
 const LAST_LENGTH_OCTET: usize = MAX_LENGTH_OCTETS - 1;
+
+/// For how many octets `write` allocates at first, so that what it writes is seldom moved. Most structures of a few
+/// fields have fewer.
+const FIRST_ROOM: usize = 64;
 
 /// Length octets (X.690 8.1.3), at the end of an array.
 #[derive(Drop)]
@@ -163,6 +167,18 @@ impl WriteBuf {
         WriteBuf { octets }
     }
 
+    /// An empty buffer, with room for [`FIRST_ROOM`] octets if there is memory for them.
+    #[inline(always)]
+    fn with_first_room(alloc: Global) -> WriteBuf
+        ensures { result.bytes ≡ [] }
+    {
+        let octets = match Vec::with_capacity(alloc, FIRST_ROOM) {
+            Ok(octets) => octets,
+            Err(_) => Vec::new(alloc),
+        };
+        WriteBuf { octets }
+    }
+
     /// An empty buffer with room for this many octets. `AllocationError` if out of memory.
     #[inline(always)]
     fn with_room(alloc: Global, octets: usize) -> WriteResult<WriteBuf>
@@ -212,8 +228,7 @@ impl WriteBuf {
         ensures error { IsOkUnless result WriteError.AllocationError }
     {
         self.octets.try_reserve(1)?;
-        // There is room now, so the push succeeds.
-        let _pushed = self.octets.push(octet);
+        self.octets.push_reserved(octet);
         Ok(())
     }
 
@@ -275,6 +290,7 @@ impl WriteBuf {
     }
 
     /// The same for more length octets. The buffer grows once, and the octets that follow are moved once.
+    #[inline(never)]
     fn patch_long_length(&mut self, start: usize) -> WriteResult<()>
         requires from { 0 < start }
         requires long { start + 0x7f < length self.old.bytes }
@@ -286,7 +302,8 @@ impl WriteBuf {
         let len = self.octets.len();
         let mut rest = len - start;
         let more = length_octets(rest) - 1;
-        self.octets.resize(len + more, 0)?;
+        self.octets.try_reserve(more)?;
+        push_zeros(&mut self.octets, more);
         self.octets.copy_within(start..len, start + more);
         for place in (start..start + more).rev() {
             self.octets[place] = (rest & 0xff) as u8;
@@ -350,6 +367,17 @@ impl WriteBuf {
         ensures { self.new.bytes ≡ take len self.old.bytes }
     {
         self.octets.truncate(len);
+    }
+}
+
+/// Appends this many zeros, for which there is room.
+#[inline(always)]
+fn push_zeros(octets: &mut Vec<u8>, count: usize)
+    requires { vec_len octets.old + count ≤ vec_capacity octets.old }
+    ensures { octets.new.items ≡ octets.old.items ++ replicate count 0 }
+{
+    for _ in 0..count {
+        octets.push_reserved(0);
     }
 }
 
@@ -546,7 +574,7 @@ pub fn write<E: From<WriteError>, F: Fn(&mut Writer<'_>) -> Result<(), E> + Drop
         → IfOk result (λ v. v.items ≡ text) }
     ensures error { IfErr result (MayAnswerAfter F.FnOnce f []) }
 {
-    let mut buf = WriteBuf::new(Vec::new(alloc));
+    let mut buf = WriteBuf::with_first_room(alloc);
     let mut writer = Writer::new(&mut buf);
     f(&mut writer)?;
     Ok(buf.into_octets())

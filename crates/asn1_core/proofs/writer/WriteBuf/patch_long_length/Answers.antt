@@ -1,11 +1,11 @@
 use Rattle.std.proofs.Common.{◌≡◌, ◌+◌, ◌-◌, ◌^◌, ◌<◌, ◌≤◌, ◌++◌, ◌∷◌, [], suc, length, take, drop, replicate, bit_or, ℕ, List, arith, sym, ap, refl, ◌∙◌, append_assoc}
 use Rattle.std.specs.Int.Digits.{digits_of}
 use Rattle.std.proofs.lemmas.Int.Digits.{length-digits_of_step}
-use Rattle.std.proofs.lemmas.List.{length-set, set_split, take-set-le, take-take}
+use Rattle.std.proofs.lemmas.List.{length-append, length-replicate, length-set, set_split, take-set-le, take-take}
 use Rattle.asn1_core.specs.Length.{length_text}
 use Rattle.asn1_core.specs.Buffer.{Buffer}
 use Rattle.asn1_core.specs.Lemmas.Lengths.{length_text_high, write_step, low_eight}
-use Rattle.asn1_core.proofs.Patch.{grown_is, moved_is, moved_tail, moved_front, some_number, none_left, top_of}
+use Rattle.asn1_core.proofs.Patch.{moved_is, moved_tail, moved_front, some_number, none_left, top_of}
 use Rattle.asn1_core.proofs.writer.WriteBuf.patch_long_length.Goals as goal
 
 -- a prefix of a prefix
@@ -28,8 +28,11 @@ loop-place-init c =
     let v : c.args.self.now.bytes ≡ c.self.inside.octets.items = sym (ap (λ (b : Buffer). b.bytes) c.self.view_is) in
     let ll : c.len-len.result ≡ length c.self.inside.octets.items = c.len-len.ensures ∙ c.self.inside.octets.ok.0 in
     let long : c.args.start + 127 < length c.self.inside.octets.items = rw v at c.requires.long in
+    let grown : length c.push_zeros.new.octets.items ≡ length c.self.inside.octets.items + (c.length_octets-more.result - 1) =
+    ap length (c.push_zeros.ensures ∙ ap (λ (t : List ℕ). t ++ replicate (c.length_octets-more.result - 1) 0) c.in_ok-try_reserve.ensures.items)
+    ∙ length-append c.self.inside.octets.items _ ∙ ap (λ (k : ℕ). length c.self.inside.octets.items + k) (length-replicate (c.length_octets-more.result - 1) 0) in
     record {
-      size = omega (arith, sym c.copy_within.new.self.ok.0, c.in_ok-resize.ensures.len, c.copy_within.ensures.len);
+      size = omega (arith, sym c.copy_within.new.self.ok.0, c.push_zeros.new.octets.ok.0, grown, ll, c.copy_within.ensures.len);
       front = refl;
       left = omega (arith, more_octets (c.len-len.result - c.args.start) c.length_octets-more.result (omega (arith, ll, long)) c.length_octets-more.ensures.value);
       whole = refl;
@@ -70,8 +73,8 @@ returns-clause-ok c =
     let count : more ≡ length (digits_of 256 n) = omega (arith, more_octets n c.length_octets-more.result large c.length_octets-more.ensures.value) in
     let within : start ≤ length xs = omega (arith, long) in
     let moved = c.copy_within.new.self.items in
-    let big : c.resize.new.self.items ≡ xs ++ replicate more 0 = grown_is xs start more low within _ (rw (ll, c.self.inside.octets.ok.0) at c.in_ok-resize.ensures.items) in
-    let m : moved ≡ take (start + more) c.resize.new.self.items ++ drop start xs = moved_is xs start more low within _ _ big (rw ll at c.copy_within.ensures.items) in
+    let big : c.push_zeros.new.octets.items ≡ xs ++ replicate more 0 = c.push_zeros.ensures ∙ ap (λ (t : List ℕ). t ++ replicate more 0) c.in_ok-try_reserve.ensures.items in
+    let m : moved ≡ take (start + more) c.push_zeros.new.octets.items ++ drop start xs = moved_is xs start more low within _ _ big (rw ll at c.copy_within.ensures.items) in
     let now = c.loop-place.self-inside.octets.items in
     let place : c.loop-place.place ≡ start = omega (arith, inv.left, c.loop-place-test.false) in
     let done : digits_of 256 c.loop-place.rest ≡ [] = none_left _ (omega (arith, inv.left, place)) in
