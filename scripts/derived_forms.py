@@ -124,7 +124,7 @@ def uses_of_variants(module, item, parts):
     """The import of an enum's variants, in the impl: there no other enum's variants have these names."""
     names = ", ".join(part.name for part in parts)
     path = f"ghost use Rattle.{module.specs}{item.name}.TheVariants."
-    lines = textwrap.wrap(names, max(40, 112 - len(path)), break_long_words=False)
+    lines = textwrap.wrap(names, max(1, 112 - len(path)), break_long_words=False)
     return " ".join(f"{path}{{{line.rstrip(',')}}};\n" for line in lines)
 
 

@@ -3,7 +3,7 @@
 //! An error keeps no octet, so that reading doesn't compute any. It is found afterwards: by reading copies of the input
 //! in which the octets from some place on are replaced. As long as these decide the error, it changes.
 
-ghost use Rattle.std.specs.Prelude.{◌≡◌, ℕ, Option, Some, true, false, IfSome, IsTrue};
+ghost use Rattle.std.specs.Prelude.{◌≡◌, ℕ, Option, true, false, IfSome, IsTrue};
 ghost use Rattle.std.specs.Fn.{FnReturnsAt};
 ghost use Rattle.asn1_core.specs.Fault.{Fault};
 ghost use Rattle.asn1.specs.ErrorOctets.{Decide, IsElement, IsErrorOctet, IsWrongElement, IsWrongHeader};

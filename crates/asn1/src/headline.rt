@@ -3,7 +3,7 @@
 //! Each function makes the calls that it is about and returns what they return. Its contract is the sentence, in the
 //! words of `specs/Headline.antt`.
 
-ghost use Rattle.std.specs.Prelude.{◌≡◌, ◌↔◌, ◌++◌, ℕ, List, Ok, Err, map, IfOk, IfErr, IsOk, IsOkAnd};
+ghost use Rattle.std.specs.Prelude.{◌≡◌, ◌↔◌, ◌++◌, ℕ, List, map, IfOk, IfErr, IsOk, IsOkAnd};
 ghost use Rattle.asn1_core.specs.Element.{Element, IsFront};
 ghost use Rattle.asn1_core.specs.Tlv.{element_of, stripped};
 ghost use Rattle.asn1_core.specs.Reading.{Answers, IsRefusal, whole};

@@ -1,6 +1,6 @@
 //! NumericString (X.690 8.23, X.680 41), and the character strings whose contents octets are kept as they are.
 
-ghost use Rattle.std.specs.Prelude.{◌≡◌, IsTrue, true, false, ⊤, Some, length, MatchOption};
+ghost use Rattle.std.specs.Prelude.{◌≡◌, IsTrue, true, false, ⊤, length, MatchOption};
 ghost use Rattle.asn1_core.specs.Tag.{universal};
 ghost use Rattle.asn1_core.specs.Reads.{ReadsContents};
 ghost use Rattle.asn1_core.specs.Writing.{GivesLength};

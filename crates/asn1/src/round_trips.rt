@@ -1,7 +1,7 @@
 //! What is read is written back, and what is written is read back. A type that is read holds no closures, so writing
 //! requires nothing of its values.
 
-ghost use Rattle.std.specs.Prelude.{◌≡◌, Ok, IfOk, IfErr};
+ghost use Rattle.std.specs.Prelude.{◌≡◌, IfOk, IfErr};
 ghost use Rattle.asn1_core.specs.Reading.{Answers, Fits, IsRefusal, whole};
 ghost use Rattle.asn1_core.specs.Writing.{Refuses};
 ghost use Rattle.asn1_core.specs.Listing.{OneNames};

@@ -1,6 +1,6 @@
 //! The element at the start of octets.
 
-ghost use Rattle.std.specs.Prelude.{◌≡◌, ◌+◌, ◌<◌, ◌≤◌, ◌++◌, ℕ, List, length, Result, Ok, Err};
+ghost use Rattle.std.specs.Prelude.{◌≡◌, ◌+◌, ◌<◌, ◌≤◌, ◌++◌, ℕ, List, length, Result};
 ghost use Rattle.asn1.specs.declared.ParseErrorKind.{ParseErrorKind};
 ghost use Rattle.asn1.specs.Element.{Element, IsFront, front};
 ghost use Rattle.asn1.specs.Laws.{IsShort};

@@ -1,6 +1,6 @@
 //! Whether octets are the one encoding of an object of `pkix`, such as a certificate, and where it has an error.
 
-ghost use Rattle.std.specs.Prelude.{◌≡◌, [], None, IfSome, IfNone, IsTrue};
+ghost use Rattle.std.specs.Prelude.{◌≡◌, [], IfSome, IfNone, IsTrue};
 ghost use Rattle.asn1.specs.Reading.{Fits, whole};
 ghost use Rattle.asn1_c.specs.Errors.{unknown_type, without_details};
 ghost use Rattle.asn1_c.specs.Locations.{told_location};

@@ -1,6 +1,6 @@
 //! Values of the types that C has: Booleans, integers, bits, times, and the dotted text of an object identifier.
 
-ghost use Rattle.std.specs.Prelude.{◌≡◌, ℤ, ℕ, None, IfSome};
+ghost use Rattle.std.specs.Prelude.{◌≡◌, ℤ, ℕ, IfSome};
 ghost use Rattle.std.specs.Fmt.InlineText.{inline_text};
 ghost use Rattle.asn1.specs.Identifier.{dotted_text};
 ghost use Rattle.asn1.specs.IdentifierValues.{identifier_of};

@@ -1,7 +1,7 @@
 //! Numbers in base 128: groups of seven bits, the most significant first, and every octet except the last has its top
 //! bit set (X.690 8.1.2.4.2, 8.19.2). A number is below 2^128, so its encoding has 1 to 19 octets.
 
-ghost use Rattle.std.specs.Prelude.{◌≡◌, ℕ, ◌+◌, ◌<◌, ◌≤◌, ◌++◌, List, length, drop, IfNone, IfSome};
+ghost use Rattle.std.specs.Prelude.{◌≡◌, ◌+◌, ◌<◌, ◌≤◌, ◌++◌, length, drop, IfNone, IfSome};
 ghost use Rattle.asn1_core.specs.Fault.{AnswersError, AnswersKind};
 ghost use Rattle.asn1_core.specs.Base128.{number_text, number_front};
 

@@ -1,6 +1,7 @@
 //! Reading: errors with their locations, framing, and the parser.
 
-ghost use Rattle.std.specs.Prelude.{◌≡◌, ◌↔◌, ℕ, ◌*◌, ◌^◌, ◌<◌, ◌≤◌, ◌==◌, ◌++◌, [], List, Result, length, IsTrue, IfOk, IfErr, IfSome, OnErr, Ok, false};
+ghost use Rattle.std.specs.Prelude.{◌≡◌, ◌↔◌, ◌*◌, ◌^◌, ◌<◌, ◌≤◌, ◌==◌, ◌++◌};
+ghost use Rattle.std.specs.Prelude.{ℕ, [], List, Result, length, IsTrue, IfOk, IfErr, IfSome, OnErr, false};
 ghost use Rattle.std.specs.Fn.{FnOnceReturnsAtMut};
 ghost use Rattle.asn1_core.specs.declared.parser.ParseErrorKind.{ParseErrorKind};
 ghost use Rattle.asn1_core.specs.declared.parser.ParseErrorKind.TheVariants.{ShortData};
@@ -9,9 +10,12 @@ ghost use Rattle.asn1_core.specs.Tag.{tag_front, found_tag, explicit_tag_of, imp
 ghost use Rattle.asn1_core.specs.Length.{length_front};
 ghost use Rattle.asn1_core.specs.Element.{Element, IsFront, content_front, front, element_text};
 ghost use Rattle.asn1_core.specs.Tlv.{element_of, full_octets, stripped};
-ghost use Rattle.asn1_core.specs.Fault.{fault, within, framed, AnswersError, AnswersKind, IsOfText, place_of, error_text, kind_eq, place_eq, fault_eq};
-ghost use Rattle.asn1_core.specs.Reading.{Answers, EndsWith, IsHandedOn, Fits, rest_refused, expected_front, simple_out, simple_stops, stands};
-ghost use Rattle.asn1_core.specs.Reads.{BeginsWithElement, BeginsWithEncodingOf, IsEncodingOf, ReadsExplicit, ReadsImplicit, ReadsPrefix, ReadsWhole, ReturnsValue};
+ghost use Rattle.asn1_core.specs.Fault.{fault, within, framed, AnswersError, AnswersKind, IsOfText, place_of};
+ghost use Rattle.asn1_core.specs.Fault.{error_text, kind_eq, place_eq, fault_eq};
+ghost use Rattle.asn1_core.specs.Reading.{Answers, EndsWith, IsHandedOn, Fits, rest_refused, expected_front};
+ghost use Rattle.asn1_core.specs.Reading.{simple_out, simple_stops, stands};
+ghost use Rattle.asn1_core.specs.Reads.{BeginsWithElement, BeginsWithEncodingOf, IsEncodingOf, ReadsExplicit};
+ghost use Rattle.asn1_core.specs.Reads.{ReadsImplicit, ReadsPrefix, ReadsWhole, ReturnsValue};
 ghost use Rattle.asn1_core.specs.Laws.{IsShort, with_more};
 ghost use Rattle.std.specs.Cmp.{decided, partial_equiv_from_equiv};
 ghost use Rattle.asn1_core.specs.Lemmas.Same.{place_eq-decides, fault_eq-decides};

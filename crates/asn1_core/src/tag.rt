@@ -1,10 +1,13 @@
 //! Tags and identifier octets: a class, a form, primitive or constructed, and a number (X.690 8.1.2). Numbers from 2^32
 //! on aren't read.
 
-ghost use Rattle.std.specs.Prelude.{◌≡◌, ℕ, ◌+◌, ◌*◌, ◌/◌, ◌%◌, ◌<◌, ◌≤◌, ◌++◌, ◌↔◌, IsTrue, List, length, SomeIff, OnOk, OnErr, IsOkUnless, Bool, true, false};
+ghost use Rattle.std.specs.Prelude.{◌≡◌, ◌+◌, ◌*◌, ◌/◌, ◌<◌, ◌≤◌, ◌++◌};
+ghost use Rattle.std.specs.Prelude.{length, SomeIff, OnOk, OnErr, IsOkUnless, true, false};
 ghost use Rattle.asn1_core.specs.declared.tag.TagClass.TheVariants.{Universal};
 ghost use Rattle.asn1_core.specs.Fault.{AnswersError, AnswersKind};
-ghost use Rattle.asn1_core.specs.Tag.{tag_before, tag_class, tag_constructed, tag_number, tag_with, universal, universal_constructed, implicit_tag_of, explicit_tag_of, class_number, class_of, tag_of, tag_front, tag_text, first_octet, tag_eq};
+ghost use Rattle.asn1_core.specs.Tag.{tag_before, tag_class, tag_constructed, tag_number, tag_with, universal};
+ghost use Rattle.asn1_core.specs.Tag.{universal_constructed, implicit_tag_of, explicit_tag_of, class_number, class_of};
+ghost use Rattle.asn1_core.specs.Tag.{tag_of, tag_front, tag_text, first_octet, tag_eq};
 
 use crate::base128;
 use crate::parser::{ParseErrorKind, ParseResult, kind_as_error};

@@ -1,10 +1,13 @@
 //! Writing: the buffer, and the writer of elements.
 
-ghost use Rattle.std.specs.Prelude.{◌≡◌, ◌+◌, ◌-◌, ◌^◌, ◌<◌, ◌≤◌, ◌++◌, [], ◌∷◌, length, replicate, take, drop, vec_capacity, vec_len, List, ℕ, Ok, Some, IfOk, SomeIff, IfErr, OnOk, OnErr, IsOk, IsOkUnless};
+ghost use Rattle.std.specs.Prelude.{◌≡◌, ◌+◌, ◌-◌, ◌^◌, ◌<◌, ◌≤◌, ◌++◌, ◌∷◌};
+ghost use Rattle.std.specs.Prelude.{[], length, replicate, take, drop, vec_capacity, vec_len, List, ℕ, Some};
+ghost use Rattle.std.specs.Prelude.{IfOk, SomeIff, IfErr, OnOk, OnErr, IsOk, IsOkUnless};
 ghost use Rattle.asn1_core.specs.Tag.{explicit_tag_of, implicit_tag_of};
 ghost use Rattle.asn1_core.specs.Length.{length_text};
 ghost use Rattle.asn1_core.specs.Fault.{write_error_text};
-ghost use Rattle.asn1_core.specs.Writing.{AlwaysAppends, IsWriter, WriterCall, MayAnswerAfter, buffer_name, buffer_of, octets_of, Refuses, IsElementOf, full_count};
+ghost use Rattle.asn1_core.specs.Writing.{AlwaysAppends, IsWriter, WriterCall, MayAnswerAfter, buffer_name, buffer_of};
+ghost use Rattle.asn1_core.specs.Writing.{octets_of, Refuses, IsElementOf, full_count};
 ghost use Rattle.asn1_core.specs.Der.{IsWritable, IsWritableContent};
 ghost use Rattle.asn1_core.specs.declared.writer.WriteError.TheVariants.{AllocationError};
 

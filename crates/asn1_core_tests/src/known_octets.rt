@@ -1,7 +1,7 @@
 //! What a call returns for octets that stand in the code. The attribute opens the functions of the definitions, and so
 //! the prover computes the result.
 
-ghost use Rattle.std.specs.Prelude.{◌≡◌, IsErrAnd, Ok};
+ghost use Rattle.std.specs.Prelude.{◌≡◌, IsErrAnd};
 ghost use Rattle.asn1_core.specs.declared.parser.ParseErrorKind.TheVariants.{InvalidValue};
 
 use asn1_core::{ParseResult, parse_single};

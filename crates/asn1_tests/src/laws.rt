@@ -1,6 +1,6 @@
 //! What a user gets from the laws: each function calls some of them, and its contract follows with no proof by hand.
 
-ghost use Rattle.std.specs.Prelude.{◌≡◌, ◌↔◌, ◌<◌, ◌^◌, List, ℕ, length, Ok, IsTrue};
+ghost use Rattle.std.specs.Prelude.{◌≡◌, ◌↔◌, ◌<◌, ◌^◌, List, ℕ, length, IsTrue};
 ghost use Rattle.asn1.specs.Text.{IsText};
 ghost use Rattle.asn1.specs.Tlv.{element_of};
 ghost use Rattle.asn1.specs.Fault.{place_of};

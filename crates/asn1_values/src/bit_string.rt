@@ -1,6 +1,6 @@
 //! BIT STRING (X.690 8.6, 11.2), borrowed and owned.
 
-ghost use Rattle.std.specs.Prelude.{◌≡◌, IsTrue, true, ⊤, Some, length, MatchOption};
+ghost use Rattle.std.specs.Prelude.{◌≡◌, IsTrue, true, ⊤, length, MatchOption};
 ghost use Rattle.asn1_core.specs.Reads.{ReadsContents};
 ghost use Rattle.asn1_core.specs.Der.{simple_der};
 ghost use Rattle.asn1_core.specs.Boxed.{boxed};

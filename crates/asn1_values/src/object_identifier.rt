@@ -1,7 +1,7 @@
 //! OBJECT IDENTIFIER (X.690 8.19), and its dotted form in decimal.
 
 ghost use Rattle.std.specs.Prelude.{⊤, ◌≡◌, ◌+◌, ◌<◌, ◌≤◌, ◌^◌, ◌++◌, ◌∷◌};
-ghost use Rattle.std.specs.Prelude.{IfSome, drop, None, option_map, length, true, Some, take, is_some, Ok, Err};
+ghost use Rattle.std.specs.Prelude.{IfSome, drop, option_map, length, true, Some, take, is_some};
 ghost use Rattle.std.specs.Prelude.{MatchOption};
 ghost use Rattle.asn1_core.specs.declared.parser.ParseErrorKind.{ParseErrorKind};
 ghost use Rattle.asn1_core.specs.Base128.{number_front, number_text};

@@ -1,6 +1,6 @@
 //! Octets in hex, read faster than the kit's `hex::decode`, which says where an error is.
 
-ghost use Rattle.std.specs.Prelude.{◌≡◌, ◌<◌, IfOk, IfSome, IsErr, Ok, MatchOption};
+ghost use Rattle.std.specs.Prelude.{◌≡◌, ◌<◌, IfOk, IfSome, IsErr, MatchOption};
 ghost use Rattle.hex.specs.Hex.{decode_of, hex_digit_value};
 
 use std::alloc::{AllocError, Global};

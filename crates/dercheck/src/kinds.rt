@@ -1,6 +1,6 @@
 //! The kinds of errors, as words in a line.
 
-ghost use Rattle.std.specs.Prelude.{◌≡◌, ◌++◌, ◌∷◌, codes, decimal, OnOk};
+ghost use Rattle.std.specs.Prelude.{◌≡◌, ◌++◌, ◌∷◌, decimal, OnOk};
 ghost use Rattle.std.specs.Io.{StartsWith};
 ghost use Rattle.dercheck.specs.Replies.{kind_name, kind_text, class_text, form_text};
 

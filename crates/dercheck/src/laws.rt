@@ -1,7 +1,8 @@
 //! Laws of the definitions, each the contract of a function that does nothing.
 
 ghost use Rattle.dercheck.specs.Frames.{EachTextHasAFraming, TextsHaveOneFraming};
-ghost use Rattle.dercheck.specs.Laws.{LinesAreRight, RequestsAreRight, BadLinesAreBad, ValuesAreOk, OkLinesAreOk, FaultsAreErr};
+ghost use Rattle.dercheck.specs.Laws.{LinesAreRight, RequestsAreRight, BadLinesAreBad, ValuesAreOk, OkLinesAreOk};
+ghost use Rattle.dercheck.specs.Laws.{FaultsAreErr};
 
 /// The lines of an input hold no line feed, and the input is the lines, each with a line feed after it. Only the last
 /// line feed may be missing. The input has no other lines.

@@ -1,6 +1,7 @@
 //! Streams over memory.
 
-ghost use Rattle.std.specs.Prelude.{◌≡◌, ◌+◌, ◌<◌, ◌≤◌, ◌++◌, ◌↔◌, min, IsTrue, false, List, ℕ, [], length, Some, IfSome, IsNone, MatchOption};
+ghost use Rattle.std.specs.Prelude.{◌≡◌, ◌+◌, ◌<◌, ◌≤◌, ◌++◌, ◌↔◌};
+ghost use Rattle.std.specs.Prelude.{min, IsTrue, false, [], length, Some, IfSome, IsNone, MatchOption};
 
 use crate::stream::{Sink, Source};
 
@@ -38,7 +39,8 @@ impl<'a> Pieces<'a> {
 }
 
 impl Source for Pieces<'_> {
-    ghost use Rattle.dercheck.specs.Streams.{FlagFollows, GivesIfReady, PullTakes, pieces_left, pieces_ready, piece_of, fails_at_end, pieces_failed};
+    ghost use Rattle.dercheck.specs.Streams.{FlagFollows, GivesIfReady, PullTakes, pieces_left, pieces_ready, piece_of};
+    ghost use Rattle.dercheck.specs.Streams.{fails_at_end, pieces_failed};
 
     ghost left = { λ s. Some (pieces_left s) };
 

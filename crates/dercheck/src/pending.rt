@@ -1,6 +1,7 @@
 //! The element that is being read.
 
-ghost use Rattle.std.specs.Prelude.{◌≡◌, ◌+◌, ◌<◌, ◌≤◌, ◌∷◌, ◌++◌, ◌↔◌, [], List, ℕ, IsTrue, true, false, length, take, IfOk, IfErr, OnOk, OnErr};
+ghost use Rattle.std.specs.Prelude.{◌≡◌, ◌+◌, ◌<◌, ◌≤◌, ◌∷◌, ◌++◌, ◌↔◌};
+ghost use Rattle.std.specs.Prelude.{[], List, ℕ, IsTrue, true, false, length, take, IfOk, IfErr, OnOk, OnErr};
 ghost use Rattle.dercheck.specs.declared.frame_lines.TheConstants.{MAX_LINES, MAX_PULL_LINES};
 ghost use Rattle.dercheck.specs.declared.header.TheConstants.{MAX_HEADER};
 

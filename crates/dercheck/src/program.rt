@@ -1,6 +1,6 @@
 //! What the program does with its arguments, and how it ends.
 
-ghost use Rattle.std.specs.Prelude.{◌≡◌, ◌↔◌, [], Some};
+ghost use Rattle.std.specs.Prelude.{◌≡◌, []};
 ghost use Rattle.dercheck.specs.Program.{mode_of, status_of};
 
 use crate::answers::Fault;

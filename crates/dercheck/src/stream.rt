@@ -1,6 +1,6 @@
 //! Streams of octets to read and to write.
 
-ghost use Rattle.std.specs.Prelude.{◌≡◌, ◌+◌, ◌<◌, ◌≤◌, List, ℕ, Bool, Option, false, length, take, IfSome, MatchOption};
+ghost use Rattle.std.specs.Prelude.{◌≡◌, ◌+◌, ◌<◌, ◌≤◌, List, ℕ, Bool, Option, false, length, IfSome, MatchOption};
 ghost use Rattle.dercheck.specs.Streams.{PullTakes, GivesIfReady, PutAppends, FlagFollows};
 
 /// How many octets are asked for at a time.

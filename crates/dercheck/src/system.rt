@@ -1,6 +1,6 @@
 //! Streams over a reader and a writer.
 
-ghost use Rattle.std.specs.Prelude.{◌≡◌, ◌^◌, ◌<◌, ◌≤◌, ◌-◌, [], IsTrue, false, length};
+ghost use Rattle.std.specs.Prelude.{◌≡◌, ◌^◌, ◌<◌, ◌≤◌, ◌-◌, [], IsTrue, false};
 ghost use Rattle.std.specs.Io.KnownBytes.{IsAtEnd, Keeps};
 ghost use Rattle.dercheck.specs.declared.system.TheConstants.{MAX_READ};
 

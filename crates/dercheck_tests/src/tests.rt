@@ -1,6 +1,6 @@
 //! The replies to lines from outside, and a user's own type.
 
-ghost use Rattle.std.specs.Prelude.{◌≡◌, Some};
+ghost use Rattle.std.specs.Prelude.{◌≡◌};
 ghost use Rattle.asn1.specs.Der.{simple_der};
 ghost use Rattle.dercheck_tests.specs.Code.{code_content};
 

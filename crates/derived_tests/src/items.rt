@@ -1,5 +1,5 @@
 //! Values that an item before them defines: each attribute of the original's derives for them, once.
-// Printed by scripts/derive from declarations/items.rs, with the sum d031b2a4.
+// Printed by scripts/derive from declarations/items.rs, with the sum d142152e.
 
 ghost use Rattle.std.specs.Prelude.{◌≡◌, ◌⊎◌, ◌∷◌, [], true, false, ⊤, IsTrue, MatchOption, OnErr};
 ghost use Rattle.std.specs.Str.{bytes_eq};
@@ -11,7 +11,8 @@ ghost use Rattle.asn1.specs.Reading.{EndsWith};
 ghost use Rattle.asn1.specs.Reads.{HasOneEncoding, ReadsContents, ReadsDefined};
 ghost use Rattle.asn1.specs.Structures.{defaulted, field_names, implicit, structure, fields1};
 ghost use Rattle.asn1.specs.Variants.{any_variant, identifier_with, or_variant, variant};
-ghost use Rattle.derived_tests.specs.declared.items.TheConstants.{OTHER_OID_NUMBERS, SHA256_WITH_RSA_NUMBERS, SOME_OID_NUMBERS};
+ghost use Rattle.derived_tests.specs.declared.items.TheConstants.{OTHER_OID_NUMBERS, SHA256_WITH_RSA_NUMBERS};
+ghost use Rattle.derived_tests.specs.declared.items.TheConstants.{SOME_OID_NUMBERS};
 
 use crate::page::{Tagged, tagged_is_lawful};
 use asn1::fields::{

@@ -1,11 +1,12 @@
 //! Structures and choices: each attribute of the original's derives for them, once.
-// Printed by scripts/derive from declarations/page.rs, with the sum 5d628a9e.
+// Printed by scripts/derive from declarations/page.rs, with the sum cd68caa5.
 
 ghost use Rattle.std.specs.Prelude.{◌≡◌, ◌∷◌, [], negsuc, IsTrue, OnErr, IfOk};
 ghost use Rattle.asn1.specs.AlternativeLists.{choice, alternative1, alternative2};
 ghost use Rattle.asn1.specs.Reading.{EndsWith};
 ghost use Rattle.asn1.specs.Reads.{BeginsWithEncodingOf, HasOneEncoding, ReadsContents, ReadsPrefix};
-ghost use Rattle.asn1.specs.Structures.{defaulted, explicit, field_names, implicit, structure, fields0, fields1, fields2, fields4};
+ghost use Rattle.asn1.specs.Structures.{defaulted, explicit, field_names, implicit, structure, fields0, fields1};
+ghost use Rattle.asn1.specs.Structures.{fields2, fields4};
 
 use asn1::alternatives::{Alternatives, AlternativesReadable, AsOneOf, OneOf2, read_choice};
 use asn1::fields::{Fields2, Fields4, Last, NoFields, Row};

@@ -1,5 +1,5 @@
 //! Tags of every class, sets, and enums whose values have numbers: each form of the script for them, once.
-// Printed by scripts/derive from declarations/tags.rs, with the sum dfc2786b.
+// Printed by scripts/derive from declarations/tags.rs, with the sum aa963628.
 
 ghost use Rattle.std.specs.Prelude.{◌≡◌, ◌∷◌, [], true, false, IsTrue, OnErr, IfOk};
 ghost use Rattle.asn1.specs.AlternativeLists.{choice, alternative1, alternative2, alternative3};
@@ -38,7 +38,8 @@ pub enum ResultCode {
 }
 
 impl Numbered for ResultCode {
-    ghost use Rattle.derived_tests.specs.declared.tags.ResultCode.TheVariants.{Success, TimeLimitExceeded, Busy, Other};
+    ghost use Rattle.derived_tests.specs.declared.tags.ResultCode.TheVariants.{Success, TimeLimitExceeded, Busy};
+    ghost use Rattle.derived_tests.specs.declared.tags.ResultCode.TheVariants.{Other};
 
     ghost number_of = { elim [ Success ↦ 0 | TimeLimitExceeded ↦ 3 | Busy ↦ 51 | Other ↦ 80 ] };
 

@@ -1,9 +1,10 @@
 //! Parameters of algorithms, which their identifiers define (RFC 3279, 3370, 4055, 5480, 5754, 5758, 8410).
 
-ghost use Rattle.std.specs.Prelude.{◌≡◌, Ok, Some};
+ghost use Rattle.std.specs.Prelude.{◌≡◌};
 ghost use Rattle.asn1.specs.Identifier.{read_identifier};
 ghost use Rattle.asn1.specs.IdentifierValues.{identifier_of};
-ghost use Rattle.pkix.specs.Algorithms.{algorithm_numbers, algorithm_with, form_of, parameter_octets, ReadsForm, ReadsParameters};
+ghost use Rattle.pkix.specs.Algorithms.{algorithm_numbers, algorithm_with, form_of, parameter_octets, ReadsForm};
+ghost use Rattle.pkix.specs.Algorithms.{ReadsParameters};
 
 use crate::common::AlgorithmIdentifier;
 use crate::keys::{DssParms, RsassaPssParams};

@@ -1,6 +1,6 @@
 //! Values of extensions, whose types their identifiers name (RFC 5280, 4.2 and 5).
 
-ghost use Rattle.std.specs.Prelude.{◌≡◌, Ok, Some};
+ghost use Rattle.std.specs.Prelude.{◌≡◌};
 ghost use Rattle.asn1.specs.Identifier.{read_identifier};
 ghost use Rattle.asn1.specs.IdentifierValues.{identifier_of};
 ghost use Rattle.pkix.specs.Extensions.{extension_numbers, extension_with, ReadsExtension};

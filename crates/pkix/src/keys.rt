@@ -1,10 +1,11 @@
 //! Keys, and the parameters of their algorithms (RFC 5958, 8017, 5915, 5480, 3279 and 4055).
-// Printed by scripts/derive from declarations/keys.rs, with the sum b2214e4e.
+// Printed by scripts/derive from declarations/keys.rs, with the sum f9860ed1.
 
 ghost use Rattle.std.specs.Prelude.{◌≡◌, ◌∷◌, [], IsTrue};
 ghost use Rattle.asn1.specs.Options.{option_meaning};
 ghost use Rattle.asn1.specs.Reads.{HasOneEncoding, ReadsContents};
-ghost use Rattle.asn1.specs.Structures.{defaulted, explicit, field_names, implicit, structure, fields2, fields3, fields4, fields5, fields9};
+ghost use Rattle.asn1.specs.Structures.{defaulted, explicit, field_names, implicit, structure, fields2, fields3};
+ghost use Rattle.asn1.specs.Structures.{fields4, fields5, fields9};
 
 use crate::common::{
     AlgorithmIdentifier, Attributes, algorithm_identifier_is_lawful, attributes_is_lawful,

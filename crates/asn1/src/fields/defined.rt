@@ -1,13 +1,12 @@
 //! Fields that an item before them defines (X.680, types that another field defines).
 
-ghost use Rattle.std.specs.Prelude.{◌≡◌, OnOk, OnErr, IfErr, IsOk, Ok};
+ghost use Rattle.std.specs.Prelude.{◌≡◌, IsOk};
 ghost use Rattle.std.specs.Str.{bytes_eq};
-ghost use Rattle.asn1_core.specs.Buffer.{Appends, KeepsFront};
 ghost use Rattle.asn1_core.specs.Reading.{Answers};
-ghost use Rattle.asn1_core.specs.Writing.{buffer_name, octets_of, KnowsLength, Refuses};
 ghost use Rattle.asn1_values.specs.Identifier.{read_identifier};
 ghost use Rattle.asn1_values.specs.IdentifierValues.{identifier_of};
-ghost use Rattle.asn1.specs.Structures.{BehindItem, ItemErrors, before_behind, item_list, value_behind, value_last_behind};
+ghost use Rattle.asn1.specs.Structures.{BehindItem, ItemErrors, before_behind, item_list, value_behind};
+ghost use Rattle.asn1.specs.Structures.{value_last_behind};
 ghost use Rattle.asn1.specs.ItemsAndValues.{Agrees, ItemAgrees, ItemAndValue};
 
 use super::{FieldWritable, NameSource, Row, RowReadable, finish, placed};

@@ -1,6 +1,6 @@
 //! SEQUENCE (X.690 8.9), whose contents octets are read by the caller.
 
-ghost use Rattle.std.specs.Prelude.{◌≡◌, IsTrue, List, ℕ, length, Ok, Result, Some};
+ghost use Rattle.std.specs.Prelude.{◌≡◌, IsTrue, List, ℕ, length, Result};
 ghost use Rattle.std.specs.Fn.{FnOnceReturnsAtMut};
 ghost use Rattle.asn1_core.specs.Reading.{IsHandedOn};
 ghost use Rattle.asn1_core.specs.Reads.{ReadsContents};

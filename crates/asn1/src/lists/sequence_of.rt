@@ -1,6 +1,7 @@
 //! SEQUENCE OF (X.690 8.10).
 
-ghost use Rattle.std.specs.Prelude.{◌≡◌, ◌↔◌, IsTrue, ◌<◌, ◌≤◌, ◌-◌, ◌==◌, List, ℕ, length, map, nat_eq, Ok, OnOk, OnErr, IfOk, IfErr, IsSome, Some};
+ghost use Rattle.std.specs.Prelude.{◌≡◌, ◌↔◌, ◌<◌, ◌≤◌, ◌-◌, ◌==◌};
+ghost use Rattle.std.specs.Prelude.{IsTrue, List, ℕ, length, map, nat_eq, OnOk, OnErr, IfOk, IfErr, IsSome};
 ghost use Rattle.std.specs.Iterator.{at_most};
 ghost use Rattle.std.specs.Hash as fed;
 ghost use Rattle.std.specs.Cmp.{partial_equiv_from_equiv, on_per, on_equiv};
@@ -14,7 +15,7 @@ ghost use Rattle.asn1_core.specs.Reads.{ReadsContents};
 ghost use Rattle.asn1_core.specs.Der.{simple_der};
 ghost use Rattle.asn1_core.specs.Listing.{AnyNames, Each, Joins, OneNames, joined, sequence_tag};
 ghost use Rattle.asn1_core.specs.Writing.{buffer_name, octets_of, GivesLength, Refuses};
-ghost use Rattle.asn1.specs.Lists.{AreItems, AreOctets, left, item, counted, item_out, items_out, sequence_read, NextItem};
+ghost use Rattle.asn1.specs.Lists.{AreItems, AreOctets, left, item, counted, item_out, items_out, NextItem};
 ghost use Rattle.asn1.specs.ListTypes.{items_inside};
 
 use crate::lists::{SequenceOfWriter, are_octets, at_item, contents_of};

@@ -1,7 +1,8 @@
 //! SET and SET OF (X.690 8.11, 8.12): SET as it is encoded, its elements in the order of their tags (10.3), and SET OF
 //! as an iterator, its items in the order of their encodings (11.6).
 
-ghost use Rattle.std.specs.Prelude.{◌≡◌, ◌↔◌, ◌<◌, IsTrue, List, ℕ, [], length, map, Ok, Result, Some, OnOk, OnErr, IfOk, IfErr, IsSome, nat_eq};
+ghost use Rattle.std.specs.Prelude.{◌≡◌, ◌↔◌, ◌<◌};
+ghost use Rattle.std.specs.Prelude.{IsTrue, List, ℕ, [], length, map, Result, OnOk, OnErr, IfOk, IfErr, IsSome, nat_eq};
 ghost use Rattle.std.specs.Fn.{FnOnceReturnsAtMut};
 ghost use Rattle.std.specs.Iterator.{at_most};
 ghost use Rattle.std.specs.Hash as fed;
@@ -18,7 +19,8 @@ ghost use Rattle.asn1_core.specs.Reads.{ReadsContents};
 ghost use Rattle.asn1_core.specs.Der.{simple_der};
 ghost use Rattle.asn1_core.specs.Writing.{buffer_name, octets_of, GivesLength, Refuses};
 ghost use Rattle.asn1.specs.Lists.{AreOctets, NextItem};
-ghost use Rattle.asn1.specs.Sets.{AreOrdered, set_left, set_item, checked, set_item_out, set_out, first_out, set_read, set_octets, element_behind};
+ghost use Rattle.asn1.specs.Sets.{AreOrdered, set_left, set_item, checked, set_item_out, set_out, first_out};
+ghost use Rattle.asn1.specs.Sets.{element_behind};
 ghost use Rattle.asn1.specs.SetTypes.{set_inside, set_content};
 ghost use Rattle.asn1.specs.MadeLists.{in_order};
 

@@ -1,6 +1,6 @@
 //! BOOLEAN (X.690 8.2).
 
-ghost use Rattle.std.specs.Prelude.{◌≡◌, Some};
+ghost use Rattle.std.specs.Prelude.{◌≡◌};
 ghost use Rattle.asn1_core.specs.BooleanContent.{bool_content};
 ghost use Rattle.asn1_core.specs.Der.{simple_der};
 

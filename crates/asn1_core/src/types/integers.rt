@@ -1,6 +1,7 @@
 //! INTEGER (X.690 8.3): its contents octets, and the types of fixed width.
 
-ghost use Rattle.std.specs.Prelude.{◌≡◌, ℕ, ◌+◌, ◌-◌, ◌^◌, ◌<◌, ◌≤◌, ◌||◌, ◌==◌, ◌++◌, if◌then◌else◌, length, pos, neg_ℤ, ◌≤ℤ◌, ◌<ℤ◌, IfOk, OnOk, OnErr, IsOkUnless, Some};
+ghost use Rattle.std.specs.Prelude.{◌≡◌, ◌+◌, ◌-◌, ◌^◌, ◌<◌, ◌≤◌, ◌||◌, ◌==◌, ◌++◌, if◌then◌else◌, ◌≤ℤ◌, ◌<ℤ◌};
+ghost use Rattle.std.specs.Prelude.{length, pos, neg_ℤ, IfOk, OnOk, OnErr, IsOkUnless};
 ghost use Rattle.asn1_core.specs.Text.{signed_number};
 ghost use Rattle.asn1_core.specs.Integer.{nine_bits, is_minimal, integer_content, below, read_sized};
 ghost use Rattle.asn1_core.specs.Fault.{framed};

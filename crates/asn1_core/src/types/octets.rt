@@ -1,6 +1,6 @@
 //! OCTET STRING and NULL (X.690 8.7, 8.8).
 
-ghost use Rattle.std.specs.Prelude.{◌≡◌, IsTrue, length, Some};
+ghost use Rattle.std.specs.Prelude.{◌≡◌, IsTrue, length};
 ghost use Rattle.asn1_core.specs.Text.{IsText};
 ghost use Rattle.asn1_core.specs.Tag.{universal};
 ghost use Rattle.asn1_core.specs.OctetContents.{octets_content, sized_octets_content, null_content};

@@ -1,12 +1,14 @@
 //! Sets that are written in order: the items of a slice by their encodings, the elements of a closure by their tags.
 
-ghost use Rattle.std.specs.Prelude.{◌≡◌, ◌++◌, [], length, map, All, IsPermutation, None, true, IfSome, OnOk, OnErr, IfErr, IsOkUnless, ◌⊎◌};
+ghost use Rattle.std.specs.Prelude.{◌≡◌, ◌++◌, ◌⊎◌};
+ghost use Rattle.std.specs.Prelude.{[], length, map, All, IsPermutation, true, IfSome, OnOk, OnErr, IfErr, IsOkUnless};
 ghost use Rattle.std.specs.List.Sorted.{IsSortedBy};
 ghost use Rattle.asn1_core.specs.Buffer.{Appends, KeepsFront};
 ghost use Rattle.asn1_core.specs.Writing.{Refuses, set_closure, set_items};
 ghost use Rattle.asn1_core.specs.Der.{IsWritable, simple_der};
 ghost use Rattle.asn1_core.specs.Listing.{Each, AnyNames, set_tag, join, ListingOf};
-ghost use Rattle.asn1_core.specs.SetWriting.{StandsBehind, AddsTo, IsOutOfOrder, KeepsElements, OrderedElements, MayRefuseSet, set_closure_written, listing_written};
+ghost use Rattle.asn1_core.specs.SetWriting.{StandsBehind, AddsTo, IsOutOfOrder, KeepsElements, OrderedElements};
+ghost use Rattle.asn1_core.specs.SetWriting.{MayRefuseSet, set_closure_written, listing_written};
 ghost use Rattle.asn1_core.specs.SetSteps.{part_of, first_number, span_cmp, IsBefore, IsWithin, NotesFirst, NotesTexts};
 ghost use Rattle.asn1_core.specs.Tag.{tag_in_front, before_tag};
 ghost use Rattle.asn1_core.specs.declared.writer.WriteError.TheVariants.{AllocationError, InvalidSetOrdering};

@@ -1,7 +1,7 @@
 //! INTEGER of any length (X.690 8.3), whose contents octets are borrowed; and properties of contents octets.
 
 ghost use Rattle.std.specs.Prelude.{◌≡◌, ◌+◌, ◌*◌, ◌-◌, ◌/◌, ◌^◌, ◌∷◌, ◌<◌, ◌≤◌, ◌↔◌};
-ghost use Rattle.std.specs.Prelude.{length, pos, int_lt, IsTrue, Some, MatchOption, EachIndex, slice_index};
+ghost use Rattle.std.specs.Prelude.{length, pos, int_lt, IsTrue, MatchOption, EachIndex, slice_index};
 ghost use Rattle.asn1_core.specs.Text.{number, signed_number};
 ghost use Rattle.asn1_core.specs.Tag.{universal};
 ghost use Rattle.asn1_core.specs.Integer.{integer_content};

@@ -1,6 +1,6 @@
 //! ENUMERATED (X.690 8.4).
 
-ghost use Rattle.std.specs.Prelude.{◌≡◌, ◌-ℤ◌, ◌^◌, pos, length, Some};
+ghost use Rattle.std.specs.Prelude.{◌≡◌, ◌-ℤ◌, ◌^◌, pos, length};
 ghost use Rattle.asn1_core.specs.Tag.{universal};
 ghost use Rattle.asn1_core.specs.Integer.{integer_content};
 ghost use Rattle.asn1_core.specs.Element.{element, element_text};

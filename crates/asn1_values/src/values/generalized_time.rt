@@ -1,6 +1,6 @@
 //! GeneralizedTime, with a fraction of a second or without (X.690 11.7).
 
-ghost use Rattle.std.specs.Prelude.{◌≡◌, ◌≤◌, ⊤, Some, length, MatchResult};
+ghost use Rattle.std.specs.Prelude.{◌≡◌, ◌≤◌, ⊤, length, MatchResult};
 ghost use Rattle.std.proofs.Props.{props};
 ghost use Rattle.asn1_core.specs.declared.parser.ParseErrorKind.TheVariants.{InvalidValue};
 ghost use Rattle.asn1_core.specs.Fault.{fault};

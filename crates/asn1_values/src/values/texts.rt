@@ -1,6 +1,6 @@
 //! Character strings whose contents octets are read as `str` (X.690 8.23, X.680 41).
 
-ghost use Rattle.std.specs.Prelude.{◌≡◌, IsTrue, true, false, ⊤, Some, length, MatchOption, IsUtf8};
+ghost use Rattle.std.specs.Prelude.{◌≡◌, IsTrue, true, false, ⊤, length, MatchOption, IsUtf8};
 ghost use Rattle.asn1_core.specs.Tag.{universal};
 ghost use Rattle.asn1_core.specs.Reads.{ReadsContents};
 ghost use Rattle.asn1_core.specs.Writing.{GivesLength};

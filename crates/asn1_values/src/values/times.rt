@@ -1,7 +1,7 @@
 //! Times without a fraction of a second: UTCTime, and GeneralizedTime as in certificates (X.690 11.7, 11.8; RFC 5280
 //! 4.1.2.5).
 
-ghost use Rattle.std.specs.Prelude.{◌≡◌, ◌≤◌, ⊤, Some, MatchResult};
+ghost use Rattle.std.specs.Prelude.{◌≡◌, ◌≤◌, ⊤, MatchResult};
 ghost use Rattle.asn1_core.specs.declared.parser.ParseErrorKind.TheVariants.{InvalidValue};
 ghost use Rattle.asn1_core.specs.Fault.{fault};
 ghost use Rattle.asn1_core.specs.Der.{simple_der};

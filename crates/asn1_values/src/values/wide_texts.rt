@@ -1,7 +1,7 @@
 //! Character strings of two or four octets a character (X.690 8.23, X.680 41).
 
 ghost use Rattle.std.specs.Prelude.{◌≡◌, ◌+◌, ◌%◌, ◌<◌, ◌≤◌, ◌↔◌, [], ◌∷◌, ⊤};
-ghost use Rattle.std.specs.Prelude.{drop, true, false, Some, length, MatchOption, IsTrue};
+ghost use Rattle.std.specs.Prelude.{drop, true, false, length, MatchOption, IsTrue};
 ghost use Rattle.std.specs.Char.{IsScalar};
 ghost use Rattle.asn1_core.specs.Text.{number};
 ghost use Rattle.asn1_core.specs.Tag.{universal};

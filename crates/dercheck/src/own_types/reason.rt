@@ -1,6 +1,6 @@
 //! A simple type: an enumerated value.
 
-ghost use Rattle.std.specs.Prelude.{◌≡◌, Some};
+ghost use Rattle.std.specs.Prelude.{◌≡◌};
 ghost use Rattle.asn1.specs.Der.{simple_der};
 ghost use Rattle.dercheck.specs.OwnTypes.{reason_content};
 

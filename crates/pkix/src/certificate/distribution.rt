@@ -1,5 +1,5 @@
 //! Where revocation lists are found, and what they have (RFC 5280, 4.2.1.13 and 5.2.5).
-// Printed by scripts/derive from declarations/certificate/distribution.rs, with the sum 5eaa64be.
+// Printed by scripts/derive from declarations/certificate/distribution.rs, with the sum f2936a32.
 
 ghost use Rattle.std.specs.Prelude.{◌≡◌, ◌∷◌, [], false, IsTrue, OnErr, IfOk};
 ghost use Rattle.asn1.specs.AlternativeLists.{choice, alternative1, alternative2};
@@ -43,7 +43,8 @@ pub enum DistributionPointName<'a> {
 }
 
 impl<'a> AsOneOf<DistributionPointNameChoice<'a>> for DistributionPointName<'a> {
-    ghost use Rattle.pkix.specs.declared.certificate.distribution.DistributionPointName.TheVariants.{FullName, NameRelativeToCrlIssuer};
+    ghost use Rattle.pkix.specs.declared.certificate.distribution.DistributionPointName.TheVariants.{FullName};
+    ghost use Rattle.pkix.specs.declared.certificate.distribution.DistributionPointName.TheVariants.{NameRelativeToCrlIssuer};
 
     ghost seen = { elim [
       | FullName x ↦ alternative1 (implicit x)

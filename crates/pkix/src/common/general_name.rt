@@ -1,8 +1,9 @@
 //! General names (RFC 5280, 4.2.1.6).
-// Printed by scripts/derive from declarations/common/general_name.rs, with the sum fe38c22c.
+// Printed by scripts/derive from declarations/common/general_name.rs, with the sum 4b7e470a.
 
 ghost use Rattle.std.specs.Prelude.{◌≡◌, ◌∷◌, [], IsTrue, OnErr, IfOk};
-ghost use Rattle.asn1.specs.AlternativeLists.{choice, alternative1, alternative2, alternative3, alternative4, alternative5, alternative6, alternative7, alternative8, alternative9};
+ghost use Rattle.asn1.specs.AlternativeLists.{choice, alternative1, alternative2, alternative3, alternative4};
+ghost use Rattle.asn1.specs.AlternativeLists.{alternative5, alternative6, alternative7, alternative8, alternative9};
 ghost use Rattle.asn1.specs.Options.{option_meaning};
 ghost use Rattle.asn1.specs.Reading.{EndsWith};
 ghost use Rattle.asn1.specs.Reads.{BeginsWithEncodingOf, HasOneEncoding, ReadsContents, ReadsPrefix};
@@ -204,7 +205,8 @@ pub enum GeneralName<'a> {
 impl<'a> AsOneOf<GeneralNameChoice<'a>> for GeneralName<'a> {
     ghost use Rattle.pkix.specs.declared.common.general_name.GeneralName.TheVariants.{OtherName, Rfc822Name, DnsName};
     ghost use Rattle.pkix.specs.declared.common.general_name.GeneralName.TheVariants.{X400Address, DirectoryName};
-    ghost use Rattle.pkix.specs.declared.common.general_name.GeneralName.TheVariants.{EdiPartyName, UniformResourceIdentifier};
+    ghost use Rattle.pkix.specs.declared.common.general_name.GeneralName.TheVariants.{EdiPartyName};
+    ghost use Rattle.pkix.specs.declared.common.general_name.GeneralName.TheVariants.{UniformResourceIdentifier};
     ghost use Rattle.pkix.specs.declared.common.general_name.GeneralName.TheVariants.{IpAddress, RegisteredId};
 
     ghost seen = { elim [

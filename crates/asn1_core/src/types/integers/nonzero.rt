@@ -1,7 +1,8 @@
 //! The integers that aren't 0: INTEGER (X.690 8.3; universal 2), written as the integers are, and not read.
 
-ghost use Rattle.std.specs.Prelude.{◌≡◌, length, pos, Some};
-ghost use Rattle.std.specs.Int.NonZero.{non_zero_i8_get, non_zero_i16_get, non_zero_i32_get, non_zero_i64_get, non_zero_u8_get, non_zero_u16_get, non_zero_u32_get, non_zero_u64_get};
+ghost use Rattle.std.specs.Prelude.{◌≡◌, length, pos};
+ghost use Rattle.std.specs.Int.NonZero.{non_zero_i8_get, non_zero_i16_get, non_zero_i32_get, non_zero_i64_get};
+ghost use Rattle.std.specs.Int.NonZero.{non_zero_u8_get, non_zero_u16_get, non_zero_u32_get, non_zero_u64_get};
 ghost use Rattle.asn1_core.specs.Integer.{integer_content};
 ghost use Rattle.asn1_core.specs.Sized.{non_zero_signed_der, non_zero_unsigned_der};
 

@@ -1,6 +1,6 @@
 //! The signed integers of fixed width, `i8` to `i64`: INTEGER (X.690 8.3), within the range of the type.
 
-ghost use Rattle.std.specs.Prelude.{◌≡◌, ℤ, length, Some};
+ghost use Rattle.std.specs.Prelude.{◌≡◌, ℤ, length};
 ghost use Rattle.asn1_core.specs.Integer.{integer_content};
 ghost use Rattle.asn1_core.specs.Reading.{Fits};
 ghost use Rattle.asn1_core.specs.Sized.{integer_text, signed_der};

@@ -1,6 +1,6 @@
 //! The unsigned integers of fixed width, `u8` to `u64`: INTEGER (X.690 8.3), within the range of the type.
 
-ghost use Rattle.std.specs.Prelude.{◌≡◌, ℕ, length, pos, Some};
+ghost use Rattle.std.specs.Prelude.{◌≡◌, ℕ, length, pos};
 ghost use Rattle.asn1_core.specs.Integer.{integer_content};
 ghost use Rattle.asn1_core.specs.Reading.{Fits};
 ghost use Rattle.asn1_core.specs.Sized.{integer_text, unsigned_der};
