@@ -6,7 +6,7 @@ use Rattle.asn1_core.specs.Fault.{Fault}
 use Rattle.asn1_core.specs.Reading.{Answers, IsRefusal}
 use Rattle.asn1_core.specs.Lemmas.Results.{ok_is}
 use Rattle.asn1.specs.FieldReads.{field_out, others_out, field_read, item_read, behind_out}
-use Rattle.asn1.specs.ItemsAndValues.{seen_front}
+use Rattle.asn1.specs.ItemsAndValues.{seen_front, same_front as is_same}
 
 pair_ok : {K M : Type 0} (k l : K) (r : Result M Fault) (n : M)
     → ◌≡◌ {A = Result (K × M) Fault} (r >>= λ m. Ok (k, m)) (Ok (l, n)) → (r ≡ Ok n) × (k ≡ l)
@@ -25,10 +25,6 @@ no_value f x e = absurd cc
 
 same_error : {A B : Type 0} (f g : Fault) → ◌≡◌ {A = Result A Fault} (Err f) (Err g) → ◌≡◌ {A = Result B Fault} (Err f) (Err g)
 same_error f g e = cc
-
-is_same : {M : Type 0} (r : Result (M × List ℕ) Fault) → r ≡ seen_front (λ m. m) r
-is_same (Ok x) = refl
-is_same (Err f) = refl
 
 pub same_front : {M : Type 0} (read : List ℕ → Result (M × List ℕ) Fault) (t : List ℕ) → read t ≡ seen_front (λ m. m) (read t)
 same_front read t = is_same (read t)

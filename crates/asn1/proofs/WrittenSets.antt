@@ -9,7 +9,7 @@ use Rattle.asn1_core.specs.Length.{length_text}
 use Rattle.asn1_core.specs.Element.{Element, element_text, IsReadable}
 use Rattle.asn1_core.specs.Listing.{Each, joined}
 use Rattle.asn1_core.specs.SetWriting.{SetState, OrderedElements, no_element, one_more}
-use Rattle.asn1_core.specs.Lemmas.TagOrder.{tag_order_is_answered}
+use Rattle.asn1_core.proofs.TagOrder.{tag_order_is_answered}
 use Rattle.asn1.specs.Sets.{TagsInOrder, IsSetContent}
 use Rattle.asn1.specs.TypeLaws.{WritesSets}
 

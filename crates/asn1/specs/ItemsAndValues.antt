@@ -58,7 +58,7 @@ pub record ValueAgrees {T V : Type 0} (by : ByItem T V) (both : ItemAndValue T V
 abbrev pub Agrees : {T V : Type 0} → Der T → ByItem T V → ItemAndValue T V → Type 0
 Agrees d by both = ItemAgrees d both.item × ValueAgrees by both
 
-same_front : {M : Type 0} (r : Result (M × List ℕ) Fault) → r ≡ seen_front (λ m. m) r
+pub same_front : {M : Type 0} (r : Result (M × List ℕ) Fault) → r ≡ seen_front (λ m. m) r
 same_front (Ok x) = refl
 same_front (Err e) = refl
 

@@ -1,11 +1,11 @@
 -- Lemmas that proofs of this crate and of the crates above it cite. No contract rests on a definition here.
+pub use Rattle.asn1_core.specs.Lemmas.Facts
 pub use Rattle.asn1_core.specs.Lemmas.Digits
 pub use Rattle.asn1_core.specs.Lemmas.Numbers
 pub use Rattle.asn1_core.specs.Lemmas.NumberTexts
 pub use Rattle.asn1_core.specs.Lemmas.Tags
 pub use Rattle.asn1_core.specs.Lemmas.Lengths
 pub use Rattle.asn1_core.specs.Lemmas.Elements
-pub use Rattle.asn1_core.specs.Lemmas.Stands
 pub use Rattle.asn1_core.specs.Lemmas.Texts
 pub use Rattle.asn1_core.specs.Lemmas.Results
 pub use Rattle.asn1_core.specs.Lemmas.Faults
@@ -13,23 +13,15 @@ pub use Rattle.asn1_core.specs.Lemmas.Contents
 pub use Rattle.asn1_core.specs.Lemmas.Booleans
 pub use Rattle.asn1_core.specs.Lemmas.Wholes
 pub use Rattle.asn1_core.specs.Lemmas.Options
-pub use Rattle.asn1_core.specs.Lemmas.Closures
-pub use Rattle.asn1_core.specs.Lemmas.Same
-pub use Rattle.asn1_core.specs.Lemmas.Bodies
 pub use Rattle.asn1_core.specs.Lemmas.Integers
 pub use Rattle.asn1_core.specs.Lemmas.Octets
 pub use Rattle.asn1_core.specs.Lemmas.Items
 pub use Rattle.asn1_core.specs.Lemmas.Listing
-pub use Rattle.asn1_core.specs.Lemmas.Sets
-pub use Rattle.asn1_core.specs.Lemmas.TagOrder
-pub use Rattle.asn1_core.specs.Lemmas.Inside
 pub mod Choices
 pub mod Defined
 pub mod Variants
 pub mod Defaults
-pub mod DefaultSteps
 pub mod Fields
-pub mod FieldSteps
 pub mod ListItems
 pub mod SetItems
 pub mod Equalities

@@ -4,7 +4,7 @@ use Rattle.asn1_core.specs.declared.tag.Tag.{Tag}
 use Rattle.asn1_core.specs.Reading.{whole}
 use Rattle.asn1_core.specs.Der.{Der, Content}
 use Rattle.asn1_core.specs.Lemmas.Faults.{whole_faults}
-use Rattle.asn1_core.specs.Lemmas.Inside.{inside_takes, inside_again}
+use Rattle.asn1_core.proofs.Inside.{inside_takes, inside_again}
 use Rattle.asn1_core.specs.declared.tag.TagClass.TheVariants.{Application, Private}
 use Rattle.asn1_core.specs.Tag.{class_of, tag_with}
 

@@ -1,21 +1,16 @@
 -- The forms of an object.
-use Rattle.std.proofs.Common.{◌≡◌, ◌⊎◌, inl, inr, Bool, true, false, Option, Some, None, IsTrue, IfSome, sym, subst, ◌∙◌}
-
-differ : (b : Bool) → b ≡ true → b ≡ false → ⊥
-differ b is other = cc
+use Rattle.std.proofs.Common.{◌≡◌, ◌⊎◌, inl, inr, Bool, false, Option, Some, None, IsTrue, IfSome, sym, subst, ◌∙◌}
+use Rattle.asn1.specs.Lemmas.Facts.{not_both, some_is}
 
 -- Octets that aren't read don't have the form.
 pub unread : {A F : Type 0} (read : Bool) → (A → F → IsTrue read) → read ≡ false → A → F → ⊥
-unread read only other is fits = differ read (only is fits) other
+unread read only other is fits = not_both read (only is fits) other
 
 pub neither : {A B F : Type 0} → (A → F → ⊥) → (B → F → ⊥) → A ⊎ B → F → ⊥
 neither a b (inl x) fits = a x fits
 neither a b (inr y) fits = b y fits
 
-one_value : {X : Type 0} (x y : X) → Some x ≡ Some y → x ≡ y
-one_value x y e = cc
-
 -- What holds of a value that was found holds of the one that was asked for.
 pub at_some : {X : Type 0} (asked found : Option X) (x : X) (P : X → Type 0) → IfSome asked (λ _. found ≡ asked) → found ≡ Some x → P x → IfSome asked P
 at_some None found x P same is p = tt
-at_some (Some y) found x P same is p = subst P (one_value x y (sym is ∙ same)) p
+at_some (Some y) found x P same is p = subst P (some_is x y (sym is ∙ same)) p

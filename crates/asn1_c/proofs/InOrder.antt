@@ -11,7 +11,7 @@ use Rattle.asn1.specs.Element.{Element, element_text, IsFront}
 use Rattle.asn1.specs.Listing.{text_less, Each, IsElementText, join, times, SameTexts, listing, place_text, EachText, Joins}
 use Rattle.asn1.specs.Lemmas.Elements.{element_some, content_less}
 use Rattle.asn1.specs.Lemmas.Listing.{listing_is, listing_joins, each_same}
-use Rattle.asn1.specs.Lemmas.Stands.{elements_are_apart}
+use Rattle.asn1.proofs.Stands.{elements_are_apart}
 use Rattle.asn1_c.specs.SetOf.{AreElements, IsSetOf, LeavesSetOf, StopsAt}
 use Rattle.asn1_c.specs.declared.errors.Asn1Error.{Asn1Error}
 use Rattle.asn1_c.specs.Errors.{without_details, buffer_too_small}

@@ -1,5 +1,5 @@
 -- The number of the first octets of an encoding, and the order of encodings.
-use Rattle.std.proofs.Common.{◌≡◌, ℕ, zero, suc, ◌+◌, ◌-◌, ◌*◌, ◌^◌, min, ◌<◌, ◌≤◌, ◌++◌, Bool, true, false, List, [], ◌∷◌, length, take, drop, get_or, if◌then◌else◌, nat_le, replicate, refl, sym, ap, subst, ◌∙◌, ⊎_elim, arith, lit<}
+use Rattle.std.proofs.Common.{◌≡◌, ℕ, zero, suc, ◌+◌, ◌-◌, ◌*◌, ◌^◌, min, ◌<◌, ◌≤◌, ◌++◌, Bool, true, false, List, [], ◌∷◌, length, take, drop, get_or, if◌then◌else◌, nat_le, replicate, refl, sym, ap, subst, ◌∙◌, ⊎_elim, arith}
 use Rattle.std.proofs.lemmas.Bool.{lt-ltb, le-ltb, eq-eqb, cases_lt, cases_eq}
 use Rattle.std.proofs.lemmas.List.{length-take-le, length-append, length-replicate, take_all, take-replicate, drop-replicate}
 use Rattle.std.proofs.lemmas.Grind.{common_steps}
@@ -17,10 +17,7 @@ use Rattle.asn1_core.specs.SetSteps.{part_of, first_number, span_cmp, IsBefore, 
 use Rattle.asn1_core.specs.Lemmas.Lengths.{number_lt}
 use Rattle.asn1_core.specs.Lemmas.Texts.{IsText-both}
 use Rattle.asn1_core.proofs.Ordered.{less_below, less_same}
-
-zeros_text : (n : ℕ) → IsText (replicate n 0)
-zeros_text zero = tt
-zeros_text (suc n) = (lit< tt, zeros_text n)
+use Rattle.asn1_core.specs.Lemmas.Facts.{zeros_are_octets}
 
 zeros_number : (n : ℕ) → number (replicate n 0) ≡ 0
 zeros_number zero = refl
@@ -41,7 +38,7 @@ firsts_length n k t h = length-take-le k (t ++ replicate n 0) (omega (arith, len
 firsts_below : (n k : ℕ) (t : List ℕ) → IsText t → k ≤ n → number (firsts n k t) < 256 ^ k
 firsts_below n k t is h =
     subst (λ (m : ℕ). number (firsts n k t) < 256 ^ m) (firsts_length n k t h)
-    (number_lt (firsts n k t) (take_text k (t ++ replicate n 0) (IsText-both t (replicate n 0) is (zeros_text n))))
+    (number_lt (firsts n k t) (take_text k (t ++ replicate n 0) (IsText-both t (replicate n 0) is (zeros_are_octets n))))
 
 firsts_none : (n k : ℕ) → k ≤ n → number (firsts n k []) ≡ 0
 firsts_none n k h = ap number (take-replicate {X = ℕ} k n 0 h) ∙ zeros_number k

@@ -4,7 +4,6 @@ use Rattle.std.specs.Prelude.{ℤ, pos, negsuc, neg_ℤ, ◌≤ℤ◌, ◌<ℤ�
 use Rattle.std.specs.Int.Digits.{digits_of}
 use Rattle.std.specs.Int.{Width, w64, w128, to_be_bytes, from_be_bytes, bytes_high_first, byte_worth, sum_through, cast_unsigned, cast_signed}
 use Rattle.std.proofs.lemmas.Int.{ints, to_z-of_z, to_z_pos}
-use Rattle.std.proofs.lemmas.Int.Digits.{number_push}
 use Rattle.std.proofs.lemmas.Bool.{le-leb, lt-leb, leb-true, leb-false, cases_lt, cases_Bool}
 use Rattle.std.proofs.lemmas.List.{append-nil, take_more, take_all, take-replicate, drop_all, drop-replicate, length-append, length-replicate}
 use Rattle.std.specs.Int.Count.{count_leading_zeros}
@@ -16,14 +15,10 @@ use Rattle.asn1_core.specs.Text.{IsText, number, signed_number}
 use Rattle.asn1_core.specs.declared.parser.ParseErrorKind.TheVariants.{InvalidValue, IntegerOverflow}
 use Rattle.asn1_core.specs.Fault.{Fault, fault}
 use Rattle.asn1_core.specs.Integer.{nine_bits, is_minimal, with_sign, turned, integer_content, below, within_range, read_sized}
-use Rattle.asn1_core.specs.Lemmas.Digits.{number_by_digits}
-use Rattle.asn1_core.specs.Lemmas.Lengths.{number_lt}
+use Rattle.asn1_core.specs.Lemmas.Lengths.{number_lt, number_push as number_more}
 use Rattle.asn1_core.specs.Lemmas.Integers.{zero_front, signed_low, signed_high, turned_length, turned_text, turned_low, turned_number, turned_shortest, shortest_nine, fewer_same, content_only, content_text, content_shortest, content_value, range_ok, range_below, range_above, sized_ok, sized_refused}
 
 -- ---- one more octet
-
-number_more : (t : List ℕ) (x : ℕ) → number (t ++ x ∷ []) ≡ number t * 256 + x
-number_more t x = sym (number_by_digits (t ++ x ∷ [])) ∙ number_push 256 t x ∙ ap (λ (n : ℕ). n * 256 + x) (number_by_digits t)
 
 number_next : (t : List ℕ) (i : ℕ) → i < length t → number (take i t) * 256 + get_or t i 0 ≡ number (take (i + 1) t)
 number_next t i h = sym (number_more (take i t) (get_or t i 0)) ∙ ap number (sym (take_more t i 0 h))
@@ -70,7 +65,7 @@ content_few z least most =
 
 -- ---- the sixteen octets of a number
 
-pow_some : (k : ℕ) → 0 < 256 ^ k
+pub pow_some : (k : ℕ) → 0 < 256 ^ k
 pow_some k = let least : 256 ^ 0 ≤ 256 ^ k = pow-le-pow_right {n = 256} (lit< tt) {i = 0} {j = k} (omega arith) in omega arith
 
 high_length : (k n : ℕ) → length (bytes_high_first k n) ≡ k
@@ -156,7 +151,7 @@ content_behind (x ∷ y ∷ ys) is l =
 
 -- ---- the weight of the first octet
 
-weight_power : (k : ℕ) → 2 ^ (8 * k) ≡ 256 ^ k
+pub weight_power : (k : ℕ) → 2 ^ (8 * k) ≡ 256 ^ k
 weight_power zero = refl
 weight_power (suc k) =
     let more : 8 * suc k ≡ 8 * k + 8 = omega arith in

@@ -14,6 +14,8 @@ use Rattle.asn1_core.specs.Lemmas.Integers.{shortest_nine, signed_low, signed_hi
 use Rattle.asn1_values.specs.Big.{IsSigned, bit_count}
 use Rattle.asn1_values.specs.BigSteps.{IsMagnitude, magnitude}
 use Rattle.asn1_values.specs.Lemmas.Big.{test_by_signed, sign_test}
+use Rattle.asn1_core.proofs.Integers.{pow_some, weight_power}
+use Rattle.asn1_core.specs.Lemmas.Facts.{octet_at}
 
 -- ---- the highest digits
 
@@ -31,16 +33,10 @@ count_is n j low high =
     absurd (omega (arith, under, same, more, low)))
     (cases_lt j (length ds))
 
-weight : (k : ℕ) → 2 ^ (8 * k) ≡ 256 ^ k
-weight zero = refl
-weight (suc k) =
-    let more : 8 * suc k ≡ 8 * k + 8 = omega arith in
-    ap (λ (n : ℕ). 2 ^ n) more ∙ pow-add 2 (8 * k) 8 ∙ ap (λ (n : ℕ). n * 256) (weight k) ∙ sym (pow-suc 256 k)
-
--- the first digits, and the others, which are below their weight
+-- the first digits, and the others, which are below their weight_power
 pub count_more : (h r k p : ℕ) (m : ℕ) → p ≡ 256 ^ k → m ≡ h * p + r → r < p → (j : ℕ) → 2 ^ j ≤ h → h < 2 ^ suc j → length (digits_of 2 m) ≡ suc (j + 8 * k)
 count_more h r k p m weights e below j low high =
-    let same : p ≡ 2 ^ (8 * k) = weights ∙ sym (weight k) in
+    let same : p ≡ 2 ^ (8 * k) = weights ∙ sym (weight_power k) in
     let least : 2 ^ (j + 8 * k) ≡ 2 ^ j * p = pow-add 2 j (8 * k) ∙ ap (λ (n : ℕ). 2 ^ j * n) (sym same) in
     let more : suc (j + 8 * k) ≡ suc j + 8 * k = omega arith in
     let most : 2 ^ suc (j + 8 * k) ≡ 2 ^ suc j * p = ap (λ (n : ℕ). 2 ^ n) more ∙ pow-add 2 (suc j) (8 * k) ∙ ap (λ (n : ℕ). 2 ^ suc j * n) (sym same) in
@@ -59,15 +55,12 @@ leading_low x xs is = sym (div-mul-add x (256 ^ length xs) (number xs) (text_lt 
 leading_by : (h r m p : ℕ) → m ≡ h * p + r → r < p → h ≡ m / p
 leading_by h r m p e below = sym (div-mul-add h p r below) ∙ ap (λ (k : ℕ). k / p) (sym e)
 
-some_weight : (k : ℕ) → 0 < 256 ^ k
-some_weight k = let least : 256 ^ 0 ≤ 256 ^ k = pow-le-pow_right {n = 256} (lit< tt) {i = 0} {j = k} (omega arith) in omega arith
-
 pub leading_zero : (x : ℕ) (xs : List ℕ) → x < 256 → number xs ≡ 0 → 256 - x ≡ magnitude true (x ∷ xs) / 256 ^ length xs
 leading_zero x xs small none =
     let p : ℕ = 256 ^ length xs in
     let sum : (256 - x) * p + x * p ≡ 256 * p = sum_of (256 - x) x p 256 (omega arith) in
     let whole : 256 ^ suc (length xs) ≡ p * 256 = pow-suc 256 (length xs) in
-    leading_by (256 - x) 0 (magnitude true (x ∷ xs)) p (omega (arith, sum, whole, none)) (some_weight (length xs))
+    leading_by (256 - x) 0 (magnitude true (x ∷ xs)) p (omega (arith, sum, whole, none)) (pow_some (length xs))
 
 pub leading_high : (x : ℕ) (xs : List ℕ) → x < 256 → IsText xs → 0 < number xs → 255 - x ≡ magnitude true (x ∷ xs) / 256 ^ length xs
 leading_high x xs small is some =
@@ -84,17 +77,12 @@ all_zero (x ∷ xs) each = rw (each 0 (omega arith), all_zero xs (λ k h. each (
 pub zero_all : (xs : List ℕ) → number xs ≡ 0 → (k : ℕ) → k < length xs → get_or xs k 0 ≡ 0
 zero_all [] e k h = absurd (omega arith)
 zero_all (zero ∷ xs) e zero h = refl
-zero_all (suc x ∷ xs) e zero h = absurd (omega (arith, e, mul-le-mul_right {m = 1} {n = suc x} (256 ^ length xs) (omega arith), some_weight (length xs)))
+zero_all (suc x ∷ xs) e zero h = absurd (omega (arith, e, mul-le-mul_right {m = 1} {n = suc x} (256 ^ length xs) (omega arith), pow_some (length xs)))
 zero_all (x ∷ xs) e (suc k) h = zero_all xs (omega arith) k (omega arith)
 
 -- whether the octets after the first are zero, by a test
 pub some_number : (b : Bool) (xs : List ℕ) → ((b ≡ true → (k : ℕ) → k < length xs → get_or xs k 0 ≡ 0) × (((k : ℕ) → k < length xs → get_or xs k 0 ≡ 0) → b ≡ true)) → b ≡ false → 0 < number xs
 some_number b xs h f = ⊎_elim (λ (n : number xs < 1). absurd (both_ways b f (h.1 (zero_all xs (omega arith))))) (λ (n : 1 ≤ number xs). n) (cases_lt (number xs) 1)
-
-reads : (t : List ℕ) → IsText t → (k : ℕ) → get_or t k 0 < 256
-reads [] is k = lit< tt
-reads (x ∷ xs) is zero = is.0
-reads (x ∷ xs) is (suc k) = reads xs is.1 k
 
 -- ---- the absolute value
 
@@ -131,7 +119,7 @@ counted true y ys is (inr h) =
 
 pub whole_magnitude : (c : List ℕ) (b : Bool) → IsSigned c → b ≡ int_lt (signed_number c) (pos 0) → ¬ (get_or c 0 0 ≡ 0) → ¬ (get_or c 0 0 ≡ 255) → IsMagnitude c c b
 whole_magnitude c true is e low high =
-    record { value = absolute_is c true is.octets e; text = is.octets; counts = λ l. inr (refl, omega (arith, high, reads c is.octets 0)) }
+    record { value = absolute_is c true is.octets e; text = is.octets; counts = λ l. inr (refl, omega (arith, high, octet_at c is.octets 0)) }
 whole_magnitude c false is e low high =
     record { value = absolute_is c false is.octets e; text = is.octets; counts = λ l. inl (refl, omega (arith, low)) }
 
@@ -169,7 +157,7 @@ some_counted c rest b h y ys e high j is low above =
     let value : unsigned_abs (signed_number c) ≡ m = h.value ∙ ap (magnitude b) e in
     let split : m ≡ high * p + m % p = sym (div-add-mod' m p) ∙ ap (λ (n : ℕ). n * p + m % p) (sym is) in
     let more : 2 ^ suc j ≡ 2 ^ j * 2 = pow-suc 2 j in
-    let count : length (digits_of 2 m) ≡ suc (j + 8 * length ys) = count_more high (m % p) (length ys) p m refl split (mod_below m p (some_weight (length ys))) j low (omega (arith, above, more)) in
+    let count : length (digits_of 2 m) ≡ suc (j + 8 * length ys) = count_more high (m % p) (length ys) p m refl split (mod_below m p (pow_some (length ys))) j low (omega (arith, above, more)) in
     omega (arith, count, ap (λ (n : ℕ). length (digits_of 2 n)) value)
 
 -- a list that isn't empty is its first element and the others, as a pattern names them

@@ -8,9 +8,9 @@ use Rattle.std.proofs.lemmas.Str.Parse.{digit_from_value, without_leading_plus_n
 use Rattle.std.proofs.lemmas.Bool.{cases_lt, lt-ltb, le-ltb}
 use Rattle.std.proofs.lemmas.List.{append-nil, append_assoc, append_cancel_left, length-append}
 use Rattle.asn1_values.specs.Identifier.{arcs, dotted_text, parts_of, read_dotted, IsPart, IsDotted, IsIdentifierText, IsPlainPart, IsPlainText}
-use Rattle.asn1_values.specs.Lemmas.IdentifierText.{own, read_on, parts_whole, parts_front}
-use Rattle.asn1_values.specs.Lemmas.DottedTexts.{part_no_dot, text_found}
-use Rattle.asn1_values.specs.Lemmas.Shown.{no_dot, no_plus}
+use Rattle.asn1_values.proofs.IdentifierText.{own, read_on, parts_whole, parts_front}
+use Rattle.asn1_values.proofs.DottedTexts.{part_no_dot, text_found}
+use Rattle.asn1_values.proofs.Shown.{no_dot, no_plus}
 
 -- ---- digits without a needless zero are those of their number
 

@@ -12,8 +12,9 @@ use Rattle.asn1.specs.Laws.{IsShort}
 use Rattle.asn1.specs.Lemmas.Tags.{tag_none}
 use Rattle.asn1.specs.Lemmas.Texts.{IsText-rest}
 use Rattle.asn1.specs.Lemmas.Elements.{ElementFront, element_ok, front_tag, front_ok_is}
-use Rattle.asn1.specs.Lemmas.Stands.{elements_are_apart}
+use Rattle.asn1.proofs.Stands.{elements_are_apart}
 use Rattle.dercheck.specs.Frames.{IsFraming, IsUnfinished, EachTextHasAFraming, TextsHaveOneFraming, element_line, end_line, lines}
+use Rattle.asn1.specs.Lemmas.Facts.{has_octets}
 
 pub front_nothing : front [] ≡ Err (ShortData 1)
 front_nothing = front_tag [] (ShortData 1) (tag_none [] refl)
@@ -62,12 +63,8 @@ lines_join es fs r = ap (λ (l : List ℕ). l ++ end_line r) (flat_map-append el
 
 -- ---- any octets have a framing
 
-longer : (text : List ℕ) → (text ≡ [] → ⊥) → 0 < length text
-longer [] some = absurd (some refl)
-longer (x ∷ xs) some = omega arith
-
 some_text : (e : Element) → IsReadable e → 0 < length (element_text e)
-some_text e readable = longer (element_text e) (λ (nothing : element_text e ≡ []).
+some_text e readable = has_octets (element_text e) (λ (nothing : element_text e ≡ []).
     let whole : front (element_text e) ≡ Ok (e, []) = sym (ap front (append-nil (element_text e))) ∙ element_ok e [] readable in
     let none : front (element_text e) ≡ Err (ShortData 1) = ap front nothing ∙ front_nothing in
     absurd cc)

@@ -11,13 +11,7 @@ use Rattle.asn1.specs.Lemmas.Tags.{tag_ok}
 use Rattle.asn1.specs.Lemmas.Lengths.{length_ok}
 use Rattle.asn1.specs.Lemmas.Elements.{element_ok, front_short, regroup}
 use Rattle.dercheck.specs.Frames.{IsBegun}
-
--- the last of a list
-last_of : (x : ℕ) (xs : List ℕ) → (start : List ℕ) × (y : ℕ) × (x ∷ xs ≡ start ++ y ∷ [])
-last_of x [] = ([], x, refl)
-last_of x (z ∷ zs) =
-    let rest = last_of z zs in
-    (x ∷ rest.0, rest.1, ap (λ (l : List ℕ). x ∷ l) rest.2)
+use Rattle.asn1.specs.Lemmas.Digits.{last_of}
 
 -- if octets are too short, one octet more leaves nothing after an element
 nothing_behind : (text : List ℕ) (octet needed : ℕ) (e : Element) (rest : List ℕ) → IsReadable e → front text ≡ Err (ShortData needed) → text ++ octet ∷ [] ≡ element_text e ++ rest → rest ≡ []

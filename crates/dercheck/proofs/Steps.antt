@@ -1,5 +1,5 @@
 -- Octets taken one after another, and the lines written for them.
-use Rattle.std.proofs.Common.{◌≡◌, ℕ, ◌<◌, ◌≤◌, ◌↔◌, Bool, true, false, IsTrue, IfOk, OnOk, OnErr, codes, decimal, Option, List, [], ◌∷◌, ◌++◌, length, take, drop, Result, Ok, Err, refl, sym, ap, subst, ◌∙◌, inl, inr, ⊎_elim, append_assoc, arith}
+use Rattle.std.proofs.Common.{◌≡◌, ℕ, ◌<◌, ◌≤◌, ◌↔◌, Bool, true, false, IsTrue, IfOk, OnOk, OnErr, codes, decimal, Option, List, [], ◌∷◌, ◌++◌, length, take, drop, Result, Ok, Err, refl, sym, ap, subst, ◌∙◌, inl, inr, append_assoc, arith}
 use Rattle.std.specs.Prelude.{IsErr}
 use Rattle.std.specs.List.{flat_map}
 use Rattle.std.specs.Io.KnownBytes.{Appends, Consumes, IsAtEnd, Keeps}
@@ -8,12 +8,10 @@ use Rattle.std.proofs.lemmas.List.{append-nil, length-append, length-take, take-
 use Rattle.std.proofs.lemmas.List.Concat.{flat_map-append}
 use Rattle.asn1.specs.declared.ParseErrorKind.{ParseErrorKind}
 use Rattle.asn1.specs.declared.ParseErrorKind.TheVariants.{ShortData}
-use Rattle.std.proofs.lemmas.Bool.{cases_lt}
-use Rattle.asn1.specs.declared.Tag.{Tag}
 use Rattle.asn1.specs.Text.{IsText}
-use Rattle.asn1.specs.Tag.{tag_text, tag_number}
+use Rattle.asn1.specs.Tag.{tag_text}
 use Rattle.asn1.specs.Length.{length_text}
-use Rattle.asn1.specs.Lemmas.Tags.{short_text, long_text}
+use Rattle.asn1.specs.Lemmas.Tags.{tag_has_octets}
 use Rattle.asn1.specs.Lemmas.Texts.{IsText-rest}
 use Rattle.asn1.specs.Element.{Element, element_text, front}
 use Rattle.asn1.specs.Laws.{IsShort}
@@ -140,15 +138,10 @@ pub end_of : (text : List ℕ) (needed : ℕ) → 0 < length text → front text
 end_of [] needed some e = absurd (omega arith)
 end_of (x ∷ xs) needed some e = ap answer_line e
 
-some_tag : (tag : Tag) → 0 < length (tag_text tag)
-some_tag tag = ⊎_elim
-    (λ (l : tag_number tag < 31). rw (short_text tag (omega arith)) (omega arith))
-    (λ (l : 31 ≤ tag_number tag). rw (long_text tag l) (omega arith)) (cases_lt (tag_number tag) 31)
-
 -- something is pending if an octet is kept, and else nothing
 pub stands_some : (p : Pending) (text : List ℕ) → Stands p text → ¬ (p.count ≡ 0) → 0 < length text
 stands_some p text (inl h) some = omega (arith, ap length h.kept, length-take p.count p.octets, p.size, p.few)
-stands_some p text (inr h) some = omega (arith, ap length h.begun.text, length-append (tag_text h.tag) (length_text p.content_length ++ h.content), some_tag h.tag)
+stands_some p text (inr h) some = omega (arith, ap length h.begun.text, length-append (tag_text h.tag) (length_text p.content_length ++ h.content), tag_has_octets h.tag)
 
 -- ---- the whole stream
 

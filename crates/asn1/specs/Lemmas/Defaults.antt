@@ -14,14 +14,11 @@ use Rattle.asn1_core.specs.Lemmas.Options.{option_takes, element_in, option_faul
 use Rattle.asn1_core.specs.Lemmas.Wholes.{stands_tag}
 use Rattle.asn1_core.specs.Lemmas.Faults.{bind_faults, missed_faults}
 use Rattle.asn1.specs.Defaults.{same_text, unless, unless_text, read_default, default_text, default_read}
+use Rattle.asn1_core.specs.Lemmas.Facts.{not_both}
 
 -- a value has the same encoding as itself
 pub same_itself : {M : Type 0} (text : M → List ℕ) (m : M) → same_text text m m ≡ true
 same_itself text m = (bytes_eq-Decides (text m) (text m)).1 refl
-
--- a test isn't both true and false
-apart_is : {P : Type 0} (b : Bool) → b ≡ true → b ≡ false → P
-apart_is b holds fails = absurd cc
 
 abbrev gave : {M : Type 0} → List ℕ → M → Result (M × List ℕ) Fault
 gave rest m = Ok (m, rest)
@@ -78,7 +75,7 @@ module _ {M : Type 0} (text : M → List ℕ) (default : M) where
     default_again allowed shape accepted solid again m rest (inl e) a one none =
         let nothing = none_of m e in
         rw (nothing, none nothing, e) refl
-    default_again allowed shape accepted solid again m rest (inr v) (inl e) one none = apart_is (same_text text m default) (ap (λ (x : M). same_text text x default) e ∙ same_itself text default) v.1
+    default_again allowed shape accepted solid again m rest (inr v) (inl e) one none = not_both (same_text text m default) (ap (λ (x : M). same_text text x default) e ∙ same_itself text default) v.1
     default_again allowed shape accepted solid again m rest (inr v) (inr a) one none =
         let own = own_of m v.1 in
         let e = element_in (shape m v.0) (solid m v.0) in
@@ -105,7 +102,7 @@ has_unless false text texts law = law refl
 
 pub default_has : {M : Type 0} (text : M → List ℕ) (default : M) (texts : M → List ℕ → Type 0) (valid : M → Type 0) → ((m : M) → valid m → texts m (text m)) →
     (m : M) → (m ≡ default) ⊎ (valid m × (same_text text m default ≡ false)) → unless (same_text text m default) (texts m) (default_text text default m)
-default_has {M} text default texts valid law m (inl e) = has_unless (same_text text m default) (text m) (texts m) (λ other. apart_is (same_text text m default) (ap (λ (x : M). same_text text x default) e ∙ same_itself text default) other)
+default_has {M} text default texts valid law m (inl e) = has_unless (same_text text m default) (text m) (texts m) (λ other. not_both (same_text text m default) (ap (λ (x : M). same_text text x default) e ∙ same_itself text default) other)
 default_has text default texts valid law m (inr v) = has_unless (same_text text m default) (text m) (texts m) (λ other. law m v.0)
 
 pub default_at_most_one : (b : Bool) (texts : List ℕ → Type 0) → ((t : List ℕ) → texts t → IsNothingOrElement t) → (t : List ℕ) → unless b texts t → IsNothingOrElement t

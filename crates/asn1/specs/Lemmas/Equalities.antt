@@ -1,5 +1,5 @@
 -- The equality of a type tells its values by their encodings. This is proved once for each kind of type.
-use Rattle.std.proofs.Common.{◌≡◌, ℕ, ℤ, pos, Bool, true, false, List, ◌∷◌, ◌++◌, length, drop, Option, Some, None, Result, Ok, refl, sym, ap, ◌∙◌, inl, inr, arith}
+use Rattle.std.proofs.Common.{◌≡◌, ℕ, ℤ, pos, Bool, true, false, List, ◌++◌, length, drop, Option, Some, None, Result, Ok, refl, sym, ap, ◌∙◌, inl, inr, arith}
 use Rattle.std.specs.Prelude.{nat_eq, ◌&&◌}
 use Rattle.std.specs.Option.{option_eq}
 use Rattle.std.specs.Cmp.Lexicographic.{pointwise}
@@ -35,16 +35,14 @@ use Rattle.asn1_values.specs.Times.{Moment, Instant, instant, utc_text, x509_tex
 use Rattle.asn1_values.specs.TimeSteps.{read_utc, read_x509, read_instant}
 use Rattle.asn1_values.specs.TimeValues.{utc_moment, x509_moment, instant_of}
 use Rattle.asn1_values.specs.Lemmas.Identifier.{identifier_again, form_in_hand}
-use Rattle.asn1_values.specs.Lemmas.SameIdentifiers.{equal_identifiers}
+use Rattle.asn1_values.proofs.SameIdentifiers.{equal_identifiers}
 use Rattle.asn1_values.specs.Lemmas.Times.{utc_again, x509_again}
 use Rattle.asn1_values.specs.Lemmas.Fractions.{instant_again}
 use Rattle.asn1_values.specs.Lemmas.Big.{content_of_signed, signed_form}
 use Rattle.asn1.specs.Defaulted.{EqualityTells, ContentTells}
+use Rattle.asn1_core.specs.Lemmas.Facts.{same_heads}
 
 -- ---- elements with the same tag and the same encoding have the same contents octets
-
-heads : (x y : ℕ) (xs ys : List ℕ) → x ∷ xs ≡ y ∷ ys → (x ≡ y) × (xs ≡ ys)
-heads x y xs ys e = (cc, cc)
 
 behind_same : (a b c d : List ℕ) → length a ≡ length b → a ++ c ≡ b ++ d → c ≡ d
 behind_same a b c d same e = sym (drop-append_seam a c) ∙ (ap (λ (n : ℕ). drop n (a ++ c)) same ∙ (ap (λ (t : List ℕ). drop (length b) t) e ∙ drop-append_seam b d))
@@ -53,17 +51,17 @@ lengths_apart : (c d : List ℕ) → length_text (length c) ++ c ≡ length_text
 lengths_apart c d e =
     elim (cases_lt (length c) 128) [
       | inl low ↦ elim (cases_lt (length d) 128) [
-        | inl low2 ↦ (heads _ _ _ _ (rw (length_text_low (length c) low, length_text_low (length d) low2) at e)).1
+        | inl low2 ↦ (same_heads _ _ _ _ (rw (length_text_low (length c) low, length_text_low (length d) low2) at e)).1
         | inr high2 ↦
-            let h = heads _ _ _ _ (rw (length_text_low (length c) low, length_text_high (length d) high2) at e) in
+            let h = same_heads _ _ _ _ (rw (length_text_low (length c) low, length_text_high (length d) high2) at e) in
             absurd (omega (arith, h.0))
       ]
       | inr high ↦ elim (cases_lt (length d) 128) [
         | inl low2 ↦
-            let h = heads _ _ _ _ (rw (length_text_high (length c) high, length_text_low (length d) low2) at e) in
+            let h = same_heads _ _ _ _ (rw (length_text_high (length c) high, length_text_low (length d) low2) at e) in
             absurd (omega (arith, h.0))
         | inr high2 ↦
-            let h = heads _ _ _ _ (rw (length_text_high (length c) high, length_text_high (length d) high2) at e) in
+            let h = same_heads _ _ _ _ (rw (length_text_high (length c) high, length_text_high (length d) high2) at e) in
             behind_same (digits_of 256 (length c)) (digits_of 256 (length d)) c d (omega (arith, h.0)) h.1
       ]
     ]
@@ -147,7 +145,7 @@ bits_decide x y p q =
 module _ {V : Type 0} (octets : V → List ℕ) (padding : V → ℕ) (same : V → V → Bool) (a b : V) (decides : Decides (same a b) (bits (octets a) (padding a) ≡ bits (octets b) (padding b))) where
   pub bits_content_tells : ContentTells (λ v. bits (octets v) (padding v)) bits_text same a b
   bits_content_tells e =
-      let h = heads (padding a) (padding b) (octets a) (octets b) e in
+      let h = same_heads (padding a) (padding b) (octets a) (octets b) e in
       decides.1 (ap (λ (o : List ℕ). bits o (padding a)) h.1 ∙ ap (λ (n : ℕ). bits (octets b) n) h.0)
 
   pub bits_tell : EqualityTells (λ v. bits (octets v) (padding v)) (λ s. element_text (element (universal 3) (bits_text s))) same a b

@@ -3,7 +3,7 @@ use Rattle.std.proofs.Common.{◌≡◌, ℕ, zero, suc, ◌+◌, ◌-◌, ◌*�
 use Rattle.std.specs.Prelude.{◌≢◌, ℤ, pos, negsuc, ◌-ℤ◌, ◌≤ℤ◌, ◌<ℤ◌, int_lt}
 use Rattle.std.specs.Int.Digits.{digits_of}
 use Rattle.std.proofs.lemmas.Int.{ints}
-use Rattle.std.proofs.lemmas.Int.Digits.{number_digits_of, all_below_base_digits_of, first_digits_of}
+use Rattle.std.proofs.lemmas.Int.Digits.{number_digits_of, all_below_base_digits_of}
 use Rattle.std.proofs.lemmas.Bool.{le-leb, lt-leb, ne_eqb, eqb-true, eqb-false, cases_lt, cases_Bool, or_parts, or_cases, not-true, not-false}
 use Rattle.std.proofs.lemmas.List.{length-map}
 use Rattle.std.proofs.Math.Nat.{pow-suc, add-mul}
@@ -15,6 +15,7 @@ use Rattle.asn1_core.specs.Lemmas.Digits.{digits_back, number_by_digits, Leads}
 use Rattle.asn1_core.specs.Lemmas.Results.{done, ok_is, passed, bind_ok}
 use Rattle.asn1_core.specs.Lemmas.Faults.{bind_faults, passed_faults, missed_faults}
 use Rattle.asn1_core.specs.declared.parser.ParseErrorKind.TheVariants.{AllocationError, InvalidValue, IntegerOverflow}
+use Rattle.asn1_core.specs.Lemmas.Lengths.{leads_digits}
 
 -- ---- each bit inverted
 
@@ -144,12 +145,8 @@ signed_is (x ∷ xs) n is leads e =
       | inr h ↦ subst P (sym (with_sign_high x xs h)) (record { octets = (lit< tt, is); value = zero_front (x ∷ xs) ∙ e; low = lit< tt; shortest = nine_shortest 0 x xs (omega arith) (omega (arith, is.0)) })
     ]
 
-digits_lead : (n : ℕ) → Leads (digits_of 256 n)
-digits_lead zero l = absurd (omega arith)
-digits_lead (suc n) l = first_digits_of 256 (suc n) (lit≤ tt) (omega arith)
-
 signed_digits : (n : ℕ) → IsSigned (with_sign (digits_of 256 n)) n
-signed_digits n = signed_is (digits_of 256 n) n (all_below_base_digits_of 256 n (lit≤ tt)) (digits_lead n) (sym (number_by_digits (digits_of 256 n)) ∙ number_digits_of 256 n (lit≤ tt))
+signed_digits n = signed_is (digits_of 256 n) n (all_below_base_digits_of 256 n (lit≤ tt)) (leads_digits n) (sym (number_by_digits (digits_of 256 n)) ∙ number_digits_of 256 n (lit≤ tt))
 
 -- ---- every number
 
@@ -266,7 +263,7 @@ reads_contents_alone c z is = (
 -- ---- numbers of a range
 
 -- a test with an error in its first branch
-refused : {A : Type 0} (b : Bool) (d : Fault) (x : Result A Fault) (y : A) → (if b then Err d else x) ≡ Ok y → (b ≡ false) × (x ≡ Ok y)
+pub refused : {A : Type 0} (b : Bool) (d : Fault) (x : Result A Fault) (y : A) → (if b then Err d else x) ≡ Ok y → (b ≡ false) × (x ≡ Ok y)
 refused true d x y e = absurd cc
 refused false d x y e = (refl, e)
 

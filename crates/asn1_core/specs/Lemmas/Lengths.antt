@@ -82,7 +82,7 @@ length_found k rest l first h = rw (le-ltb (length rest) k l, ne_eqb (get_or res
 
 -- ---- the length octets
 
-leads_digits : (n : ℕ) → Leads (digits_of 256 n)
+pub leads_digits : (n : ℕ) → Leads (digits_of 256 n)
 leads_digits zero l = absurd (omega arith)
 leads_digits (suc n) l = first_digits_of 256 (suc n) (lit≤ tt) (omega arith)
 

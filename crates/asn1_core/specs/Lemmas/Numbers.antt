@@ -233,13 +233,10 @@ big_fault t x o l b big = ⊎_elim
     (λ (h : x < 128). inr (finished_push t x o h, inr (rw (digits_push t x) (omega arith))))
     (λ (h : 128 ≤ x). inl (open_push t x o h b, inr (omega (arith, length_push t x, big_many t big)))) (cases_lt x 128)
 
-front_big_step : (t : List ℕ) (x : ℕ) (rest : List ℕ) → IsOpen t → length t < 19 → x < 256 → 2 ^ 121 ≤ digits_number t → number_front (t ++ x ∷ rest) ≡ Err InvalidValue
+pub front_big_step : (t : List ℕ) (x : ℕ) (rest : List ℕ) → IsOpen t → length t < 19 → x < 256 → 2 ^ 121 ≤ digits_number t → number_front (t ++ x ∷ rest) ≡ Err InvalidValue
 front_big_step t x rest o l b big =
     let e : t ++ x ∷ rest ≡ (t ++ x ∷ []) ++ rest = sym (append_assoc t (x ∷ []) rest) in
     rw e (number_bad (t ++ x ∷ []) rest (big_fault t x o l b big))
-
-pub exit_big : (t : List ℕ) (x : ℕ) (rest : List ℕ) → IsOpen t → length t < 19 → x < 256 → 2 ^ 121 ≤ digits_number t → number_front (t ++ x ∷ rest) ≡ Err InvalidValue
-exit_big t x rest o l b big = front_big_step t x rest o l b big
 
 pub exit_done : (t : List ℕ) (x : ℕ) (rest : List ℕ) → IsOpen t → ¬ BeginsWithZero t → x < 128 → digits_number t < 2 ^ 121 → number_front (t ++ x ∷ rest) ≡ Ok (digits_number t * 128 + x, rest)
 exit_done t x rest o z b small =
@@ -271,7 +268,7 @@ length_front text i l = length-take-le i text l
 
 pub read_big : (text : List ℕ) (i : ℕ) → i < length text → IsOpen (take i text) → i < 19 → get_or text i 0 < 256 → 2 ^ 121 ≤ digits_number (take i text) → number_front text ≡ Err InvalidValue
 read_big text i l o few octet big =
-    ap number_front (at_place text i l) ∙ exit_big (take i text) (get_or text i 0) (drop (i + 1) text) o (omega (arith, length_front text i)) octet big
+    ap number_front (at_place text i l) ∙ front_big_step (take i text) (get_or text i 0) (drop (i + 1) text) o (omega (arith, length_front text i)) octet big
 
 pub read_zero : (text : List ℕ) (i : ℕ) → i ≡ 0 → get_or text i 0 ≡ 128 → number_front text ≡ Err InvalidValue
 read_zero text i e z = front_zero text (ap (λ (k : ℕ). get_or text k 0) (sym e) ∙ z)

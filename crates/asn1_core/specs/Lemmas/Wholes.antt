@@ -14,7 +14,7 @@ use Rattle.asn1_core.specs.Lemmas.Tags.{tag_none, tag_ok}
 use Rattle.asn1_core.specs.Lemmas.Elements.{content_less, regroup}
 use Rattle.asn1_core.specs.Lemmas.Results.{ok_is, bind_ok}
 
-taken_is : {M : Type 0} (m x : M) (rest : List ℕ) → all_taken m rest ≡ Ok x → (rest ≡ []) × (m ≡ x)
+pub taken_is : {M : Type 0} (m x : M) (rest : List ℕ) → all_taken m rest ≡ Ok x → (rest ≡ []) × (m ≡ x)
 taken_is m x [] e = (refl, ok_is _ _ e)
 taken_is m x (octet ∷ octets) e = absurd cc
 

@@ -1,5 +1,5 @@
 -- Integers of any length: only contents octets are read, and all of them are.
-use Rattle.std.proofs.Common.{◌≡◌, ℕ, zero, suc, ◌<◌, ◌≤◌, Bool, true, false, if◌then◌else◌, leb, ltb, List, [], ◌∷◌, ◌++◌, length, get_or, Result, Ok, Err, IfErr, refl, sym, ap, subst, ◌∙◌, inl, inr, ⊎_elim, ◌↔◌, arith, lit<}
+use Rattle.std.proofs.Common.{◌≡◌, ℕ, ◌<◌, ◌≤◌, Bool, true, false, if◌then◌else◌, leb, ltb, List, ◌++◌, length, get_or, Result, Ok, Err, IfErr, refl, sym, ap, subst, ◌∙◌, inl, inr, ⊎_elim, ◌↔◌, arith}
 use Rattle.std.specs.Prelude.{ℤ, pos, ◌≤ℤ◌, ◌<ℤ◌, int_lt, OnOk}
 use Rattle.std.proofs.lemmas.Int.{ints, by_lt_z}
 use Rattle.std.proofs.lemmas.Bool.{cases_Bool, cases_lt, both_ways, lt-leb, le-leb, lt-ltb, ltb-true}
@@ -16,6 +16,7 @@ use Rattle.asn1_core.specs.Lemmas.Results.{ok_is, bind_ok}
 use Rattle.asn1_core.specs.Lemmas.Faults.{bind_faults, missed_faults}
 use Rattle.asn1_core.specs.Lemmas.Integers.{content_only, content_shortest, content_value, is_content, is_content_shortest, read_integer_ok, read_integer_is, signed_low, signed_high, integer_faults}
 use Rattle.asn1_values.specs.Big.{IsSigned, IsUnsigned, IsSignedForm, IsUnsignedForm, not_negative, read_unsigned}
+use Rattle.asn1_core.specs.Lemmas.Facts.{octet_at}
 
 pub signed_takes : (c : List ℕ) (m : ℤ) → IsText c → read_integer c ≡ Ok m → (c ≡ integer_content m) × Unit {0}
 signed_takes c m is e =
@@ -109,13 +110,8 @@ signed_form c h = signed_by_test c (IsText-from_reads c h.1) h.0
 pub unsigned_form : (c : List ℕ) → IsUnsignedForm c → IsUnsigned c
 unsigned_form c h = (signed_form c h.0, top_bit_low c h.1)
 
-reads : (t : List ℕ) → IsText t → (k : ℕ) → get_or t k 0 < 256
-reads [] is k = lit< tt
-reads (x ∷ xs) is zero = is.0
-reads (x ∷ xs) is (suc k) = reads xs is.1 k
-
 pub form_of_signed : (c : List ℕ) → IsSigned c → IsSignedForm c
-form_of_signed c h = (test_by_signed c h, reads c h.octets)
+form_of_signed c h = (test_by_signed c h, octet_at c h.octets)
 
 pub form_of_unsigned : (c : List ℕ) → IsUnsigned c → IsUnsignedForm c
 form_of_unsigned c h =

@@ -91,11 +91,11 @@ visible_utf8 c e = IsUtf8-from_ascii c (all_are_ascii (is_in_range 0x20 0x7e) vi
 -- ---- characters by a bit each
 
 -- a test passes below a number
-below : (ℕ → Bool) → ℕ → Bool
+pub below : (ℕ → Bool) → ℕ → Bool
 below p zero = true
 below p (suc n) = p n && below p n
 
-below_at : (p : ℕ → Bool) (n k : ℕ) → below p n ≡ true → k < n → p k ≡ true
+pub below_at : (p : ℕ → Bool) (n k : ℕ) → below p n ≡ true → k < n → p k ≡ true
 unfolding below
 below_at p zero k e h = absurd (omega (arith, h))
 below_at p (suc n) k e h = elim (cases_eq k n) [

@@ -1,4 +1,4 @@
-use Rattle.asn1_core.specs.Lemmas.Stands.{answers_stand}
+use Rattle.asn1_core.proofs.Stands.{answers_stand}
 use Rattle.asn1_core.proofs.laws.answers_stand.Goals as goal
 
 pub returns : goal.returns

@@ -1,4 +1,4 @@
-use Rattle.asn1_core.specs.Lemmas.Stands.{joins_have_one_cutting}
+use Rattle.asn1_core.proofs.Stands.{joins_have_one_cutting}
 use Rattle.asn1_core.proofs.laws.joins_have_one_cutting.Goals as goal
 
 pub returns : goal.returns

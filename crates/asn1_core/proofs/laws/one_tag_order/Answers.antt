@@ -1,4 +1,4 @@
-use Rattle.asn1_core.specs.Lemmas.TagOrder.{tag_order_is_answered}
+use Rattle.asn1_core.proofs.TagOrder.{tag_order_is_answered}
 use Rattle.asn1_core.proofs.laws.one_tag_order.Goals as goal
 
 pub returns : goal.returns

@@ -9,7 +9,7 @@ use Rattle.asn1_core.specs.Tlv.{element_of, stripped}
 use Rattle.asn1_core.specs.Laws.{IsShort, with_more}
 use Rattle.asn1_core.specs.Lemmas.Texts.{IsText-from_reads, IsText-both}
 use Rattle.asn1_core.specs.Lemmas.Elements.{ElementFront, front_is, front_only}
-use Rattle.asn1_core.specs.Lemmas.Stands.{answers_stand, fewer_are_short}
+use Rattle.asn1_core.proofs.Stands.{answers_stand, fewer_are_short}
 use Rattle.asn1_core.proofs.parser.strip_tlv.Goals as goal
 
 -- what `strip_tlv` returns is what is at the start

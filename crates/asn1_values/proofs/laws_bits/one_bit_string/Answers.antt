@@ -1,4 +1,4 @@
-use Rattle.asn1_values.specs.Lemmas.BitLists.{one_bit_string}
+use Rattle.asn1_values.proofs.BitLists.{one_bit_string}
 use Rattle.asn1_values.proofs.laws_bits.one_bit_string.Goals as goal
 
 pub returns : goal.returns

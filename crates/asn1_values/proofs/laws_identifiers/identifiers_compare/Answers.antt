@@ -1,6 +1,6 @@
 use Rattle.std.proofs.Common.{ap}
 use Rattle.asn1_values.specs.Identifier.{identifier_numbers}
-use Rattle.asn1_values.specs.Lemmas.SameIdentifiers.{same_fields, equal_identifiers}
+use Rattle.asn1_values.proofs.SameIdentifiers.{same_fields, equal_identifiers}
 use Rattle.asn1_values.proofs.laws_identifiers.identifiers_compare.Goals as goal
 
 pub returns-clause-equality : goal.returns-clause-equality

@@ -1,4 +1,4 @@
-use Rattle.asn1_values.specs.Lemmas.SameNumbers.{same_contents, equal_contents}
+use Rattle.asn1_values.proofs.SameNumbers.{same_contents, equal_contents}
 use Rattle.asn1_values.proofs.laws_values.big_uints_compare.Goals as goal
 
 pub returns-clause-equality : goal.returns-clause-equality

@@ -7,7 +7,7 @@ use Rattle.asn1_core.specs.Reading.{element_front}
 use Rattle.asn1_core.specs.Tag.{tag_less}
 use Rattle.asn1_core.specs.Tlv.{element_of}
 use Rattle.asn1_core.specs.Lemmas.Texts.{IsText-from_reads}
-use Rattle.asn1_core.specs.Lemmas.TagOrder.{element_tag_in_front}
+use Rattle.asn1_core.proofs.TagOrder.{element_tag_in_front}
 use Rattle.asn1.specs.Sets.{set_item, element_behind, with_text}
 use Rattle.asn1.specs.Lemmas.ListItems.{refused_exit}
 use Rattle.asn1.specs.Lemmas.SetItems.{element_law, set_item_is, set_item_behind, checked_step, nothing_in_front, behind_refusal}

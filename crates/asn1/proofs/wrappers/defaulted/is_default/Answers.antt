@@ -1,5 +1,5 @@
 use Rattle.std.proofs.Common.{◌∙◌}
-use Rattle.asn1.specs.Lemmas.DefaultSteps.{same_default}
+use Rattle.asn1.proofs.DefaultSteps.{same_default}
 use Rattle.asn1.proofs.wrappers.defaulted.is_default.Goals as goal
 
 pub returns : goal.returns

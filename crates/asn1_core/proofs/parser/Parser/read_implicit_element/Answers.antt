@@ -5,7 +5,7 @@ use Rattle.asn1_core.specs.Reading.{simple, simple_out}
 use Rattle.asn1_core.specs.Lemmas.Contents.{simple_takes, simple_read}
 use Rattle.asn1_core.specs.Lemmas.Elements.{element_some}
 use Rattle.asn1_core.specs.Lemmas.Faults.{simple_faults}
-use Rattle.asn1_core.specs.Lemmas.Inside.{taken, shorter, returns_as}
+use Rattle.asn1_core.proofs.Inside.{taken, shorter, returns_as}
 use Rattle.asn1_core.specs.Lemmas.Wholes.{of_text}
 use Rattle.asn1_core.proofs.parser.Parser.read_implicit_element.Goals as goal
 

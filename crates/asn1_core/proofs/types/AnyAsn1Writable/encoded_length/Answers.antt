@@ -1,4 +1,4 @@
-use Rattle.asn1_core.specs.Lemmas.Bodies.{element_gives, element_unknown}
+use Rattle.asn1_core.proofs.Bodies.{element_gives, element_unknown}
 use Rattle.asn1_core.proofs.types.AnyAsn1Writable.encoded_length.Goals as goal
 
 pub returns-in_err-data_length : goal.returns-in_err-data_length

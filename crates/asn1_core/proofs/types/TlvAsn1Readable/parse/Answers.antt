@@ -4,7 +4,7 @@ use Rattle.asn1_core.specs.Reading.{Answers, element_front}
 use Rattle.asn1_core.specs.Tlv.{element_of}
 use Rattle.asn1_core.specs.Der.{Der, tlv_der}
 use Rattle.asn1_core.specs.declared.types.Tlv.{Tlv}
-use Rattle.asn1_core.specs.Lemmas.Inside.{taken}
+use Rattle.asn1_core.proofs.Inside.{taken}
 use Rattle.asn1_core.proofs.types.TlvAsn1Readable.parse.Goals as goal
 
 pub returns-clause-found : goal.returns-clause-found

@@ -1,7 +1,7 @@
 use Rattle.std.proofs.Common.{◌≡◌, ◌<◌, ◌^◌, length, Some, arith}
 use Rattle.asn1_core.specs.Element.{element_text}
 use Rattle.asn1_core.specs.Tlv.{element_of}
-use Rattle.asn1_core.specs.Lemmas.Bodies.{one_length, gives_one}
+use Rattle.asn1_core.proofs.Bodies.{one_length, gives_one}
 use Rattle.asn1_core.proofs.types.TlvAsn1Writable.encoded_length.Goals as goal
 
 known : (c : goal.After-full_length) → c.full_length.result ≡ Some (length (element_text (element_of c.args.self.now)))

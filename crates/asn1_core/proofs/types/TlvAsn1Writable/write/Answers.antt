@@ -1,5 +1,5 @@
 use Rattle.std.proofs.Common.{rules, ◌≡◌, length, Some, ap}
-use Rattle.asn1_core.specs.Lemmas.Bodies.{announced_by, appended_one}
+use Rattle.asn1_core.proofs.Bodies.{announced_by, appended_one}
 use Rattle.asn1_core.proofs.types.TlvAsn1Writable.write.Goals as goal
 
 pub write_tlv-requires-clause-announced : goal.write_tlv-requires-clause-announced

@@ -1,5 +1,5 @@
 use Rattle.std.proofs.Common.{rules}
-use Rattle.asn1_core.specs.Lemmas.Bodies.{appended_by}
+use Rattle.asn1_core.proofs.Bodies.{appended_by}
 use Rattle.asn1_core.proofs.writer.Writer.write_explicit_element.Goals as goal
 
 pub returns-clause-ok : goal.returns-clause-ok

@@ -1,7 +1,7 @@
 use Rattle.std.proofs.Common.{rules, ap, ◌∙◌}
 use Rattle.asn1_core.specs.declared.tag.Tag.{Tag}
 use Rattle.asn1_core.specs.Tag.{implicit_tag_of}
-use Rattle.asn1_core.specs.Lemmas.Bodies.{announced_by, appended_by}
+use Rattle.asn1_core.proofs.Bodies.{announced_by, appended_by}
 use Rattle.asn1_core.proofs.writer.Writer.write_implicit_element.Goals as goal
 
 pub write_tlv-requires-clause-announced : goal.write_tlv-requires-clause-announced

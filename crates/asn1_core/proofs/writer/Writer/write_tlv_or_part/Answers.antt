@@ -3,7 +3,7 @@ use Rattle.asn1_core.specs.Buffer.{KeepsFront}
 use Rattle.asn1_core.specs.Tag.{tag_text}
 use Rattle.asn1_core.specs.Length.{length_text}
 use Rattle.std.proofs.lemmas.Grind.{common_steps}
-use Rattle.asn1_core.specs.Lemmas.Bodies.{call_at, keeps_front_on, keeps_front_by, on_err_any, refused, refused_by, announced_ok, announced_err, patched_ok}
+use Rattle.asn1_core.proofs.Bodies.{call_at, keeps_front_on, keeps_front_by, on_err_any, refused, refused_by, announced_ok, announced_err, patched_ok}
 use Rattle.asn1_core.proofs.writer.Writer.write_tlv_or_part.Goals as goal
 
 -- the identifier octets, and the octet that is kept for the length

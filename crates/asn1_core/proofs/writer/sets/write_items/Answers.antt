@@ -3,7 +3,7 @@ use Rattle.std.proofs.lemmas.List.{length-drop, take_all}
 use Rattle.asn1_core.specs.SetSteps.{first_number}
 use Rattle.asn1_core.specs.declared.writer.sets.Span.{Span}
 use Rattle.asn1_core.specs.Listing.{AnyNames}
-use Rattle.asn1_core.specs.Lemmas.Bodies.{keeps_front_by, keeps_front_on}
+use Rattle.asn1_core.proofs.Bodies.{keeps_front_by, keeps_front_on}
 use Rattle.asn1_core.specs.Lemmas.Items.{names_at, exit_names, refuses_more, each_at}
 use Rattle.asn1_core.proofs.Noted.{notes_more}
 use Rattle.asn1_core.proofs.writer.sets.write_items.Goals as goal

@@ -1,5 +1,5 @@
 use Rattle.std.proofs.Common.{arith}
-use Rattle.asn1_values.specs.Lemmas.WideTexts.{utf16_holds}
+use Rattle.asn1_values.proofs.WideTexts.{utf16_holds}
 use Rattle.asn1_values.proofs.values.wide_texts.is_utf16_text.Goals as goal
 
 pub returns : goal.returns

@@ -1,5 +1,5 @@
 use Rattle.std.proofs.Common.{◌+◌, ◌<◌, ◌≤◌, inl, inr, arith, length, get_or}
-use Rattle.asn1_values.specs.Lemmas.WideTexts.{plain_unit, pair_units, lone_unit, no_high, no_second, no_low}
+use Rattle.asn1_values.proofs.WideTexts.{plain_unit, pair_units, lone_unit, no_high, no_second, no_low}
 use Rattle.asn1_values.proofs.values.wide_texts.utf16_length.Goals as goal
 use Rattle.asn1_values.proofs.values.wide_texts.utf16_length.Goals.{then-first-lt216-via-then-first-lt216, then-first-lt216-via-else-first-lt216+then-first-gt223}
 use Rattle.asn1_values.proofs.values.wide_texts.utf16_length.Goals.{then-first-gt219-via-then-first-gt219, then-first-gt219-via-else-first-gt219+then-octets-at-lt4}

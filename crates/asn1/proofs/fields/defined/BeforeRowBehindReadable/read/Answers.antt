@@ -1,5 +1,5 @@
 use Rattle.std.proofs.Common.{sym, ◌∙◌}
-use Rattle.asn1.specs.Lemmas.FieldSteps.{exit, behind_between}
+use Rattle.asn1.proofs.FieldSteps.{exit, behind_between}
 use Rattle.asn1.proofs.fields.defined.BeforeRowBehindReadable.read.Goals as goal
 
 pub returns-in_err-rest : goal.returns-in_err-rest

@@ -1,4 +1,4 @@
-use Rattle.asn1.specs.Lemmas.DefaultSteps.{known_is}
+use Rattle.asn1.proofs.DefaultSteps.{known_is}
 use Rattle.asn1.proofs.fields.plain.DefaultedWraps.known_plain.Goals as goal
 
 pub returns : goal.returns

@@ -1,4 +1,4 @@
-use Rattle.asn1_core.specs.Lemmas.Bodies.{element_gives, element_unknown}
+use Rattle.asn1_core.proofs.Bodies.{element_gives, element_unknown}
 use Rattle.asn1.proofs.fields.plain.explicit.explicit_length.Goals as goal
 
 pub returns : goal.returns

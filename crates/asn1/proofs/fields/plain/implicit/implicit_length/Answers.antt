@@ -1,6 +1,6 @@
 use Rattle.std.proofs.Common.{ap, ◌∙◌}
 use Rattle.asn1_core.specs.Tag.{implicit_tag_of}
-use Rattle.asn1_core.specs.Lemmas.Bodies.{element_gives, element_unknown}
+use Rattle.asn1_core.proofs.Bodies.{element_gives, element_unknown}
 use Rattle.asn1.proofs.fields.plain.implicit.implicit_length.Goals as goal
 
 pub returns : goal.returns

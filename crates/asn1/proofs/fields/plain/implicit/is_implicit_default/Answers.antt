@@ -1,7 +1,7 @@
 use Rattle.std.proofs.Common.{◌∙◌}
 use Rattle.asn1_core.specs.Tag.{implicit_tag_of}
 use Rattle.asn1.specs.Lemmas.Equalities.{retagged_tells}
-use Rattle.asn1.specs.Lemmas.DefaultSteps.{same_default}
+use Rattle.asn1.proofs.DefaultSteps.{same_default}
 use Rattle.asn1.proofs.fields.plain.implicit.is_implicit_default.Goals as goal
 
 pub returns : goal.returns

@@ -1,7 +1,7 @@
-use Rattle.asn1_core.specs.Lemmas.Inside.{taken}
+use Rattle.asn1_core.proofs.Inside.{taken}
 use Rattle.asn1.specs.Defaulted.{default_der}
 use Rattle.asn1.specs.InHand.{defaulted_inner}
-use Rattle.asn1.specs.Lemmas.DefaultSteps.{answers_default, stops_default}
+use Rattle.asn1.proofs.DefaultSteps.{answers_default, stops_default}
 use Rattle.asn1.proofs.wrappers.defaulted.DefaultedAsn1Readable.parse.Goals as goal
 
 pub returns-clause-answers : goal.returns-clause-answers

@@ -1,5 +1,5 @@
 use Rattle.std.proofs.Common.{rules, ◌≡◌, Some, length, ap, refl}
-use Rattle.asn1_core.specs.Lemmas.Bodies.{announced_by, front_of}
+use Rattle.asn1_core.proofs.Bodies.{announced_by, front_of}
 use Rattle.asn1_core_tests.proofs.writing.fn.announced_element.write.Goals as goal
 
 pub write_tlv-requires : goal.write_tlv-requires

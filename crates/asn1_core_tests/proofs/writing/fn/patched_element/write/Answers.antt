@@ -1,5 +1,5 @@
 use Rattle.std.proofs.Common.{rules}
-use Rattle.asn1_core.specs.Lemmas.Bodies.{front_of}
+use Rattle.asn1_core.proofs.Bodies.{front_of}
 use Rattle.asn1_core_tests.proofs.writing.fn.patched_element.write.Goals as goal
 
 pub write_tlv-requires : goal.write_tlv-requires

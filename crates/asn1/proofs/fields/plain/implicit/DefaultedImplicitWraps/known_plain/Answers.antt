@@ -1,6 +1,6 @@
 use Rattle.asn1_core.specs.Tag.{implicit_tag_of}
 use Rattle.asn1.specs.Lemmas.Equalities.{retagged_tells}
-use Rattle.asn1.specs.Lemmas.DefaultSteps.{known_is}
+use Rattle.asn1.proofs.DefaultSteps.{known_is}
 use Rattle.asn1.proofs.fields.plain.implicit.DefaultedImplicitWraps.known_plain.Goals as goal
 
 pub returns : goal.returns

@@ -115,7 +115,7 @@ not_whole (Ok found) more e some same =
     omega (arith, ap length rest.1, length-append found.1 more)
 not_whole (Err kind) more e some same = cc
 
-finished_is_text : (t : List ℕ) → IsFinished t → IsText t
+pub finished_is_text : (t : List ℕ) → IsFinished t → IsText t
 finished_is_text [] f = absurd f
 finished_is_text (x ∷ []) f = (omega arith, tt)
 finished_is_text (x ∷ y ∷ ys) f = (f.1, finished_is_text (y ∷ ys) f.2)

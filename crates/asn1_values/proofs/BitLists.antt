@@ -1,9 +1,10 @@
 -- Bit strings as lists of bits.
-use Rattle.std.proofs.lemmas.Bool.{and_parts, cases_Bool, cases_eq, lt-ltb, le-ltb, le-leb, ltb-true, ltb-false, leb-true, eqb-true, eqb-false, eq-eqb, ne_eqb}
+use Rattle.std.proofs.lemmas.Bool.{and_parts, cases_Bool, lt-ltb, le-ltb, le-leb, ltb-true, ltb-false, leb-true, eqb-true, eqb-false, eq-eqb, ne_eqb}
 use Rattle.std.proofs.lemmas.List.{get_or_past}
 use Rattle.asn1_core.specs.Text.{IsText}
 use Rattle.asn1_values.specs.Bits.{Bits, is_padded, bits, has_bit, bit_at, octet_bits, all_bits, IsBitsOf, BitsAreAList, OneBitString, SetBits, FilledOctetsAreBits, EachListHasBits}
-use Rattle.std.proofs.Common.{◌≡◌, ◌∙◌, ℕ, zero, suc, ◌+◌, ◌-◌, ◌*◌, ◌/◌, ◌%◌, ◌^◌, ◌<◌, ◌≤◌, inl, inr, Bool, true, false, if◌then◌else◌, ◌&&◌, eqb, nat_eq, nat_lt, nat_le, List, [], ◌∷◌, ◌++◌, length, replicate, take, get_or, slice_index, refl, sym, ap, subst, arith}
+use Rattle.std.proofs.Common.{◌≡◌, ◌∙◌, ℕ, zero, suc, ◌+◌, ◌-◌, ◌*◌, ◌/◌, ◌%◌, ◌^◌, ◌<◌, ◌≤◌, inl, inr, Bool, true, false, if◌then◌else◌, ◌&&◌, eqb, nat_eq, nat_lt, nat_le, List, [], ◌∷◌, ◌++◌, length, replicate, take, get_or, slice_index, refl, sym, ap, arith}
+use Rattle.asn1_values.specs.Lemmas.Texts.{below, below_at}
 
 -- ---- which bit is set
 
@@ -161,16 +162,6 @@ octets_from list = []
 abbrev octet_back : ℕ → ℕ
 octet_back o = octet_of (bit_at o 0) (bit_at o 1) (bit_at o 2) (bit_at o 3) (bit_at o 4) (bit_at o 5) (bit_at o 6) (bit_at o 7)
 
-below : (ℕ → Bool) → ℕ → Bool
-below p zero = true
-below p (suc n) = p n && below p n
-
-below_at : (p : ℕ → Bool) (n k : ℕ) → below p n ≡ true → k < n → p k ≡ true
-unfolding below
-below_at p zero k e h = absurd (omega (arith, h))
-below_at p (suc n) k e h = elim (cases_eq k n) [
-  | inl same ↦ subst (λ (x : ℕ). p x ≡ true) (sym same) (and_parts _ _ e).0
-  | inr apart ↦ below_at p n k (and_parts _ _ e).1 (omega (arith, h, apart))
 ]
 
 all_back : below (λ o. eqb (octet_back o) o) 256 ≡ true

@@ -1,6 +1,6 @@
 -- The order of tags, and of the elements that have them.
 use Rattle.std.proofs.Common.{◌≡◌, ℕ, ◌<◌, ◌^◌, ◌⊎◌, Bool, true, false, ◌&&◌, ◌||◌, eqb, ltb, ◌++◌, length, Some, refl, inl, inr}
-use Rattle.std.proofs.lemmas.Bool.{and_parts, ltb-true, lt-ltb, eqb-true, eq-eqb}
+use Rattle.std.proofs.lemmas.Bool.{and_parts, ltb-true, lt-ltb, eqb-true, eq-eqb, or_left, or_right, and_from}
 use Rattle.asn1_core.specs.Tag.{tag_class, tag_number, class_number, tag_before, TagOrderIsAnswered, tag_in_front, tag_less}
 use Rattle.asn1_core.specs.Length.{length_text}
 use Rattle.asn1_core.specs.Element.{Element, element_text}
@@ -9,16 +9,6 @@ use Rattle.asn1_core.specs.Lemmas.Tags.{tag_ok}
 either : (a b : Bool) → (a || b) ≡ true → (a ≡ true) ⊎ (b ≡ true)
 either true b e = inl refl
 either false b e = inr e
-
-first_holds : (a b : Bool) → a ≡ true → (a || b) ≡ true
-first_holds a b e = rw e refl
-
-second_holds : (a b : Bool) → b ≡ true → (a || b) ≡ true
-second_holds true b e = refl
-second_holds false b e = e
-
-both_hold : (a b : Bool) → a ≡ true → b ≡ true → (a && b) ≡ true
-both_hold a b e f = rw (e, f) refl
 
 -- by classes and numbers
 before_by : (k m x y : ℕ) → (ltb k m ≡ true) ⊎ ((eqb k m && ltb x y) ≡ true) → (k < m) ⊎ ((k ≡ m) × (x < y))
@@ -29,8 +19,8 @@ before_is : (k m x y : ℕ) → (ltb k m || (eqb k m && ltb x y)) ≡ true → (
 before_is k m x y e = before_by k m x y (either (ltb k m) (eqb k m && ltb x y) e)
 
 is_before : (k m x y : ℕ) → (k < m) ⊎ ((k ≡ m) × (x < y)) → (ltb k m || (eqb k m && ltb x y)) ≡ true
-is_before k m x y (inl l) = first_holds (ltb k m) _ (lt-ltb k m l)
-is_before k m x y (inr p) = second_holds (ltb k m) _ (both_hold (eqb k m) (ltb x y) (eq-eqb k m p.0) (lt-ltb x y p.1))
+is_before k m x y (inl l) = or_left (ltb k m) _ (lt-ltb k m l)
+is_before k m x y (inr p) = or_right (ltb k m) _ (and_from (eqb k m) (ltb x y) (eq-eqb k m p.0) (lt-ltb x y p.1))
 
 pub tag_order_is_answered : TagOrderIsAnswered
 tag_order_is_answered a b = (before_is (class_number (tag_class a)) (class_number (tag_class b)) (tag_number a) (tag_number b), is_before (class_number (tag_class a)) (class_number (tag_class b)) (tag_number a) (tag_number b))

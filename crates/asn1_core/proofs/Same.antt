@@ -1,8 +1,8 @@
 -- The tests of kinds, locations and errors decide whether these are equal.
-use Rattle.std.proofs.Common.{◌≡◌, ℕ, Bool, true, ◌&&◌, eqb, List, refl, sym, ap, ◌∙◌}
+use Rattle.std.proofs.Common.{◌≡◌, ℕ, true, ◌&&◌, eqb, List, refl, sym, ap, ◌∙◌}
 use Rattle.std.specs.Bool.{Decides}
 use Rattle.std.specs.Cmp.Lexicographic.{pointwise}
-use Rattle.std.proofs.lemmas.Bool.{eqb-true, eq-eqb}
+use Rattle.std.proofs.lemmas.Bool.{eqb-true, eq-eqb, and_from, and_parts}
 use Rattle.std.proofs.lemmas.Slice.Eq.{bytes_eq-Decides, slice_eq-Decides}
 use Rattle.asn1_core.specs.declared.parser.ParseErrorKind.{ParseErrorKind}
 use Rattle.asn1_core.specs.declared.parser.ParseErrorKind.TheVariants.{InvalidValue, InvalidTag, InvalidLength, InvalidSize, UnexpectedTag, ShortData, IntegerOverflow, ExtraData, InvalidSetOrdering, EncodedDefault, OidTooLong, UnknownDefinedBy, AllocationError}
@@ -11,10 +11,7 @@ use Rattle.asn1_core.specs.declared.parser.Place.TheVariants.{Field, Index}
 use Rattle.asn1_core.specs.declared.tag.Tag.{Tag}
 use Rattle.asn1_core.specs.Tag.{tag_eq}
 use Rattle.asn1_core.specs.Fault.{Fault, kind_eq, place_eq, fault_eq}
-use Rattle.asn1_core.specs.Lemmas.Tags.{and_parts, tag_eq-is, tag_eq-refl}
-
-both_true : (a b : Bool) → a ≡ true → b ≡ true → (a && b) ≡ true
-both_true a b e f = rw (e, f) refl
+use Rattle.asn1_core.specs.Lemmas.Tags.{tag_eq-is, tag_eq-refl}
 
 tag_of_kind : Tag → ParseErrorKind → Tag
 tag_of_kind t (UnexpectedTag u) = u
@@ -37,7 +34,7 @@ pub kind_eq-decides : (a b : ParseErrorKind) → Decides (kind_eq a b) (a ≡ b)
 kind_eq-decides InvalidValue InvalidValue = (λ e. refl, λ e. refl)
 kind_eq-decides InvalidTag InvalidTag = (λ e. refl, λ e. refl)
 kind_eq-decides InvalidLength InvalidLength = (λ e. refl, λ e. refl)
-kind_eq-decides (InvalidSize a b c) (InvalidSize x y z) = (λ e. size_same a b c x y z e, λ e. let i : a ≡ x = cc in let j : b ≡ y = cc in let k : c ≡ z = cc in both_true _ _ (both_true _ _ (eq-eqb a x i) (eq-eqb b y j)) (eq-eqb c z k))
+kind_eq-decides (InvalidSize a b c) (InvalidSize x y z) = (λ e. size_same a b c x y z e, λ e. let i : a ≡ x = cc in let j : b ≡ y = cc in let k : c ≡ z = cc in and_from _ _ (and_from _ _ (eq-eqb a x i) (eq-eqb b y j)) (eq-eqb c z k))
 kind_eq-decides (UnexpectedTag a) (UnexpectedTag b) = (λ e. ap (λ (t : Tag). UnexpectedTag t) (tag_eq-is a b e), λ e. ap (λ (t : Tag). tag_eq a t) (sym (unexpected a b e)) ∙ tag_eq-refl a)
 kind_eq-decides (ShortData n) (ShortData m) = (λ e. let i : n ≡ m = eqb-true n m e in rw i refl, λ e. let i : n ≡ m = cc in eq-eqb n m i)
 kind_eq-decides IntegerOverflow IntegerOverflow = (λ e. refl, λ e. refl)
@@ -62,5 +59,5 @@ fault_eq-decides e f =
     let places = slice_eq-Decides place_eq-decides e.places f.places (pointwise place_eq e.places f.places) refl in
     let kinds = kind_eq-decides e.kind f.kind in (
       λ t. let p = and_parts (kind_eq e.kind f.kind) (pointwise place_eq e.places f.places) t in fault_same e f (kinds.0 p.0) (places.0 p.1),
-      λ same. both_true _ _ (kinds.1 (ap (λ (x : Fault). x.kind) same)) (places.1 (ap (λ (x : Fault). x.places) same)),
+      λ same. and_from _ _ (kinds.1 (ap (λ (x : Fault). x.kind) same)) (places.1 (ap (λ (x : Fault). x.places) same)),
     )

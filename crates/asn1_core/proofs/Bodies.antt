@@ -12,6 +12,7 @@ use Rattle.asn1_core.specs.Tag.{tag_text}
 use Rattle.asn1_core.specs.Length.{length_text}
 use Rattle.asn1_core.specs.Element.{element, element_text}
 use Rattle.asn1_core.specs.declared.writer.WriteError.{WriteError}
+use Rattle.std.proofs.lemmas.Option.{none-some}
 
 pub keeps_front_by : {a b : List ℕ} (t : List ℕ) → b ≡ a ++ t → KeepsFront a b
 keeps_front_by {a} {b} t e = let d : drop (length a) b ≡ t = grind (arith, common_steps) in record { joined = e ∙ ap (λ xs. a ++ xs) (sym d) }
@@ -122,11 +123,8 @@ shorter : (texts : List ℕ → Type 0) (tag : Tag) (t : List ℕ) (e : IsElemen
 unfolding full_count
 shorter texts tag t e small = omega (arith, ap length e.is ∙ length-element tag e.content)
 
-unknown : {n : ℕ} → None ≡ Some n → ⊥
-unknown e = cc
-
 pub element_unknown : (has : Type 0) (texts : List ℕ → Type 0) (tag : Tag) → GivesLength has texts None → GivesLength has (IsElementOf tag texts) None
-element_unknown has texts tag g = record { right = tt; told = λ h t e small. absurd (unknown (g.told h e.content e.is_content (shorter texts tag t e small))) }
+element_unknown has texts tag g = record { right = tt; told = λ h t e small. absurd (none-some _ (g.told h e.content e.is_content (shorter texts tag t e small))) }
 
 pub element_gives : (has : Type 0) (texts : List ℕ → Type 0) {tag tag' : Tag} (n : ℕ) → tag ≡ tag' → GivesLength has texts (Some n) → (r : Option ℕ) → SomeIff r (full_count tag n < 2 ^ 64) (full_count tag n) → GivesLength has (IsElementOf tag' texts) r
 element_gives has texts {tag} {tag'} n same g None h =

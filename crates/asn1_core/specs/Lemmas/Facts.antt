@@ -1,0 +1,33 @@
+-- Facts of Booleans, options and lists of octets that std has no lemma of.
+use Rattle.std.proofs.Common.{◌≡◌, ◌<◌, ℕ, zero, suc, Bool, true, false, Option, Some, List, [], ◌∷◌, length, take, get_or, replicate, refl, ap, lit<, arith}
+use Rattle.asn1_core.specs.Text.{IsText}
+
+-- a test isn't both true and false
+pub not_both : {P : Type 0} (b : Bool) → b ≡ true → b ≡ false → P
+not_both b holds fails = absurd cc
+
+pub some_is : {T : Type 0} (a b : T) → Some a ≡ Some b → a ≡ b
+some_is a b e = cc
+
+pub same_heads : (x y : ℕ) (xs ys : List ℕ) → x ∷ xs ≡ y ∷ ys → (x ≡ y) × (xs ≡ ys)
+same_heads x y xs ys e = (cc, cc)
+
+pub has_octets : (t : List ℕ) → (t ≡ [] → ⊥) → 0 < length t
+has_octets [] none = absurd (none refl)
+has_octets (x ∷ xs) none = omega arith
+
+pub not_nil : (t : List ℕ) → 0 < length t → t ≡ [] → ⊥
+not_nil t some none = omega (arith, some, ap length none)
+
+pub take_all : (t : List ℕ) → take (length t) t ≡ t
+take_all [] = refl
+take_all (x ∷ xs) = ap (λ ys. x ∷ ys) (take_all xs)
+
+pub octet_at : (t : List ℕ) → IsText t → (k : ℕ) → get_or t k 0 < 256
+octet_at [] is k = lit< tt
+octet_at (x ∷ xs) is zero = is.0
+octet_at (x ∷ xs) is (suc k) = octet_at xs is.1 k
+
+pub zeros_are_octets : (n : ℕ) → IsText (replicate n 0)
+zeros_are_octets zero = tt
+zeros_are_octets (suc n) = (lit< tt, zeros_are_octets n)
