@@ -162,8 +162,6 @@ octets_from list = []
 abbrev octet_back : ℕ → ℕ
 octet_back o = octet_of (bit_at o 0) (bit_at o 1) (bit_at o 2) (bit_at o 3) (bit_at o 4) (bit_at o 5) (bit_at o 6) (bit_at o 7)
 
-]
-
 all_back : below (λ o. eqb (octet_back o) o) 256 ≡ true
 unfolding below
 all_back = refl
