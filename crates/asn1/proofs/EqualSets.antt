@@ -24,5 +24,5 @@ sets_tell_multisets d one tell ms ns p q =
 
 pub values_are_elements : {V : Type 0} (d : Der V) → ValuesAreElements d
 values_are_elements d lawful is_element m v fits =
-    let one = element_in (d.shape m lawful v) (d.solid m lawful is_element v) in
+    let one = element_in (d.laws.shape m lawful v) (d.laws.solid m lawful is_element v) in
     (one.element, fits_is_readable one.element one.readable (subst Fits one.is fits), one.is)

@@ -17,12 +17,14 @@ use Rattle.asn1_core.specs.Lemmas.Contents.{fits_is_readable}
 use Rattle.asn1_core.specs.Lemmas.Elements.{element_ok, element_octets, front_long}
 use Rattle.asn1_core.specs.Lemmas.Listing.{listing_is}
 use Rattle.asn1_core.specs.Lemmas.Results.{ok_is}
-use Rattle.asn1_core.specs.Der.{Der, simple_der}
+use Rattle.asn1_core.specs.Der.{Der, encoding_of}
 use Rattle.asn1_core.specs.Reads.{ReadsContents}
 use Rattle.asn1.specs.Lists.{IsInBounds, sequence_read}
-use Rattle.asn1.specs.ListTypes.{items_inside, sequence_of_takes, sequence_of_again}
+use Rattle.asn1.specs.ListTypes.{items_inside}
+use Rattle.asn1.specs.LawsOf.Lists.{sequence_of_takes, sequence_of_again, set_of_again}
+use Rattle.asn1.specs.Types.{list_der, set_der}
 use Rattle.asn1.specs.Sets.{set_read}
-use Rattle.asn1.specs.SetTypes.{set_inside, set_of_again}
+use Rattle.asn1.specs.SetTypes.{set_inside}
 use Rattle.asn1.specs.MadeLists.{AreContents, place_value, in_order}
 use Rattle.asn1.proofs.ReadListings.{joined_map}
 
@@ -119,41 +121,41 @@ module _ {V : Type 0} (d : Der V) (ms : List d.Meaning) (valid : Each d.valid ms
     -- items of a list have one encoding, however many a list may have
     pub same_list : (low high : ℕ) (ns : List d.Meaning) → IsText (joined d.text ms) → length (joined d.text ms) < 2 ^ 32 → sequence_read d.read low high (joined d.text ms) ≡ Ok ns → ns ≡ ms
     same_list low high ns text short e =
-        let h = sequence_of_takes low high d (joined d.text ms) ns text e in
+        let h = sequence_of_takes low high (encoding_of d) d.laws (joined d.text ms) ns text e in
         let free : (count : ℕ) → (0 ≤ count) × (2 ^ 64 + 1 < 2 ^ 64 → count ≤ 2 ^ 64) = λ count. (omega arith, λ less. absurd (omega (arith, less))) in
-        let again : (ks : List d.Meaning) → Each d.valid ks → Each d.allowed ks → length (joined d.text ks) < 2 ^ 32 → sequence_read d.read 0 (2 ^ 64) (joined d.text ks) ≡ Ok ks = λ ks v a s. sequence_of_again 0 (2 ^ 64) d ks (lawful, is_element) v (a, free (length ks)) s in
+        let again : (ks : List d.Meaning) → Each d.valid ks → Each d.allowed ks → length (joined d.text ks) < 2 ^ 32 → sequence_read d.read 0 (2 ^ 64) (joined d.text ks) ≡ Ok ks = λ ks v a s. sequence_of_again 0 (2 ^ 64) (encoding_of d) d.laws ks (lawful, is_element) v (a, free (length ks)) s in
         ok_is ns ms (sym (again ns h.1.0 h.1.1.0 (subst (λ (t : List ℕ). length t < 2 ^ 32) h.0 short)) ∙ (ap (sequence_read d.read 0 (2 ^ 64)) (sym h.0) ∙ again ms valid allowed short))
 
     pub same_set : (ns : List d.Meaning) → length (joined d.text (in_order d.text ms)) < 2 ^ 32 → set_read text_less d.read (joined d.text (in_order d.text ms)) ≡ Ok ns → ns ≡ in_order d.text ms
-    same_set ns short e = ok_is ns (in_order d.text ms) (sym e ∙ set_of_again d (in_order d.text ms) (lawful, is_element) valid_in_order (each_in_order d.text d.allowed ms allowed) short)
+    same_set ns short e = ok_is ns (in_order d.text ms) (sym e ∙ set_of_again (encoding_of d) d.laws (in_order d.text ms) (lawful, is_element) valid_in_order (each_in_order d.text d.allowed ms allowed) short)
 
     -- a list that is read of these octets means the items
     pub list_means : {W : Type 0} (view : W → List d.Meaning) (low high : ℕ) (result : Result W Fault) (contents : List ℕ) → contents ≡ joined d.text ms → IsText (joined d.text ms) → length (joined d.text ms) < 2 ^ 32
-        → ReadsContents (simple_der view (items_inside low high d)) contents result → IfOk result (λ v. view v ≡ ms)
+        → ReadsContents (list_der low high d view) contents result → IfOk result (λ v. view v ≡ ms)
     list_means view low high result contents same text short answers =
-        let there = subst (λ (t : List ℕ). ReadsContents (simple_der view (items_inside low high d)) t result) same answers in
+        let there = subst (λ (t : List ℕ). ReadsContents (list_der low high d view) t result) same answers in
         means_read view _ result _ ms there (λ ns e. same_list low high ns text short e)
 
     pub set_means : {W : Type 0} (view : W → List d.Meaning) (result : Result W Fault) (contents : List ℕ) → contents ≡ joined d.text (in_order d.text ms) → length (joined d.text (in_order d.text ms)) < 2 ^ 32
-        → ReadsContents (simple_der view (set_inside d)) contents result → IfOk result (λ v. view v ≡ in_order d.text ms)
+        → ReadsContents (set_der d view) contents result → IfOk result (λ v. view v ≡ in_order d.text ms)
     set_means view result contents same short answers =
-        let there = subst (λ (t : List ℕ). ReadsContents (simple_der view (set_inside d)) t result) same answers in
+        let there = subst (λ (t : List ℕ). ReadsContents (set_der d view) t result) same answers in
         means_read view _ result _ (in_order d.text ms) there (λ ns e. same_set ns short e)
 
   -- the items are read from these octets
   pub list_made : d.lawful → d.is_element → {W : Type 0} (view : W → List d.Meaning) (low high : ℕ) → Each d.allowed ms × IsInBounds low high (length ms) → (result : Result W Fault) (contents : List ℕ) → contents ≡ joined d.text ms → length (joined d.text ms) < 2 ^ 32
-      → ReadsContents (simple_der view (items_inside low high d)) contents result → Answers view ((items_inside low high d).runs_out (joined d.text ms)) result (Ok ms)
+      → ReadsContents (list_der low high d view) contents result → Answers view ((items_inside low high (encoding_of d)).runs_out (joined d.text ms)) result (Ok ms)
   list_made lawful is_element view low high allowed result contents same short answers =
-      let there = subst (λ (t : List ℕ). ReadsContents (simple_der view (items_inside low high d)) t result) same answers in
-      subst (λ (r : Result (List d.Meaning) Fault). Answers view ((items_inside low high d).runs_out (joined d.text ms)) result r) (sequence_of_again low high d ms (lawful, is_element) valid allowed short) there
+      let there = subst (λ (t : List ℕ). ReadsContents (list_der low high d view) t result) same answers in
+      subst (λ (r : Result (List d.Meaning) Fault). Answers view ((items_inside low high (encoding_of d)).runs_out (joined d.text ms)) result r) (sequence_of_again low high (encoding_of d) d.laws ms (lawful, is_element) valid allowed short) there
 
   pub set_made : d.lawful → d.is_element → {W : Type 0} (view : W → List d.Meaning) → Each d.allowed ms → (result : Result W Fault) (contents : List ℕ) → contents ≡ joined d.text (in_order d.text ms) → length (joined d.text (in_order d.text ms)) < 2 ^ 32
-      → ReadsContents (simple_der view (set_inside d)) contents result → Answers view ((set_inside d).runs_out (joined d.text (in_order d.text ms))) result (Ok (in_order d.text ms))
+      → ReadsContents (set_der d view) contents result → Answers view ((set_inside (encoding_of d)).runs_out (joined d.text (in_order d.text ms))) result (Ok (in_order d.text ms))
   set_made lawful is_element view allowed result contents same short answers =
-      let there = subst (λ (t : List ℕ). ReadsContents (simple_der view (set_inside d)) t result) same answers in
-      subst (λ (r : Result (List d.Meaning) Fault). Answers view ((set_inside d).runs_out (joined d.text (in_order d.text ms))) result r) (set_of_again d (in_order d.text ms) (lawful, is_element) valid_in_order (each_in_order d.text d.allowed ms allowed) short) there
+      let there = subst (λ (t : List ℕ). ReadsContents (set_der d view) t result) same answers in
+      subst (λ (r : Result (List d.Meaning) Fault). Answers view ((set_inside (encoding_of d)).runs_out (joined d.text (in_order d.text ms))) result r) (set_of_again (encoding_of d) d.laws (in_order d.text ms) (lawful, is_element) valid_in_order (each_in_order d.text d.allowed ms allowed) short) there
 
 -- a set is read of the octets of items in order
 pub set_read_there : {V : Type 0} (d : Der V) (ms : List d.Meaning) {W : Type 0} (view : W → List d.Meaning) (result : Result W Fault) (contents : List ℕ) → contents ≡ joined d.text (in_order d.text ms)
-    → ReadsContents (simple_der view (set_inside d)) contents result → ReadsContents (simple_der view (set_inside d)) (joined d.text (in_order d.text ms)) result
-set_read_there d ms view result contents same answers = subst (λ (t : List ℕ). ReadsContents (simple_der view (set_inside d)) t result) same answers
+    → ReadsContents (set_der d view) contents result → ReadsContents (set_der d view) (joined d.text (in_order d.text ms)) result
+set_read_there d ms view result contents same answers = subst (λ (t : List ℕ). ReadsContents (set_der d view) t result) same answers

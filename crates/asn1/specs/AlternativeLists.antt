@@ -1,15 +1,16 @@
 -- Choices of any number of alternatives (X.680 29): what a list of alternatives means.
-use Rattle.std.specs.Prelude.{◌≡◌, ◌⊎◌, [], Result, Err, false}
+use Rattle.std.specs.Prelude.{◌≡◌, ◌⊎◌, Result}
 use Rattle.std.proofs.Common.{inl, inr}
-use Rattle.asn1_core.specs.declared.parser.ParseErrorKind.TheVariants.{UnexpectedTag}
 use Rattle.asn1_core.specs.Element.{Element, element_text}
-use Rattle.asn1_core.specs.Fault.{Fault, fault, IsOfText}
+use Rattle.asn1_core.specs.Fault.{Fault}
 use Rattle.asn1_core.specs.Reading.{Answers}
-use Rattle.asn1_core.specs.Der.{Der}
+use Rattle.asn1_core.specs.Der.{Der, encoding_of}
 use Rattle.asn1.specs.declared.alternatives.NoOther.{NoOther}
 use Rattle.asn1.specs.declared.alternatives.OneOf.{OneOf}
 use Rattle.asn1.specs.declared.alternatives.OneOf.TheVariants.{First, Other}
-use Rattle.asn1.specs.Choices.{Alternatives, or, choice_der}
+use Rattle.asn1.specs.Choices.{Alternatives, AlternativesLaws, or, none}
+use Rattle.asn1.specs.LawsOf.Choices.{none_laws, or_laws}
+use Rattle.asn1.specs.Types.{choice_der}
 
 -- ---- lists of alternatives as types
 
@@ -18,39 +19,7 @@ pub record AlternativeList (V : Type 0) : Type 1 where
   pub Meaning : Type 0
   pub meaning : V → Meaning
   pub all : Alternatives Meaning
-
--- The error of a tag that no alternative accepts is one of the input.
-pub none_faults : (e : Element) → IsOfText (fault (UnexpectedTag e.tag))
-none_faults e h = cc
-
--- no alternative: each tag is unexpected
-abbrev pub none : Alternatives ⊥
-none = record {
-  text = λ m. [];
-  texts = λ m t. ⊥;
-  closures = λ m. Unit {0};
-  valid = λ m. Unit {0};
-  allowed = λ m. Unit {0};
-  bounded = ⊥;
-  plain = Unit {0};
-  lawful = Unit {0};
-  takes_memory = ⊥;
-  is_read = Unit {0};
-  runs_out = λ e places. ⊥;
-  accepts = λ tag. false;
-  read = λ e. Err (fault (UnexpectedTag e.tag));
-  one_text = λ p m. absurd m;
-  has_text = λ p m. absurd m;
-  at_most_one = λ m. absurd m;
-  no_closures = λ p m. tt;
-  takes = λ e m. absurd m;
-  shape = λ m. absurd m;
-  accepted = λ m. absurd m;
-  again = λ m. absurd m;
-  unbounded = λ free m. absurd m;
-  memory = λ e places out. out;
-  faults = none_faults;
-}
+  pub laws : AlternativesLaws all
 
 -- The list of no alternatives.
 abbrev pub no_list : AlternativeList NoOther
@@ -58,6 +27,7 @@ no_list = record {
   Meaning = ⊥;
   meaning = elim [ ];
   all = none;
+  laws = none_laws;
 }
 
 abbrev pub one_of_meaning : {A R M N : Type 0} → (A → M) → (R → N) → OneOf A R → M ⊎ N
@@ -69,7 +39,8 @@ abbrev pub one_of : {A R : Type 0} → Der A → AlternativeList R → Alternati
 one_of d others = record {
   Meaning = d.Meaning ⊎ others.Meaning;
   meaning = one_of_meaning d.meaning others.meaning;
-  all = or d others.all;
+  all = or (encoding_of d) others.all;
+  laws = or_laws d.laws others.laws;
 }
 
 -- What reading this element as one of the alternatives returns.
@@ -88,7 +59,7 @@ EachHasOneEncoding list = list.all.lawful × list.all.plain × list.all.is_read
 
 -- A choice of the alternatives of a list. Each value is seen as one of these.
 abbrev pub choice : {V W : Type 0} → (W → V) → AlternativeList V → Der W
-choice view list = choice_der (λ w. list.meaning (view w)) list.all
+choice view list = choice_der (λ w. list.meaning (view w)) list.all list.laws
 
 -- ---- values of the first twelve alternatives, and of those after them
 

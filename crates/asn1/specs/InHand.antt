@@ -11,8 +11,8 @@ use Rattle.asn1.specs.declared.lists.sets.Set.{Set}
 use Rattle.asn1.specs.declared.lists.writers.SequenceOfWriter.{SequenceOfWriter}
 use Rattle.asn1.specs.declared.lists.writers.SequenceWriter.{SequenceWriter}
 use Rattle.asn1_core.specs.Listing.{sequence_tag}
-use Rattle.asn1_core.specs.OctetContents.{octets_content}
-use Rattle.asn1_core.specs.Der.{Content}
+use Rattle.asn1_core.specs.Octets.{octets_content}
+use Rattle.asn1_core.specs.Encoding.{Content}
 use Rattle.asn1.specs.declared.lists.sequence.Sequence.{Sequence}
 use Rattle.std.proofs.Common.{inl, inr}
 use Rattle.asn1.specs.declared.wrappers.choices.Choice1.{Choice1}
@@ -121,7 +121,4 @@ closure_written calls = written (record {
   valid = λ f. Unit {0};
   plain = ⊥;
   lawful = ⊥;
-  one_text = λ p. absurd p;
-  has_text = λ p. absurd p;
-  no_closures = λ p. absurd p;
 })

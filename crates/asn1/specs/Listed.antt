@@ -1,9 +1,11 @@
 -- Lists of numbers, and what reading one of these numbers returns.
-use Rattle.std.specs.Prelude.{ℕ, ℤ, pos, negsuc, ◌-ℤ◌, ◌^◌, ◌≡◌, List, [], ◌∷◌, Bool, true, false, nat_eq, ◌||◌, if◌then◌else◌, Result, Ok, Err}
+use Rattle.std.specs.Prelude.{ℕ, ℤ, pos, negsuc, ◌-ℤ◌, ◌≤ℤ◌, ◌^◌, ◌≡◌, List, [], ◌∷◌, Bool, true, false, nat_eq, ◌||◌, if◌then◌else◌, Result, Ok, Err}
 use Rattle.asn1_core.specs.declared.parser.ParseErrorKind.TheVariants.{InvalidValue}
 use Rattle.asn1_core.specs.Fault.{Fault, fault}
 use Rattle.asn1_core.specs.Element.{◌>>=◌}
-use Rattle.asn1_core.specs.Integer.{read_sized}
+use Rattle.asn1_core.specs.declared.tag.Tag.{Tag}
+use Rattle.asn1_core.specs.Integer.{integer_content, read_sized}
+use Rattle.asn1_core.specs.Encoding.{Content, basic}
 
 -- The largest number.
 abbrev pub largest : ℤ
@@ -26,3 +28,12 @@ if_listed numbers (negsuc n) = Err (fault InvalidValue)
 -- What reading contents octets returns: a number of the list, or the first error of reading one of 32 bits.
 abbrev pub read_listed : List ℕ → List ℕ → Result ℤ Fault
 read_listed numbers c = read_sized (pos 0) largest c >>= if_listed numbers
+
+-- The numbers of this list, with the contents octets of an integer.
+abbrev pub numbered_content : Tag → List ℕ → Content ℤ
+numbered_content tag numbers = basic (record {
+  tag = tag;
+  text = integer_content;
+  valid = λ z. ((pos 0 ≤ℤ z) × (z ≤ℤ largest)) × IsListed numbers z;
+  read = read_listed numbers;
+})

@@ -1,7 +1,7 @@
 -- The octets of a NumericString (X.690 8.23), and its `Content`.
 use Rattle.std.specs.Prelude.{ℕ, List}
 use Rattle.asn1.specs.declared.numeric.NumericString.{NumericString}
-use Rattle.asn1_core.specs.Der.{Content}
+use Rattle.asn1_core.specs.Encoding.{Content}
 use Rattle.asn1_values.specs.TextValues.{text_content}
 use Rattle.asn1.specs.Numeric.{is_numeric_text}
 

@@ -2,14 +2,17 @@
 use Prim.Native.String.{String}
 use Rattle.std.specs.Prelude.{◌≡◌, ◌↔◌, ℕ, List, map, codes, ◌++◌, Result}
 use Rattle.asn1_core.specs.declared.parser.Place.{Place}
-use Rattle.asn1_core.specs.Der.{Der, simple_der}
+use Rattle.asn1_core.specs.Der.{Der, encoding_of, simple_der}
+use Rattle.asn1_core.specs.DefinedBy.{defined_encoding}
 use Rattle.asn1_core.specs.Fault.{Fault}
 use Rattle.asn1_core.specs.Reading.{Answers}
 use Rattle.asn1.specs.declared.fields.Names.{Names}
 use Rattle.asn1.specs.ItemsAndValues.{ItemAndValue, seen_front}
-use Rattle.asn1.specs.Fields.{Fields, FieldsBy, field, last, no_fields, value_last, value_field, between, with_item, sequence}
+use Rattle.asn1.specs.Fields.{Fields, FieldsLaws, FieldsBy, FieldsByLaws, field, last, no_fields, value_last, value_field, between, with_item, sequence}
 use Rattle.asn1_core.specs.declared.tag.Tag.{Tag}
 use Rattle.asn1.specs.Tagged.{retagged}
+use Rattle.asn1.specs.LawsOf.Fields.{last_laws, field_laws, no_fields_laws, value_last_laws, value_field_laws, between_laws, with_item_laws, sequence_laws}
+use Rattle.asn1.specs.LawsOf.Tagged.{retagged_laws}
 use Rattle.asn1.specs.declared.fields.NoFields.{NoFields}
 use Rattle.asn1.specs.declared.fields.Field.{Field}
 use Rattle.asn1.specs.declared.fields.Last.{Last}
@@ -32,6 +35,7 @@ pub record FieldList (V : Type 0) : Type 1 where
   pub Meaning : Type 0
   pub meaning : V → Meaning
   pub fields : Fields Meaning
+  pub laws : FieldsLaws fields
 
 -- What a row of no fields means.
 abbrev pub empty_list : {W : Type 0} → FieldList W
@@ -39,6 +43,7 @@ empty_list = record {
   Meaning = Unit {0};
   meaning = λ w. tt;
   fields = no_fields;
+  laws = no_fields_laws;
 }
 
 -- What a row of one field means, seen so in a value.
@@ -46,7 +51,8 @@ abbrev pub last_field : {V W : Type 0} → (W → V) → Der V → FieldList W
 last_field view d = record {
   Meaning = d.Meaning;
   meaning = λ w. d.meaning (view w);
-  fields = last d;
+  fields = last (encoding_of d);
+  laws = last_laws d.laws;
 }
 
 -- What a row means: its first field, and then the row after it.
@@ -54,7 +60,8 @@ abbrev pub first_field : {V U W : Type 0} → (W → V) → Der V → (W → U) 
 first_field view d rest others = record {
   Meaning = d.Meaning × others.Meaning;
   meaning = λ w. (d.meaning (view w), others.meaning (rest w));
-  fields = field d others.fields;
+  fields = field (encoding_of d) others.fields;
+  laws = field_laws d.laws others.laws;
 }
 
 -- What reading fields with these names from the octets returns.
@@ -75,6 +82,7 @@ pub record BehindItem (T V : Type 0) : Type 1 where
   pub Meaning : Type 0
   pub meaning : V → Meaning
   pub fields : FieldsBy item.Meaning Meaning
+  pub laws : FieldsByLaws fields
 
 -- What follows an item, if it is the value that the item defines and nothing else.
 abbrev pub value_last_behind : {T V W : Type 0} → (W → V) → ItemAndValue T V → BehindItem T W
@@ -82,7 +90,8 @@ value_last_behind view both = record {
   item = both.item;
   Meaning = both.value.Meaning;
   meaning = λ w. both.value.meaning (view w);
-  fields = value_last both.value;
+  fields = value_last (defined_encoding both.value);
+  laws = value_last_laws both.value.laws;
 }
 
 -- What follows an item, if it is the value that the item defines and then other fields.
@@ -91,7 +100,8 @@ value_behind view both rest others = record {
   item = both.item;
   Meaning = both.value.Meaning × others.Meaning;
   meaning = λ w. (both.value.meaning (view w), others.meaning (rest w));
-  fields = value_field both.value others.fields;
+  fields = value_field (defined_encoding both.value) others.fields;
+  laws = value_field_laws both.value.laws others.laws;
 }
 
 -- What follows an item, if it is a field and then a row with the value that the item defines.
@@ -100,7 +110,8 @@ before_behind view d rest behind = record {
   item = behind.item;
   Meaning = d.Meaning × behind.Meaning;
   meaning = λ w. (d.meaning (view w), behind.meaning (rest w));
-  fields = between d behind.fields;
+  fields = between (encoding_of d) behind.fields;
+  laws = between_laws d.laws behind.laws;
 }
 
 -- Reading an item and the fields after it returns the same as either of the two says. Each abstract value of an item is
@@ -122,18 +133,19 @@ abbrev pub item_list : {T U W : Type 0} → (W → U) → BehindItem T U → Fie
 item_list rest behind = record {
   Meaning = behind.Meaning;
   meaning = λ w. behind.meaning (rest w);
-  fields = with_item behind.item behind.fields;
+  fields = with_item (encoding_of behind.item) behind.fields;
+  laws = with_item_laws behind.item.laws behind.laws;
 }
 
 -- ---- structures
 
 -- A sequence of a row's fields with these names. Each value is seen as this row.
 abbrev pub structure : {V W : Type 0} → (W → V) → FieldList V → List (List ℕ) → Der W
-structure view row names = simple_der (λ w. row.meaning (view w)) (sequence row.fields names)
+structure view row names = simple_der (λ w. row.meaning (view w)) (sequence row.fields names) (sequence_laws names row.laws)
 
 -- The same under another tag, for example the tag of a set (8.11) or of an application (8.14.3).
 abbrev pub structure_with_tag : {V W : Type 0} → Tag → (W → V) → FieldList V → List (List ℕ) → Der W
-structure_with_tag tag view row names = simple_der (λ w. row.meaning (view w)) (retagged (λ own. tag) (sequence row.fields names))
+structure_with_tag tag view row names = simple_der (λ w. row.meaning (view w)) (retagged (λ own. tag) (sequence row.fields names)) (retagged_laws (λ own. tag) (sequence_laws names row.laws))
 
 -- The encodings that a write of a field's value may append.
 abbrev pub encoded : {V : Type 0} → Der V → V → List ℕ → Type 0

@@ -1,15 +1,13 @@
 -- Values under a tag of any class, or in an octet string (X.680 31.2, X.690 8.14).
-use Rattle.std.specs.Prelude.{[], ℕ, Bool, true}
+use Rattle.std.specs.Prelude.{ℕ, Bool, true}
 use Rattle.asn1_core.specs.declared.tag.Tag.{Tag}
 use Rattle.asn1_core.specs.Reading.{whole}
-use Rattle.asn1_core.specs.Der.{Der, Content}
-use Rattle.asn1_core.specs.Lemmas.Faults.{whole_faults}
-use Rattle.asn1_core.proofs.Inside.{inside_takes, inside_again}
+use Rattle.asn1_core.specs.Encoding.{Content, Encoding}
 use Rattle.asn1_core.specs.declared.tag.TagClass.TheVariants.{Application, Private}
 use Rattle.asn1_core.specs.Tag.{class_of, tag_with}
 
 -- Contents octets that are the encoding of one value. (X.690 8.14.2)
-abbrev pub one_inside : {V : Type 0} → Tag → (d : Der V) → Content d.Meaning
+abbrev pub one_inside : {A : Type 0} → Tag → (d : Encoding A) → Content A
 one_inside tag d = record {
   tag = tag;
   text = d.text;
@@ -24,14 +22,6 @@ one_inside tag d = record {
   is_read = d.is_read;
   runs_out = d.runs_out;
   read = λ c. whole (d.read c);
-  one_text = d.one_text;
-  has_text = d.has_text;
-  no_closures = d.no_closures;
-  takes = inside_takes d.text (λ m. d.valid m × d.allowed m) d.read d.takes;
-  again = λ m l v a s. inside_again d.accepts d.text d.read m (d.shape m l v) (d.again m [] l v a) s;
-  unbounded = d.unbounded;
-  memory = d.memory;
-  faults = λ c. whole_faults (d.read c) (d.faults c);
 }
 
 -- The same contents octets under another tag. (X.690 8.14.3)

@@ -2,8 +2,7 @@
 
 ghost use Rattle.std.specs.Prelude.{◌≡◌, ℕ, List, MatchOption, pos, false, true};
 ghost use Rattle.asn1_core.specs.Reading.{Answers};
-ghost use Rattle.asn1.specs.Listed.{lists, read_listed};
-ghost use Rattle.asn1.specs.Numbered.{numbered_content};
+ghost use Rattle.asn1.specs.Listed.{lists, numbered_content, read_listed};
 ghost use Rattle.asn1_core.specs.Tag.{universal};
 
 use asn1_core::{Asn1Type, ParseError, ParseErrorKind, ParseResult, SimpleAsn1Readable};

@@ -98,9 +98,10 @@ impl fmt::Debug for NumericString<'_> {
 }
 
 impl<'a> Asn1Type for NumericString<'a> {
+    ghost use Rattle.asn1_values.specs.LawsOf.Values.{text_laws};
     ghost use Rattle.asn1.specs.NumericValues.{numeric_octets, numeric_content};
 
-    ghost der = { simple_der numeric_octets numeric_content };
+    ghost der = { simple_der numeric_octets numeric_content (text_laws 18 is_numeric_text) };
 
     fn known(&self) {}
 }

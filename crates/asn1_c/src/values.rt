@@ -5,7 +5,7 @@ ghost use Rattle.std.specs.Fmt.InlineText.{inline_text};
 ghost use Rattle.asn1.specs.Identifier.{dotted_text};
 ghost use Rattle.asn1.specs.IdentifierValues.{identifier_of};
 ghost use Rattle.asn1.specs.Reading.{whole};
-ghost use Rattle.asn1.specs.Sized.{signed_der, unsigned_der};
+ghost use Rattle.asn1.specs.CoreTypes.{signed_der, unsigned_der};
 ghost use Rattle.asn1.specs.TimeValues.{moment};
 ghost use Rattle.asn1_c.specs.Errors.{told_read, unknown_type, without_details};
 ghost use Rattle.asn1_c.specs.Types.{IsReadAs, LeavesRead};

@@ -12,8 +12,8 @@ use Rattle.asn1_core.specs.declared.parser.Place.TheVariants.{Index}
 use Rattle.asn1_core.specs.Tag.{universal, tag_front, tag_text}
 use Rattle.asn1_core.specs.Fault.{fault, within}
 use Rattle.asn1_core.specs.Reading.{whole}
-use Rattle.asn1_core.specs.BooleanContent.{bool_content}
-use Rattle.asn1_core.specs.Der.{simple_der}
+use Rattle.asn1_core.specs.Boolean.{bool_content}
+use Rattle.asn1_core.specs.Encoding.{simple_encoding}
 
 -- On any octets a relation allows the function's result and no other.
 abbrev pub IsAnswered : {A : Type 0} → (List ℕ → A → Type 0) → (List ℕ → A) → Type 0
@@ -97,11 +97,11 @@ pub record Lengths : Type 0 where
 
 -- Worked examples of Booleans: their encodings, and an octet that is none.
 pub record Booleans : Type 0 where
-  pub text : (simple_der (λ b. b) bool_content).text true ≡ 0x01 ∷ 0x01 ∷ 0xff ∷ []
-  pub read : whole ((simple_der (λ b. b) bool_content).read (0x01 ∷ 0x01 ∷ 0xff ∷ [])) ≡ Ok true
-  pub other_octet : whole ((simple_der (λ b. b) bool_content).read (0x01 ∷ 0x01 ∷ 0x01 ∷ [])) ≡ Err (fault InvalidValue)
-  pub other_tag : whole ((simple_der (λ b. b) bool_content).read (0x02 ∷ 0x01 ∷ 0x05 ∷ [])) ≡ Err (fault (UnexpectedTag (universal 2)))
-  pub rest : whole ((simple_der (λ b. b) bool_content).read (0x01 ∷ 0x01 ∷ 0xff ∷ 0x00 ∷ [])) ≡ Err (fault ExtraData)
+  pub text : (simple_encoding bool_content).text true ≡ 0x01 ∷ 0x01 ∷ 0xff ∷ []
+  pub read : whole ((simple_encoding bool_content).read (0x01 ∷ 0x01 ∷ 0xff ∷ [])) ≡ Ok true
+  pub other_octet : whole ((simple_encoding bool_content).read (0x01 ∷ 0x01 ∷ 0x01 ∷ [])) ≡ Err (fault InvalidValue)
+  pub other_tag : whole ((simple_encoding bool_content).read (0x02 ∷ 0x01 ∷ 0x05 ∷ [])) ≡ Err (fault (UnexpectedTag (universal 2)))
+  pub rest : whole ((simple_encoding bool_content).read (0x01 ∷ 0x01 ∷ 0xff ∷ 0x00 ∷ [])) ≡ Err (fault ExtraData)
 
 -- Locations are given from the innermost outward: of nine, the innermost eight are kept.
 pub record Places : Type 0 where

@@ -1,7 +1,10 @@
--- What is read from the contents octets of octet strings and of null.
-use Rattle.std.specs.Prelude.{ℕ, List, [], ◌∷◌, length, nat_eq, if◌then◌else◌, Result, Ok, Err}
+-- OCTET STRING and NULL (X.690 8.7, 8.8). The value of an octet string is its octets, without their address in memory.
+use Rattle.std.specs.Prelude.{ℕ, ◌≡◌, List, [], ◌∷◌, length, nat_eq, if◌then◌else◌, Result, Ok, Err}
 use Rattle.asn1_core.specs.declared.parser.ParseErrorKind.TheVariants.{InvalidValue}
+use Rattle.asn1_core.specs.Text.{IsText}
+use Rattle.asn1_core.specs.Tag.{universal}
 use Rattle.asn1_core.specs.Fault.{Fault, fault}
+use Rattle.asn1_core.specs.Encoding.{Content, basic}
 
 -- Any octets are the contents octets of an octet string, and are its value. (X.690 8.7)
 abbrev pub read_octets : List ℕ → Result (List ℕ) Fault
@@ -15,3 +18,30 @@ read_sized_octets size c = if nat_eq (length c) size then Ok c else Err (fault I
 abbrev pub read_null : List ℕ → Result (Unit {0}) Fault
 read_null [] = Ok tt
 read_null (octet ∷ octets) = Err (fault InvalidValue)
+
+-- The contents octets of an octet string are its octets. (X.690 8.7)
+abbrev pub octets_content : Content (List ℕ)
+octets_content = basic (record {
+  tag = universal 4;
+  text = λ octets. octets;
+  valid = IsText;
+  read = read_octets;
+})
+
+-- An octet string of a fixed size.
+abbrev pub sized_octets_content : ℕ → Content (List ℕ)
+sized_octets_content size = basic (record {
+  tag = universal 4;
+  text = λ octets. octets;
+  valid = λ octets. IsText octets × (length octets ≡ size);
+  read = read_sized_octets size;
+})
+
+-- The content of null.
+abbrev pub null_content : Content (Unit {0})
+null_content = basic (record {
+  tag = universal 5;
+  text = λ m. [];
+  valid = λ m. Unit {0};
+  read = read_null;
+})

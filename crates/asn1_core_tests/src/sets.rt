@@ -4,6 +4,7 @@ ghost use Rattle.std.specs.Prelude.{◌≡◌, ◌∷◌, [], refl};
 ghost use Rattle.asn1_core.specs.Tag.{universal};
 ghost use Rattle.asn1_core.specs.Der.{simple_der};
 ghost use Rattle.asn1_core.specs.SetWriting.{written};
+ghost use Rattle.asn1_core.specs.LawsOf.Contents.{written_laws};
 ghost use Rattle.asn1_core_tests.specs.declared.sets.Custom.TheVariants.{Memory, Refused};
 
 use crate::writing::compare_parts;
@@ -227,6 +228,7 @@ impl Asn1Type for Digit {
       valid = λ m. Unit {0};
       plain = Unit {0};
       lawful = ⊥;
+    })) (written_laws (record {
       one_text = λ p m t e. e;
       has_text = λ p m v. refl;
       no_closures = λ p m. tt;

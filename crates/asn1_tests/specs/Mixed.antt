@@ -2,11 +2,12 @@
 -- each item by itself the tags tell what is there.
 use Rattle.std.specs.Prelude.{◌≡◌, ◌⊎◌, Bool, true, false, not, Option}
 use Rattle.std.proofs.Common.{refl}
-use Rattle.asn1.specs.Der.{Der, simple_der, option_der}
-use Rattle.asn1.specs.BooleanContent.{bool_content}
-use Rattle.asn1.specs.OctetContents.{null_content}
+use Rattle.asn1.specs.Der.{Der, encoding_of, simple_der, option_der}
+use Rattle.asn1.specs.Boolean.{bool_content}
+use Rattle.asn1.specs.Octets.{null_content}
+use Rattle.asn1.specs.LawsOf.Contents.{bool_laws, null_laws}
 use Rattle.asn1.specs.DefinedReads.{Known}
-use Rattle.asn1.specs.DefinedBy.{DefinedBy}
+use Rattle.asn1.specs.DefinedBy.{DefinedBy, defined_encoding}
 use Rattle.asn1.specs.Variants.{variant, or_variant}
 use Rattle.asn1.specs.Fields.{FieldsBy, last, value_field}
 
@@ -25,13 +26,13 @@ abbrev pub on_false : Known Bool
 on_false = record { item = false; is = λ i. not i; itself = refl; alone = false_alone }
 
 abbrev pub bool_der : Der Bool
-bool_der = simple_der (λ b. b) bool_content
+bool_der = simple_der (λ b. b) bool_content bool_laws
 
 abbrev pub null_der : Der (Unit {0})
-null_der = simple_der (λ u. u) null_content
+null_der = simple_der (λ u. u) null_content null_laws
 
 abbrev pub mixed_by : DefinedBy Bool (Bool ⊎ Option (Unit {0}))
 mixed_by = or_variant on_true bool_der (variant on_false (option_der null_der) (λ w. w)) (λ w. w)
 
 abbrev pub mixed : FieldsBy Bool ((Bool ⊎ Option (Unit {0})) × Bool)
-mixed = value_field mixed_by (last bool_der)
+mixed = value_field (defined_encoding mixed_by) (last (encoding_of bool_der))

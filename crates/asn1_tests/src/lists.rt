@@ -6,6 +6,7 @@ ghost use Rattle.asn1.specs.Buffer.{KeepsFront};
 ghost use Rattle.asn1.specs.Writing.{IsWriter, buffer_name, octets_of};
 ghost use Rattle.asn1.specs.Der.{simple_der};
 ghost use Rattle.asn1.specs.SetWriting.{written};
+ghost use Rattle.asn1.specs.LawsOf.Contents.{written_laws};
 ghost use Rattle.asn1_tests.specs.declared.lists.Custom.TheVariants.{Memory, Refused};
 
 use asn1::{
@@ -416,6 +417,7 @@ impl Asn1Type for Unwritable {
       valid = λ m. Unit {0};
       plain = ⊥;
       lawful = ⊥;
+    })) (written_laws (record {
       one_text = λ p m t e. absurd e;
       has_text = λ p. absurd p;
       no_closures = λ p m. tt;

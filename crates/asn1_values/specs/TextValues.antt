@@ -7,9 +7,8 @@ use Rattle.asn1_values.specs.declared.values.texts.Utf8String.{Utf8String}
 use Rattle.asn1_values.specs.declared.values.wide_texts.BMPString.{BMPString}
 use Rattle.asn1_values.specs.declared.values.wide_texts.UniversalString.{UniversalString}
 use Rattle.asn1_core.specs.Tag.{universal}
-use Rattle.asn1_core.specs.Der.{Content, basic}
+use Rattle.asn1_core.specs.Encoding.{Content, basic}
 use Rattle.asn1_values.specs.Texts.{IsTextOf, read_text, is_printable_text, is_ia5_text, is_visible_text, is_utf8_text, is_utf16_text, is_utf32_text}
-use Rattle.asn1_values.specs.Lemmas.Texts.{text_takes, text_again, text_faults}
 
 -- The octets of a `PrintableString`.
 abbrev pub printable_octets : PrintableString → List ℕ
@@ -42,9 +41,6 @@ text_content number rule = basic (record {
   text = λ octets. octets;
   valid = IsTextOf rule;
   read = read_text rule;
-  takes = text_takes rule;
-  again = text_again rule;
-  faults = text_faults rule;
 })
 
 -- The contents octets of a UTF8String, with the tag 12.

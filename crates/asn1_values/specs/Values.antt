@@ -7,10 +7,8 @@ use Rattle.asn1_values.specs.declared.values.owned.OwnedBigUint.{OwnedBigUint}
 use Rattle.asn1_values.specs.declared.values.owned.OwnedBigInt.{OwnedBigInt}
 use Rattle.asn1_core.specs.Tag.{universal}
 use Rattle.asn1_core.specs.Integer.{integer_content, read_integer}
-use Rattle.asn1_core.specs.Der.{Content, basic}
+use Rattle.asn1_core.specs.Encoding.{Content, basic}
 use Rattle.asn1_values.specs.Big.{read_unsigned}
-use Rattle.asn1_values.specs.Lemmas.Big.{signed_takes, signed_again, unsigned_takes, unsigned_again, unsigned_faults}
-use Rattle.asn1_core.specs.Lemmas.Integers.{integer_faults}
 use Rattle.asn1_values.specs.declared.values.enumerated.Enumerated.{Enumerated}
 
 -- The octets of a `BigUint`.
@@ -52,9 +50,6 @@ signed_content = basic (record {
   text = integer_content;
   valid = λ z. Unit {0};
   read = read_integer;
-  takes = signed_takes;
-  again = signed_again;
-  faults = integer_faults;
 })
 
 -- Every number that isn't negative.
@@ -64,9 +59,6 @@ unsigned_content = basic (record {
   text = integer_content;
   valid = λ z. pos 0 ≤ℤ z;
   read = read_unsigned;
-  takes = unsigned_takes;
-  again = unsigned_again;
-  faults = unsigned_faults;
 })
 
 -- The number.

@@ -4,6 +4,7 @@ ghost use Rattle.std.specs.Prelude.{◌≡◌, IsTrue, true, ⊤, length, MatchO
 ghost use Rattle.asn1_core.specs.Reads.{ReadsContents};
 ghost use Rattle.asn1_core.specs.Der.{simple_der};
 ghost use Rattle.asn1_core.specs.Boxed.{boxed};
+ghost use Rattle.asn1_core.specs.LawsOf.Encodings.{boxed_content_laws};
 ghost use Rattle.asn1_core.specs.Tag.{universal};
 ghost use Rattle.asn1_core.specs.Writing.{GivesLength};
 ghost use Rattle.asn1_values.specs.Bits.{is_padded, IsBits, bits, bits_text, has_bit};
@@ -118,8 +119,9 @@ impl fmt::Debug for BitString<'_> {
 
 impl<'a> Asn1Type for BitString<'a> {
     ghost use Rattle.asn1_values.specs.BitStrings.{bits_of, bits_content};
+    ghost use Rattle.asn1_values.specs.LawsOf.Values.{bits_laws};
 
-    ghost der = { simple_der bits_of bits_content };
+    ghost der = { simple_der bits_of bits_content bits_laws };
 
     fn known(&self) {}
 }
@@ -243,8 +245,10 @@ impl fmt::Debug for OwnedBitString {
 
 impl Asn1Type for OwnedBitString {
     ghost use Rattle.asn1_values.specs.BitStrings.{owned_bits_of, bits_content};
+    ghost use Rattle.asn1_values.specs.LawsOf.Values.{bits_laws};
 
-    ghost der = { simple_der owned_bits_of (boxed bits_content) };
+    ghost der = { simple_der owned_bits_of (boxed bits_content)
+        (boxed_content_laws bits_laws) };
 
     fn known(&self) {}
 }

@@ -273,8 +273,9 @@ impl fmt::Debug for ObjectIdentifier {
 
 impl Asn1Type for ObjectIdentifier {
     ghost use Rattle.asn1_values.specs.IdentifierValues.{identifier_of, identifier_basic};
+    ghost use Rattle.asn1_values.specs.LawsOf.Values.{identifier_laws};
 
-    ghost der = { simple_der identifier_of identifier_basic };
+    ghost der = { simple_der identifier_of identifier_basic identifier_laws };
 
     fn known(&self) {}
 }

@@ -46,12 +46,12 @@ IsMeaning word = (type_of word).der.Meaning
 reading-value : (word : Word) (octets : List ℕ) (v : IsValueText word octets) → reading word octets ≡ Ok v.value
 reading-value word octets v =
     let d = (type_of word).der in
-    whole_again d.text d.read v.value octets (d.again v.value [] (lawful word) v.valid v.allowed v.fits (λ e. stands-nil d.accepts)) v.is
+    whole_again d.text d.read v.value octets (d.laws.again v.value [] (lawful word) v.valid v.allowed v.fits (λ e. stands-nil d.accepts)) v.is
 
 value-reading : (word : Word) (octets : List ℕ) (value : IsMeaning word) → IsText octets → reading word octets ≡ Ok value → IsValueText word octets
 value-reading word octets value text e =
     let d = (type_of word).der in
-    let found = whole_is d.text (λ m. d.valid m × d.allowed m) d.read d.takes octets value text e in
+    let found = whole_is d.text (λ m. d.valid m × d.allowed m) d.read d.laws.takes octets value text e in
     record {
       value = value;
       valid = found.1.0;

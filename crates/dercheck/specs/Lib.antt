@@ -6,3 +6,4 @@ pub mod Streams
 pub mod Frames
 pub mod Laws
 pub mod OwnTypes
+pub mod LawsOf

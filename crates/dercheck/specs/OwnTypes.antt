@@ -1,17 +1,15 @@
 -- What the types of `own_types` mean.
-use Rattle.std.proofs.Common.{ℕ, ◌≡◌, List, [], ◌∷◌, nat_eq, if◌then◌else◌, Result, Ok, Err, IfErr, refl, subst, inl, inr}
-use Rattle.std.proofs.lemmas.Bool.{eqb-true}
-use Rattle.std.specs.Prelude.{ℤ}
+use Rattle.std.specs.Prelude.{ℕ, ℤ, List, [], ◌∷◌, nat_eq, if◌then◌else◌, Result, Ok, Err}
 use Rattle.asn1.specs.declared.ParseErrorKind.TheVariants.{InvalidValue}
 use Rattle.asn1.specs.Tag.{universal}
-use Rattle.asn1.specs.Fault.{Fault, fault, IsOfText}
-use Rattle.asn1.specs.Der.{Content, basic, simple_der}
-use Rattle.asn1.specs.Lemmas.Results.{ok_is, chosen, passed}
-use Rattle.asn1.specs.Lemmas.Faults.{if_faults, passed_faults}
+use Rattle.asn1.specs.Fault.{Fault, fault}
+use Rattle.asn1.specs.Encoding.{Content, basic}
+use Rattle.asn1.specs.Der.{simple_der}
 use Rattle.asn1.specs.declared.ObjectIdentifier.{ObjectIdentifier}
 use Rattle.asn1.specs.DefinedBy.{DefinedBy}
 use Rattle.asn1.specs.IdentifierValues.{identifier_basic, identifier_of}
-use Rattle.asn1.specs.Sized.{signed_der}
+use Rattle.asn1.specs.LawsOf.Values.{identifier_laws}
+use Rattle.asn1.specs.CoreTypes.{signed_der}
 use Rattle.asn1.specs.Variants.{identifier_with, variant}
 use Rattle.asn1.specs.ItemsAndValues.{ItemAndValue}
 use Rattle.dercheck.specs.declared.own_types.reason.Reason.{Reason}
@@ -32,30 +30,6 @@ read_reason [] = Err (fault InvalidValue)
 read_reason (octet ∷ []) = if nat_eq octet 0 then Ok Unspecified else if nat_eq octet 4 then Ok Superseded else Err (fault InvalidValue)
 read_reason (octet ∷ next ∷ octets) = Err (fault InvalidValue)
 
--- What is read is the contents octets of the value that is returned.
-pub reason_takes : (c : List ℕ) (m : Reason) → read_reason c ≡ Ok m → c ≡ reason_text m
-reason_takes [] m e = absurd cc
-reason_takes (octet ∷ []) m e =
-    let P : Reason → Type 0 = λ x. (octet ∷ []) ≡ reason_text x in
-    elim (chosen (nat_eq octet 0) _ _ (Ok m) e) [
-      | inl p ↦ subst P (ok_is _ _ p.1) (rw (eqb-true _ _ p.0) refl)
-      | inr p ↦
-          let q = passed (nat_eq octet 4) _ _ m p.1 in
-          subst P (ok_is _ _ q.1) (rw (eqb-true _ _ q.0) refl)
-    ]
-reason_takes (octet ∷ next ∷ octets) m e = absurd cc
-
--- A value's contents octets are read back.
-pub reason_again : (m : Reason) → read_reason (reason_text m) ≡ Ok m
-reason_again Unspecified = refl
-reason_again Superseded = refl
-
--- An error is one of the input, and never out of memory.
-pub reason_faults : (c : List ℕ) → IfErr (read_reason c) IsOfText
-reason_faults [] = λ e. cc
-reason_faults (octet ∷ []) = if_faults (nat_eq octet 0) (Ok Unspecified) _ tt (passed_faults (nat_eq octet 4) (Ok Superseded) InvalidValue tt (λ e. cc))
-reason_faults (octet ∷ next ∷ octets) = λ e. cc
-
 -- The contents octets of a `Reason`.
 abbrev pub reason_content : Content Reason
 reason_content = basic (record {
@@ -63,9 +37,6 @@ reason_content = basic (record {
   text = reason_text;
   valid = λ m. Unit {0};
   read = read_reason;
-  takes = λ c m is e. (reason_takes c m e, tt);
-  again = λ m v. reason_again m;
-  faults = reason_faults;
 })
 
 -- ---- a structure whose content is defined by the object identifier before it
@@ -82,4 +53,4 @@ content_by = variant (identifier_with some_numbers) (signed_der 32 (λ n. n)) co
 
 -- what the object identifier and the content mean, together
 abbrev pub content_both : ItemAndValue ObjectIdentifier my_sequence.Content
-content_both = record { item = simple_der identifier_of identifier_basic; value = content_by }
+content_both = record { item = simple_der identifier_of identifier_basic identifier_laws; value = content_by }

@@ -6,19 +6,26 @@ use Rattle.std.specs.Global.{Vec}
 use Rattle.hex.specs.Hex.{decode_of}
 use Rattle.hex.specs.declared.error.FromHexError.{FromHexError}
 use Rattle.asn1.specs.Tag.{universal}
-use Rattle.asn1.specs.BooleanContent.{bool_content}
-use Rattle.asn1.specs.Der.{Der, Content, simple_der, tlv_der}
+use Rattle.asn1.specs.Boolean.{bool_content}
+use Rattle.asn1.specs.Der.{Der, simple_der, tlv_der}
 use Rattle.asn1.specs.Element.{Element}
-use Rattle.asn1.specs.Sized.{sized_content, signed_der, unsigned_der}
-use Rattle.asn1.specs.OctetContents.{null_content, octets_content}
+use Rattle.asn1.specs.Sized.{sized_content}
+use Rattle.asn1.specs.CoreTypes.{signed_der, unsigned_der}
+use Rattle.asn1.specs.Types.{list_der, set_der}
+use Rattle.asn1.specs.Encoding.{Content}
+use Rattle.asn1.specs.EncodingLaws.{ContentLaws}
+use Rattle.asn1.specs.LawsOf.Contents.{bool_laws, null_laws, octets_laws, sized_laws}
+use Rattle.asn1.specs.LawsOf.Values.{signed_laws, unsigned_laws, bits_laws, utf8_laws, printable_laws, ia5_laws, visible_laws, utf16_laws, utf32_laws, identifier_laws, utc_laws, x509_laws, instant_laws}
+use Rattle.asn1.specs.LawsOf.Lists.{set_content_laws}
+use Rattle.asn1.specs.LawsOf.InHand.{sequence_content_laws}
+use Rattle.asn1.specs.Octets.{null_content, octets_content}
 use Rattle.asn1.specs.Values.{signed_content, unsigned_content}
 use Rattle.asn1.specs.BitStrings.{bits_content}
 use Rattle.asn1.specs.TextValues.{utf8_content, printable_content, ia5_content, visible_content, utf16_content, utf32_content}
 use Rattle.asn1.specs.IdentifierValues.{identifier_basic}
 use Rattle.asn1.specs.TimeValues.{utc_content, x509_content, instant_content}
 use Rattle.asn1.specs.InHand.{sequence_content}
-use Rattle.asn1.specs.ListTypes.{items_inside}
-use Rattle.asn1.specs.SetTypes.{set_content, set_inside}
+use Rattle.asn1.specs.SetTypes.{set_content}
 use Rattle.dercheck.specs.declared.words.Word.{Word}
 use Rattle.dercheck.specs.declared.words.Word.TheVariants as words
 use Rattle.dercheck.specs.declared.words.TheConstants.Word.{ALL}
@@ -69,8 +76,8 @@ pub record Asn1 : Type 1 where
   pub der : Der Value
 
 -- a type whose values are elements with one tag
-abbrev pub simple_type : {M : Type 0} → Content M → Asn1
-simple_type {M = M} content = record { Value = M; der = simple_der (λ value. value) content }
+abbrev pub simple_type : {M : Type 0} → (content : Content M) → ContentLaws content → Asn1
+simple_type {M = M} content laws = record { Value = M; der = simple_der (λ value. value) content laws }
 
 abbrev pub signed_type : ℕ → Asn1
 signed_type bits = record { Value = ℤ; der = signed_der bits (λ value. value) }
@@ -80,11 +87,11 @@ unsigned_type bits = record { Value = ℕ; der = unsigned_der bits (λ value. va
 
 -- an integer of any length
 abbrev pub int_der : Der ℤ
-int_der = simple_der (λ value. value) signed_content
+int_der = simple_der (λ value. value) signed_content signed_laws
 
 -- the type that a word names
 abbrev pub type_of : Word → Asn1
-type_of words.Bool = simple_type bool_content
+type_of words.Bool = simple_type bool_content bool_laws
 type_of words.Tlv = record { Value = Element; der = tlv_der (λ value. value) }
 type_of words.I8 = signed_type 8
 type_of words.U8 = unsigned_type 8
@@ -94,26 +101,26 @@ type_of words.I32 = signed_type 32
 type_of words.U32 = unsigned_type 32
 type_of words.I64 = signed_type 64
 type_of words.U64 = unsigned_type 64
-type_of words.Int = simple_type signed_content
-type_of words.Uint = simple_type unsigned_content
-type_of words.Enum = simple_type (sized_content (universal 10) (pos 0) (pos (2 ^ 32) -ℤ pos 1))
-type_of words.Null = simple_type null_content
-type_of words.Octets = simple_type octets_content
-type_of words.Bits = simple_type bits_content
-type_of words.Utf8 = simple_type utf8_content
-type_of words.Printable = simple_type printable_content
-type_of words.Ia5 = simple_type ia5_content
-type_of words.Visible = simple_type visible_content
-type_of words.Bmp = simple_type utf16_content
-type_of words.Universal = simple_type utf32_content
-type_of words.Oid = simple_type identifier_basic
-type_of words.UtcTime = simple_type utc_content
-type_of words.X509Time = simple_type x509_content
-type_of words.GenTime = simple_type instant_content
-type_of words.Seq = simple_type sequence_content
-type_of words.Set = simple_type set_content
-type_of words.SeqOfInt = simple_type (items_inside 0 (2 ^ 64 - 1) int_der)
-type_of words.SetOfInt = simple_type (set_inside int_der)
+type_of words.Int = simple_type signed_content signed_laws
+type_of words.Uint = simple_type unsigned_content unsigned_laws
+type_of words.Enum = simple_type (sized_content (universal 10) (pos 0) (pos (2 ^ 32) -ℤ pos 1)) (sized_laws _ _ _)
+type_of words.Null = simple_type null_content null_laws
+type_of words.Octets = simple_type octets_content octets_laws
+type_of words.Bits = simple_type bits_content bits_laws
+type_of words.Utf8 = simple_type utf8_content utf8_laws
+type_of words.Printable = simple_type printable_content printable_laws
+type_of words.Ia5 = simple_type ia5_content ia5_laws
+type_of words.Visible = simple_type visible_content visible_laws
+type_of words.Bmp = simple_type utf16_content utf16_laws
+type_of words.Universal = simple_type utf32_content utf32_laws
+type_of words.Oid = simple_type identifier_basic identifier_laws
+type_of words.UtcTime = simple_type utc_content utc_laws
+type_of words.X509Time = simple_type x509_content x509_laws
+type_of words.GenTime = simple_type instant_content instant_laws
+type_of words.Seq = simple_type sequence_content sequence_content_laws
+type_of words.Set = simple_type set_content set_content_laws
+type_of words.SeqOfInt = record { Value = List ℤ; der = list_der 0 (2 ^ 64 - 1) int_der (λ value. value) }
+type_of words.SetOfInt = record { Value = List ℤ; der = set_der int_der (λ value. value) }
 
 -- ---- the requests
 

@@ -3,6 +3,7 @@
 ghost use Rattle.std.specs.Prelude.{◌≡◌};
 ghost use Rattle.asn1.specs.Der.{simple_der};
 ghost use Rattle.dercheck_tests.specs.Code.{code_content};
+ghost use Rattle.dercheck_tests.specs.LawsOf.{code_laws};
 
 mod bag;
 mod changed;
@@ -508,7 +509,7 @@ fn statuses() -> Result<(), Fail> {
 struct Code(u8);
 
 impl Asn1Type for Code {
-    ghost der = { simple_der (λ code. code.0) code_content };
+    ghost der = { simple_der (λ code. code.0) code_content code_laws };
 
     fn known(&self) {
         let _number = self.0;

@@ -6,7 +6,9 @@ use Rattle.asn1.specs.declared.Tlv.{Tlv}
 use Rattle.asn1.specs.Der.{Der, simple_der, option_der}
 use Rattle.asn1.specs.Fault.{Fault}
 use Rattle.asn1.specs.IdentifierValues.{identifier_basic, identifier_of}
-use Rattle.asn1.specs.OctetContents.{null_content}
+use Rattle.asn1.specs.Octets.{null_content}
+use Rattle.asn1.specs.LawsOf.Contents.{null_laws}
+use Rattle.asn1.specs.LawsOf.Values.{identifier_laws}
 use Rattle.asn1.specs.Reading.{all_taken}
 use Rattle.asn1.specs.Tlv.{full_octets}
 use Rattle.pkix.specs.Identifiers.{of_arcs, typed, ReadsTyped}
@@ -93,10 +95,10 @@ or_absent variant None = parameters.Absent
 
 -- What reading all of these octets as parameters of that form returns, with what Dss-Parms and RSASSA-PSS-params mean.
 abbrev pub ReadsForm : Der DssParms → Der RsassaPssParams → ParametersForm → List ℕ → Result AlgorithmParameters Fault → Type 0
-ReadsForm dss pss form.Null octets result = ReadsTyped (typed (simple_der (λ m. m) null_content) (λ null. parameters.Null)) octets result
-ReadsForm dss pss form.NamedCurve octets result = ReadsTyped (typed (simple_der identifier_of identifier_basic) parameters.NamedCurve) octets result
+ReadsForm dss pss form.Null octets result = ReadsTyped (typed (simple_der (λ m. m) null_content null_laws) (λ null. parameters.Null)) octets result
+ReadsForm dss pss form.NamedCurve octets result = ReadsTyped (typed (simple_der identifier_of identifier_basic identifier_laws) parameters.NamedCurve) octets result
 ReadsForm dss pss form.Absent octets result = result ≡ all_taken parameters.Absent octets
-ReadsForm dss pss form.NullOrAbsent octets result = ReadsTyped (typed (option_der (simple_der (λ m. m) null_content)) (or_absent (λ null. parameters.Null))) octets result
+ReadsForm dss pss form.NullOrAbsent octets result = ReadsTyped (typed (option_der (simple_der (λ m. m) null_content null_laws)) (or_absent (λ null. parameters.Null))) octets result
 ReadsForm dss pss form.DssOrAbsent octets result = ReadsTyped (typed (option_der dss) (or_absent parameters.Dss)) octets result
 ReadsForm dss pss form.RsassaPssOrAbsent octets result = ReadsTyped (typed (option_der pss) (or_absent parameters.RsassaPss)) octets result
 

@@ -53,7 +53,9 @@ impl<'a> Sequence<'a> {
 }
 
 impl<'a> Asn1Type for Sequence<'a> {
-    ghost der = { simple_der sequence_octets sequence_content };
+    ghost use Rattle.asn1.specs.LawsOf.InHand.{sequence_content_laws};
+
+    ghost der = { simple_der sequence_octets sequence_content sequence_content_laws };
 
     fn known(&self) {
         self.data.known()

@@ -12,11 +12,10 @@ ghost use Rattle.asn1_core.specs.Buffer.{Appends, KeepsFront};
 ghost use Rattle.asn1_core.specs.Element.{Element, front};
 ghost use Rattle.asn1_core.specs.Reading.{Answers, EndsWith, Fits};
 ghost use Rattle.asn1_core.specs.Reads.{ReadsContents};
-ghost use Rattle.asn1_core.specs.Der.{simple_der};
 ghost use Rattle.asn1_core.specs.Listing.{AnyNames, Each, Joins, OneNames, joined, sequence_tag};
 ghost use Rattle.asn1_core.specs.Writing.{buffer_name, octets_of, GivesLength, Refuses};
 ghost use Rattle.asn1.specs.Lists.{AreItems, AreOctets, left, item, counted, item_out, items_out, NextItem};
-ghost use Rattle.asn1.specs.ListTypes.{items_inside};
+ghost use Rattle.asn1.specs.Types.{list_der};
 
 use crate::lists::{SequenceOfWriter, are_octets, at_item, contents_of};
 use asn1_core::{
@@ -230,8 +229,8 @@ impl<'a, T: Asn1Type, const MINIMUM_LEN: usize, const MAXIMUM_LEN: usize> Hash
 
 impl<'a, T: Asn1Type, const MINIMUM_LEN: usize, const MAXIMUM_LEN: usize> Asn1Type
     for SequenceOf<'a, T, MINIMUM_LEN, MAXIMUM_LEN> {
-    ghost der = { simple_der (λ s. left T.der.read s.content.now)
-        (items_inside MINIMUM_LEN MAXIMUM_LEN T.der) };
+    ghost der = { list_der MINIMUM_LEN MAXIMUM_LEN T.der
+        (λ s. left T.der.read s.content.now) };
 
     fn known(&self) {}
 }

@@ -21,7 +21,9 @@ ghost use Rattle.asn1_core.specs.Writing.{buffer_name, octets_of, GivesLength, R
 ghost use Rattle.asn1.specs.Lists.{AreOctets, NextItem};
 ghost use Rattle.asn1.specs.Sets.{AreOrdered, set_left, set_item, checked, set_item_out, set_out, first_out};
 ghost use Rattle.asn1.specs.Sets.{element_behind};
-ghost use Rattle.asn1.specs.SetTypes.{set_inside, set_content};
+ghost use Rattle.asn1.specs.SetTypes.{set_content};
+ghost use Rattle.asn1.specs.LawsOf.Lists.{set_content_laws};
+ghost use Rattle.asn1.specs.Types.{set_der};
 ghost use Rattle.asn1.specs.MadeLists.{in_order};
 
 use crate::lists::{are_octets, at_item, contents_of};
@@ -171,7 +173,7 @@ impl<'a> Clone for Set<'a> {
 impl<'a> Asn1Type for Set<'a> {
     ghost use Rattle.asn1.specs.InHand.{octets_of_set};
 
-    ghost der = { simple_der octets_of_set set_content };
+    ghost der = { simple_der octets_of_set set_content set_content_laws };
 
     fn known(&self) {
         self.data.known();
@@ -376,8 +378,8 @@ impl<'a, T: Asn1Type> Hash for SetOf<'a, T> {
 }
 
 impl<'a, T: Asn1Type> Asn1Type for SetOf<'a, T> {
-    ghost der = { simple_der (λ s. set_left text_less T.der.read s.content.now)
-        (set_inside T.der) };
+    ghost der = { set_der T.der
+        (λ s. set_left text_less T.der.read s.content.now) };
 
     fn known(&self) {}
 }

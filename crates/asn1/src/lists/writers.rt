@@ -2,7 +2,8 @@
 
 ghost use Rattle.std.specs.Prelude.{◌≡◌, map};
 ghost use Rattle.asn1_core.specs.Writing.{MayAnswer};
-ghost use Rattle.asn1_core.specs.Der.{simple_der};
+ghost use Rattle.asn1_core.specs.Der.{encoding_of, simple_der};
+ghost use Rattle.asn1_core.specs.LawsOf.Contents.{items_laws};
 ghost use Rattle.asn1_core.specs.Listing.{AnyNames, Each, sequence_tag};
 ghost use Rattle.asn1_core.specs.SetWriting.{items_written};
 ghost use Rattle.asn1.specs.InHand.{closure_written, sequence_closure, sequence_items};
@@ -46,7 +47,10 @@ impl<'a, F: Fn(&mut Writer<'_>) -> Result<(), E>, E> SequenceWriter<'a, F, E> {
 }
 
 impl<'a, F: Fn(&mut Writer<'_>) -> Result<(), E>, E> Asn1Type for SequenceWriter<'a, F, E> {
-    ghost der = { simple_der sequence_closure (closure_written F.FnOnce) };
+    ghost use Rattle.asn1.specs.LawsOf.InHand.{closure_laws};
+
+    ghost der = { simple_der sequence_closure (closure_written F.FnOnce)
+        (closure_laws F.FnOnce) };
 
     fn known(&self) {}
 }
@@ -99,7 +103,8 @@ impl<'a, T: Asn1Writable> SequenceOfWriter<'a, T> {
 }
 
 impl<'a, T: Asn1Type> Asn1Type for SequenceOfWriter<'a, T> {
-    ghost der = { simple_der (λ v. map T.der.meaning (sequence_items v)) (items_written T.der) };
+    ghost der = { simple_der (λ v. map T.der.meaning (sequence_items v))
+        (items_written (encoding_of T.der)) (items_laws T.der.laws) };
 
     fn known(&self) {
         for item in self.items {

@@ -1,6 +1,9 @@
 //! CHOICE (X.690 8.13, X.680 29): an element that is read as the first alternative that accepts its tag.
 
-ghost use Rattle.asn1.specs.Choices.{choice_der, only, or};
+ghost use Rattle.asn1_core.specs.Der.{encoding_of};
+ghost use Rattle.asn1.specs.Choices.{only, or};
+ghost use Rattle.asn1.specs.LawsOf.Choices.{only_laws, or_laws};
+ghost use Rattle.asn1.specs.Types.{choice_der};
 ghost use Rattle.asn1.specs.InHand.{choice1_meaning, choice2_meaning, choice3_meaning, OfChoice1, OfChoice2, OfChoice3};
 
 use asn1_core::{
@@ -19,7 +22,8 @@ pub enum Choice1<T1> {
 }
 
 impl<T1: Asn1Type> Asn1Type for Choice1<T1> {
-    ghost der = { choice_der (choice1_meaning T1.der.meaning) (only T1.der) };
+    ghost der = { choice_der (choice1_meaning T1.der.meaning) (only (encoding_of T1.der))
+        (only_laws T1.der.laws) };
 
     fn known(&self) {
         match self {
@@ -91,7 +95,8 @@ pub enum Choice2<T1, T2> {
 
 impl<T1: Asn1Type, T2: Asn1Type> Asn1Type for Choice2<T1, T2> {
     ghost der = { choice_der (choice2_meaning T1.der.meaning T2.der.meaning)
-        (or T1.der (only T2.der)) };
+        (or (encoding_of T1.der) (only (encoding_of T2.der)))
+        (or_laws T1.der.laws (only_laws T2.der.laws)) };
 
     fn known(&self) {
         match self {
@@ -166,7 +171,8 @@ pub enum Choice3<T1, T2, T3> {
 
 impl<T1: Asn1Type, T2: Asn1Type, T3: Asn1Type> Asn1Type for Choice3<T1, T2, T3> {
     ghost der = { choice_der (choice3_meaning T1.der.meaning T2.der.meaning T3.der.meaning)
-        (or T1.der (or T2.der (only T3.der))) };
+        (or (encoding_of T1.der) (or (encoding_of T2.der) (only (encoding_of T3.der))))
+        (or_laws T1.der.laws (or_laws T2.der.laws (only_laws T3.der.laws))) };
 
     fn known(&self) {
         match self {

@@ -1,10 +1,10 @@
 //! Tagged types whose tag is of any class (X.690 8.14).
 
 ghost use Rattle.std.specs.Prelude.{◌≡◌};
-ghost use Rattle.asn1_core.specs.Der.{simple_der};
 ghost use Rattle.asn1_core.specs.Tag.{class_of};
 ghost use Rattle.asn1.specs.InHand.{tagged_explicit_inner, tagged_implicit_inner};
-ghost use Rattle.asn1.specs.Tagged.{explicit_tag_in, implicit_tag_in, one_inside, retagged};
+ghost use Rattle.asn1.specs.Tagged.{explicit_tag_in, implicit_tag_in};
+ghost use Rattle.asn1.specs.Types.{changed_der, inside_der};
 
 use asn1_core::{
     Asn1Readable, Asn1Type, Asn1Writable, ParseResult, SimpleAsn1Readable, SimpleAsn1Writable, Tag,
@@ -89,8 +89,7 @@ impl<T, const CLASS: u8, const NUMBER: u32> From<T> for TaggedExplicit<T, CLASS,
 
 impl<T: Asn1Type, const CLASS: u8, const NUMBER: u32> Asn1Type
     for TaggedExplicit<T, CLASS, NUMBER> {
-    ghost der = { simple_der (λ x. T.der.meaning (tagged_explicit_inner x))
-        (one_inside (explicit_tag_in CLASS NUMBER) T.der) };
+    ghost der = { inside_der (explicit_tag_in CLASS NUMBER) tagged_explicit_inner T.der };
 
     fn known(&self) {
         self.inner.known()
@@ -185,8 +184,7 @@ impl<T, const CLASS: u8, const NUMBER: u32> From<T> for TaggedImplicit<T, CLASS,
 
 impl<T: Asn1Type, const CLASS: u8, const NUMBER: u32> Asn1Type
     for TaggedImplicit<T, CLASS, NUMBER> {
-    ghost der = { simple_der (λ x. T.der.meaning (tagged_implicit_inner x))
-        (retagged (implicit_tag_in CLASS NUMBER) T.der.content) };
+    ghost der = { changed_der (implicit_tag_in CLASS NUMBER) tagged_implicit_inner T.der };
 
     fn known(&self) {
         self.inner.known()

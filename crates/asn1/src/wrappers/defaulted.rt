@@ -3,7 +3,8 @@
 ghost use Rattle.std.specs.Prelude.{◌≡◌};
 ghost use Rattle.asn1.specs.InHand.{defaulted_inner};
 ghost use Rattle.asn1.specs.Defaults.{or_read_default, same_text, seen_ok, UnlessDefault};
-ghost use Rattle.asn1.specs.Defaulted.{ContentTells, EqualityTells, default_der};
+ghost use Rattle.asn1.specs.Defaulted.{ContentTells, EqualityTells};
+ghost use Rattle.asn1.specs.Types.{default_der};
 
 use crate::wrappers::defaults::from_optional_default;
 use asn1_core::{

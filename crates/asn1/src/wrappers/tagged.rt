@@ -2,9 +2,8 @@
 
 ghost use Rattle.std.specs.Prelude.{◌≡◌};
 ghost use Rattle.asn1_core.specs.Tag.{explicit_tag_of, implicit_tag_of, universal};
-ghost use Rattle.asn1_core.specs.Der.{simple_der};
 ghost use Rattle.asn1.specs.InHand.{explicit_inner, implicit_inner, octet_string_inner};
-ghost use Rattle.asn1.specs.Tagged.{one_inside, retagged};
+ghost use Rattle.asn1.specs.Types.{changed_der, inside_der};
 
 use asn1_core::{
     Asn1Readable, Asn1Type, Asn1Writable, ParseResult, SimpleAsn1Readable, SimpleAsn1Writable, Tag,
@@ -59,8 +58,7 @@ impl<T, const TAG: u32> From<T> for Explicit<T, TAG> {
 }
 
 impl<T: Asn1Type, const TAG: u32> Asn1Type for Explicit<T, TAG> {
-    ghost der = { simple_der (λ x. T.der.meaning (explicit_inner x))
-        (one_inside (explicit_tag_of TAG) T.der) };
+    ghost der = { inside_der (explicit_tag_of TAG) explicit_inner T.der };
 
     fn known(&self) {
         self.inner.known()
@@ -150,8 +148,7 @@ impl<T, const TAG: u32> From<T> for Implicit<T, TAG> {
 }
 
 impl<T: Asn1Type, const TAG: u32> Asn1Type for Implicit<T, TAG> {
-    ghost der = { simple_der (λ x. T.der.meaning (implicit_inner x))
-        (retagged (implicit_tag_of TAG) T.der.content) };
+    ghost der = { changed_der (implicit_tag_of TAG) implicit_inner T.der };
 
     fn known(&self) {
         self.inner.known()
@@ -237,8 +234,7 @@ impl<T> OctetStringEncoded<T> {
 }
 
 impl<T: Asn1Type> Asn1Type for OctetStringEncoded<T> {
-    ghost der = { simple_der (λ x. T.der.meaning (octet_string_inner x))
-        (one_inside (universal 4) T.der) };
+    ghost der = { inside_der (universal 4) octet_string_inner T.der };
 
     fn known(&self) {
         self.inner.known()

@@ -1,8 +1,9 @@
 //! BOOLEAN (X.690 8.2).
 
 ghost use Rattle.std.specs.Prelude.{◌≡◌};
-ghost use Rattle.asn1_core.specs.BooleanContent.{bool_content};
+ghost use Rattle.asn1_core.specs.Boolean.{bool_content};
 ghost use Rattle.asn1_core.specs.Der.{simple_der};
+ghost use Rattle.asn1_core.specs.LawsOf.Contents.{bool_laws};
 
 use crate::parser::{ParseError, ParseErrorKind, ParseResult};
 use crate::tag::Tag;
@@ -13,7 +14,7 @@ use std::alloc::Global;
 /// BOOLEAN (X.690 8.2, 11.1; universal 1): one contents octet, 0x00 for false and 0xff for true. Reading rejects all
 /// other contents octets with `InvalidValue`.
 impl Asn1Type for bool {
-    ghost der = { simple_der (λ b. b) bool_content };
+    ghost der = { simple_der (λ b. b) bool_content bool_laws };
 
     fn known(&self) {}
 }

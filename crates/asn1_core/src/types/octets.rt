@@ -3,10 +3,11 @@
 ghost use Rattle.std.specs.Prelude.{◌≡◌, IsTrue, length};
 ghost use Rattle.asn1_core.specs.Text.{IsText};
 ghost use Rattle.asn1_core.specs.Tag.{universal};
-ghost use Rattle.asn1_core.specs.OctetContents.{octets_content, sized_octets_content, null_content};
+ghost use Rattle.asn1_core.specs.Octets.{octets_content, sized_octets_content, null_content};
 ghost use Rattle.asn1_core.specs.Reads.{ReadsContents};
 ghost use Rattle.asn1_core.specs.Writing.{GivesLength};
 ghost use Rattle.asn1_core.specs.Der.{simple_der};
+ghost use Rattle.asn1_core.specs.LawsOf.Contents.{octets_laws, sized_octets_laws, null_laws};
 
 use crate::parser::{ParseError, ParseErrorKind, ParseResult};
 use crate::tag::Tag;
@@ -18,7 +19,7 @@ use std::alloc::Global;
 pub type Null = ();
 
 impl Asn1Type for () {
-    ghost der = { simple_der (λ m. m) null_content };
+    ghost der = { simple_der (λ m. m) null_content null_laws };
 
     fn known(&self) {}
 }
@@ -71,7 +72,7 @@ fn are_octets(octets: &[u8])
 /// OCTET STRING (X.690 8.7; universal 4), of any length. Reading borrows the contents octets from the input and rejects
 /// none. As DER demands (10.2), the encoding is primitive: a constructed one is `UnexpectedTag`.
 impl<'a> Asn1Type for &'a [u8] {
-    ghost der = { simple_der (λ octets. octets.now) octets_content };
+    ghost der = { simple_der (λ octets. octets.now) octets_content octets_laws };
 
     fn known(&self) {
         are_octets(self)
@@ -128,7 +129,7 @@ impl SimpleAsn1Writable for &[u8] {
 /// OCTET STRING (X.690 8.7; universal 4) of `N` octets, which reading copies. Reading rejects another number of octets
 /// with `InvalidValue`.
 impl<const N: usize> Asn1Type for [u8; N] {
-    ghost der = { simple_der (λ octets. octets) (sized_octets_content N) };
+    ghost der = { simple_der (λ octets. octets) (sized_octets_content N) (sized_octets_laws N) };
 
     fn known(&self) {
         are_octets(self)

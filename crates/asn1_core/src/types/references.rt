@@ -1,7 +1,7 @@
 //! Values in a box or behind a reference. They have the meaning and the encoding of the value that they hold.
 
 ghost use Rattle.std.specs.Prelude.{◌≡◌, length};
-ghost use Rattle.asn1_core.specs.Boxed.{boxed_der};
+ghost use Rattle.asn1_core.specs.CoreTypes.{boxed_der};
 ghost use Rattle.asn1_core.specs.Der.{seen};
 ghost use Rattle.asn1_core.specs.Element.{element_text};
 ghost use Rattle.asn1_core.specs.Writing.{GivesLength};

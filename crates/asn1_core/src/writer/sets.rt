@@ -5,7 +5,8 @@ ghost use Rattle.std.specs.Prelude.{[], length, map, All, IsPermutation, true, I
 ghost use Rattle.std.specs.List.Sorted.{IsSortedBy};
 ghost use Rattle.asn1_core.specs.Buffer.{Appends, KeepsFront};
 ghost use Rattle.asn1_core.specs.Writing.{Refuses, set_closure, set_items};
-ghost use Rattle.asn1_core.specs.Der.{IsWritable, simple_der};
+ghost use Rattle.asn1_core.specs.Der.{IsWritable, encoding_of, simple_der};
+ghost use Rattle.asn1_core.specs.LawsOf.Contents.{listing_laws, set_closure_laws};
 ghost use Rattle.asn1_core.specs.Listing.{Each, AnyNames, set_tag, join, ListingOf};
 ghost use Rattle.asn1_core.specs.SetWriting.{StandsBehind, AddsTo, IsOutOfOrder, KeepsElements, OrderedElements};
 ghost use Rattle.asn1_core.specs.SetWriting.{MayRefuseSet, set_closure_written, listing_written};
@@ -166,7 +167,8 @@ impl<'a, T: Asn1Writable> SetOfWriter<'a, T> {
 }
 
 impl<'a, T: Asn1Type> Asn1Type for SetOfWriter<'a, T> {
-    ghost der = { simple_der (λ v. map T.der.meaning (set_items v)) (listing_written T.der) };
+    ghost der = { simple_der (λ v. map T.der.meaning (set_items v))
+        (listing_written (encoding_of T.der)) (listing_laws T.der.laws) };
 
     fn known(&self) {
         for item in self.items {
@@ -347,7 +349,8 @@ impl<'a, F: Fn(&mut SetElementWriter<'_>) -> Result<(), E>, E> SetWriter<'a, F, 
 }
 
 impl<'a, F: Fn(&mut SetElementWriter<'_>) -> Result<(), E>, E> Asn1Type for SetWriter<'a, F, E> {
-    ghost der = { simple_der set_closure (set_closure_written F.FnOnce) };
+    ghost der = { simple_der set_closure (set_closure_written F.FnOnce)
+        (set_closure_laws F.FnOnce) };
 
     fn known(&self) {}
 }

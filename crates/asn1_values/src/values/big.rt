@@ -64,8 +64,9 @@ impl fmt::Debug for BigUint<'_> {
 
 impl<'a> Asn1Type for BigUint<'a> {
     ghost use Rattle.asn1_values.specs.Values.{big_uint_number, unsigned_content};
+    ghost use Rattle.asn1_values.specs.LawsOf.Values.{unsigned_laws};
 
-    ghost der = { simple_der big_uint_number unsigned_content };
+    ghost der = { simple_der big_uint_number unsigned_content unsigned_laws };
 
     fn known(&self) {}
 }
@@ -190,8 +191,9 @@ impl fmt::Debug for BigInt<'_> {
 
 impl<'a> Asn1Type for BigInt<'a> {
     ghost use Rattle.asn1_values.specs.Values.{big_int_number, signed_content};
+    ghost use Rattle.asn1_values.specs.LawsOf.Values.{signed_laws};
 
-    ghost der = { simple_der big_int_number signed_content };
+    ghost der = { simple_der big_int_number signed_content signed_laws };
 
     fn known(&self) {}
 }

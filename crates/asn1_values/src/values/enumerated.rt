@@ -6,6 +6,7 @@ ghost use Rattle.asn1_core.specs.Integer.{integer_content};
 ghost use Rattle.asn1_core.specs.Element.{element, element_text};
 ghost use Rattle.asn1_core.specs.Reading.{Fits};
 ghost use Rattle.asn1_core.specs.Sized.{sized_content};
+ghost use Rattle.asn1_core.specs.LawsOf.Contents.{sized_laws};
 ghost use Rattle.asn1_core.specs.Der.{simple_der};
 
 use asn1_core::{
@@ -42,7 +43,7 @@ impl Asn1Type for Enumerated {
     ghost use Rattle.asn1_values.specs.Values.{enumerated_value};
 
     ghost der = { simple_der (λ e. pos (enumerated_value e))
-        (sized_content (universal 10) (pos 0) (pos (2 ^ 32) -ℤ pos 1)) };
+        (sized_content (universal 10) (pos 0) (pos (2 ^ 32) -ℤ pos 1)) (sized_laws _ _ _) };
 
     fn known(&self)
         ensures valid { (sized_content (universal 10) (pos 0) (pos (2 ^ 32) -ℤ pos 1)).valid

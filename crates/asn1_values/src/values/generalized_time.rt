@@ -90,8 +90,9 @@ impl Clone for GeneralizedTime {
 
 impl Asn1Type for GeneralizedTime {
     ghost use Rattle.asn1_values.specs.TimeValues.{instant_of, instant_content};
+    ghost use Rattle.asn1_values.specs.LawsOf.Values.{instant_laws};
 
-    ghost der = { simple_der instant_of instant_content };
+    ghost der = { simple_der instant_of instant_content instant_laws };
 
     fn known(&self) {}
 }

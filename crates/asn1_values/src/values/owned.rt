@@ -4,6 +4,7 @@ ghost use Rattle.std.specs.Prelude.{◌≡◌, ◌^◌, ◌<◌, length, pos, in
 ghost use Rattle.asn1_core.specs.Integer.{integer_content};
 ghost use Rattle.asn1_core.specs.Der.{simple_der};
 ghost use Rattle.asn1_core.specs.Boxed.{boxed};
+ghost use Rattle.asn1_core.specs.LawsOf.Encodings.{boxed_content_laws};
 ghost use Rattle.asn1_values.specs.Big.{IsSigned, IsUnsigned, IsSignedForm, IsUnsignedForm, bit_count};
 
 use crate::values::big::{bit_length, is_negative, is_signed_content, is_unsigned_content};
@@ -70,8 +71,10 @@ impl fmt::Debug for OwnedBigUint {
 
 impl Asn1Type for OwnedBigUint {
     ghost use Rattle.asn1_values.specs.Values.{owned_big_uint_number, unsigned_content};
+    ghost use Rattle.asn1_values.specs.LawsOf.Values.{unsigned_laws};
 
-    ghost der = { simple_der owned_big_uint_number (boxed unsigned_content) };
+    ghost der = { simple_der owned_big_uint_number (boxed unsigned_content)
+        (boxed_content_laws unsigned_laws) };
 
     fn known(&self) {}
 }
@@ -190,8 +193,10 @@ impl fmt::Debug for OwnedBigInt {
 
 impl Asn1Type for OwnedBigInt {
     ghost use Rattle.asn1_values.specs.Values.{owned_big_int_number, signed_content};
+    ghost use Rattle.asn1_values.specs.LawsOf.Values.{signed_laws};
 
-    ghost der = { simple_der owned_big_int_number (boxed signed_content) };
+    ghost der = { simple_der owned_big_int_number (boxed signed_content)
+        (boxed_content_laws signed_laws) };
 
     fn known(&self) {}
 }

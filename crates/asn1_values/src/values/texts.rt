@@ -117,8 +117,9 @@ impl fmt::Debug for PrintableString<'_> {
 
 impl<'a> Asn1Type for PrintableString<'a> {
     ghost use Rattle.asn1_values.specs.TextValues.{printable_octets, printable_content};
+    ghost use Rattle.asn1_values.specs.LawsOf.Values.{printable_laws};
 
-    ghost der = { simple_der printable_octets printable_content };
+    ghost der = { simple_der printable_octets printable_content printable_laws };
 
     fn known(&self) {}
 }
@@ -229,8 +230,9 @@ impl fmt::Debug for IA5String<'_> {
 
 impl<'a> Asn1Type for IA5String<'a> {
     ghost use Rattle.asn1_values.specs.TextValues.{ia5_octets, ia5_content};
+    ghost use Rattle.asn1_values.specs.LawsOf.Values.{ia5_laws};
 
-    ghost der = { simple_der ia5_octets ia5_content };
+    ghost der = { simple_der ia5_octets ia5_content ia5_laws };
 
     fn known(&self) {}
 }
@@ -340,8 +342,9 @@ impl fmt::Debug for VisibleString<'_> {
 
 impl<'a> Asn1Type for VisibleString<'a> {
     ghost use Rattle.asn1_values.specs.TextValues.{visible_octets, visible_content};
+    ghost use Rattle.asn1_values.specs.LawsOf.Values.{visible_laws};
 
-    ghost der = { simple_der visible_octets visible_content };
+    ghost der = { simple_der visible_octets visible_content visible_laws };
 
     fn known(&self) {}
 }
@@ -448,8 +451,9 @@ impl fmt::Debug for Utf8String<'_> {
 
 impl<'a> Asn1Type for Utf8String<'a> {
     ghost use Rattle.asn1_values.specs.TextValues.{utf8_octets, utf8_content};
+    ghost use Rattle.asn1_values.specs.LawsOf.Values.{utf8_laws};
 
-    ghost der = { simple_der utf8_octets utf8_content };
+    ghost der = { simple_der utf8_octets utf8_content utf8_laws };
 
     fn known(&self) {}
 }

@@ -76,8 +76,9 @@ impl fmt::Debug for UtcTime {
 
 impl Asn1Type for UtcTime {
     ghost use Rattle.asn1_values.specs.TimeValues.{utc_moment, utc_content};
+    ghost use Rattle.asn1_values.specs.LawsOf.Values.{utc_laws};
 
-    ghost der = { simple_der utc_moment utc_content };
+    ghost der = { simple_der utc_moment utc_content utc_laws };
 
     fn known(&self) {}
 }
@@ -177,8 +178,9 @@ impl fmt::Debug for X509GeneralizedTime {
 
 impl Asn1Type for X509GeneralizedTime {
     ghost use Rattle.asn1_values.specs.TimeValues.{x509_moment, x509_content};
+    ghost use Rattle.asn1_values.specs.LawsOf.Values.{x509_laws};
 
-    ghost der = { simple_der x509_moment x509_content };
+    ghost der = { simple_der x509_moment x509_content x509_laws };
 
     fn known(&self) {}
 }

@@ -141,8 +141,9 @@ impl fmt::Debug for BMPString<'_> {
 
 impl<'a> Asn1Type for BMPString<'a> {
     ghost use Rattle.asn1_values.specs.TextValues.{bmp_octets, utf16_content};
+    ghost use Rattle.asn1_values.specs.LawsOf.Values.{utf16_laws};
 
-    ghost der = { simple_der bmp_octets utf16_content };
+    ghost der = { simple_der bmp_octets utf16_content utf16_laws };
 
     fn known(&self) {}
 }
@@ -258,8 +259,9 @@ impl fmt::Debug for UniversalString<'_> {
 
 impl<'a> Asn1Type for UniversalString<'a> {
     ghost use Rattle.asn1_values.specs.TextValues.{universal_octets, utf32_content};
+    ghost use Rattle.asn1_values.specs.LawsOf.Values.{utf32_laws};
 
-    ghost der = { simple_der universal_octets utf32_content };
+    ghost der = { simple_der universal_octets utf32_content utf32_laws };
 
     fn known(&self) {}
 }

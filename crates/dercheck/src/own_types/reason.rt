@@ -3,6 +3,7 @@
 ghost use Rattle.std.specs.Prelude.{◌≡◌};
 ghost use Rattle.asn1.specs.Der.{simple_der};
 ghost use Rattle.dercheck.specs.OwnTypes.{reason_content};
+ghost use Rattle.dercheck.specs.LawsOf.{reason_laws};
 
 use asn1::{
     Asn1Type, ParseError, ParseErrorKind, ParseResult, SimpleAsn1Readable, SimpleAsn1Writable, Tag,
@@ -20,7 +21,7 @@ pub enum Reason {
 }
 
 impl Asn1Type for Reason {
-    ghost der = { simple_der (λ reason. reason) reason_content };
+    ghost der = { simple_der (λ reason. reason) reason_content reason_laws };
 
     fn known(&self) {}
 }

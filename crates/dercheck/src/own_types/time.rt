@@ -1,7 +1,10 @@
 //! A choice: a time of either form.
 
 ghost use Rattle.std.proofs.Common.{inl, inr};
-ghost use Rattle.asn1.specs.Choices.{choice_der, only, or};
+ghost use Rattle.asn1.specs.Choices.{only, or};
+ghost use Rattle.asn1.specs.Der.{encoding_of};
+ghost use Rattle.asn1.specs.LawsOf.Choices.{only_laws, or_laws};
+ghost use Rattle.asn1.specs.Types.{choice_der};
 
 use asn1::{
     Asn1Readable, Asn1Type, Asn1Writable, Choice2, ParseResult, Parser, Tag, UtcTime, WriteError,
@@ -23,7 +26,10 @@ impl Asn1Type for Time {
     ghost der = { choice_der (elim [
       | UTCTime x ↦ inl (⟦<UtcTime as Asn1Type>⟧.der.meaning x)
       | X509GeneralizedTime x ↦ inr (⟦<X509GeneralizedTime as Asn1Type>⟧.der.meaning x)
-    ]) (or ⟦<UtcTime as Asn1Type>⟧.der (only ⟦<X509GeneralizedTime as Asn1Type>⟧.der)) };
+    ]) (or (encoding_of ⟦<UtcTime as Asn1Type>⟧.der)
+        (only (encoding_of ⟦<X509GeneralizedTime as Asn1Type>⟧.der)))
+        (or_laws ⟦<UtcTime as Asn1Type>⟧.der.laws
+        (only_laws ⟦<X509GeneralizedTime as Asn1Type>⟧.der.laws)) };
 
     fn known(&self) {
         match self {

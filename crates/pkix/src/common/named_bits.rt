@@ -73,7 +73,9 @@ impl<'a> Clone for NamedBits<'a> {
 }
 
 impl<'a> Asn1Type for NamedBits<'a> {
-    ghost der = { simple_der (λ v. bits_of v.bits) named_bits_content };
+    ghost use Rattle.pkix.specs.LawsOf.{named_bits_laws};
+
+    ghost der = { simple_der (λ v. bits_of v.bits) named_bits_content named_bits_laws };
 
     fn known(&self) {
         self.bits.known()

@@ -20,7 +20,7 @@ module _ {V : Type 0} (d : Der V) (text : List ℕ) where
 
   encodes : (m : d.Meaning) → IsText text → whole (d.read text) ≡ Ok m → Encodes d m text
   encodes m is e =
-      let h = whole_is d.text (λ x. d.valid x × d.allowed x) d.read d.takes text m is e in
+      let h = whole_is d.text (λ x. d.valid x × d.allowed x) d.read d.laws.takes text m is e in
       record { is = h.0.is ∙ append-nil (d.text m); valid = h.1.0; allowed = h.1.1; fits = h.0.one }
 
   found : (result : Result V Fault) → IsText text → Read result → IfOk result (λ v. Encodes d (d.meaning v) text)
@@ -37,13 +37,13 @@ module _ {V : Type 0} (d : Der V) (text : List ℕ) where
       → Answers d.meaning (d.runs_out text) result (Ok m) → IsOk result
   is_ok (Ok v) m none e = refl
   is_ok (Err f) m none (inl e) = absurd cc
-  is_ok (Err f) m none (inr e) = absurd (none (d.memory text f.places e.1))
+  is_ok (Err f) m none (inr e) = absurd (none (d.laws.memory text f.places e.1))
 
   -- a value is read from its encoding
   read_back : (m : d.Meaning) → d.lawful → Encodes d m text → d.read text ≡ Ok (m, [])
   read_back m lawful h =
       ap d.read (h.is ∙ sym (append-nil (d.text m)))
-      ∙ d.again m [] lawful h.valid h.allowed h.fits (λ e. stands-nil d.accepts)
+      ∙ d.laws.again m [] lawful h.valid h.allowed h.fits (λ e. stands-nil d.accepts)
 
   one : d.lawful → (m n : d.Meaning) → Encodes d m text → Encodes d n text → m ≡ n
   one lawful m n h k = ap (λ r. value_or m r) (sym (read_back m lawful h) ∙ read_back n lawful k)

@@ -4,7 +4,7 @@ ghost use Rattle.std.specs.Prelude.{◌≡◌, length, pos};
 ghost use Rattle.std.specs.Int.NonZero.{non_zero_i8_get, non_zero_i16_get, non_zero_i32_get, non_zero_i64_get};
 ghost use Rattle.std.specs.Int.NonZero.{non_zero_u8_get, non_zero_u16_get, non_zero_u32_get, non_zero_u64_get};
 ghost use Rattle.asn1_core.specs.Integer.{integer_content};
-ghost use Rattle.asn1_core.specs.Sized.{non_zero_signed_der, non_zero_unsigned_der};
+ghost use Rattle.asn1_core.specs.CoreTypes.{non_zero_signed_der, non_zero_unsigned_der};
 
 use crate::tag::Tag;
 use crate::types::{Asn1Type, SimpleAsn1Writable};

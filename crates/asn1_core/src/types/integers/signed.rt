@@ -3,7 +3,8 @@
 ghost use Rattle.std.specs.Prelude.{◌≡◌, ℤ, length};
 ghost use Rattle.asn1_core.specs.Integer.{integer_content};
 ghost use Rattle.asn1_core.specs.Reading.{Fits};
-ghost use Rattle.asn1_core.specs.Sized.{integer_text, signed_der};
+ghost use Rattle.asn1_core.specs.Sized.{integer_text};
+ghost use Rattle.asn1_core.specs.CoreTypes.{signed_der};
 
 use crate::parser::{ParseError, ParseResult};
 use crate::tag::Tag;

@@ -14,19 +14,19 @@ returns-clause-item g c =
     let d = g.T.Asn1Type.der in
     let t = c.args.parser.now in
     let found : front t ≡ Ok (element_of c.in-Ok.tlv, c.read_element.new.self) = framed_ok (front t) _ c.in-Ok.ensures.answers in
-    let x = set_next_cut text_less d.read d.text (λ m. d.valid m × d.allowed m) d.takes none_less t (element_of c.in-Ok.tlv) c.read_element.new.self (subst IsText c.rest.ensures.same c.known.ensures) (not_nil _ c.requires.some) c.requires.are_ordered found in
+    let x = set_next_cut text_less d.read d.text (λ m. d.valid m × d.allowed m) d.laws.takes none_less t (element_of c.in-Ok.tlv) c.read_element.new.self (subst IsText c.rest.ensures.same c.known.ensures) (not_nil _ c.requires.some) c.requires.are_ordered found in
     next_in_set d.meaning d.runs_out c.parse.result _ x.0 t (element_of c.in-Ok.tlv) c.read_element.new.self _ _ found c.parse.ensures.exact x.1 x.2
 
 pub returns-clause-after : goal.returns-clause-after
 returns-clause-after g c =
     let d = g.T.Asn1Type.der in
     let t = c.args.parser.now in
-    let x = set_next_cut text_less d.read d.text (λ m. d.valid m × d.allowed m) d.takes none_less t (element_of c.in-Ok.tlv) c.read_element.new.self (subst IsText c.rest.ensures.same c.known.ensures) (not_nil _ c.requires.some) c.requires.are_ordered (framed_ok (front t) _ c.in-Ok.ensures.answers) in
+    let x = set_next_cut text_less d.read d.text (λ m. d.valid m × d.allowed m) d.laws.takes none_less t (element_of c.in-Ok.tlv) c.read_element.new.self (subst IsText c.rest.ensures.same c.known.ensures) (not_nil _ c.requires.some) c.requires.are_ordered (framed_ok (front t) _ c.in-Ok.ensures.answers) in
     x.3
 
 pub returns-clause-shorter : goal.returns-clause-shorter
 returns-clause-shorter g c =
     let d = g.T.Asn1Type.der in
     let t = c.args.parser.now in
-    let x = set_next_cut text_less d.read d.text (λ m. d.valid m × d.allowed m) d.takes none_less t (element_of c.in-Ok.tlv) c.read_element.new.self (subst IsText c.rest.ensures.same c.known.ensures) (not_nil _ c.requires.some) c.requires.are_ordered (framed_ok (front t) _ c.in-Ok.ensures.answers) in
+    let x = set_next_cut text_less d.read d.text (λ m. d.valid m × d.allowed m) d.laws.takes none_less t (element_of c.in-Ok.tlv) c.read_element.new.self (subst IsText c.rest.ensures.same c.known.ensures) (not_nil _ c.requires.some) c.requires.are_ordered (framed_ok (front t) _ c.in-Ok.ensures.answers) in
     x.4

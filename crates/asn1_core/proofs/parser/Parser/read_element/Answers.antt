@@ -5,4 +5,4 @@ pub returns-clause-no_want : goal.returns-clause-no_want
 returns-clause-no_want g c none =
     let d = g.T.Asn1Type.der in
     let t = c.args.self.now in
-    of_text _ (d.runs_out t) c.parse.result (d.read t) c.parse.ensures.answers (d.faults t) (λ places out. none (d.memory t places out))
+    of_text _ (d.runs_out t) c.parse.result (d.read t) c.parse.ensures.answers (d.laws.faults t) (λ places out. none (d.laws.memory t places out))

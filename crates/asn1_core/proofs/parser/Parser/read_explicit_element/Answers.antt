@@ -15,14 +15,14 @@ returns-clause-found g c =
     let tag = explicit_tag_of c.args.tag in
     let good : d.Meaning → Type 0 = λ m. d.valid m × d.allowed m in
     taken d.meaning _ (λ m. element_text (element tag (d.text m))) good (simple tag (λ (o : List ℕ). whole (d.read o)))
-    (simple_takes tag d.text good (λ (o : List ℕ). whole (d.read o)) (inside_takes d.text good d.read d.takes)) c.args.self.now _ _ c.are_octets.ensures c.read_explicit.ensures.answers
+    (simple_takes tag d.text good (λ (o : List ℕ). whole (d.read o)) (inside_takes d.text good d.read d.laws.takes)) c.args.self.now _ _ c.are_octets.ensures c.read_explicit.ensures.answers
 
 pub returns-clause-only : goal.returns-clause-only
 returns-clause-only g c m rest lawful valid allowed short is =
     let d = g.T.Asn1Type.der in
     let tag = explicit_tag_of c.args.tag in
     returns_as d _ c.read_explicit.result _ m rest (simple tag (λ (o : List ℕ). whole (d.read o)) c.args.self.now) c.read_explicit.ensures.answers
-    (simple_read tag d.text (λ (o : List ℕ). whole (d.read o)) m c.args.self.now rest (omega arith) short (inside_again d.accepts d.text d.read m (d.shape m lawful valid) (d.again m [] lawful valid allowed) short) is)
+    (simple_read tag d.text (λ (o : List ℕ). whole (d.read o)) m c.args.self.now rest (omega arith) short (inside_again d.accepts d.text d.read m (d.laws.shape m lawful valid) (d.laws.again m [] lawful valid allowed) short) is)
 
 pub returns-clause-progress : goal.returns-clause-progress
 returns-clause-progress g c =
@@ -35,4 +35,4 @@ returns-clause-no_want g c none =
     let d = g.T.Asn1Type.der in
     let tag = explicit_tag_of c.args.tag in
     let t = c.args.self.now in
-    of_text _ (simple_out tag d.runs_out t) c.read_explicit.result (simple tag (λ (o : List ℕ). whole (d.read o)) t) c.read_explicit.ensures.answers (simple_faults tag (λ (o : List ℕ). whole (d.read o)) (λ o. whole_faults (d.read o) (d.faults o)) t) (λ places out. none (d.memory _ places out.3))
+    of_text _ (simple_out tag d.runs_out t) c.read_explicit.result (simple tag (λ (o : List ℕ). whole (d.read o)) t) c.read_explicit.ensures.answers (simple_faults tag (λ (o : List ℕ). whole (d.read o)) (λ o. whole_faults (d.read o) (d.laws.faults o)) t) (λ places out. none (d.laws.memory _ places out.3))

@@ -16,7 +16,7 @@ returns-clause-found g c =
     let tag = implicit_tag_of c.args.tag k.tag in
     let good : d.Meaning → Type 0 = λ m. k.valid m × k.allowed m in
     taken d.meaning _ (λ m. element_text (element tag (k.text m))) good (simple tag k.read)
-    (simple_takes tag k.text good k.read k.takes) c.args.self.now _ _ c.are_octets.ensures c.read_implicit.ensures.answers
+    (simple_takes tag k.text good k.read d.laws.of_content.takes) c.args.self.now _ _ c.are_octets.ensures c.read_implicit.ensures.answers
 
 pub returns-clause-only : goal.returns-clause-only
 returns-clause-only g c m rest lawful valid allowed short is =
@@ -24,7 +24,7 @@ returns-clause-only g c m rest lawful valid allowed short is =
     let k = d.content in
     let tag = implicit_tag_of c.args.tag k.tag in
     returns_as d _ c.read_implicit.result _ m rest (simple tag k.read c.args.self.now) c.read_implicit.ensures.answers
-    (simple_read tag k.text k.read m c.args.self.now rest (omega arith) short (k.again m lawful valid allowed short) is)
+    (simple_read tag k.text k.read m c.args.self.now rest (omega arith) short (d.laws.of_content.again m lawful valid allowed short) is)
 
 pub returns-clause-progress : goal.returns-clause-progress
 returns-clause-progress g c =
@@ -39,4 +39,4 @@ returns-clause-no_want g c none =
     let k = d.content in
     let tag = implicit_tag_of c.args.tag k.tag in
     let t = c.args.self.now in
-    of_text _ (simple_out tag k.runs_out t) c.read_implicit.result (simple tag k.read t) c.read_implicit.ensures.answers (simple_faults tag k.read k.faults t) (λ places out. none (d.as_memory (k.memory _ places out.3)))
+    of_text _ (simple_out tag k.runs_out t) c.read_implicit.result (simple tag k.read t) c.read_implicit.ensures.answers (simple_faults tag k.read d.laws.of_content.faults t) (λ places out. none (d.laws.as_memory (d.laws.of_content.memory _ places out.3)))

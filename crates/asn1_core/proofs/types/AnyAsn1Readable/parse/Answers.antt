@@ -9,4 +9,4 @@ returns-in-Err-clause-answers g c =
     let d = g.T.Asn1Type.der in
     let t = c.args.parser.now in
     let refused : expected_front d.content.tag t ≡ Err c.in-Err.kind = ap (λ (tag : Tag). expected_front tag t) (sym c.tag.ensures.value) ∙ c.in-Err.ensures.answers in
-    inl (rw c.new.ensures (d.as_read c.tag.ensures.simple t ∙ simple_refusal d.content.tag d.content.read t c.in-Err.kind refused))
+    inl (rw c.new.ensures (d.laws.as_read c.tag.ensures.simple t ∙ simple_refusal d.content.tag d.content.read t c.in-Err.kind refused))

@@ -11,4 +11,4 @@ pub returns-clause-ok : goal.returns-clause-ok
 returns-clause-ok g c =
     let d = g.T.Asn1Type.der in
     let m = d.meaning c.args.self.now in
-    rw (d.as_texts c.tag.ensures.simple m) (appended_by _ _ (d.content.texts m) (λ old new h. search rules) _ _ _ c.tag.ensures.value c.write_tlv.ensures.ok)
+    rw (d.laws.as_texts c.tag.ensures.simple m) (appended_by _ _ (d.content.texts m) (λ old new h. search rules) _ _ _ c.tag.ensures.value c.write_tlv.ensures.ok)

@@ -12,4 +12,4 @@ returns-clause-found c =
     let d : Der Tlv = tlv_der element_of in
     let t = c.args.parser.now in
     let answers : Answers (λ v. (element_of v, c.read_tlv.new.self)) (λ places. ⊥) c.kind_as_error.result (element_front t) = search rules in
-    taken element_of (λ places. ⊥) element_text (λ (e : Element). d.valid e × d.allowed e) element_front d.takes t _ _ c.are_octets.ensures answers
+    taken element_of (λ places. ⊥) element_text (λ (e : Element). d.valid e × d.allowed e) element_front d.laws.takes t _ _ c.are_octets.ensures answers

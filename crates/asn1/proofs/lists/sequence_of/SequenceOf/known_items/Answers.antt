@@ -10,5 +10,5 @@ returns g c =
     let self = c.args.self.now in
     let content = self.content.now in
     let is = IsText-from_reads content self.are_octets in
-    let items = left_is d.read d.text (λ m. d.valid m × d.allowed m) d.takes content self.count is self.are_items in
+    let items = left_is d.read d.text (λ m. d.valid m × d.allowed m) d.laws.takes content self.count is self.are_items in
     (each_both d.valid d.allowed (left d.read content) items.1).1

@@ -10,6 +10,6 @@ pub returns-clause-length : goal.returns-clause-length
 returns-clause-length g c =
     let d = g.T.Asn1Type.der in
     let content = c.args.self.now.content.now in
-    let is = left_is d.read d.text (λ m. d.valid m × d.allowed m) d.takes content c.args.self.now.count (IsText-from_reads content c.args.self.now.are_octets) c.args.self.now.are_items in
-    let right : (t : List ℕ) → Joins d.texts (left d.read content) t → length t ≡ length content = λ t written. ap length (joins_one d.text d.texts (d.one_text c.can_parse-accepted.ensures.plain) (left d.read content) t written ∙ sym is.0) in
+    let is = left_is d.read d.text (λ m. d.valid m × d.allowed m) d.laws.takes content c.args.self.now.count (IsText-from_reads content c.args.self.now.are_octets) c.args.self.now.are_items in
+    let right : (t : List ℕ) → Joins d.texts (left d.read content) t → length t ≡ length content = λ t written. ap length (joins_one d.text d.texts (d.laws.one_text c.can_parse-accepted.ensures.plain) (left d.read content) t written ∙ sym is.0) in
     record { right = right; told = λ k t written small. ap Some (sym (right t written)) }

@@ -11,5 +11,5 @@ returns g c =
     let self = c.args.self.now in
     let content = self.content.now in
     let is = IsText-from_reads content self.are_octets in
-    let items = set_left_is text_less d.read d.text (λ m. d.valid m × d.allowed m) d.takes content is self.are_ordered in
+    let items = set_left_is text_less d.read d.text (λ m. d.valid m × d.allowed m) d.laws.takes content is self.are_ordered in
     (each_both d.valid d.allowed (set_left text_less d.read content) items.1).1

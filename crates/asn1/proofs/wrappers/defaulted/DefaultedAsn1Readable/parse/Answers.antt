@@ -1,5 +1,5 @@
 use Rattle.asn1_core.proofs.Inside.{taken}
-use Rattle.asn1.specs.Defaulted.{default_der}
+use Rattle.asn1.specs.Types.{default_der}
 use Rattle.asn1.specs.InHand.{defaulted_inner}
 use Rattle.asn1.proofs.DefaultSteps.{answers_default, stops_default}
 use Rattle.asn1.proofs.wrappers.defaulted.DefaultedAsn1Readable.parse.Goals as goal
@@ -12,7 +12,7 @@ returns-clause-answers g c =
 pub returns-clause-found : goal.returns-clause-found
 returns-clause-found g c =
     let d = default_der defaulted_inner g.T.Asn1Type.der (g.T.Asn1Type.der.meaning g.D.DefaultValue.default) in
-    taken d.meaning _ d.text (λ m. d.valid m × d.allowed m) d.read d.takes c.args.parser.now _ _ c.rest-octets.ensures.octets (returns-clause-answers g c)
+    taken d.meaning _ d.text (λ m. d.valid m × d.allowed m) d.read d.laws.takes c.args.parser.now _ _ c.rest-octets.ensures.octets (returns-clause-answers g c)
 
 pub returns-clause-stops : goal.returns-clause-stops
 returns-clause-stops g c =
