@@ -17,6 +17,7 @@ pub use Rattle.asn1_core.specs.Lemmas.Integers
 pub use Rattle.asn1_core.specs.Lemmas.Octets
 pub use Rattle.asn1_core.specs.Lemmas.Items
 pub use Rattle.asn1_core.specs.Lemmas.Listing
+pub use Rattle.asn1_core.specs.Lemmas.Same
 pub mod Choices
 pub mod Defined
 pub mod Variants

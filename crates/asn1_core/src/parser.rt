@@ -18,7 +18,7 @@ ghost use Rattle.asn1_core.specs.Reads.{BeginsWithElement, BeginsWithEncodingOf,
 ghost use Rattle.asn1_core.specs.Reads.{ReadsImplicit, ReadsPrefix, ReadsWhole, ReturnsValue};
 ghost use Rattle.asn1_core.specs.Laws.{IsShort, with_more};
 ghost use Rattle.std.specs.Cmp.{decided, partial_equiv_from_equiv};
-ghost use Rattle.asn1_core.proofs.Same.{place_eq-decides, fault_eq-decides};
+ghost use Rattle.asn1_core.specs.Lemmas.Same.{place_eq-decides, fault_eq-decides};
 
 mod name;
 

@@ -1,6 +1,6 @@
 use Rattle.std.proofs.Common.{◌≡◌, Bool, ◌&&◌, true, sym, ◌∙◌}
 use Rattle.asn1_core.specs.Fault.{fault_eq}
-use Rattle.asn1_core.proofs.Same.{fault_eq-decides}
+use Rattle.asn1_core.specs.Lemmas.Same.{fault_eq-decides}
 use Rattle.asn1_core.proofs.parser.ParseErrorPartialEq.eq.Goals as goal
 
 and_true : (k p r : Bool) → k ≡ true → r ≡ p → r ≡ (k && p)
