@@ -1,5 +1,5 @@
 -- Facts of Booleans, options and lists of octets that std has no lemma of.
-use Rattle.std.proofs.Common.{◌≡◌, ◌<◌, ℕ, zero, suc, Bool, true, false, Option, Some, List, [], ◌∷◌, length, take, get_or, replicate, refl, ap, lit<, arith}
+use Rattle.std.proofs.Common.{◌≡◌, ◌<◌, ℕ, zero, suc, Bool, true, false, Some, List, [], ◌∷◌, length, take, get_or, replicate, refl, ap, lit<, arith}
 use Rattle.asn1_core.specs.Text.{IsText}
 
 -- a test isn't both true and false
