@@ -91,7 +91,7 @@ visible_utf8 c e = IsUtf8-from_ascii c (all_are_ascii (is_in_range 0x20 0x7e) vi
 -- ---- characters by a bit each
 
 -- a test passes below a number
-pub below : (ℕ → Bool) → ℕ → Bool
+unfoldable pub below : (ℕ → Bool) → ℕ → Bool
 below p zero = true
 below p (suc n) = p n && below p n
 
