@@ -50,7 +50,7 @@ ANY = "any"
 # that there is none. The last one is for all others.
 SECTIONS = {
     "What has no form": r"recursive|\d fields|63 octets|type p|no bounds|item that|is there|missing itself|d alone",
-    "Tags of other classes": r"(String|Oid)` is no|tag that isn't|universal|two classes|alias('s| [hs])|no tag here",
+    "Tags of other classes": r"String` is no|tag that isn't|universal|two classes|alias('s| [hs])|no tag here",
     "A default of another type": r"is no value of",
     "A simple type": r"is no type of the library",
     "An error of one's own": r"a list made in code",
@@ -349,11 +349,12 @@ LIBRARY = {
     for derives, shape, types in (
         (COPY, "", "1 bool, 4 [u8], 5 (), 5 Null, " + ", ".join(f"2 {name}" for name in INTEGERS)),
         (COPY, "'", "2 BigInt, 2 BigUint, 16 Sequence"),
+        (COPY, "'", "20 TeletexString, 21 VideotexString, 25 GraphicString, 27 GeneralString"),
         (COPY, "n", "4 [u8; N]"),
         (ALL, "", "2 OwnedBigInt, 2 OwnedBigUint, 3 OwnedBitString, 6 ObjectIdentifier"),
         (ALL, "", "23 UtcTime, 24 GeneralizedTime, 24 X509GeneralizedTime"),
         (ALL, "'", "3 BitString, 12 Utf8String, 17 Set, 28 UniversalString, 30 BMPString"),
-        (ALL, "'", "18 NumericString, 19 PrintableString"),
+        (ALL, "'", "13 RelativeOid, 18 NumericString, 19 PrintableString"),
         (ALL - {"Hash"}, "'", "22 IA5String, 26 VisibleString"),
         (frozenset({"Debug", "PartialEq", "Eq"}), "", "10 Enumerated"),
     )
@@ -621,7 +622,8 @@ def default_of(part, items):
     is_octets = type == f"[u8; {len(octets)}]" and text[0] == "[" and {*octets} <= {*INTEGERS["u8"]}
     is_value = declared and text in [f"{type}::{one.name}" for one in declared.values]
     is_fitting = is_octets or is_value or is_number or type == "bool" and text in ("true", "false")
-    why = "a default is a Boolean, a number, octets of a `[u8; N]`, or a value of an enum with numbers"
+    is_fitting |= type == ITEM and constant is not None and constant.kind == "const"
+    why = "a default is a Boolean, a number, octets of a `[u8; N]`, a value of an enum with numbers, or a constant"
     reject(not is_fitting, part.line, f"`{text}` is no value of `{type}`: {why}")
     if is_value:
         declared.is_default = True

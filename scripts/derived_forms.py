@@ -6,6 +6,7 @@ import textwrap
 from declarations import ITEM, Type, reject
 
 BY_TAGS = "#[tactic(auto, using(asn1::specs::Lemmas::Fields::tags_differ))]\n"
+BY_NUMBERS = "#[tactic(auto, using(asn1::specs::Lemmas::DefaultIdentifiers::identifier_of_default))] "
 ERROR = "type Error = WriteError;"
 WIDTH = 100
 # The longest list of fields that stands in each body: it takes one line.
@@ -259,7 +260,9 @@ class Structure(Form):
     def default(self, part):
         """The type that says a field's default."""
         inner, base, uses, term, made = part.form.inner[0], str(part.base), "", part.default, part.default
-        if base.startswith("i"):
+        if base == ITEM:
+            term, made = f"identifier_from {term}_NUMBERS", f"{made.lower()}()"
+        elif base.startswith("i"):
             term = integer(int(term))
         elif base.startswith("["):
             term = term[1:-1].replace(",", " ∷") + " ∷ []"
@@ -269,7 +272,7 @@ class Structure(Form):
         if part.tag:
             term, made = f"record {{ inner = {term} }}", f"{part.tag.capitalize()}::new({made})"
         text = f"\n/// What `{part.name}` is if it is left out.\n{self.item.visibility} struct {part.title};"
-        value = f"fn value() -> {inner} {{ {made} }}"
+        value = f"{BY_NUMBERS if base == ITEM else ''}fn value() -> {inner} {{ {made} }}"
         return text + self.impl(f"DefaultValue<{inner}>", uses, f"ghost default = {{ {term} }};", value, of=part.title)
 
 

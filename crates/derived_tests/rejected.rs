@@ -131,7 +131,7 @@ struct NoNumber {
 #[derive(asn1::Asn1Read)]
 struct NoLiteral {
     #[default(VERSION)]
-    value: u8, //~ `VERSION` is no value of `u8`: a default is a Boolean, a number, octets of a `[u8; N]`, or a value of an enum with numbers -> A default of another type
+    value: u8, //~ `VERSION` is no value of `u8`: a default is a Boolean, a number, octets of a `[u8; N]`, a value of an enum with numbers, or a constant -> A default of another type
 }
 
 #[derive(asn1::Asn1Read)]
@@ -343,25 +343,25 @@ struct LargeTag {
 #[derive(asn1::Asn1Read)]
 struct LargeDefault {
     #[default(300)]
-    value: u8, //~ `300` is no value of `u8`: a default is a Boolean, a number, octets of a `[u8; N]`, or a value of an enum with numbers -> A default of another type
+    value: u8, //~ `300` is no value of `u8`: a default is a Boolean, a number, octets of a `[u8; N]`, a value of an enum with numbers, or a constant -> A default of another type
 }
 
 #[derive(asn1::Asn1Read)]
 struct SmallDefault {
     #[default(-129)]
-    value: i8, //~ `-129` is no value of `i8`: a default is a Boolean, a number, octets of a `[u8; N]`, or a value of an enum with numbers -> A default of another type
+    value: i8, //~ `-129` is no value of `i8`: a default is a Boolean, a number, octets of a `[u8; N]`, a value of an enum with numbers, or a constant -> A default of another type
 }
 
 #[derive(asn1::Asn1Read)]
 struct NumberForBoolean {
     #[default(1)]
-    value: bool, //~ `1` is no value of `bool`: a default is a Boolean, a number, octets of a `[u8; N]`, or a value of an enum with numbers -> A default of another type
+    value: bool, //~ `1` is no value of `bool`: a default is a Boolean, a number, octets of a `[u8; N]`, a value of an enum with numbers, or a constant -> A default of another type
 }
 
 #[derive(asn1::Asn1Read)]
 struct DefaultOfALargeInteger<'a> {
     #[default(1)]
-    value: asn1::BigUint<'a>, //~ `1` is no value of `BigUint<'a>`: a default is a Boolean, a number, octets of a `[u8; N]`, or a value of an enum with numbers -> A default of another type
+    value: asn1::BigUint<'a>, //~ `1` is no value of `BigUint<'a>`: a default is a Boolean, a number, octets of a `[u8; N]`, a value of an enum with numbers, or a constant -> A default of another type
 }
 
 #[derive(asn1::Asn1Read)]
@@ -454,7 +454,7 @@ struct AfterNoPath {
 #[derive(asn1::Asn1Read)]
 struct DefaultAbove {
     #[default(256)]
-    value: u8, //~ `256` is no value of `u8`: a default is a Boolean, a number, octets of a `[u8; N]`, or a value of an enum with numbers -> A default of another type
+    value: u8, //~ `256` is no value of `u8`: a default is a Boolean, a number, octets of a `[u8; N]`, a value of an enum with numbers, or a constant -> A default of another type
 }
 
 #[derive(asn1::Asn1Read)]
@@ -820,19 +820,19 @@ const TAGGED_NUMBER: u8 = 1; //~ `TAGGED_NUMBER` is a constant, which has no tag
 #[derive(asn1::Asn1Read)]
 struct DefaultOfOtherLength {
     #[default([1, 2])]
-    value: [u8; 3], //~ `[1,2]` is no value of `[u8; 3]`: a default is a Boolean, a number, octets of a `[u8; N]`, or a value of an enum with numbers -> A default of another type
+    value: [u8; 3], //~ `[1,2]` is no value of `[u8; 3]`: a default is a Boolean, a number, octets of a `[u8; N]`, a value of an enum with numbers, or a constant -> A default of another type
 }
 
 #[derive(asn1::Asn1Read)]
 struct DefaultOfNoOctet {
     #[default([256])]
-    value: [u8; 1], //~ `[256]` is no value of `[u8; 1]`: a default is a Boolean, a number, octets of a `[u8; N]`, or a value of an enum with numbers -> A default of another type
+    value: [u8; 1], //~ `[256]` is no value of `[u8; 1]`: a default is a Boolean, a number, octets of a `[u8; N]`, a value of an enum with numbers, or a constant -> A default of another type
 }
 
 #[derive(asn1::Asn1Read)]
 struct DefaultOfNoValue {
     #[default(Numbers::Two)]
-    value: Numbers, //~ `Numbers::Two` is no value of `Numbers`: a default is a Boolean, a number, octets of a `[u8; N]`, or a value of an enum with numbers -> A default of another type
+    value: Numbers, //~ `Numbers::Two` is no value of `Numbers`: a default is a Boolean, a number, octets of a `[u8; N]`, a value of an enum with numbers, or a constant -> A default of another type
 }
 #[derive(asn1::Asn1Read)]
 enum Numbers {
@@ -887,7 +887,7 @@ struct Unended {
 
 #[derive(asn1::Asn1Read)]
 struct OtherString<'a> {
-    value: asn1::RelativeOid<'a>, //~ `RelativeOid` is no type of the library, and neither declared nor imported here -> Tags of other classes
+    value: asn1::T61String<'a>, //~ `T61String` is no type of the library, and neither declared nor imported here -> Tags of other classes
 }
 
 #[derive(asn1::Asn1Read)]

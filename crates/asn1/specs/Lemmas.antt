@@ -27,3 +27,6 @@ pub mod ListItems
 pub mod SetItems
 pub mod Equalities
 pub mod Numbered
+pub mod Relative
+pub mod IdentifierTests
+pub mod DefaultIdentifiers

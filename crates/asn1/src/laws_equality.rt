@@ -6,12 +6,13 @@ ghost use Rattle.asn1_core.specs.Tlv.{element_of};
 ghost use Rattle.asn1_values.specs.Comparisons.{ClonesAreEqual, HashesAlike, IsEqualityOf, NeverFails};
 ghost use Rattle.asn1.specs.InHand.{octets_of_set, sequence_octets};
 ghost use Rattle.asn1.specs.NumericValues.{numeric_octets};
+ghost use Rattle.asn1.specs.RelativeValues.{relative_arcs};
 
 use crate::{
     Choice1, Choice2, Choice3, DefaultValue, Defaulted, DefinedByMarker, ErrorInto, Explicit,
     Implicit, MeaningEq, NumericString, OctetStringEncoded, ParseErrorKind, ParseLocation,
-    Sequence, SequenceOf, SequenceOfWriter, Set, SetOf, SetOfWriter, Tag, TagClass, Tlv,
-    WriteError,
+    RelativeOid, Sequence, SequenceOf, SequenceOfWriter, Set, SetOf, SetOfWriter, Tag, TagClass,
+    Tlv, WriteError,
 };
 use asn1_core::Asn1Type;
 use std::hash::Hash;
@@ -72,6 +73,16 @@ pub fn numeric_strings_compare()
     ensures clone { ClonesAreEqual ⟦<NumericString<'static> as Clone>⟧.is_clone
         ⟦<NumericString<'static> as PartialEq>⟧.eq }
     ensures infallible { NeverFails ⟦<NumericString<'static> as Clone>⟧.is_infallible }
+{}
+
+/// Two relative identifiers are equal exactly if their arcs are the same, and then have the same hash. A clone never
+/// fails, and equals its source.
+pub fn relative_oids_compare()
+    ensures equality { IsEqualityOf relative_arcs ⟦<RelativeOid<'static> as PartialEq>⟧.eq }
+    ensures hash { HashesAlike relative_arcs ⟦<RelativeOid<'static> as Hash>⟧.hash_input }
+    ensures clone { ClonesAreEqual ⟦<RelativeOid<'static> as Clone>⟧.is_clone
+        ⟦<RelativeOid<'static> as PartialEq>⟧.eq }
+    ensures infallible { NeverFails ⟦<RelativeOid<'static> as Clone>⟧.is_infallible }
 {}
 
 /// If the equality of a type compares what values mean, so does the equality of its wrappers.

@@ -13,7 +13,7 @@ use crate::{
     BMPString, BigInt, BigUint, BitString, Choice1, Choice2, Choice3, DefaultValue, Defaulted,
     Enumerated, ErrorInto, Explicit, GeneralizedTime, IA5String, Implicit, MeaningEq, Null,
     NumericString, ObjectIdentifier, OctetStringEncoded, OwnedBigInt, OwnedBigUint, OwnedBitString,
-    PrintableString, Sequence, SequenceOf, SequenceOfWriter, Set, SetOf, SetOfWriter,
+    PrintableString, RelativeOid, Sequence, SequenceOf, SequenceOfWriter, Set, SetOf, SetOfWriter,
     TaggedExplicit, TaggedImplicit, Tlv, UniversalString, UtcTime, Utf8String, VisibleString,
     X509GeneralizedTime,
 };
@@ -42,6 +42,7 @@ pub fn values_are_sound<const N: usize>()
     ensures array { IsSound ⟦<[u8; N] as Asn1Type>⟧.der }
     ensures bits { IsSound ⟦<BitString<'static> as Asn1Type>⟧.der }
     ensures numeric { IsSound ⟦<NumericString<'static> as Asn1Type>⟧.der }
+    ensures relative { IsSound ⟦<RelativeOid<'static> as Asn1Type>⟧.der }
     ensures printable { IsSound ⟦<PrintableString<'static> as Asn1Type>⟧.der }
     ensures ia5 { IsSound ⟦<IA5String<'static> as Asn1Type>⟧.der }
     ensures visible { IsSound ⟦<VisibleString<'static> as Asn1Type>⟧.der }

@@ -40,6 +40,8 @@ mod readme;
 #[cfg(test)]
 mod refused_items;
 #[cfg(test)]
+mod relative_oid;
+#[cfg(test)]
 mod round_trips;
 #[cfg(test)]
 mod sets;

@@ -77,3 +77,18 @@ pub(crate) struct Defaults {
     #[default([1, 0xff])]
     pub octets: [u8; 2],
 }
+
+/// SHA-1, which is the default of a hash function in RFC 8017, A.2.1.
+pub(crate) const SHA1: asn1::ObjectIdentifier = asn1::oid!(1, 3, 14, 3, 2, 26);
+
+/// Identifiers that may be left out, and types whose octets are kept.
+#[derive(asn1::Asn1Read, asn1::Asn1Write, PartialEq)]
+pub(crate) struct Named<'a> {
+    #[explicit(0)]
+    #[default(SHA1)]
+    pub hash: asn1::ObjectIdentifier,
+    #[default(SHA1)]
+    pub other: asn1::ObjectIdentifier,
+    pub place: asn1::RelativeOid<'a>,
+    pub name: asn1::TeletexString<'a>,
+}

@@ -2,10 +2,10 @@
 
 use super::{are_written_back, is_at, other_tag, refusal};
 use crate::numbers::{
-    Defaults, ENC_TIMESTAMP, OfVersion, OfVersionOther, PaData, PaValue, PaValueOther, VERSION,
-    Version, Versioned,
+    Defaults, ENC_TIMESTAMP, Named, OfVersion, OfVersionOther, PaData, PaValue, PaValueOther,
+    VERSION, Version, Versioned, sha1,
 };
-use asn1::{DefinedByMarker, ParseErrorKind, Tlv, parse_single};
+use asn1::{DefinedByMarker, ParseErrorKind, RelativeOid, TeletexString, Tlv, parse_single};
 use std::test::Fail;
 use testing::{are_refused, both_ways};
 
@@ -74,6 +74,47 @@ fn defaults_by_name(rt: HostRuntime) -> Result<(), Fail> {
             (&[0x30, 3, 0x81, 1, 1], ParseErrorKind::EncodedDefault),
             (&[0x30, 4, 4, 2, 1, 0xff], ParseErrorKind::EncodedDefault),
             (&[0x30, 3, 0x81, 1, 2], ParseErrorKind::InvalidValue),
+        ],
+    )
+}
+
+/// The default 1.3.14.3.2.26 of either field, and 1.2.3 in place of it.
+#[test]
+fn identifiers_as_defaults(rt: HostRuntime) -> Result<(), Fail> {
+    let alloc = rt.alloc();
+    let made = Named {
+        hash: sha1(),
+        other: sha1(),
+        place: RelativeOid::from_der(&[0xc2, 0x7b, 3, 2])?,
+        name: TeletexString::new(&[0xd0]),
+    };
+    both_ways(
+        alloc,
+        made,
+        &[0x30, 9, 0x0d, 4, 0xc2, 0x7b, 3, 2, 0x14, 1, 0xd0],
+    )?;
+    are_written_back::<Named<'_>>(
+        alloc,
+        &[
+            &[0x30, 12, 0xa0, 4, 6, 2, 0x2a, 3, 0x0d, 1, 5, 0x14, 1, 0xd0],
+            &[0x30, 10, 6, 2, 0x2a, 3, 0x0d, 1, 5, 0x14, 1, 0xd0],
+        ],
+    )?;
+    are_refused::<Named<'_>>(
+        alloc,
+        &[
+            (
+                &[
+                    0x30, 15, 0xa0, 7, 6, 5, 0x2b, 0x0e, 3, 2, 0x1a, 0x0d, 1, 5, 0x14, 1, 0xd0,
+                ],
+                ParseErrorKind::EncodedDefault,
+            ),
+            (
+                &[
+                    0x30, 13, 6, 5, 0x2b, 0x0e, 3, 2, 0x1a, 0x0d, 1, 5, 0x14, 1, 0xd0,
+                ],
+                ParseErrorKind::EncodedDefault,
+            ),
         ],
     )
 }
