@@ -30,3 +30,4 @@ pub mod Numbered
 pub mod Relative
 pub mod IdentifierTests
 pub mod DefaultIdentifiers
+pub mod Dates

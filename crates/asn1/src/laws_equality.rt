@@ -5,11 +5,12 @@ ghost use Rattle.asn1_core.specs.Fault.{place_of};
 ghost use Rattle.asn1_core.specs.Tlv.{element_of};
 ghost use Rattle.asn1_values.specs.Comparisons.{ClonesAreEqual, HashesAlike, IsEqualityOf, NeverFails};
 ghost use Rattle.asn1.specs.InHand.{octets_of_set, sequence_octets};
+ghost use Rattle.asn1.specs.DateValues.{day_of};
 ghost use Rattle.asn1.specs.NumericValues.{numeric_octets};
 ghost use Rattle.asn1.specs.RelativeValues.{relative_arcs};
 
 use crate::{
-    Choice1, Choice2, Choice3, DefaultValue, Defaulted, DefinedByMarker, ErrorInto, Explicit,
+    Choice1, Choice2, Choice3, Date, DefaultValue, Defaulted, DefinedByMarker, ErrorInto, Explicit,
     Implicit, MeaningEq, NumericString, OctetStringEncoded, ParseErrorKind, ParseLocation,
     RelativeOid, Sequence, SequenceOf, SequenceOfWriter, Set, SetOf, SetOfWriter, Tag, TagClass,
     Tlv, WriteError,
@@ -73,6 +74,15 @@ pub fn numeric_strings_compare()
     ensures clone { ClonesAreEqual ⟦<NumericString<'static> as Clone>⟧.is_clone
         ⟦<NumericString<'static> as PartialEq>⟧.eq }
     ensures infallible { NeverFails ⟦<NumericString<'static> as Clone>⟧.is_infallible }
+{}
+
+/// Two dates are equal exactly if their years, months and days are the same, and then have the same hash. A clone never
+/// fails, and equals its source.
+pub fn dates_compare()
+    ensures equality { IsEqualityOf day_of ⟦<Date as PartialEq>⟧.eq }
+    ensures hash { HashesAlike day_of ⟦<Date as Hash>⟧.hash_input }
+    ensures clone { ClonesAreEqual ⟦<Date as Clone>⟧.is_clone ⟦<Date as PartialEq>⟧.eq }
+    ensures infallible { NeverFails ⟦<Date as Clone>⟧.is_infallible }
 {}
 
 /// Two relative identifiers are equal exactly if their arcs are the same, and then have the same hash. A clone never

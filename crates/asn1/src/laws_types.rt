@@ -10,12 +10,12 @@ ghost use Rattle.asn1.specs.TypeLaws.{Inherits, InheritsBoth, IsSound, IsSoundOw
 
 use crate::fields::{Field, Last, Row};
 use crate::{
-    BMPString, BigInt, BigUint, BitString, Choice1, Choice2, Choice3, DefaultValue, Defaulted,
-    Enumerated, ErrorInto, Explicit, GeneralizedTime, IA5String, Implicit, MeaningEq, Null,
-    NumericString, ObjectIdentifier, OctetStringEncoded, OwnedBigInt, OwnedBigUint, OwnedBitString,
-    PrintableString, RelativeOid, Sequence, SequenceOf, SequenceOfWriter, Set, SetOf, SetOfWriter,
-    TaggedExplicit, TaggedImplicit, Tlv, UniversalString, UtcTime, Utf8String, VisibleString,
-    X509GeneralizedTime,
+    BMPString, BigInt, BigUint, BitString, Choice1, Choice2, Choice3, Date, DefaultValue,
+    Defaulted, Enumerated, ErrorInto, Explicit, GeneralizedTime, IA5String, Implicit, MeaningEq,
+    Null, NumericString, ObjectIdentifier, OctetStringEncoded, OwnedBigInt, OwnedBigUint,
+    OwnedBitString, PrintableString, RelativeOid, Sequence, SequenceOf, SequenceOfWriter, Set,
+    SetOf, SetOfWriter, TaggedExplicit, TaggedImplicit, Tlv, UniversalString, UtcTime, Utf8String,
+    VisibleString, X509GeneralizedTime,
 };
 use asn1_core::Asn1Type;
 
@@ -42,6 +42,7 @@ pub fn values_are_sound<const N: usize>()
     ensures array { IsSound ⟦<[u8; N] as Asn1Type>⟧.der }
     ensures bits { IsSound ⟦<BitString<'static> as Asn1Type>⟧.der }
     ensures numeric { IsSound ⟦<NumericString<'static> as Asn1Type>⟧.der }
+    ensures date { IsSound ⟦<Date as Asn1Type>⟧.der }
     ensures relative { IsSound ⟦<RelativeOid<'static> as Asn1Type>⟧.der }
     ensures printable { IsSound ⟦<PrintableString<'static> as Asn1Type>⟧.der }
     ensures ia5 { IsSound ⟦<IA5String<'static> as Asn1Type>⟧.der }

@@ -12,111 +12,40 @@ ghost use Rattle.asn1.specs.Alternatives.{Disjoint};
 ghost use Rattle.asn1.specs.Sets.{set_read};
 ghost use Rattle.asn1.specs.InHand.{octets_of_set, sequence_octets};
 ghost use Rattle.asn1.specs.NumericValues.{numeric_octets};
-ghost use Rattle.asn1.specs.Relative.{RelativesAreRead};
-ghost use Rattle.asn1.specs.RelativeValues.{relative_arcs};
 ghost use Rattle.asn1.specs.TypeLaws.{IsListingOf};
 ghost use Rattle.asn1.specs.Structures.{structure, IsReadAs, IsWrittenAs};
 
 use crate::headline::Holder;
-use asn1::Asn1DefinedBy;
-use asn1::Asn1DefinedByReadable;
-use asn1::Asn1DefinedByWritable;
-use asn1::Asn1Readable;
-use asn1::Asn1Type;
-use asn1::Asn1Writable;
-use asn1::Choice2;
-use asn1::DefaultValue;
-use asn1::Defaulted;
-use asn1::DefinedByMarker;
-use asn1::ErrorInto;
-use asn1::Explicit;
-use asn1::Implicit;
-use asn1::MeaningEq;
-use asn1::NumericString;
-use asn1::OwnedBigInt;
-use asn1::ParseErrorKind;
-use asn1::ParseLocation;
-use asn1::RelativeOid;
-use asn1::Sequence;
-use asn1::SequenceOf;
-use asn1::SequenceOfWriter;
-use asn1::Set;
-use asn1::SetOf;
-use asn1::SetOfWriter;
-use asn1::SimpleAsn1Writable;
-use asn1::SimpleMeaningEq;
-use asn1::Tag;
-use asn1::Tlv;
-use asn1::WriteError;
-use asn1::fields::DefinedField;
-use asn1::fields::Field;
-use asn1::fields::FieldWritable;
-use asn1::fields::Fields2;
-use asn1::fields::Item;
-use asn1::fields::ItemOf;
-use asn1::fields::Last;
-use asn1::fields::LastValue;
-use asn1::fields::NoFields;
-use asn1::fields::Plain;
-use asn1::fields::Row;
-use asn1::fields::RowBehind;
-use asn1::fields::RowReadable;
-use asn1::fields::RowWritable;
-use asn1::fields::ValueOf;
-use asn1::laws::equal_items;
-use asn1::laws::equal_multisets;
-use asn1::laws::relative_oids_are_read;
-use asn1::laws::sets_read_listings;
-use asn1::laws_equality::choices_are_cloned;
-use asn1::laws_equality::choices_compare;
-use asn1::laws_equality::choices_hash;
-use asn1::laws_equality::contents_compare;
-use asn1::laws_equality::defaults_compare;
-use asn1::laws_equality::elements_compare;
-use asn1::laws_equality::error_into_compares;
-use asn1::laws_equality::error_into_hashes;
-use asn1::laws_equality::error_into_is_cloned;
-use asn1::laws_equality::errors_compare;
-use asn1::laws_equality::lists_compare;
-use asn1::laws_equality::markers_compare;
-use asn1::laws_equality::numeric_strings_compare;
-use asn1::laws_equality::relative_oids_compare;
-use asn1::laws_equality::sets_compare;
-use asn1::laws_equality::slices_are_cloned;
-use asn1::laws_equality::slices_compare;
-use asn1::laws_equality::slices_hash;
-use asn1::laws_equality::tags_compare;
-use asn1::laws_equality::wrappers_are_cloned;
-use asn1::laws_equality::wrappers_compare;
-use asn1::laws_equality::wrappers_hash;
-use asn1::laws_types::choices_inherit;
-use asn1::laws_types::defaults_inherit;
-use asn1::laws_types::elements_are_sound;
-use asn1::laws_types::error_into_inherits;
-use asn1::laws_types::lists_are_lawful;
-use asn1::laws_types::numbers_are_sound;
-use asn1::laws_types::owned_types_are_sound;
-use asn1::laws_types::references_are_lawful;
-use asn1::laws_types::rows_are_lawful;
-use asn1::laws_types::rows_inherit;
-use asn1::laws_types::structures_inherit;
-use asn1::laws_types::values_are_sound;
-use asn1::laws_types::wrappers_inherit;
-use asn1::laws_wrappers::choices_are_elements;
-use asn1::laws_wrappers::choices_are_lawful;
-use asn1::laws_wrappers::defaults_are_lawful;
-use asn1::laws_wrappers::defined_types_are_lawful;
-use asn1::laws_wrappers::error_into_is_lawful;
-use asn1::laws_wrappers::fields_are_encoded;
-use asn1::laws_wrappers::items_are_encoded;
-use asn1::laws_wrappers::rows_are_plain;
-use asn1::laws_wrappers::rows_are_read;
-use asn1::laws_wrappers::rows_are_written;
-use asn1::laws_wrappers::rows_behind_items_are_plain;
-use asn1::laws_wrappers::rows_behind_items_are_read;
-use asn1::laws_wrappers::rows_behind_items_are_written;
-use asn1::laws_wrappers::wrappers_are_elements;
-use asn1::laws_wrappers::wrappers_are_lawful;
+use asn1::fields::{
+    DefinedField, Field, FieldWritable, Fields2, Item, ItemOf, Last, LastValue, NoFields, Plain,
+    Row, RowBehind, RowReadable, RowWritable, ValueOf,
+};
+use asn1::laws::{equal_items, equal_multisets, sets_read_listings};
+use asn1::laws_equality::{
+    choices_are_cloned, choices_compare, choices_hash, contents_compare, defaults_compare,
+    elements_compare, error_into_compares, error_into_hashes, error_into_is_cloned, errors_compare,
+    lists_compare, markers_compare, numeric_strings_compare, sets_compare, slices_are_cloned,
+    slices_compare, slices_hash, tags_compare, wrappers_are_cloned, wrappers_compare,
+    wrappers_hash,
+};
+use asn1::laws_types::{
+    choices_inherit, defaults_inherit, elements_are_sound, error_into_inherits, lists_are_lawful,
+    numbers_are_sound, owned_types_are_sound, references_are_lawful, rows_are_lawful, rows_inherit,
+    structures_inherit, values_are_sound, wrappers_inherit,
+};
+use asn1::laws_wrappers::{
+    choices_are_elements, choices_are_lawful, defaults_are_lawful, defined_types_are_lawful,
+    error_into_is_lawful, fields_are_encoded, items_are_encoded, rows_are_plain, rows_are_read,
+    rows_are_written, rows_behind_items_are_plain, rows_behind_items_are_read,
+    rows_behind_items_are_written, wrappers_are_elements, wrappers_are_lawful,
+};
+use asn1::{
+    Asn1DefinedBy, Asn1DefinedByReadable, Asn1DefinedByWritable, Asn1Readable, Asn1Type,
+    Asn1Writable, Choice2, DefaultValue, Defaulted, DefinedByMarker, ErrorInto, Explicit, Implicit,
+    MeaningEq, NumericString, OwnedBigInt, ParseErrorKind, ParseLocation, Sequence, SequenceOf,
+    SequenceOfWriter, Set, SetOf, SetOfWriter, SimpleAsn1Writable, SimpleMeaningEq, Tag, Tlv,
+    WriteError,
+};
 use std::hash::Hash;
 use std::test::Fail;
 
@@ -403,12 +332,8 @@ pub fn other_equalities<T: MeaningEq + PartialEq + Hash, D: DefaultValue<T>, E>(
     ensures sequence { IsEqualityOf sequence_octets ⟦<Sequence<'static> as PartialEq>⟧.eq }
     ensures set { IsEqualityOf octets_of_set ⟦<Set<'static> as PartialEq>⟧.eq }
     ensures numeric { IsEqualityOf numeric_octets ⟦<NumericString<'static> as PartialEq>⟧.eq }
-    ensures relative { IsEqualityOf relative_arcs ⟦<RelativeOid<'static> as PartialEq>⟧.eq }
-    ensures relative_read { RelativesAreRead }
 {
     numeric_strings_compare();
-    relative_oids_compare();
-    relative_oids_are_read();
     defaults_compare::<T, D>();
     error_into_compares::<T, E>();
     elements_compare();

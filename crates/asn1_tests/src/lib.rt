@@ -10,6 +10,8 @@ mod callers;
 #[cfg(test)]
 mod changed;
 #[cfg(test)]
+mod date;
+#[cfg(test)]
 mod defaults;
 #[cfg(test)]
 mod error_octets;

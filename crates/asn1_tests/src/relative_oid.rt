@@ -1,6 +1,12 @@
 //! Relative object identifiers.
 
+ghost use Rattle.asn1.specs.Comparisons.{IsEqualityOf};
+ghost use Rattle.asn1.specs.Relative.{RelativesAreRead};
+ghost use Rattle.asn1.specs.RelativeValues.{relative_arcs};
+
 use asn1::RelativeOid;
+use asn1::laws::relative_oids_are_read;
+use asn1::laws_equality::relative_oids_compare;
 use std::test::Fail;
 use testing::{are_invalid, both_ways, hash_of, is_displayed, is_shown, same};
 
@@ -59,4 +65,13 @@ fn other_octets_are_no_relative_oid(rt: HostRuntime) -> Result<(), Fail> {
             ],
         ],
     )
+}
+
+/// What the laws say of relative identifiers.
+pub fn laws_of_relative_oids()
+    ensures equality { IsEqualityOf relative_arcs ⟦<RelativeOid<'static> as PartialEq>⟧.eq }
+    ensures read { RelativesAreRead }
+{
+    relative_oids_compare();
+    relative_oids_are_read();
 }
