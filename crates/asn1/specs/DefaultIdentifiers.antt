@@ -4,7 +4,7 @@ use Rattle.std.proofs.Common.{refl}
 use Rattle.asn1_values.specs.declared.object_identifier.ObjectIdentifier.{ObjectIdentifier}
 use Rattle.asn1_values.specs.Identifier.{IsIdentifier, identifier_content}
 use Rattle.asn1.specs.IdentifierTests.{is_identifier}
-use Rattle.asn1.specs.Lemmas.IdentifierTests.{content_form, identifier_by_test}
+use Rattle.asn1.specs.Lemmas.IdentifierTests.{content_form, identifier_by_test, zero_is}
 
 -- The identifier with these numbers in memory.
 abbrev pub identifier_with_form : (numbers : List ℕ) → IsIdentifier numbers → ObjectIdentifier
@@ -17,7 +17,7 @@ identifier_with_form numbers is = record {
 -- The same by the test's answer, and 0.0 if the numbers are no identifier.
 abbrev pub identifier_by : (numbers : List ℕ) (test : Bool) → is_identifier numbers ≡ test → ObjectIdentifier
 identifier_by numbers true e = identifier_with_form numbers (identifier_by_test numbers e)
-identifier_by numbers false e = identifier_with_form (0 ∷ []) (identifier_by_test (0 ∷ []) refl)
+identifier_by numbers false e = identifier_with_form (0 ∷ []) zero_is
 
 -- The identifier with these numbers, and 0.0 if there is none.
 unfoldable pub identifier_from : List ℕ → ObjectIdentifier

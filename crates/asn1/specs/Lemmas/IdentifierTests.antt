@@ -3,6 +3,7 @@ use Rattle.std.proofs.Common.{◌≡◌, ℕ, ◌^◌, ◌-◌, ◌<◌, Bool, t
 use Rattle.std.specs.Prelude.{is_some, replicate}
 use Rattle.std.specs.List.{list_all}
 use Rattle.std.proofs.lemmas.Bool.{and_parts, and_from, ltb-true, lt-ltb, leb-true, le-leb}
+use Rattle.asn1_core.specs.Base128.{number_text}
 use Rattle.asn1_values.specs.Identifier.{AllSmall, IsIdentifier, IsIdentifierForm, identifier_content}
 use Rattle.asn1_values.specs.Lemmas.Identifier.{content_text, form_before, numbers_joined, some_content}
 use Rattle.asn1.specs.IdentifierTests.{is_identifier}
@@ -26,3 +27,8 @@ test_by_identifier numbers is = and_from _ _ (and_from _ _ (lt-ltb 0 (length num
 
 pub content_form : (numbers : List ℕ) → IsIdentifier numbers → IsIdentifierForm (identifier_content numbers ++ replicate (63 - length (identifier_content numbers)) 0) (length (identifier_content numbers))
 content_form numbers is = form_before (identifier_content numbers) (some_content numbers is.some) is.few (ap is_some (numbers_joined numbers is.small)) (content_text numbers is.small)
+
+-- the identifier 0.0
+pub zero_is : IsIdentifier (0 ∷ [])
+unfolding number_text
+zero_is = identifier_by_test (0 ∷ []) refl
