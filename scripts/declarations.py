@@ -334,25 +334,27 @@ def with_numbers(item):
 @dataclass(frozen=True)
 class Known:
     """What is known of a type: its tags, its derives, whether a field of it may be missing, whether it has one tag of
-    its own, and whether its writes fail as those of a list that is made in code."""
+    its own, whether its writes fail as those of a list that is made in code, and whether the length of each value is
+    known without writing it."""
 
     tags: set = None
     derives: frozenset = COPY
     is_missing: bool = False
     is_simple: bool = True
     fails: bool = False
+    has_length: bool = False
 
 
 # Types by their derives and by what is in their brackets, each name after the number of its tag.
 LIBRARY = {
-    name: (Known({f"{number} constructed" if number in ("16", "17") else number}, derives), shape)
+    name: (Known({f"{number} constructed" if number in ("16", "17") else number}, derives, has_length=True), shape)
     for derives, shape, types in (
         (COPY, "", "1 bool, 4 [u8], 5 (), 5 Null, " + ", ".join(f"2 {name}" for name in INTEGERS)),
         (COPY, "'", "2 BigInt, 2 BigUint, 16 Sequence"),
         (COPY, "'", "20 TeletexString, 21 VideotexString, 25 GraphicString, 27 GeneralString"),
         (COPY, "n", "4 [u8; N]"),
         (ALL, "", "2 OwnedBigInt, 2 OwnedBigUint, 3 OwnedBitString, 6 ObjectIdentifier"),
-        (ALL, "", "23 UtcTime, 24 GeneralizedTime, 24 X509GeneralizedTime"),
+        (ALL, "", "23 UtcTime, 24 GeneralizedTime, 24 X509GeneralizedTime, 31 Date"),
         (ALL, "'", "3 BitString, 12 Utf8String, 17 Set, 28 UniversalString, 30 BMPString"),
         (ALL, "'", "13 RelativeOid, 18 NumericString, 19 PrintableString"),
         (ALL - {"Hash"}, "'", "22 IA5String, 26 VisibleString"),
@@ -360,7 +362,7 @@ LIBRARY = {
     )
     for number, name in (type.split(" ", 1) for type in types.split(", "))
 }
-LIBRARY["Tlv"] = (Known(ANY, is_simple=False), "'")
+LIBRARY["Tlv"] = (Known(ANY, is_simple=False, has_length=True), "'")
 
 
 class Module:
@@ -438,7 +440,8 @@ class Module:
             reject(bounds[:1] > bounds[1:] > [], type.line, "a list whose least number of items is above its greatest")
             is_made = name.endswith("Writer")
             derives = inside.derives & ALL if is_made else ALL - ({"Debug"} - inside.derives)
-            return Known({"17 constructed" if name.startswith("Set") else "16 constructed"}, derives, fails=is_made)
+            tags, has_length = {f"{17 if name.startswith('Set') else 16} constructed"}, not is_made or inside.has_length
+            return Known(tags, derives, fails=is_made, has_length=has_length)
         if name == "OctetStringEncoded":
             return replace(inside, tags={"4"}, is_missing=False, is_simple=True)
         if name not in TAGGED:
@@ -478,7 +481,8 @@ class Module:
             own = ("universal", 10 if item.kind == "numbers" else 17 if item.is_set else 16)
             tag = tag_in(*(item.tag or own), item.kind == "struct")
             self.check_order(item)
-            return Known({tag}, derives, fails=any(known.fails for _, known in parts))
+            has_length = all(known.has_length for _, known in parts)
+            return Known({tag}, derives, fails=any(known.fails for _, known in parts), has_length=has_length)
         tags = None if None in tags else ANY if ANY in tags else set().union(*tags)
         return Known(tags, derives, any(known.is_missing for _, known in parts), False)
 

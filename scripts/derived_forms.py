@@ -8,6 +8,7 @@ from declarations import ITEM, Type, reject
 BY_TAGS = "#[tactic(auto, using(asn1::specs::Lemmas::Fields::tags_differ))]\n"
 BY_NUMBERS = "#[tactic(auto, using(asn1::specs::Lemmas::DefaultIdentifiers::identifier_of_default))] "
 ERROR = "type Error = WriteError;"
+LENGTH = "ghost length_known = { λ _. Unit {0} };"
 WIDTH = 100
 # The longest list of fields that stands in each body: it takes one line.
 MOST_IN_BODY = WIDTH - 12
@@ -169,7 +170,7 @@ class Numbers(Form):
             fn tag() -> Tag {{ {made} }}
             fn parse_data(alloc: Global, data: &'a [u8]) -> ParseResult<{own}> {{ read_number(alloc, data) }}""")
         if self.item.writes:
-            text += self.impl("SimpleAsn1Writable", ERROR, "ghost length_known = { λ _. Unit {0} };", f"""
+            text += self.impl("SimpleAsn1Writable", ERROR, LENGTH, f"""
             fn tag() -> Tag {{ {made} }}
             fn write_data(&self, dest: &mut WriteBuf) -> WriteResult<()> {{ self.number().write_data(dest) }}
             fn data_length(&self) -> Option<usize> {{ self.number().data_length() }}""", self.writes_as_read())
@@ -212,7 +213,8 @@ class Structure(Form):
             lists = [part for part in self.parts if part.fails]
             errors = (f"{quoted(part.form, part.fails)}.write_errors {group(part.seen)} e" for part in lists)
             failing = f"ghost write_errors = {{ λ v e. {' ⊎ '.join(errors)} }};" if lists else ""
-            text += self.impl("SimpleAsn1Writable", ERROR, failing, f"""{tag}
+            length = LENGTH if self.module.seen[self.name].has_length else ""
+            text += self.impl("SimpleAsn1Writable", ERROR, failing, length, f"""{tag}
             {{ {made} }}
             fn write_data(&self, dest: &mut WriteBuf) -> WriteResult<()> {{ {self.body("write_fields", "self, dest")} }}
             fn data_length(&self) -> Option<usize> {{ {self.body("fields_length", "self")} }}""",

@@ -1,5 +1,5 @@
 //! Items that are numbers, and defaults that aren't literals: each form of the script for them, once.
-// Printed by scripts/derive from declarations/numbers.rs, with the sum 2dbe8e32.
+// Printed by scripts/derive from declarations/numbers.rs, with the sum 5675b6e7.
 
 ghost use Rattle.std.specs.Prelude.{◌≡◌, ◌⊎◌, ◌∷◌, [], pos, negsuc, nat_eq, true, false, ⊤, IsTrue, MatchOption, OnErr};
 ghost use Rattle.std.specs.Cmp.{partial_equiv_from_equiv};
@@ -694,6 +694,8 @@ impl<'a> SimpleAsn1Readable<'a> for Defaults {
 impl SimpleAsn1Writable for Defaults {
     type Error = WriteError;
 
+    ghost length_known = { λ _. Unit {0} };
+
     fn tag() -> Tag {
         Tag::constructed(0x10)
     }
@@ -793,6 +795,8 @@ impl<'a> SimpleAsn1Readable<'a> for Named<'a> {
 
 impl<'a> SimpleAsn1Writable for Named<'a> {
     type Error = WriteError;
+
+    ghost length_known = { λ _. Unit {0} };
 
     fn tag() -> Tag
         ensures value { result ≡ ⟦<Named<'a> as Asn1Type>⟧.der.content.tag }

@@ -1,12 +1,11 @@
 //! Structures and choices: each attribute of the original's derives for them, once.
-// Printed by scripts/derive from declarations/page.rs, with the sum cd68caa5.
+// Printed by scripts/derive from declarations/page.rs, with the sum 3a0b9155.
 
 ghost use Rattle.std.specs.Prelude.{◌≡◌, ◌∷◌, [], negsuc, IsTrue, OnErr, IfOk};
 ghost use Rattle.asn1.specs.AlternativeLists.{choice, alternative1, alternative2};
 ghost use Rattle.asn1.specs.Reading.{EndsWith};
 ghost use Rattle.asn1.specs.Reads.{BeginsWithEncodingOf, HasOneEncoding, ReadsContents, ReadsPrefix};
-ghost use Rattle.asn1.specs.Structures.{defaulted, explicit, field_names, implicit, structure, fields0, fields1};
-ghost use Rattle.asn1.specs.Structures.{fields2, fields4};
+ghost use Rattle.asn1.specs.Structures.{defaulted, explicit, field_names, implicit, structure, fields0, fields1, fields2, fields4};
 
 use asn1::alternatives::{Alternatives, AlternativesReadable, AsOneOf, OneOf2, read_choice};
 use asn1::fields::{Fields2, Fields4, Last, NoFields, Row};
@@ -52,6 +51,8 @@ impl<'a> SimpleAsn1Readable<'a> for Signature {
 impl SimpleAsn1Writable for Signature {
     type Error = WriteError;
 
+    ghost length_known = { λ _. Unit {0} };
+
     fn tag() -> Tag {
         Tag::constructed(0x10)
     }
@@ -96,6 +97,8 @@ impl<'a> SimpleAsn1Readable<'a> for Nothing {
 
 impl SimpleAsn1Writable for Nothing {
     type Error = WriteError;
+
+    ghost length_known = { λ _. Unit {0} };
 
     fn tag() -> Tag {
         Tag::constructed(0x10)
@@ -198,6 +201,8 @@ impl<'a> SimpleAsn1Readable<'a> for Tagged<'a> {
 
 impl<'a> SimpleAsn1Writable for Tagged<'a> {
     type Error = WriteError;
+
+    ghost length_known = { λ _. Unit {0} };
 
     fn tag() -> Tag
         ensures value { result ≡ ⟦<Tagged<'a> as Asn1Type>⟧.der.content.tag }
@@ -383,6 +388,8 @@ impl<'a> SimpleAsn1Writable for Bag<'a> {
 
     ghost write_errors = { λ v e. ⟦<SetOfWriter<'a, u64> as SimpleAsn1Writable>⟧.write_errors
         v.numbers e };
+
+    ghost length_known = { λ _. Unit {0} };
 
     fn tag() -> Tag
         ensures value { result ≡ ⟦<Bag<'a> as Asn1Type>⟧.der.content.tag }

@@ -1,5 +1,5 @@
 //! Tags of every class, sets, and enums whose values have numbers: each form of the script for them, once.
-// Printed by scripts/derive from declarations/tags.rs, with the sum aa963628.
+// Printed by scripts/derive from declarations/tags.rs, with the sum 071411e2.
 
 ghost use Rattle.std.specs.Prelude.{◌≡◌, ◌∷◌, [], true, false, IsTrue, OnErr, IfOk};
 ghost use Rattle.asn1.specs.AlternativeLists.{choice, alternative1, alternative2, alternative3};
@@ -38,8 +38,7 @@ pub enum ResultCode {
 }
 
 impl Numbered for ResultCode {
-    ghost use Rattle.derived_tests.specs.declared.tags.ResultCode.TheVariants.{Success, TimeLimitExceeded, Busy};
-    ghost use Rattle.derived_tests.specs.declared.tags.ResultCode.TheVariants.{Other};
+    ghost use Rattle.derived_tests.specs.declared.tags.ResultCode.TheVariants.{Success, TimeLimitExceeded, Busy, Other};
 
     ghost number_of = { elim [ Success ↦ 0 | TimeLimitExceeded ↦ 3 | Busy ↦ 51 | Other ↦ 80 ] };
 
@@ -292,6 +291,8 @@ impl<'a> SimpleAsn1Readable<'a> for Report<'a> {
 impl<'a> SimpleAsn1Writable for Report<'a> {
     type Error = WriteError;
 
+    ghost length_known = { λ _. Unit {0} };
+
     fn tag() -> Tag
         ensures value { result ≡ ⟦<Report<'a> as Asn1Type>⟧.der.content.tag }
         ensures simple { ⟦<Report<'a> as Asn1Type>⟧.der.is_simple }
@@ -366,6 +367,8 @@ impl<'a> SimpleAsn1Readable<'a> for Settings {
 
 impl SimpleAsn1Writable for Settings {
     type Error = WriteError;
+
+    ghost length_known = { λ _. Unit {0} };
 
     fn tag() -> Tag {
         Tag::constructed(0x11)

@@ -1,11 +1,10 @@
 //! Keys, and the parameters of their algorithms (RFC 5958, 8017, 5915, 5480, 3279 and 4055).
-// Printed by scripts/derive from declarations/keys.rs, with the sum f9860ed1.
+// Printed by scripts/derive from declarations/keys.rs, with the sum f225b7c9.
 
 ghost use Rattle.std.specs.Prelude.{◌≡◌, ◌∷◌, [], IsTrue};
 ghost use Rattle.asn1.specs.Options.{option_meaning};
 ghost use Rattle.asn1.specs.Reads.{HasOneEncoding, ReadsContents};
-ghost use Rattle.asn1.specs.Structures.{defaulted, explicit, field_names, implicit, structure, fields2, fields3};
-ghost use Rattle.asn1.specs.Structures.{fields4, fields5, fields9};
+ghost use Rattle.asn1.specs.Structures.{defaulted, explicit, field_names, implicit, structure, fields2, fields3, fields4, fields5, fields9};
 
 use crate::common::{
     AlgorithmIdentifier, Attributes, algorithm_identifier_is_lawful, attributes_is_lawful,
@@ -211,6 +210,8 @@ impl<'a> SimpleAsn1Readable<'a> for RsaPublicKey<'a> {
 impl<'a> SimpleAsn1Writable for RsaPublicKey<'a> {
     type Error = WriteError;
 
+    ghost length_known = { λ _. Unit {0} };
+
     fn tag() -> Tag
         ensures value { result ≡ ⟦<RsaPublicKey<'a> as Asn1Type>⟧.der.content.tag }
         ensures simple { ⟦<RsaPublicKey<'a> as Asn1Type>⟧.der.is_simple }
@@ -307,6 +308,8 @@ impl<'a> SimpleAsn1Readable<'a> for RsaPrivateKey<'a> {
 impl<'a> SimpleAsn1Writable for RsaPrivateKey<'a> {
     type Error = WriteError;
 
+    ghost length_known = { λ _. Unit {0} };
+
     fn tag() -> Tag
         ensures value { result ≡ ⟦<RsaPrivateKey<'a> as Asn1Type>⟧.der.content.tag }
         ensures simple { ⟦<RsaPrivateKey<'a> as Asn1Type>⟧.der.is_simple }
@@ -389,6 +392,8 @@ impl<'a> SimpleAsn1Readable<'a> for EcPrivateKey<'a> {
 impl<'a> SimpleAsn1Writable for EcPrivateKey<'a> {
     type Error = WriteError;
 
+    ghost length_known = { λ _. Unit {0} };
+
     fn tag() -> Tag
         ensures value { result ≡ ⟦<EcPrivateKey<'a> as Asn1Type>⟧.der.content.tag }
         ensures simple { ⟦<EcPrivateKey<'a> as Asn1Type>⟧.der.is_simple }
@@ -451,6 +456,8 @@ impl<'a> SimpleAsn1Readable<'a> for DssParms<'a> {
 
 impl<'a> SimpleAsn1Writable for DssParms<'a> {
     type Error = WriteError;
+
+    ghost length_known = { λ _. Unit {0} };
 
     fn tag() -> Tag
         ensures value { result ≡ ⟦<DssParms<'a> as Asn1Type>⟧.der.content.tag }

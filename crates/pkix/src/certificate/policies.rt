@@ -1,6 +1,6 @@
 //! The policies of a certificate, and what it demands of those that follow it in a path (RFC 5280, 4.2.1.4, 4.2.1.5,
 //! 4.2.1.10, 4.2.1.11 and 4.2.1.14).
-// Printed by scripts/derive from declarations/certificate/policies.rs, with the sum e8b13693.
+// Printed by scripts/derive from declarations/certificate/policies.rs, with the sum ca29e72d.
 
 ghost use Rattle.std.specs.Prelude.{◌≡◌, ◌∷◌, [], IsTrue};
 ghost use Rattle.asn1.specs.Options.{option_meaning};
@@ -57,6 +57,8 @@ impl<'a> SimpleAsn1Readable<'a> for PolicyQualifierInfo<'a> {
 
 impl<'a> SimpleAsn1Writable for PolicyQualifierInfo<'a> {
     type Error = WriteError;
+
+    ghost length_known = { λ _. Unit {0} };
 
     fn tag() -> Tag
         ensures value { result ≡ ⟦<PolicyQualifierInfo<'a> as Asn1Type>⟧.der.content.tag }
@@ -124,6 +126,8 @@ impl<'a> SimpleAsn1Readable<'a> for PolicyInformation<'a> {
 impl<'a> SimpleAsn1Writable for PolicyInformation<'a> {
     type Error = WriteError;
 
+    ghost length_known = { λ _. Unit {0} };
+
     fn tag() -> Tag
         ensures value { result ≡ ⟦<PolicyInformation<'a> as Asn1Type>⟧.der.content.tag }
         ensures simple { ⟦<PolicyInformation<'a> as Asn1Type>⟧.der.is_simple }
@@ -185,6 +189,8 @@ impl<'a> SimpleAsn1Readable<'a> for PolicyMapping {
 
 impl SimpleAsn1Writable for PolicyMapping {
     type Error = WriteError;
+
+    ghost length_known = { λ _. Unit {0} };
 
     fn tag() -> Tag {
         Tag::constructed(0x10)
@@ -351,6 +357,8 @@ impl<'a> SimpleAsn1Readable<'a> for NameConstraints<'a> {
 impl<'a> SimpleAsn1Writable for NameConstraints<'a> {
     type Error = WriteError;
 
+    ghost length_known = { λ _. Unit {0} };
+
     fn tag() -> Tag
         ensures value { result ≡ ⟦<NameConstraints<'a> as Asn1Type>⟧.der.content.tag }
         ensures simple { ⟦<NameConstraints<'a> as Asn1Type>⟧.der.is_simple }
@@ -428,6 +436,8 @@ impl<'a> SimpleAsn1Readable<'a> for PolicyConstraints<'a> {
 
 impl<'a> SimpleAsn1Writable for PolicyConstraints<'a> {
     type Error = WriteError;
+
+    ghost length_known = { λ _. Unit {0} };
 
     fn tag() -> Tag
         ensures value { result ≡ ⟦<PolicyConstraints<'a> as Asn1Type>⟧.der.content.tag }

@@ -1,9 +1,8 @@
 //! General names (RFC 5280, 4.2.1.6).
-// Printed by scripts/derive from declarations/common/general_name.rs, with the sum 4b7e470a.
+// Printed by scripts/derive from declarations/common/general_name.rs, with the sum 223ebe0b.
 
 ghost use Rattle.std.specs.Prelude.{◌≡◌, ◌∷◌, [], IsTrue, OnErr, IfOk};
-ghost use Rattle.asn1.specs.AlternativeLists.{choice, alternative1, alternative2, alternative3, alternative4};
-ghost use Rattle.asn1.specs.AlternativeLists.{alternative5, alternative6, alternative7, alternative8, alternative9};
+ghost use Rattle.asn1.specs.AlternativeLists.{choice, alternative1, alternative2, alternative3, alternative4, alternative5, alternative6, alternative7, alternative8, alternative9};
 ghost use Rattle.asn1.specs.Options.{option_meaning};
 ghost use Rattle.asn1.specs.Reading.{EndsWith};
 ghost use Rattle.asn1.specs.Reads.{BeginsWithEncodingOf, HasOneEncoding, ReadsContents, ReadsPrefix};
@@ -61,6 +60,8 @@ impl<'a> SimpleAsn1Readable<'a> for OtherName<'a> {
 
 impl<'a> SimpleAsn1Writable for OtherName<'a> {
     type Error = WriteError;
+
+    ghost length_known = { λ _. Unit {0} };
 
     fn tag() -> Tag
         ensures value { result ≡ ⟦<OtherName<'a> as Asn1Type>⟧.der.content.tag }
@@ -137,6 +138,8 @@ impl<'a> SimpleAsn1Readable<'a> for EdiPartyName<'a> {
 impl<'a> SimpleAsn1Writable for EdiPartyName<'a> {
     type Error = WriteError;
 
+    ghost length_known = { λ _. Unit {0} };
+
     fn tag() -> Tag
         ensures value { result ≡ ⟦<EdiPartyName<'a> as Asn1Type>⟧.der.content.tag }
         ensures simple { ⟦<EdiPartyName<'a> as Asn1Type>⟧.der.is_simple }
@@ -205,8 +208,7 @@ pub enum GeneralName<'a> {
 impl<'a> AsOneOf<GeneralNameChoice<'a>> for GeneralName<'a> {
     ghost use Rattle.pkix.specs.declared.common.general_name.GeneralName.TheVariants.{OtherName, Rfc822Name, DnsName};
     ghost use Rattle.pkix.specs.declared.common.general_name.GeneralName.TheVariants.{X400Address, DirectoryName};
-    ghost use Rattle.pkix.specs.declared.common.general_name.GeneralName.TheVariants.{EdiPartyName};
-    ghost use Rattle.pkix.specs.declared.common.general_name.GeneralName.TheVariants.{UniformResourceIdentifier};
+    ghost use Rattle.pkix.specs.declared.common.general_name.GeneralName.TheVariants.{EdiPartyName, UniformResourceIdentifier};
     ghost use Rattle.pkix.specs.declared.common.general_name.GeneralName.TheVariants.{IpAddress, RegisteredId};
 
     ghost seen = { elim [
