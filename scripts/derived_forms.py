@@ -368,7 +368,9 @@ class Defined(Choice):
         items, other = {}, self.other
         for part in self.known:
             name = "".join(part.attributes["defined_by"][:-1])
-            constant = self.module.items.get(name, self.item)
+            why = f"`{name}` is no constant of an identifier or a number that is declared here"
+            reject(name not in self.module.items, part.line, why)
+            constant = self.module.items[name]
             is_other = constant.kind not in ("const", "number") or constant.of != of
             reject(is_other, part.line, f"`{name}` is no constant of the type `{of}` that is declared here")
             first = items.setdefault(self.set_item(part, name, constant), part)

@@ -148,7 +148,7 @@ struct NoDerive { //~ `NoDerive` derives neither `Asn1Read` nor `Asn1Write`
 #[derive(asn1::Asn1DefinedByRead, asn1::Asn1DefinedByWrite)]
 enum Undeclared {
     #[defined_by(SOME_OID)]
-    Number(i32), //~ `SOME_OID` is no constant of the type `ObjectIdentifier` that is declared here -> A value that an item defines
+    Number(i32), //~ `SOME_OID` is no constant of an identifier or a number that is declared here -> A value that an item defines
 }
 
 const SOME_OID: asn1::ObjectIdentifier = asn1::oid!(1, 2, 3);
@@ -805,7 +805,7 @@ const FIRST: i8 = 0x1;
 #[derive(asn1::Asn1DefinedByRead)]
 enum LiteralItem {
     #[defined_by(1)]
-    Number(i32), //~ `1` is no constant of the type `ObjectIdentifier` that is declared here -> A value that an item defines
+    Number(i32), //~ `1` is no constant of an identifier or a number that is declared here -> A value that an item defines
 }
 
 const ABOVE: u8 = 256; //~ `ABOVE` is `256`, which is no `u8`
