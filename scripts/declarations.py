@@ -21,7 +21,7 @@ OF_CLAUSES = """
     tcoe unfold unfoldable unfolding""".split()
 # Classes of tags whose number an attribute states, with the number of the class (X.690 8.1.2.2).
 CLASSES = {"application": "Application", "private": "Private", "universal": "Universal"}
-ATTRIBUTES = ("derive", "implicit", "explicit", "default", "defined_by", "set", *CLASSES)
+ATTRIBUTES = ("derive", "implicit", "explicit", "default", "defined_by", "set", "name", *CLASSES)
 ORIGINAL = ("asn1", "std", "core", "alloc")
 # Numbers as Rust writes them, with no more digits than `int` takes.
 DIGITS = r"[0-9][0-9_]{,4299}"
@@ -315,6 +315,14 @@ class Reader:
         return uses, found
 
 
+def paths_of(use):
+    """The path of each name that an import has, by this name."""
+    text = re.sub(r" *(::|[{},;]) *", r"\1", use[len("use ") :].rstrip(";"))
+    while braces := re.search(r"([\w:]*)\{([^{}]*)\}", text):
+        text = text.replace(braces[0], ",".join(braces[1] + name for name in braces[2].split(",") if name))
+    return {re.findall(r"\w+", path)[-1]: path.split()[0] for path in text.split(",")}
+
+
 def with_numbers(item):
     """The item; if its variants have numbers, they are its values and not its parts."""
     numbered = [part for part in item.parts if part.number is not None]
@@ -586,6 +594,9 @@ def set_form(item, part, items):
     part.reject(tag and {"implicit", "explicit"} & set(part.attributes), "has two tags: an alias states one of them")
     part.type = under(tag, part.type) if tag else part.type
     in_struct, attributes, is_option = item.kind == "struct", part.attributes, part.type.name == "Option"
+    part.named = "".join(attributes.pop("name", []) if in_struct else []).rstrip(",")
+    is_name = re.fullmatch(r'"[a-z](-?[A-Za-z0-9])*"|', part.named)
+    part.reject(not is_name, "has a name that isn't one of ASN.1, as `#[name(\"cA\")]` is")
     part.reject({"implicit", "explicit"} <= set(attributes), "is both implicit and explicit")
     part.tag = "".join({"implicit", "explicit"} & set(attributes))
     others = set(attributes) - {part.tag}

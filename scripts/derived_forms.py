@@ -190,7 +190,7 @@ class Structure(Form):
             term, made = tag_of(self.item.tag, True) if self.item.tag else ("set_tag", "Tag::constructed(0x11)")
             word = f"structure_with_tag {group(term)}"
         text = self.stated(part.form if part.item else part.type for part in self.parts)
-        text += "".join(self.default(part) for part in self.parts if part.default)
+        text += self.names() + "".join(self.default(part) for part in self.parts if part.default)
         text += "".join(f"\ntype {part.row} = {part.form};\n" for part in self.parts if part.is_wrapped)
         names = "".join(f'"{part.name}" ∷ ' for part in self.parts)
         text += f"\ntype {row} = {row_type};\n"
@@ -220,6 +220,16 @@ class Structure(Form):
             fn data_length(&self) -> Option<usize> {{ {self.body("fields_length", "self")} }}""",
             "" if lists else self.writes_as_read())
         return text
+
+    def names(self):
+        """The names that fields have in ASN.1, if these aren't their own in another case."""
+        pairs = ", ".join(f'("{self.name}::{part.name}", {part.named})' for part in self.parts if part.named)
+        return pairs and f"""
+impl{f'<{self.life}>' if self.item.life else ''} {self.item.own()} {{
+    /// The fields that have another name in ASN.1 than theirs with capitals, as errors name them, with that name.
+    {self.item.visibility} const NAMES: &'static [(&'static str, &'static str)] = &[{pairs}];
+}}
+"""
 
     def set_rows(self):
         """Gives each marker the value that its item defines, and each of these values the type of its item. Each field
@@ -492,7 +502,9 @@ def lawful(item, module):
         return ""
     parts = [item.type] if item.type else [part.form for part in item.parts]
     is_told = item.kind == "enum" or any(module.known(part).is_missing for part in parts[:-1])
-    called = dict.fromkeys(called for part in parts for called in laws_of(module, part))
+    # An imported type that an item defines has no law by itself.
+    others = [part.form for part in item.parts if "defined_by" in part.attributes and part.base.name not in module.items]
+    called = dict.fromkeys(called for part in parts if part not in others for called in laws_of(module, part))
     return f"""
 /// Each value of `{item.name}` has one encoding, which is read back.
 {BY_TAGS if is_told else ''}{item.visibility} fn {snake(item.name)}_is_lawful()
@@ -501,13 +513,28 @@ def lawful(item, module):
 """
 
 
+def module_of_laws(laws):
+    """The module of these laws, if there are any."""
+    types = re.findall(r"^/// Each value of `(\w+)`", laws, re.M)
+    return types and f"""
+/// The laws of the types, which do nothing.
+pub mod laws {{
+    use super::{{{', '.join(types)}}};
+    use asn1::Asn1Type;
+    {laws}
+}}
+""" or ""
+
+
 def laws_of(module, type):
-    """The names of the laws of the types in a type: those said here or imported."""
-    word = str(type).split("<")[0]
-    name = snake(word) + "_is_lawful"
-    declared = module.items.get(word)
-    if declared and not declared.is_defined or name in module.imported:
-        return [name]
+    """The laws of the types in a type, as they are called: that of an imported type is in the module `laws` beside it."""
+    declared, path = module.items.get(type.name), module.imported.get(type.name, type.name).split("::")
+    if declared and not declared.is_defined:
+        return [f"{snake(type.name)}_is_lawful"]
+    if len(path) > 1:
+        # The module `laws` is within that of the declarations.
+        around = ["super"] * (path[0] in ("self", "super")) + path[path[0] == "self" : -1]
+        return ["::".join([*around, "laws", f"{snake(path[-1])}_is_lawful"])]
     inner = [part.form for part in declared.parts] if declared else type.inner
     return [name for part in inner for name in laws_of(module, part)]
 
@@ -565,7 +592,7 @@ def answers(item, module):
     owes some."""
     if item.kind == "enum" and not item.is_defined:
         is_large = item.reads and len(item.parts) > MOST_SEARCHED
-        return f"{snake(item.name)}_is_lawful", LAW_USES, law_of_choice(item) if is_large else ""
+        return f"laws/{snake(item.name)}_is_lawful", LAW_USES, law_of_choice(item) if is_large else ""
     if not (item.is_defined and item.writes):
         return (item.name.lower(), IDENTIFIER_USES, IDENTIFIER_ANSWERS) if item.kind == "const" else ("", "", "")
     names, large, kept = {*module.items, *module.imported}, "", ""

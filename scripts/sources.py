@@ -143,10 +143,10 @@ def functions_in(text, path):
     for is_public, kind, name, item, start in items(text):
         if kind == "fn":
             yield function_in(item, start, [*path, name], is_public)
-        if kind not in ("impl", "trait"):
+        if kind not in ("impl", "trait", "mod"):
             continue
         header = re.split(rf"\{{\}}?$|\bwhere\b", item, flags=re.MULTILINE)[0].partition(kind)[2]
-        block, trait = impl_name(header) if kind == "impl" else (name, name)
+        block, trait = impl_name(header) if kind == "impl" else (name, "" if kind == "mod" else name)
         for says_pub, inner, member, function, place in items(item, "    "):
             seen = says_pub or (kind == "impl" and trait != "") or (kind == "trait" and is_public)
             if inner == "fn":

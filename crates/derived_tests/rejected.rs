@@ -895,3 +895,15 @@ struct MarkerByAnAlias {
     kind: Kind, //~ `kind` marks an item that has a tag, is in another type, or isn't an identifier or an integer -> What has no form
 }
 type Kind = asn1::DefinedByMarker<i32>;
+
+#[derive(asn1::Asn1Read)]
+struct Named {
+    #[name("Number")]
+    number: u8, //~ `number` has a name that isn't one of ASN.1, as `#[name("cA")]` is
+}
+
+#[derive(asn1::Asn1Read)]
+enum NamedVariant {
+    #[name("number")]
+    Number(u8), //~ an attribute that `Number` can't have
+}

@@ -8,21 +8,25 @@ ghost use Rattle.asn1_c.specs.declared.objects.Object.TheVariants as objects;
 
 use crate::objects::{Described, Object, form_of};
 use asn1::{Asn1Readable, Asn1Type, ParseError, error_octet, parse_single};
-use pkix::certificate::{Certificate, certificate_is_lawful};
-use pkix::common::{SubjectPublicKeyInfo, subject_public_key_info_is_lawful};
-use pkix::keys::{
-    EcPrivateKey, OneAsymmetricKey, RsaPrivateKey, RsaPublicKey, ec_private_key_is_lawful,
-    one_asymmetric_key_is_lawful, rsa_private_key_is_lawful, rsa_public_key_is_lawful,
+use pkix::certificate::Certificate;
+use pkix::certificate::laws::certificate_is_lawful;
+use pkix::common::SubjectPublicKeyInfo;
+use pkix::common::laws::subject_public_key_info_is_lawful;
+use pkix::keys::laws::{
+    ec_private_key_is_lawful, one_asymmetric_key_is_lawful, rsa_private_key_is_lawful,
+    rsa_public_key_is_lawful,
 };
-use pkix::request::{CertificationRequest, certification_request_is_lawful};
-use pkix::revocation::{CertificateList, certificate_list_is_lawful};
-use pkix::signatures::{
-    ContentInfo, DigestInfo, EcdsaSigValue, content_info_is_lawful, digest_info_is_lawful,
-    ecdsa_sig_value_is_lawful,
+use pkix::keys::{EcPrivateKey, OneAsymmetricKey, RsaPrivateKey, RsaPublicKey};
+use pkix::request::CertificationRequest;
+use pkix::request::laws::certification_request_is_lawful;
+use pkix::revocation::CertificateList;
+use pkix::revocation::laws::certificate_list_is_lawful;
+use pkix::signatures::laws::{
+    content_info_is_lawful, digest_info_is_lawful, ecdsa_sig_value_is_lawful,
 };
-use pkix::timestamps::{
-    TimeStampReq, TimeStampResp, time_stamp_req_is_lawful, time_stamp_resp_is_lawful,
-};
+use pkix::signatures::{ContentInfo, DigestInfo, EcdsaSigValue};
+use pkix::timestamps::laws::{time_stamp_req_is_lawful, time_stamp_resp_is_lawful};
+use pkix::timestamps::{TimeStampReq, TimeStampResp};
 use std::alloc::Global;
 
 /// With which error octets are rejected that have to be an object.

@@ -1,7 +1,7 @@
 //! Values that an item before them defines: each attribute of the original's derives for them, once.
 
 use asn1::{Asn1Read, Asn1Write};
-use crate::page::{Tagged, tagged_is_lawful};
+use super::page::Tagged;
 
 /// The identifier 1.2.3.
 pub const SOME_OID: asn1::ObjectIdentifier = asn1::oid!(1, 2, 3);

@@ -13,6 +13,7 @@ pub(crate) struct Spelled<'b> { //~ `Copy`, which `items` lacks; `Default`, whic
     /// At least one number, and at most four.
     pub items: asn1::SequenceOf<'b, u8, 1, { 4 }>,
     /// Any number of numbers, from two on.
+    #[name("any-number")]
     #[implicit(0x1f, required = false)]
     pub(in crate::spellings) more: Option<asn1::SequenceOf<'b, u8, 0b10, { usize::MAX }>>,
     #[implicit(1_0)]

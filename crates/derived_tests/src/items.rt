@@ -1,5 +1,5 @@
 //! Values that an item before them defines: each attribute of the original's derives for them, once.
-// Printed by scripts/derive from declarations/items.rs, with the sum d142152e.
+// Printed by scripts/derive from declarations/items.rs, with the sum 33098a25.
 
 ghost use Rattle.std.specs.Prelude.{◌≡◌, ◌⊎◌, ◌∷◌, [], true, false, ⊤, IsTrue, MatchOption, OnErr};
 ghost use Rattle.std.specs.Str.{bytes_eq};
@@ -14,7 +14,7 @@ ghost use Rattle.asn1.specs.Variants.{any_variant, identifier_with, or_variant, 
 ghost use Rattle.derived_tests.specs.declared.items.TheConstants.{OTHER_OID_NUMBERS, SHA256_WITH_RSA_NUMBERS};
 ghost use Rattle.derived_tests.specs.declared.items.TheConstants.{SOME_OID_NUMBERS};
 
-use crate::page::{Tagged, tagged_is_lawful};
+use super::page::Tagged;
 use asn1::fields::{
     Before, DefinedField, Field, Item, Last, LastValue, Row, Value, is_identifier,
     known_identifier, plain_length, write_plain,
@@ -762,25 +762,31 @@ impl<'a> SimpleAsn1Writable for Entry<'a> {
     }
 }
 
-/// Each value of `MySequence` has one encoding, which is read back.
-pub fn my_sequence_is_lawful()
-    ensures { HasOneEncoding ⟦<MySequence as Asn1Type>⟧.der }
-{}
+/// The laws of the types, which do nothing.
+pub mod laws {
+    use super::{AnySequence, Entry, Letter, MySequence};
+    use asn1::Asn1Type;
 
-/// Each value of `AnySequence` has one encoding, which is read back.
-pub fn any_sequence_is_lawful()
-    ensures { HasOneEncoding ⟦<AnySequence<'static> as Asn1Type>⟧.der }
-{
-    tagged_is_lawful();
+    /// Each value of `MySequence` has one encoding, which is read back.
+    pub fn my_sequence_is_lawful()
+        ensures { HasOneEncoding ⟦<MySequence as Asn1Type>⟧.der }
+    {}
+
+    /// Each value of `AnySequence` has one encoding, which is read back.
+    pub fn any_sequence_is_lawful()
+        ensures { HasOneEncoding ⟦<AnySequence<'static> as Asn1Type>⟧.der }
+    {
+        super::super::page::laws::tagged_is_lawful();
+    }
+
+    /// Each value of `Letter` has one encoding, which is read back.
+    #[tactic(auto, using(asn1::specs::Lemmas::Fields::tags_differ))]
+    pub fn letter_is_lawful()
+        ensures { HasOneEncoding ⟦<Letter as Asn1Type>⟧.der }
+    {}
+
+    /// Each value of `Entry` has one encoding, which is read back.
+    pub fn entry_is_lawful()
+        ensures { HasOneEncoding ⟦<Entry<'static> as Asn1Type>⟧.der }
+    {}
 }
-
-/// Each value of `Letter` has one encoding, which is read back.
-#[tactic(auto, using(asn1::specs::Lemmas::Fields::tags_differ))]
-pub fn letter_is_lawful()
-    ensures { HasOneEncoding ⟦<Letter as Asn1Type>⟧.der }
-{}
-
-/// Each value of `Entry` has one encoding, which is read back.
-pub fn entry_is_lawful()
-    ensures { HasOneEncoding ⟦<Entry<'static> as Asn1Type>⟧.der }
-{}

@@ -1,5 +1,5 @@
 //! Kerberos messages (RFC 4120, 5): a ticket, and the requests and replies of AS and TGS.
-// Printed by scripts/derive from declarations/kerberos.rs, with the sum e9d2f7b6.
+// Printed by scripts/derive from declarations/kerberos.rs, with the sum 87f33c7c.
 
 ghost use Rattle.std.specs.Prelude.{◌≡◌, ◌∷◌, [], IsTrue};
 ghost use Rattle.asn1.specs.Options.{option_meaning};
@@ -68,8 +68,6 @@ impl<'a> SimpleAsn1Readable<'a> for PrincipalName<'a> {
 
 impl<'a> SimpleAsn1Writable for PrincipalName<'a> {
     type Error = WriteError;
-
-    ghost length_known = { λ _. Unit {0} };
 
     fn tag() -> Tag
         ensures value { result ≡ ⟦<PrincipalName<'a> as Asn1Type>⟧.der.content.tag }
@@ -141,8 +139,6 @@ impl<'a> SimpleAsn1Readable<'a> for HostAddress<'a> {
 impl<'a> SimpleAsn1Writable for HostAddress<'a> {
     type Error = WriteError;
 
-    ghost length_known = { λ _. Unit {0} };
-
     fn tag() -> Tag
         ensures value { result ≡ ⟦<HostAddress<'a> as Asn1Type>⟧.der.content.tag }
         ensures simple { ⟦<HostAddress<'a> as Asn1Type>⟧.der.is_simple }
@@ -212,8 +208,6 @@ impl<'a> SimpleAsn1Readable<'a> for PaData<'a> {
 
 impl<'a> SimpleAsn1Writable for PaData<'a> {
     type Error = WriteError;
-
-    ghost length_known = { λ _. Unit {0} };
 
     fn tag() -> Tag
         ensures value { result ≡ ⟦<PaData<'a> as Asn1Type>⟧.der.content.tag }
@@ -297,8 +291,6 @@ impl<'a> SimpleAsn1Readable<'a> for EncryptedData<'a> {
 
 impl<'a> SimpleAsn1Writable for EncryptedData<'a> {
     type Error = WriteError;
-
-    ghost length_known = { λ _. Unit {0} };
 
     fn tag() -> Tag
         ensures value { result ≡ ⟦<EncryptedData<'a> as Asn1Type>⟧.der.content.tag }
@@ -384,8 +376,6 @@ impl<'a> SimpleAsn1Readable<'a> for TicketBody<'a> {
 
 impl<'a> SimpleAsn1Writable for TicketBody<'a> {
     type Error = WriteError;
-
-    ghost length_known = { λ _. Unit {0} };
 
     fn tag() -> Tag
         ensures value { result ≡ ⟦<TicketBody<'a> as Asn1Type>⟧.der.content.tag }
@@ -528,8 +518,6 @@ impl<'a> SimpleAsn1Readable<'a> for KdcReqBody<'a> {
 impl<'a> SimpleAsn1Writable for KdcReqBody<'a> {
     type Error = WriteError;
 
-    ghost length_known = { λ _. Unit {0} };
-
     fn tag() -> Tag
         ensures value { result ≡ ⟦<KdcReqBody<'a> as Asn1Type>⟧.der.content.tag }
         ensures simple { ⟦<KdcReqBody<'a> as Asn1Type>⟧.der.is_simple }
@@ -614,8 +602,6 @@ impl<'a> SimpleAsn1Readable<'a> for KdcReq<'a> {
 
 impl<'a> SimpleAsn1Writable for KdcReq<'a> {
     type Error = WriteError;
-
-    ghost length_known = { λ _. Unit {0} };
 
     fn tag() -> Tag
         ensures value { result ≡ ⟦<KdcReq<'a> as Asn1Type>⟧.der.content.tag }
@@ -725,8 +711,6 @@ impl<'a> SimpleAsn1Readable<'a> for KdcRep<'a> {
 impl<'a> SimpleAsn1Writable for KdcRep<'a> {
     type Error = WriteError;
 
-    ghost length_known = { λ _. Unit {0} };
-
     fn tag() -> Tag
         ensures value { result ≡ ⟦<KdcRep<'a> as Asn1Type>⟧.der.content.tag }
         ensures simple { ⟦<KdcRep<'a> as Asn1Type>⟧.der.is_simple }
@@ -755,107 +739,116 @@ pub type AsRep<'a> = ApplicationExplicit<KdcRep<'a>, 11>;
 /// TGS-REP (5.4.2).
 pub type TgsRep<'a> = ApplicationExplicit<KdcRep<'a>, 13>;
 
-/// Each value of `KerberosString` has one encoding, which is read back.
-pub fn kerberos_string_is_lawful()
-    ensures { HasOneEncoding ⟦<KerberosString<'static> as Asn1Type>⟧.der }
-{}
+/// The laws of the types, which do nothing.
+pub mod laws {
+    use super::{
+        AsRep, AsReq, EncryptedData, HostAddress, KdcRep, KdcReq, KdcReqBody, KerberosString,
+        PaData, PrincipalName, TgsRep, TgsReq, Ticket, TicketBody,
+    };
+    use asn1::Asn1Type;
 
-/// Each value of `PrincipalName` has one encoding, which is read back.
-pub fn principal_name_is_lawful()
-    ensures { HasOneEncoding ⟦<PrincipalName<'static> as Asn1Type>⟧.der }
-{
-    kerberos_string_is_lawful();
-}
+    /// Each value of `KerberosString` has one encoding, which is read back.
+    pub fn kerberos_string_is_lawful()
+        ensures { HasOneEncoding ⟦<KerberosString<'static> as Asn1Type>⟧.der }
+    {}
 
-/// Each value of `HostAddress` has one encoding, which is read back.
-pub fn host_address_is_lawful()
-    ensures { HasOneEncoding ⟦<HostAddress<'static> as Asn1Type>⟧.der }
-{}
+    /// Each value of `PrincipalName` has one encoding, which is read back.
+    pub fn principal_name_is_lawful()
+        ensures { HasOneEncoding ⟦<PrincipalName<'static> as Asn1Type>⟧.der }
+    {
+        kerberos_string_is_lawful();
+    }
 
-/// Each value of `PaData` has one encoding, which is read back.
-pub fn pa_data_is_lawful()
-    ensures { HasOneEncoding ⟦<PaData<'static> as Asn1Type>⟧.der }
-{}
+    /// Each value of `HostAddress` has one encoding, which is read back.
+    pub fn host_address_is_lawful()
+        ensures { HasOneEncoding ⟦<HostAddress<'static> as Asn1Type>⟧.der }
+    {}
 
-/// Each value of `EncryptedData` has one encoding, which is read back.
-#[tactic(auto, using(asn1::specs::Lemmas::Fields::tags_differ))]
-pub fn encrypted_data_is_lawful()
-    ensures { HasOneEncoding ⟦<EncryptedData<'static> as Asn1Type>⟧.der }
-{}
+    /// Each value of `PaData` has one encoding, which is read back.
+    pub fn pa_data_is_lawful()
+        ensures { HasOneEncoding ⟦<PaData<'static> as Asn1Type>⟧.der }
+    {}
 
-/// Each value of `TicketBody` has one encoding, which is read back.
-pub fn ticket_body_is_lawful()
-    ensures { HasOneEncoding ⟦<TicketBody<'static> as Asn1Type>⟧.der }
-{
-    kerberos_string_is_lawful();
-    principal_name_is_lawful();
-    encrypted_data_is_lawful();
-}
+    /// Each value of `EncryptedData` has one encoding, which is read back.
+    #[tactic(auto, using(asn1::specs::Lemmas::Fields::tags_differ))]
+    pub fn encrypted_data_is_lawful()
+        ensures { HasOneEncoding ⟦<EncryptedData<'static> as Asn1Type>⟧.der }
+    {}
 
-/// Each value of `Ticket` has one encoding, which is read back.
-pub fn ticket_is_lawful()
-    ensures { HasOneEncoding ⟦<Ticket<'static> as Asn1Type>⟧.der }
-{
-    ticket_body_is_lawful();
-}
+    /// Each value of `TicketBody` has one encoding, which is read back.
+    pub fn ticket_body_is_lawful()
+        ensures { HasOneEncoding ⟦<TicketBody<'static> as Asn1Type>⟧.der }
+    {
+        kerberos_string_is_lawful();
+        principal_name_is_lawful();
+        encrypted_data_is_lawful();
+    }
 
-/// Each value of `KdcReqBody` has one encoding, which is read back.
-#[tactic(auto, using(asn1::specs::Lemmas::Fields::tags_differ))]
-pub fn kdc_req_body_is_lawful()
-    ensures { HasOneEncoding ⟦<KdcReqBody<'static> as Asn1Type>⟧.der }
-{
-    principal_name_is_lawful();
-    kerberos_string_is_lawful();
-    host_address_is_lawful();
-    encrypted_data_is_lawful();
-    ticket_is_lawful();
-}
+    /// Each value of `Ticket` has one encoding, which is read back.
+    pub fn ticket_is_lawful()
+        ensures { HasOneEncoding ⟦<Ticket<'static> as Asn1Type>⟧.der }
+    {
+        ticket_body_is_lawful();
+    }
 
-/// Each value of `KdcReq` has one encoding, which is read back.
-#[tactic(auto, using(asn1::specs::Lemmas::Fields::tags_differ))]
-pub fn kdc_req_is_lawful()
-    ensures { HasOneEncoding ⟦<KdcReq<'static> as Asn1Type>⟧.der }
-{
-    pa_data_is_lawful();
-    kdc_req_body_is_lawful();
-}
+    /// Each value of `KdcReqBody` has one encoding, which is read back.
+    #[tactic(auto, using(asn1::specs::Lemmas::Fields::tags_differ))]
+    pub fn kdc_req_body_is_lawful()
+        ensures { HasOneEncoding ⟦<KdcReqBody<'static> as Asn1Type>⟧.der }
+    {
+        principal_name_is_lawful();
+        kerberos_string_is_lawful();
+        host_address_is_lawful();
+        encrypted_data_is_lawful();
+        ticket_is_lawful();
+    }
 
-/// Each value of `AsReq` has one encoding, which is read back.
-pub fn as_req_is_lawful()
-    ensures { HasOneEncoding ⟦<AsReq<'static> as Asn1Type>⟧.der }
-{
-    kdc_req_is_lawful();
-}
+    /// Each value of `KdcReq` has one encoding, which is read back.
+    #[tactic(auto, using(asn1::specs::Lemmas::Fields::tags_differ))]
+    pub fn kdc_req_is_lawful()
+        ensures { HasOneEncoding ⟦<KdcReq<'static> as Asn1Type>⟧.der }
+    {
+        pa_data_is_lawful();
+        kdc_req_body_is_lawful();
+    }
 
-/// Each value of `TgsReq` has one encoding, which is read back.
-pub fn tgs_req_is_lawful()
-    ensures { HasOneEncoding ⟦<TgsReq<'static> as Asn1Type>⟧.der }
-{
-    kdc_req_is_lawful();
-}
+    /// Each value of `AsReq` has one encoding, which is read back.
+    pub fn as_req_is_lawful()
+        ensures { HasOneEncoding ⟦<AsReq<'static> as Asn1Type>⟧.der }
+    {
+        kdc_req_is_lawful();
+    }
 
-/// Each value of `KdcRep` has one encoding, which is read back.
-#[tactic(auto, using(asn1::specs::Lemmas::Fields::tags_differ))]
-pub fn kdc_rep_is_lawful()
-    ensures { HasOneEncoding ⟦<KdcRep<'static> as Asn1Type>⟧.der }
-{
-    pa_data_is_lawful();
-    kerberos_string_is_lawful();
-    principal_name_is_lawful();
-    ticket_is_lawful();
-    encrypted_data_is_lawful();
-}
+    /// Each value of `TgsReq` has one encoding, which is read back.
+    pub fn tgs_req_is_lawful()
+        ensures { HasOneEncoding ⟦<TgsReq<'static> as Asn1Type>⟧.der }
+    {
+        kdc_req_is_lawful();
+    }
 
-/// Each value of `AsRep` has one encoding, which is read back.
-pub fn as_rep_is_lawful()
-    ensures { HasOneEncoding ⟦<AsRep<'static> as Asn1Type>⟧.der }
-{
-    kdc_rep_is_lawful();
-}
+    /// Each value of `KdcRep` has one encoding, which is read back.
+    #[tactic(auto, using(asn1::specs::Lemmas::Fields::tags_differ))]
+    pub fn kdc_rep_is_lawful()
+        ensures { HasOneEncoding ⟦<KdcRep<'static> as Asn1Type>⟧.der }
+    {
+        pa_data_is_lawful();
+        kerberos_string_is_lawful();
+        principal_name_is_lawful();
+        ticket_is_lawful();
+        encrypted_data_is_lawful();
+    }
 
-/// Each value of `TgsRep` has one encoding, which is read back.
-pub fn tgs_rep_is_lawful()
-    ensures { HasOneEncoding ⟦<TgsRep<'static> as Asn1Type>⟧.der }
-{
-    kdc_rep_is_lawful();
+    /// Each value of `AsRep` has one encoding, which is read back.
+    pub fn as_rep_is_lawful()
+        ensures { HasOneEncoding ⟦<AsRep<'static> as Asn1Type>⟧.der }
+    {
+        kdc_rep_is_lawful();
+    }
+
+    /// Each value of `TgsRep` has one encoding, which is read back.
+    pub fn tgs_rep_is_lawful()
+        ensures { HasOneEncoding ⟦<TgsRep<'static> as Asn1Type>⟧.der }
+    {
+        kdc_rep_is_lawful();
+    }
 }

@@ -1,11 +1,12 @@
 //! Structures and choices: each attribute of the original's derives for them, once.
-// Printed by scripts/derive from declarations/page.rs, with the sum 3a0b9155.
+// Printed by scripts/derive from declarations/page.rs, with the sum 8957226f.
 
 ghost use Rattle.std.specs.Prelude.{◌≡◌, ◌∷◌, [], negsuc, IsTrue, OnErr, IfOk};
 ghost use Rattle.asn1.specs.AlternativeLists.{choice, alternative1, alternative2};
 ghost use Rattle.asn1.specs.Reading.{EndsWith};
 ghost use Rattle.asn1.specs.Reads.{BeginsWithEncodingOf, HasOneEncoding, ReadsContents, ReadsPrefix};
-ghost use Rattle.asn1.specs.Structures.{defaulted, explicit, field_names, implicit, structure, fields0, fields1, fields2, fields4};
+ghost use Rattle.asn1.specs.Structures.{defaulted, explicit, field_names, implicit, structure, fields0, fields1};
+ghost use Rattle.asn1.specs.Structures.{fields2, fields4};
 
 use asn1::alternatives::{Alternatives, AlternativesReadable, AsOneOf, OneOf2, read_choice};
 use asn1::fields::{Fields2, Fields4, Last, NoFields, Row};
@@ -51,8 +52,6 @@ impl<'a> SimpleAsn1Readable<'a> for Signature {
 impl SimpleAsn1Writable for Signature {
     type Error = WriteError;
 
-    ghost length_known = { λ _. Unit {0} };
-
     fn tag() -> Tag {
         Tag::constructed(0x10)
     }
@@ -97,8 +96,6 @@ impl<'a> SimpleAsn1Readable<'a> for Nothing {
 
 impl SimpleAsn1Writable for Nothing {
     type Error = WriteError;
-
-    ghost length_known = { λ _. Unit {0} };
 
     fn tag() -> Tag {
         Tag::constructed(0x10)
@@ -201,8 +198,6 @@ impl<'a> SimpleAsn1Readable<'a> for Tagged<'a> {
 
 impl<'a> SimpleAsn1Writable for Tagged<'a> {
     type Error = WriteError;
-
-    ghost length_known = { λ _. Unit {0} };
 
     fn tag() -> Tag
         ensures value { result ≡ ⟦<Tagged<'a> as Asn1Type>⟧.der.content.tag }
@@ -389,8 +384,6 @@ impl<'a> SimpleAsn1Writable for Bag<'a> {
     ghost write_errors = { λ v e. ⟦<SetOfWriter<'a, u64> as SimpleAsn1Writable>⟧.write_errors
         v.numbers e };
 
-    ghost length_known = { λ _. Unit {0} };
-
     fn tag() -> Tag
         ensures value { result ≡ ⟦<Bag<'a> as Asn1Type>⟧.der.content.tag }
         ensures simple { ⟦<Bag<'a> as Asn1Type>⟧.der.is_simple }
@@ -407,40 +400,46 @@ impl<'a> SimpleAsn1Writable for Bag<'a> {
     }
 }
 
-/// Each value of `Signature` has one encoding, which is read back.
-pub fn signature_is_lawful()
-    ensures { HasOneEncoding ⟦<Signature as Asn1Type>⟧.der }
-{}
+/// The laws of the types, which do nothing.
+pub mod laws {
+    use super::{Alternative, Nothing, ResponderId, Signature, Strings, Tagged};
+    use asn1::Asn1Type;
 
-/// Each value of `Nothing` has one encoding, which is read back.
-pub fn nothing_is_lawful()
-    ensures { HasOneEncoding ⟦<Nothing as Asn1Type>⟧.der }
-{}
+    /// Each value of `Signature` has one encoding, which is read back.
+    pub fn signature_is_lawful()
+        ensures { HasOneEncoding ⟦<Signature as Asn1Type>⟧.der }
+    {}
 
-/// Each value of `Tagged` has one encoding, which is read back.
-#[tactic(auto, using(asn1::specs::Lemmas::Fields::tags_differ))]
-pub fn tagged_is_lawful()
-    ensures { HasOneEncoding ⟦<Tagged<'static> as Asn1Type>⟧.der }
-{
-    signature_is_lawful();
-}
+    /// Each value of `Nothing` has one encoding, which is read back.
+    pub fn nothing_is_lawful()
+        ensures { HasOneEncoding ⟦<Nothing as Asn1Type>⟧.der }
+    {}
 
-/// Each value of `Strings` has one encoding, which is read back.
-pub fn strings_is_lawful()
-    ensures { HasOneEncoding ⟦<Strings<'static> as Asn1Type>⟧.der }
-{}
+    /// Each value of `Tagged` has one encoding, which is read back.
+    #[tactic(auto, using(asn1::specs::Lemmas::Fields::tags_differ))]
+    pub fn tagged_is_lawful()
+        ensures { HasOneEncoding ⟦<Tagged<'static> as Asn1Type>⟧.der }
+    {
+        signature_is_lawful();
+    }
 
-/// Each value of `ResponderId` has one encoding, which is read back.
-#[tactic(auto, using(asn1::specs::Lemmas::Fields::tags_differ))]
-pub fn responder_id_is_lawful()
-    ensures { HasOneEncoding ⟦<ResponderId<'static> as Asn1Type>⟧.der }
-{
-    strings_is_lawful();
-}
+    /// Each value of `Strings` has one encoding, which is read back.
+    pub fn strings_is_lawful()
+        ensures { HasOneEncoding ⟦<Strings<'static> as Asn1Type>⟧.der }
+    {}
 
-/// Each value of `Alternative` has one encoding, which is read back.
-pub fn alternative_is_lawful()
-    ensures { HasOneEncoding ⟦<Alternative<'static> as Asn1Type>⟧.der }
-{
-    responder_id_is_lawful();
+    /// Each value of `ResponderId` has one encoding, which is read back.
+    #[tactic(auto, using(asn1::specs::Lemmas::Fields::tags_differ))]
+    pub fn responder_id_is_lawful()
+        ensures { HasOneEncoding ⟦<ResponderId<'static> as Asn1Type>⟧.der }
+    {
+        strings_is_lawful();
+    }
+
+    /// Each value of `Alternative` has one encoding, which is read back.
+    pub fn alternative_is_lawful()
+        ensures { HasOneEncoding ⟦<Alternative<'static> as Asn1Type>⟧.der }
+    {
+        responder_id_is_lawful();
+    }
 }

@@ -1,5 +1,5 @@
 //! Spellings of Rust that the script reads: numbers, comments, attributes, lifetimes and visibility.
-// Printed by scripts/derive from declarations/spellings.rs, with the sum 9fc08689.
+// Printed by scripts/derive from declarations/spellings.rs, with the sum e84d926e.
 
 ghost use Rattle.std.specs.Prelude.{◌≡◌, ◌∷◌, [], negsuc, IsTrue};
 ghost use Rattle.asn1.specs.Options.{option_meaning};
@@ -29,6 +29,14 @@ pub(crate) struct Spelled<'b> {
     high: u8,
     /// The field.
     text: IA5String<'b>,
+}
+
+impl<'b> Spelled<'b> {
+    /// The fields that have another name in ASN.1 than theirs with capitals, as errors name them, with that name.
+    pub(crate) const NAMES: &'static [(&'static str, &'static str)] = &[(
+        "Spelled::more",
+        "any-number",
+    )];
 }
 
 /// What `low` is if it is left out.
@@ -103,8 +111,6 @@ impl<'b> SimpleAsn1Readable<'b> for Spelled<'b> {
 impl<'b> SimpleAsn1Writable for Spelled<'b> {
     type Error = WriteError;
 
-    ghost length_known = { λ _. Unit {0} };
-
     fn tag() -> Tag
         ensures value { result ≡ ⟦<Spelled<'b> as Asn1Type>⟧.der.content.tag }
         ensures simple { ⟦<Spelled<'b> as Asn1Type>⟧.der.is_simple }
@@ -176,8 +182,6 @@ impl Asn1Type for Sent {
 impl SimpleAsn1Writable for Sent {
     type Error = WriteError;
 
-    ghost length_known = { λ _. Unit {0} };
-
     fn tag() -> Tag {
         Tag::constructed(0x10)
     }
@@ -191,13 +195,19 @@ impl SimpleAsn1Writable for Sent {
     }
 }
 
-/// Each value of `Spelled` has one encoding, which is read back.
-#[tactic(auto, using(asn1::specs::Lemmas::Fields::tags_differ))]
-pub(crate) fn spelled_is_lawful()
-    ensures { HasOneEncoding ⟦<Spelled<'static> as Asn1Type>⟧.der }
-{}
+/// The laws of the types, which do nothing.
+pub mod laws {
+    use super::{Received, Spelled};
+    use asn1::Asn1Type;
 
-/// Each value of `Received` has one encoding, which is read back.
-pub fn received_is_lawful()
-    ensures { HasOneEncoding ⟦<Received as Asn1Type>⟧.der }
-{}
+    /// Each value of `Spelled` has one encoding, which is read back.
+    #[tactic(auto, using(asn1::specs::Lemmas::Fields::tags_differ))]
+    pub(crate) fn spelled_is_lawful()
+        ensures { HasOneEncoding ⟦<Spelled<'static> as Asn1Type>⟧.der }
+    {}
+
+    /// Each value of `Received` has one encoding, which is read back.
+    pub fn received_is_lawful()
+        ensures { HasOneEncoding ⟦<Received as Asn1Type>⟧.der }
+    {}
+}

@@ -1,8 +1,6 @@
 //! Keys, and the parameters of their algorithms (RFC 5958, 8017, 5915, 5480, 3279 and 4055).
 
-use crate::common::{
-    AlgorithmIdentifier, Attributes, algorithm_identifier_is_lawful, attributes_is_lawful,
-};
+use crate::common::{AlgorithmIdentifier, Attributes};
 
 /// OneAsymmetricKey (RFC 5958, 2), a SEQUENCE: a private key, and the public key if it is there. Fields after these,
 /// which later versions may have, are rejected.
@@ -41,11 +39,24 @@ pub struct RsaPublicKey<'a> {
     pub public_exponent: asn1::BigUint<'a>,
 }
 
-/// RSAPrivateKey (RFC 8017, A.1.2) of two primes, a SEQUENCE. Its numbers aren't negative, and one of more primes is
-/// rejected.
+/// OtherPrimeInfo (RFC 8017, A.1.2), a SEQUENCE: a prime after the first two. Its numbers aren't negative.
+#[derive(asn1::Asn1Read, asn1::Asn1Write, Debug, Clone, PartialEq, Eq)]
+pub struct OtherPrimeInfo<'a> {
+    /// The prime.
+    pub prime: asn1::BigUint<'a>,
+    /// The private exponent modulo the prime less one.
+    pub exponent: asn1::BigUint<'a>,
+    /// The inverse of the product of the primes before it, modulo the prime.
+    pub coefficient: asn1::BigUint<'a>,
+}
+
+/// OtherPrimeInfos (RFC 8017, A.1.2), a SEQUENCE of at least one OtherPrimeInfo.
+pub type OtherPrimeInfos<'a> = asn1::SequenceOf<'a, OtherPrimeInfo<'a>, 1>;
+
+/// RSAPrivateKey (RFC 8017, A.1.2), a SEQUENCE. Its numbers aren't negative.
 #[derive(asn1::Asn1Read, asn1::Asn1Write, Debug, Clone, PartialEq, Eq)]
 pub struct RsaPrivateKey<'a> {
-    /// The version: 0, as there are two primes. Any from 0 to 255 is read.
+    /// The version: 0 if there are two primes, and 1 if there are more, which isn't checked. Any from 0 to 255 is read.
     pub version: u8,
     /// The modulus, the product of the primes.
     pub modulus: asn1::BigUint<'a>,
@@ -63,6 +74,8 @@ pub struct RsaPrivateKey<'a> {
     pub exponent2: asn1::BigUint<'a>,
     /// The inverse of q modulo p.
     pub coefficient: asn1::BigUint<'a>,
+    /// The other primes.
+    pub other_prime_infos: Option<OtherPrimeInfos<'a>>,
 }
 
 /// ECPrivateKey (RFC 5915, 3), a SEQUENCE.

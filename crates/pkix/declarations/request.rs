@@ -1,9 +1,6 @@
 //! Requests for certificates (RFC 2986).
 
-use crate::common::{
-    AlgorithmIdentifier, Attributes, Name, SubjectPublicKeyInfo, algorithm_identifier_is_lawful,
-    attributes_is_lawful, name_is_lawful, subject_public_key_info_is_lawful,
-};
+use crate::common::{AlgorithmIdentifier, Attributes, Name, SubjectPublicKeyInfo};
 
 /// CertificationRequestInfo (RFC 2986, 4.1), a SEQUENCE: the part of a request that is signed.
 #[derive(asn1::Asn1Read, asn1::Asn1Write, Debug, Clone, PartialEq, Eq)]
@@ -13,6 +10,7 @@ pub struct CertificationRequestInfo<'a> {
     /// Whose key it is.
     pub subject: Name<'a>,
     /// The key.
+    #[name("subjectPKInfo")]
     pub subject_pk_info: SubjectPublicKeyInfo<'a>,
     /// The attributes of the subject.
     #[implicit(0, required = true)]

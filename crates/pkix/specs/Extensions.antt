@@ -31,6 +31,7 @@ extension_numbers known.NameConstraints = of_arcs (2 ∷ 5 ∷ 29 ∷ 30 ∷ [])
 extension_numbers known.PolicyConstraints = of_arcs (2 ∷ 5 ∷ 29 ∷ 36 ∷ [])
 extension_numbers known.PolicyMappings = of_arcs (2 ∷ 5 ∷ 29 ∷ 33 ∷ [])
 extension_numbers known.SubjectAltName = of_arcs (2 ∷ 5 ∷ 29 ∷ 17 ∷ [])
+extension_numbers known.SubjectDirectoryAttributes = of_arcs (2 ∷ 5 ∷ 29 ∷ 9 ∷ [])
 extension_numbers known.SubjectInfoAccess = of_arcs (1 ∷ 3 ∷ 6 ∷ 1 ∷ 5 ∷ 5 ∷ 7 ∷ 1 ∷ 11 ∷ [])
 extension_numbers known.SubjectKeyIdentifier = of_arcs (2 ∷ 5 ∷ 29 ∷ 14 ∷ [])
 

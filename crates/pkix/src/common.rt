@@ -7,18 +7,29 @@ mod named_bits;
 mod names;
 mod time;
 
-pub use algorithm::{
-    AlgorithmIdentifier, SubjectPublicKeyInfo, algorithm_identifier_is_lawful,
-    subject_public_key_info_is_lawful,
-};
-pub use extension::{Extension, Extensions, extension_is_lawful, extensions_is_lawful};
-pub use general_name::{
-    EdiPartyName, GeneralName, GeneralNames, OtherName, edi_party_name_is_lawful,
-    general_name_is_lawful, general_names_is_lawful, other_name_is_lawful,
-};
-pub use named_bits::{NamedBits, named_bits_is_lawful};
+pub use algorithm::{AlgorithmIdentifier, SubjectPublicKeyInfo};
+pub use extension::{Extension, Extensions};
+pub use general_name::{EdiPartyName, GeneralName, GeneralNames, OtherName};
+pub use named_bits::NamedBits;
 pub use names::{
-    Attribute, AttributeTypeAndValue, Attributes, Name, attribute_is_lawful,
-    attribute_type_and_value_is_lawful, attributes_is_lawful, name_is_lawful,
+    Attribute, AttributeTypeAndValue, Attributes, DirectoryString, Name, TeletexString,
 };
-pub use time::{Time, time_is_lawful};
+pub use time::Time;
+
+/// The laws of the types, which do nothing.
+pub mod laws {
+    pub use super::algorithm::laws::{
+        algorithm_identifier_is_lawful, subject_public_key_info_is_lawful,
+    };
+    pub use super::extension::laws::{extension_is_lawful, extensions_is_lawful};
+    pub use super::general_name::laws::{
+        edi_party_name_is_lawful, general_name_is_lawful, general_names_is_lawful,
+        other_name_is_lawful,
+    };
+    pub use super::named_bits::laws::named_bits_is_lawful;
+    pub use super::names::laws::{
+        attribute_is_lawful, attribute_type_and_value_is_lawful, attributes_is_lawful,
+        directory_string_is_lawful, name_is_lawful, teletex_string_is_lawful,
+    };
+    pub use super::time::laws::time_is_lawful;
+}

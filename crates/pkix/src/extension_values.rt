@@ -12,7 +12,7 @@ use crate::certificate::access::AuthorityInfoAccess;
 use crate::certificate::distribution::{CrlDistributionPoints, IssuingDistributionPoint};
 use crate::certificate::extensions::{
     AuthorityKeyIdentifier, BasicConstraints, ExtendedKeyUsage, KeyUsage, SubjectAltName,
-    SubjectKeyIdentifier,
+    SubjectDirectoryAttributes, SubjectKeyIdentifier,
 };
 use crate::certificate::policies::{
     CertificatePolicies, InhibitAnyPolicy, NameConstraints, PolicyConstraints, PolicyMappings,
@@ -66,6 +66,8 @@ pub enum KnownExtension {
     PolicyMappings,
     /// Other names of the subject.
     SubjectAltName,
+    /// More about the subject.
+    SubjectDirectoryAttributes,
     /// Where other data of the subject is.
     SubjectInfoAccess,
     /// Which key the subject has.
@@ -95,6 +97,7 @@ impl KnownExtension {
         KnownExtension::PolicyConstraints,
         KnownExtension::PolicyMappings,
         KnownExtension::SubjectAltName,
+        KnownExtension::SubjectDirectoryAttributes,
         KnownExtension::SubjectInfoAccess,
         KnownExtension::SubjectKeyIdentifier,
     ];
@@ -125,6 +128,7 @@ impl KnownExtension {
             KnownExtension::PolicyConstraints => b"\x55\x1d\x24",
             KnownExtension::PolicyMappings => b"\x55\x1d\x21",
             KnownExtension::SubjectAltName => b"\x55\x1d\x11",
+            KnownExtension::SubjectDirectoryAttributes => b"\x55\x1d\x09",
             KnownExtension::SubjectInfoAccess => b"\x2b\x06\x01\x05\x05\x07\x01\x0b",
             KnownExtension::SubjectKeyIdentifier => b"\x55\x1d\x0e",
         }
@@ -192,6 +196,8 @@ pub enum ExtensionValue<'a> {
     PolicyMappings(PolicyMappings<'a>),
     /// Of subjectAltName (RFC 5280, 4.2.1.6).
     SubjectAltName(SubjectAltName<'a>),
+    /// Of subjectDirectoryAttributes (RFC 5280, 4.2.1.8).
+    SubjectDirectoryAttributes(SubjectDirectoryAttributes<'a>),
     /// Of subjectInfoAccess (RFC 5280, 4.2.2.2), of the type of authorityInfoAccess.
     SubjectInfoAccess(AuthorityInfoAccess<'a>),
     /// Of subjectKeyIdentifier (RFC 5280, 4.2.1.2).
@@ -258,6 +264,8 @@ impl<'a> Extension<'a> {
               value.PolicyMappings
           | known.SubjectAltName ↦ typed ⟦<SubjectAltName<'a> as Asn1Type>⟧.der
               value.SubjectAltName
+          | known.SubjectDirectoryAttributes ↦ typed
+              ⟦<SubjectDirectoryAttributes<'a> as Asn1Type>⟧.der value.SubjectDirectoryAttributes
           | known.SubjectInfoAccess ↦ typed ⟦<AuthorityInfoAccess<'a> as Asn1Type>⟧.der
               value.SubjectInfoAccess
           | known.SubjectKeyIdentifier ↦ typed ⟦<SubjectKeyIdentifier<'a> as Asn1Type>⟧.der
@@ -274,6 +282,6 @@ impl<'a> Extension<'a> {
             CertificatePolicies, CrlDistributionPoints, CrlNumber, CrlReason, DeltaCrlIndicator,
             ExtendedKeyUsage, FreshestCrl, InhibitAnyPolicy, InvalidityDate, IssuerAltName,
             IssuingDistributionPoint, KeyUsage, NameConstraints, PolicyConstraints, PolicyMappings,
-            SubjectAltName, SubjectInfoAccess, SubjectKeyIdentifier)
+            SubjectAltName, SubjectDirectoryAttributes, SubjectInfoAccess, SubjectKeyIdentifier)
     }
 }

@@ -1,19 +1,18 @@
 //! Keys, and the parameters of their algorithms (RFC 5958, 8017, 5915, 5480, 3279 and 4055).
-// Printed by scripts/derive from declarations/keys.rs, with the sum f225b7c9.
+// Printed by scripts/derive from declarations/keys.rs, with the sum 9c7afdfd.
 
 ghost use Rattle.std.specs.Prelude.{◌≡◌, ◌∷◌, [], IsTrue};
 ghost use Rattle.asn1.specs.Options.{option_meaning};
 ghost use Rattle.asn1.specs.Reads.{HasOneEncoding, ReadsContents};
-ghost use Rattle.asn1.specs.Structures.{defaulted, explicit, field_names, implicit, structure, fields2, fields3, fields4, fields5, fields9};
+ghost use Rattle.asn1.specs.Structures.{defaulted, explicit, field_names, implicit, structure, fields2, fields3};
+ghost use Rattle.asn1.specs.Structures.{fields4, fields5, fields10};
 
-use crate::common::{
-    AlgorithmIdentifier, Attributes, algorithm_identifier_is_lawful, attributes_is_lawful,
-};
-use asn1::fields::{Fields2, Fields3, Fields4, Fields5, Fields9, Row};
+use crate::common::{AlgorithmIdentifier, Attributes};
+use asn1::fields::{Fields2, Fields3, Fields4, Fields5, Fields10, Row};
 use asn1::{
     Asn1Type, BigUint, BitString, DefaultValue, Defaulted, Explicit, Implicit, ObjectIdentifier,
-    ParseResult, SimpleAsn1Readable, SimpleAsn1Writable, Tag, WriteBuf, WriteError, WriteResult,
-    fields_length, known_fields, read_fields, write_fields,
+    ParseResult, SequenceOf, SimpleAsn1Readable, SimpleAsn1Writable, Tag, WriteBuf, WriteError,
+    WriteResult, fields_length, known_fields, read_fields, write_fields,
 };
 use std::alloc::Global;
 
@@ -210,8 +209,6 @@ impl<'a> SimpleAsn1Readable<'a> for RsaPublicKey<'a> {
 impl<'a> SimpleAsn1Writable for RsaPublicKey<'a> {
     type Error = WriteError;
 
-    ghost length_known = { λ _. Unit {0} };
-
     fn tag() -> Tag
         ensures value { result ≡ ⟦<RsaPublicKey<'a> as Asn1Type>⟧.der.content.tag }
         ensures simple { ⟦<RsaPublicKey<'a> as Asn1Type>⟧.der.is_simple }
@@ -234,11 +231,78 @@ impl<'a> SimpleAsn1Writable for RsaPublicKey<'a> {
     }
 }
 
-/// RSAPrivateKey (RFC 8017, A.1.2) of two primes, a SEQUENCE. Its numbers aren't negative, and one of more primes is
-/// rejected.
+/// OtherPrimeInfo (RFC 8017, A.1.2), a SEQUENCE: a prime after the first two. Its numbers aren't negative.
+#[derive(Debug, Clone, PartialEq, Eq, Drop)]
+pub struct OtherPrimeInfo<'a> {
+    /// The prime.
+    pub prime: BigUint<'a>,
+    /// The private exponent modulo the prime less one.
+    pub exponent: BigUint<'a>,
+    /// The inverse of the product of the primes before it, modulo the prime.
+    pub coefficient: BigUint<'a>,
+}
+
+type OtherPrimeInfoFields<'a> = Fields3<BigUint<'a>, BigUint<'a>, BigUint<'a>>;
+
+impl<'a> Asn1Type for OtherPrimeInfo<'a> {
+    ghost der = { structure (λ v. fields3 v.prime v.exponent v.coefficient)
+        ⟦<OtherPrimeInfoFields<'a> as Row>⟧.list (field_names "OtherPrimeInfo" ("prime" ∷ "exponent"
+        ∷ "coefficient" ∷ [])) };
+
+    fn known(&self) {
+        known_fields!(self; prime, exponent, coefficient)
+    }
+}
+
+impl<'a> SimpleAsn1Readable<'a> for OtherPrimeInfo<'a> {
+    fn tag() -> Tag
+        ensures value { result ≡ ⟦<OtherPrimeInfo<'a> as Asn1Type>⟧.der.content.tag }
+        ensures simple { ⟦<OtherPrimeInfo<'a> as Asn1Type>⟧.der.is_simple }
+        ensures plain { ⟦<OtherPrimeInfo<'a> as Asn1Type>⟧.der.plain }
+    {
+        Tag::constructed(0x10)
+    }
+
+    fn parse_data(alloc: Global, data: &'a [u8]) -> ParseResult<OtherPrimeInfo<'a>>
+        ensures { ReadsContents ⟦<OtherPrimeInfo<'a> as Asn1Type>⟧.der «data».entry.now result }
+    {
+        read_fields!(OtherPrimeInfoFields<'a>, alloc, data => OtherPrimeInfo;
+            prime, exponent, coefficient)
+    }
+}
+
+impl<'a> SimpleAsn1Writable for OtherPrimeInfo<'a> {
+    type Error = WriteError;
+
+    fn tag() -> Tag
+        ensures value { result ≡ ⟦<OtherPrimeInfo<'a> as Asn1Type>⟧.der.content.tag }
+        ensures simple { ⟦<OtherPrimeInfo<'a> as Asn1Type>⟧.der.is_simple }
+    {
+        Tag::constructed(0x10)
+    }
+
+    fn write_data(&self, dest: &mut WriteBuf) -> WriteResult<()> {
+        write_fields!(self, dest; prime, exponent, coefficient)
+    }
+
+    fn data_length(&self) -> Option<usize> {
+        fields_length!(self; prime, exponent, coefficient)
+    }
+
+    fn writes_as_read() -> bool
+        ensures { IsTrue result }
+    {
+        true
+    }
+}
+
+/// OtherPrimeInfos (RFC 8017, A.1.2), a SEQUENCE of at least one OtherPrimeInfo.
+pub type OtherPrimeInfos<'a> = SequenceOf<'a, OtherPrimeInfo<'a>, 1, { usize::MAX }>;
+
+/// RSAPrivateKey (RFC 8017, A.1.2), a SEQUENCE. Its numbers aren't negative.
 #[derive(Debug, Clone, PartialEq, Eq, Drop)]
 pub struct RsaPrivateKey<'a> {
-    /// The version: 0, as there are two primes. Any from 0 to 255 is read.
+    /// The version: 0 if there are two primes, and 1 if there are more, which isn't checked. Any from 0 to 255 is read.
     pub version: u8,
     /// The modulus, the product of the primes.
     pub modulus: BigUint<'a>,
@@ -256,9 +320,11 @@ pub struct RsaPrivateKey<'a> {
     pub exponent2: BigUint<'a>,
     /// The inverse of q modulo p.
     pub coefficient: BigUint<'a>,
+    /// The other primes.
+    pub other_prime_infos: Option<OtherPrimeInfos<'a>>,
 }
 
-type RsaPrivateKeyFields<'a> = Fields9<
+type RsaPrivateKeyFields<'a> = Fields10<
     u8,
     BigUint<'a>,
     BigUint<'a>,
@@ -268,20 +334,21 @@ type RsaPrivateKeyFields<'a> = Fields9<
     BigUint<'a>,
     BigUint<'a>,
     BigUint<'a>,
+    Option<OtherPrimeInfos<'a>>,
 >;
 
 macro_rules! fields_of_rsa_private_key {
     ($body:ident, $($of:tt)*) => { $body!($($of)*;
         version, modulus, public_exponent, private_exponent, prime1, prime2, exponent1, exponent2,
-        coefficient) };
+        coefficient, other_prime_infos) };
 }
 
 impl<'a> Asn1Type for RsaPrivateKey<'a> {
-    ghost der = { structure (λ v. fields9 v.version v.modulus v.public_exponent v.private_exponent
-        v.prime1 v.prime2 v.exponent1 v.exponent2 v.coefficient)
+    ghost der = { structure (λ v. fields10 v.version v.modulus v.public_exponent v.private_exponent
+        v.prime1 v.prime2 v.exponent1 v.exponent2 v.coefficient v.other_prime_infos)
         ⟦<RsaPrivateKeyFields<'a> as Row>⟧.list (field_names "RsaPrivateKey" ("version" ∷ "modulus"
         ∷ "public_exponent" ∷ "private_exponent" ∷ "prime1" ∷ "prime2" ∷ "exponent1" ∷ "exponent2" ∷
-        "coefficient" ∷ [])) };
+        "coefficient" ∷ "other_prime_infos" ∷ [])) };
 
     fn known(&self) {
         fields_of_rsa_private_key!(known_fields, self)
@@ -307,8 +374,6 @@ impl<'a> SimpleAsn1Readable<'a> for RsaPrivateKey<'a> {
 
 impl<'a> SimpleAsn1Writable for RsaPrivateKey<'a> {
     type Error = WriteError;
-
-    ghost length_known = { λ _. Unit {0} };
 
     fn tag() -> Tag
         ensures value { result ≡ ⟦<RsaPrivateKey<'a> as Asn1Type>⟧.der.content.tag }
@@ -392,8 +457,6 @@ impl<'a> SimpleAsn1Readable<'a> for EcPrivateKey<'a> {
 impl<'a> SimpleAsn1Writable for EcPrivateKey<'a> {
     type Error = WriteError;
 
-    ghost length_known = { λ _. Unit {0} };
-
     fn tag() -> Tag
         ensures value { result ≡ ⟦<EcPrivateKey<'a> as Asn1Type>⟧.der.content.tag }
         ensures simple { ⟦<EcPrivateKey<'a> as Asn1Type>⟧.der.is_simple }
@@ -456,8 +519,6 @@ impl<'a> SimpleAsn1Readable<'a> for DssParms<'a> {
 
 impl<'a> SimpleAsn1Writable for DssParms<'a> {
     type Error = WriteError;
-
-    ghost length_known = { λ _. Unit {0} };
 
     fn tag() -> Tag
         ensures value { result ≡ ⟦<DssParms<'a> as Asn1Type>⟧.der.content.tag }
@@ -593,47 +654,70 @@ impl<'a> SimpleAsn1Writable for RsassaPssParams<'a> {
     }
 }
 
-/// Each value of `OneAsymmetricKey` has one encoding, which is read back.
-#[tactic(auto, using(asn1::specs::Lemmas::Fields::tags_differ))]
-pub fn one_asymmetric_key_is_lawful()
-    ensures { HasOneEncoding ⟦<OneAsymmetricKey<'static> as Asn1Type>⟧.der }
-{
-    algorithm_identifier_is_lawful();
-    attributes_is_lawful();
-}
+/// The laws of the types, which do nothing.
+pub mod laws {
+    use super::{
+        DssParms, EcPrivateKey, EncryptedPrivateKeyInfo, OneAsymmetricKey, OtherPrimeInfo,
+        OtherPrimeInfos, RsaPrivateKey, RsaPublicKey, RsassaPssParams,
+    };
+    use asn1::Asn1Type;
 
-/// Each value of `EncryptedPrivateKeyInfo` has one encoding, which is read back.
-pub fn encrypted_private_key_info_is_lawful()
-    ensures { HasOneEncoding ⟦<EncryptedPrivateKeyInfo<'static> as Asn1Type>⟧.der }
-{
-    algorithm_identifier_is_lawful();
-}
+    /// Each value of `OneAsymmetricKey` has one encoding, which is read back.
+    #[tactic(auto, using(asn1::specs::Lemmas::Fields::tags_differ))]
+    pub fn one_asymmetric_key_is_lawful()
+        ensures { HasOneEncoding ⟦<OneAsymmetricKey<'static> as Asn1Type>⟧.der }
+    {
+        crate::common::laws::algorithm_identifier_is_lawful();
+        crate::common::laws::attributes_is_lawful();
+    }
 
-/// Each value of `RsaPublicKey` has one encoding, which is read back.
-pub fn rsa_public_key_is_lawful()
-    ensures { HasOneEncoding ⟦<RsaPublicKey<'static> as Asn1Type>⟧.der }
-{}
+    /// Each value of `EncryptedPrivateKeyInfo` has one encoding, which is read back.
+    pub fn encrypted_private_key_info_is_lawful()
+        ensures { HasOneEncoding ⟦<EncryptedPrivateKeyInfo<'static> as Asn1Type>⟧.der }
+    {
+        crate::common::laws::algorithm_identifier_is_lawful();
+    }
 
-/// Each value of `RsaPrivateKey` has one encoding, which is read back.
-pub fn rsa_private_key_is_lawful()
-    ensures { HasOneEncoding ⟦<RsaPrivateKey<'static> as Asn1Type>⟧.der }
-{}
+    /// Each value of `RsaPublicKey` has one encoding, which is read back.
+    pub fn rsa_public_key_is_lawful()
+        ensures { HasOneEncoding ⟦<RsaPublicKey<'static> as Asn1Type>⟧.der }
+    {}
 
-/// Each value of `EcPrivateKey` has one encoding, which is read back.
-#[tactic(auto, using(asn1::specs::Lemmas::Fields::tags_differ))]
-pub fn ec_private_key_is_lawful()
-    ensures { HasOneEncoding ⟦<EcPrivateKey<'static> as Asn1Type>⟧.der }
-{}
+    /// Each value of `OtherPrimeInfo` has one encoding, which is read back.
+    pub fn other_prime_info_is_lawful()
+        ensures { HasOneEncoding ⟦<OtherPrimeInfo<'static> as Asn1Type>⟧.der }
+    {}
 
-/// Each value of `DssParms` has one encoding, which is read back.
-pub fn dss_parms_is_lawful()
-    ensures { HasOneEncoding ⟦<DssParms<'static> as Asn1Type>⟧.der }
-{}
+    /// Each value of `OtherPrimeInfos` has one encoding, which is read back.
+    pub fn other_prime_infos_is_lawful()
+        ensures { HasOneEncoding ⟦<OtherPrimeInfos<'static> as Asn1Type>⟧.der }
+    {
+        other_prime_info_is_lawful();
+    }
 
-/// Each value of `RsassaPssParams` has one encoding, which is read back.
-#[tactic(auto, using(asn1::specs::Lemmas::Fields::tags_differ))]
-pub fn rsassa_pss_params_is_lawful()
-    ensures { HasOneEncoding ⟦<RsassaPssParams<'static> as Asn1Type>⟧.der }
-{
-    algorithm_identifier_is_lawful();
+    /// Each value of `RsaPrivateKey` has one encoding, which is read back.
+    pub fn rsa_private_key_is_lawful()
+        ensures { HasOneEncoding ⟦<RsaPrivateKey<'static> as Asn1Type>⟧.der }
+    {
+        other_prime_infos_is_lawful();
+    }
+
+    /// Each value of `EcPrivateKey` has one encoding, which is read back.
+    #[tactic(auto, using(asn1::specs::Lemmas::Fields::tags_differ))]
+    pub fn ec_private_key_is_lawful()
+        ensures { HasOneEncoding ⟦<EcPrivateKey<'static> as Asn1Type>⟧.der }
+    {}
+
+    /// Each value of `DssParms` has one encoding, which is read back.
+    pub fn dss_parms_is_lawful()
+        ensures { HasOneEncoding ⟦<DssParms<'static> as Asn1Type>⟧.der }
+    {}
+
+    /// Each value of `RsassaPssParams` has one encoding, which is read back.
+    #[tactic(auto, using(asn1::specs::Lemmas::Fields::tags_differ))]
+    pub fn rsassa_pss_params_is_lawful()
+        ensures { HasOneEncoding ⟦<RsassaPssParams<'static> as Asn1Type>⟧.der }
+    {
+        crate::common::laws::algorithm_identifier_is_lawful();
+    }
 }

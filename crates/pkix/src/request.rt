@@ -1,14 +1,11 @@
 //! Requests for certificates (RFC 2986).
-// Printed by scripts/derive from declarations/request.rs, with the sum e41fb1d8.
+// Printed by scripts/derive from declarations/request.rs, with the sum 318c1b9e.
 
 ghost use Rattle.std.specs.Prelude.{◌≡◌, ◌∷◌, [], IsTrue};
 ghost use Rattle.asn1.specs.Reads.{HasOneEncoding, ReadsContents};
 ghost use Rattle.asn1.specs.Structures.{field_names, implicit, structure, fields3, fields4};
 
-use crate::common::{
-    AlgorithmIdentifier, Attributes, Name, SubjectPublicKeyInfo, algorithm_identifier_is_lawful,
-    attributes_is_lawful, name_is_lawful, subject_public_key_info_is_lawful,
-};
+use crate::common::{AlgorithmIdentifier, Attributes, Name, SubjectPublicKeyInfo};
 use asn1::fields::{Fields3, Fields4, Row};
 use asn1::{
     Asn1Type, BitString, Implicit, ParseResult, SimpleAsn1Readable, SimpleAsn1Writable, Tag,
@@ -27,6 +24,14 @@ pub struct CertificationRequestInfo<'a> {
     pub subject_pk_info: SubjectPublicKeyInfo<'a>,
     /// The attributes of the subject.
     pub attributes: Attributes<'a>,
+}
+
+impl<'a> CertificationRequestInfo<'a> {
+    /// The fields that have another name in ASN.1 than theirs with capitals, as errors name them, with that name.
+    pub const NAMES: &'static [(&'static str, &'static str)] = &[(
+        "CertificationRequestInfo::subject_pk_info",
+        "subjectPKInfo",
+    )];
 }
 
 type CertificationRequestInfoAttributesField<'a> = Implicit<Attributes<'a>, 0>;
@@ -169,19 +174,25 @@ impl<'a> SimpleAsn1Writable for CertificationRequest<'a> {
     }
 }
 
-/// Each value of `CertificationRequestInfo` has one encoding, which is read back.
-pub fn certification_request_info_is_lawful()
-    ensures { HasOneEncoding ⟦<CertificationRequestInfo<'static> as Asn1Type>⟧.der }
-{
-    name_is_lawful();
-    subject_public_key_info_is_lawful();
-    attributes_is_lawful();
-}
+/// The laws of the types, which do nothing.
+pub mod laws {
+    use super::{CertificationRequest, CertificationRequestInfo};
+    use asn1::Asn1Type;
 
-/// Each value of `CertificationRequest` has one encoding, which is read back.
-pub fn certification_request_is_lawful()
-    ensures { HasOneEncoding ⟦<CertificationRequest<'static> as Asn1Type>⟧.der }
-{
-    certification_request_info_is_lawful();
-    algorithm_identifier_is_lawful();
+    /// Each value of `CertificationRequestInfo` has one encoding, which is read back.
+    pub fn certification_request_info_is_lawful()
+        ensures { HasOneEncoding ⟦<CertificationRequestInfo<'static> as Asn1Type>⟧.der }
+    {
+        crate::common::laws::name_is_lawful();
+        crate::common::laws::subject_public_key_info_is_lawful();
+        crate::common::laws::attributes_is_lawful();
+    }
+
+    /// Each value of `CertificationRequest` has one encoding, which is read back.
+    pub fn certification_request_is_lawful()
+        ensures { HasOneEncoding ⟦<CertificationRequest<'static> as Asn1Type>⟧.der }
+    {
+        certification_request_info_is_lawful();
+        crate::common::laws::algorithm_identifier_is_lawful();
+    }
 }

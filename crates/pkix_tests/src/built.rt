@@ -14,9 +14,10 @@ use pkix::certificate::distribution::{
 use pkix::certificate::extensions::{AuthorityKeyIdentifier, BasicConstraints, ExtendedKeyUsage};
 use pkix::certificate::{Certificate, TbsCertificate, Validity};
 use pkix::common::{
-    AlgorithmIdentifier, AttributeTypeAndValue, Extension, Extensions, GeneralName, GeneralNames,
-    Name, NamedBits, OtherName, SubjectPublicKeyInfo, Time,
+    AlgorithmIdentifier, AttributeTypeAndValue, DirectoryString, Extension, Extensions,
+    GeneralName, GeneralNames, Name, NamedBits, OtherName, SubjectPublicKeyInfo, Time,
 };
+use pkix::identifiers::attributes;
 use std::alloc::Global;
 use std::test::Fail;
 use testing::same;
@@ -25,13 +26,12 @@ use testing::same;
 fn common_names<'a>(
     alloc: Global,
     certificate: &Certificate<'a>,
-) -> Result<Vec<Utf8String<'a>>, Fail> {
-    let common_name = identifier("2.5.4.3")?;
+) -> Result<Vec<DirectoryString<'a>>, Fail> {
     let mut names = Vec::new(alloc);
-    for attributes in certificate.tbs_certificate.subject.clone()? {
-        for attribute in attributes? {
+    for set in certificate.tbs_certificate.subject.clone()? {
+        for attribute in set? {
             let attribute = attribute?;
-            if attribute.type_id == common_name {
+            if attribute.type_id == attributes::common_name() {
                 names.push(attribute.value.parse(alloc)?)?;
             }
         }
@@ -44,30 +44,30 @@ fn common_name<'a>(
     alloc: Global,
     text: &str,
     value: &'a mut Vec<u8>,
-    attributes: &'a mut Vec<u8>,
+    set: &'a mut Vec<u8>,
     name: &'a mut Vec<u8>,
 ) -> Result<Name<'a>, Fail> {
     *value = write_readable(alloc, &Utf8String::new(text))?;
     let attribute = AttributeTypeAndValue {
-        type_id: identifier("2.5.4.3")?,
+        type_id: attributes::common_name(),
         value: parse_single(alloc, value.as_slice())?,
     };
-    let attributes = SetOf::of(alloc, &[attribute], attributes)??;
-    Ok(SequenceOf::of(alloc, &[attributes], name)??)
+    let set = SetOf::of(alloc, &[attribute], set)??;
+    Ok(SequenceOf::of(alloc, &[set], name)??)
 }
 
 /// An object identifier in dotted form.
-fn identifier(dotted: &str) -> Result<ObjectIdentifier, Fail> {
+pub fn identifier(dotted: &str) -> Result<ObjectIdentifier, Fail> {
     Ok(ObjectIdentifier::from_string(dotted).ok_or("no object identifier")?)
 }
 
 /// A vector for the octets of a list, which is never freed.
-fn store<'a>(alloc: Global) -> Result<&'a mut Vec<u8>, Fail> {
+pub fn store<'a>(alloc: Global) -> Result<&'a mut Vec<u8>, Fail> {
     Ok(Box::leak(Box::new(alloc, Vec::new(alloc))?))
 }
 
 /// The encoding of a value, which is never freed.
-fn octets_of<'a, 'b, T: Asn1Readable<'b> + Asn1Writable<Error = WriteError>>(
+pub fn octets_of<'a, 'b, T: Asn1Readable<'b> + Asn1Writable<Error = WriteError>>(
     alloc: Global,
     value: &T,
 ) -> Result<&'a [u8], Fail> {
@@ -75,7 +75,7 @@ fn octets_of<'a, 'b, T: Asn1Readable<'b> + Asn1Writable<Error = WriteError>>(
 }
 
 /// A name with a set for each attribute.
-fn name_of<'a>(alloc: Global, parts: &[(&str, &'a [u8])]) -> Result<Name<'a>, Fail> {
+pub fn name_of<'a>(alloc: Global, parts: &[(&str, &'a [u8])]) -> Result<Name<'a>, Fail> {
     let mut sets = Vec::new(alloc);
     for (type_id, octets) in parts {
         let attribute = AttributeTypeAndValue {
@@ -88,7 +88,7 @@ fn name_of<'a>(alloc: Global, parts: &[(&str, &'a [u8])]) -> Result<Name<'a>, Fa
 }
 
 /// The name of the certificate's subject, which is its issuer.
-fn subject<'a>(alloc: Global) -> Result<Name<'a>, Fail> {
+pub fn subject<'a>(alloc: Global) -> Result<Name<'a>, Fail> {
     let country = PrintableString::new("AT").ok_or("no country")?;
     let country = octets_of(alloc, &country)?;
     let organization = octets_of(alloc, &Utf8String::new("Example Works"))?;
@@ -276,12 +276,12 @@ fn names_are_read_and_built(rt: HostRuntime) -> Result<(), Fail> {
     let octets = hex::decode(alloc, FULL)?;
     let certificate = parse_single::<Certificate<'_>>(alloc, octets.as_slice())?;
     let names = common_names(alloc, &certificate)?;
-    same(
-        names.as_slice().first().map(|name| name.as_str()),
-        Some("full.example"),
-    )?;
-    let (mut value, mut attributes, mut name) = (Vec::new(alloc), Vec::new(alloc), Vec::new(alloc));
-    let built = common_name(alloc, "crl.example", &mut value, &mut attributes, &mut name)?;
+    let [DirectoryString::Utf8(found)] = names.as_slice() else {
+        return Err(Fail::new(format_args!("no name")));
+    };
+    same(found.as_str(), "full.example")?;
+    let (mut value, mut set, mut name) = (Vec::new(alloc), Vec::new(alloc), Vec::new(alloc));
+    let built = common_name(alloc, "crl.example", &mut value, &mut set, &mut name)?;
     let octets = write_readable(alloc, &built)?;
     same(
         octets.as_slice(),

@@ -33,6 +33,7 @@ const IDENTIFIERS: &[(KnownExtension, &str)] = &[
     (KnownExtension::PolicyConstraints, "2.5.29.36"),
     (KnownExtension::PolicyMappings, "2.5.29.33"),
     (KnownExtension::SubjectAltName, "2.5.29.17"),
+    (KnownExtension::SubjectDirectoryAttributes, "2.5.29.9"),
     (KnownExtension::SubjectInfoAccess, "1.3.6.1.5.5.7.1.11"),
     (KnownExtension::SubjectKeyIdentifier, "2.5.29.14"),
 ];
@@ -77,6 +78,9 @@ fn extension_of(value: &ExtensionValue<'_>) -> Option<KnownExtension> {
         ExtensionValue::PolicyConstraints(_) => Some(KnownExtension::PolicyConstraints),
         ExtensionValue::PolicyMappings(_) => Some(KnownExtension::PolicyMappings),
         ExtensionValue::SubjectAltName(_) => Some(KnownExtension::SubjectAltName),
+        ExtensionValue::SubjectDirectoryAttributes(_) => Some(
+            KnownExtension::SubjectDirectoryAttributes,
+        ),
         ExtensionValue::SubjectInfoAccess(_) => Some(KnownExtension::SubjectInfoAccess),
         ExtensionValue::SubjectKeyIdentifier(_) => Some(KnownExtension::SubjectKeyIdentifier),
         ExtensionValue::Other(_) => None,
@@ -206,21 +210,24 @@ fn extensions_of_revocation_lists(rt: HostRuntime) -> Result<(), Fail> {
     Ok(())
 }
 
-/// Names of an issuer, which no stored object has; and octets that no known extension has, and that aren't DER.
+/// Names of an issuer and attributes of a subject, which no stored object has; and octets that no known extension has,
+/// and that aren't DER.
 #[test]
 fn other_extensions(rt: HostRuntime) -> Result<(), Fail> {
     let alloc = rt.alloc();
     let names: &[u8] = b"\x30\x03\x82\x01a";
-    for known in [
-        KnownExtension::IssuerAltName,
-        KnownExtension::CertificateIssuer,
+    let attributes: &[u8] = b"\x30\x0a\x30\x08\x06\x02\x2a\x03\x31\x02\x05\x00";
+    for (known, octets) in [
+        (KnownExtension::IssuerAltName, names),
+        (KnownExtension::CertificateIssuer, names),
+        (KnownExtension::SubjectDirectoryAttributes, attributes),
     ] {
-        let of_issuer = Extension {
+        let of_known = Extension {
             extn_id: known.identifier(),
             critical: false,
-            extn_value: names,
+            extn_value: octets,
         };
-        let value = of_issuer.value(alloc)?;
+        let value = of_known.value(alloc)?;
         same(extension_of(&value), Some(known))?;
     }
     let Some(identifier) = ObjectIdentifier::from_string("2.5.29.99") else {
@@ -293,6 +300,10 @@ const REJECTED: &[(KnownExtension, &str)] = &[
         "3006300406022a03: short 1 0 PolicyMapping::subject_domain_policy",
     ),
     (KnownExtension::SubjectAltName, "30030101ff: tag 01 0"),
+    (
+        KnownExtension::SubjectDirectoryAttributes,
+        "30023000: short 1 0 Attribute::type_id",
+    ),
     (
         KnownExtension::SubjectInfoAccess,
         "3006300406022a03: short 1 0 AccessDescription::access_location",

@@ -13,6 +13,8 @@ mod changes;
 #[cfg(test)]
 mod extension_values;
 #[cfg(test)]
+mod identifiers;
+#[cfg(test)]
 mod keys;
 #[cfg(test)]
 mod named_bits;

@@ -6,7 +6,7 @@ ghost use Rattle.pkix_text.specs.declared.answers.Fault.TheVariants.{Memory};
 ghost use Rattle.pkix_text.specs.declared.kinds.Kind.TheVariants as kinds;
 
 use crate::errors::{UNIVERSAL, in_words};
-use crate::forms::{BEGINNINGS, around, identifiers, other_document};
+use crate::forms::{BEGINNINGS, around, identifiers, other_document, other_labelled};
 use crate::kinds::Kind;
 use crate::pem::{Object, PemError, objects};
 use crate::show::{Page, Show, escaped, lines_of};
@@ -116,7 +116,7 @@ pub enum Refusal {
     SeveralKinds,
     /// It is two integers, the second of which is even, and so is no exponent of an RSA key.
     EvenExponent,
-    /// Its label is of another kind, or of none that is known.
+    /// Its label is of another kind, of another document, or tells none: this in words.
     Label(String),
     /// It is an encrypted key.
     Encrypted,
@@ -144,7 +144,7 @@ impl fmt::Display for Refusal {
                     "two integers, the second of which is even: no RSA key has such an exponent",
                 )
             }
-            Refusal::Label(label) => write!(f, "the label {label} is of another kind, or of none"),
+            Refusal::Label(words) => f.write_str(words.as_str()),
             Refusal::Encrypted => f.write_str("an encrypted key; `openssl pkey` decrypts it"),
             Refusal::Pem(error) => write!(f, "{error}"),
             Refusal::Empty => f.write_str("the input has no octets"),
@@ -533,6 +533,21 @@ fn text_of(alloc: Global, label: &[u8]) -> Result<String, AllocError> {
     escaped(alloc, str::from_utf8(label).unwrap_or("?"))
 }
 
+/// Why an object with this label isn't read: it is of another kind than the one that is asked for, it is another
+/// document, or its label tells nothing.
+fn refused_label(alloc: Global, label: &[u8]) -> Result<Refusal, AllocError> {
+    let text = text_of(alloc, label)?;
+    let words = match (Kind::labelled(label), other_labelled(label)) {
+        (Some(kind), _) => {
+            let name = str::from_utf8(kind.name()).unwrap_or("");
+            format!(in alloc; "the label \"{text}\" is of the kind {name}")?
+        }
+        (None, Some(document)) => format!(in alloc; "the label \"{text}\" is that of {document}")?,
+        (None, None) => format!(in alloc; "the label \"{text}\" tells no kind: name one")?,
+    };
+    Ok(Refusal::Label(words))
+}
+
 /// The lines of an object in PEM, of the kind that is asked for or that its label tells. A label that is not known may
 /// be of any kind.
 fn answer_to_object(
@@ -558,7 +573,7 @@ fn answer_to_object(
     };
     match kind {
         Some(kind) => told(alloc, kind, octets.as_slice(), page),
-        None => Ok(Answer::Rejected(Refusal::Label(text_of(alloc, object.label)?))),
+        None => Ok(Answer::Rejected(refused_label(alloc, object.label)?)),
     }
 }
 

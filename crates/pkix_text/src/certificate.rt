@@ -1,29 +1,21 @@
 //! Certificates (RFC 5280, 4.1), revocation lists (RFC 5280, 5.1) and requests (RFC 2986, 4).
 
-use crate::show::{Lines, Show};
+use crate::show::{Lines, Show, fields};
 use pkix::certificate::{Certificate, TbsCertificate, Validity};
 use pkix::request::{CertificationRequest, CertificationRequestInfo};
 use pkix::revocation::{CertificateList, RevokedCertificate, TbsCertList};
 
 impl Show for Validity {
     fn show(&self, lines: &mut Lines) {
-        lines.part("notBefore", &self.not_before);
-        lines.part("notAfter", &self.not_after);
+        fields!(lines, self, Validity: not_before, not_after);
     }
 }
 
 impl Show for TbsCertificate<'_> {
     fn show(&self, lines: &mut Lines) {
-        lines.part("version", &self.version);
-        lines.part("serialNumber", &self.serial_number);
-        lines.part("signature", &self.signature);
-        lines.part("issuer", &self.issuer);
-        lines.part("validity", &self.validity);
-        lines.part("subject", &self.subject);
-        lines.part("subjectPublicKeyInfo", &self.subject_public_key_info);
-        lines.part("issuerUniqueID", &self.issuer_unique_id);
-        lines.part("subjectUniqueID", &self.subject_unique_id);
-        lines.part("extensions", &self.extensions);
+        fields!(lines, self, TbsCertificate:
+            version, serial_number, signature, issuer, validity, subject, subject_public_key_info,
+            issuer_unique_id, subject_unique_id, extensions);
     }
 }
 
@@ -31,28 +23,22 @@ impl Show for TbsCertificate<'_> {
 impl Show for Certificate<'_> {
     fn show(&self, lines: &mut Lines) {
         self.tbs_certificate.show(lines);
-        lines.part("signatureAlgorithm", &self.signature_algorithm);
-        lines.part("signatureValue", &self.signature_value);
+        fields!(lines, self, Certificate: signature_algorithm, signature_value);
     }
 }
 
 impl Show for RevokedCertificate<'_> {
     fn show(&self, lines: &mut Lines) {
-        lines.part("userCertificate", &self.user_certificate);
-        lines.part("revocationDate", &self.revocation_date);
-        lines.part("crlEntryExtensions", &self.crl_entry_extensions);
+        fields!(lines, self, RevokedCertificate:
+            user_certificate, revocation_date, crl_entry_extensions);
     }
 }
 
 impl Show for TbsCertList<'_> {
     fn show(&self, lines: &mut Lines) {
-        lines.part("version", &self.version);
-        lines.part("signature", &self.signature);
-        lines.part("issuer", &self.issuer);
-        lines.part("thisUpdate", &self.this_update);
-        lines.part("nextUpdate", &self.next_update);
-        lines.part("revokedCertificates", &self.revoked_certificates);
-        lines.part("crlExtensions", &self.crl_extensions);
+        fields!(lines, self, TbsCertList:
+            version, signature, issuer, this_update, next_update, revoked_certificates,
+            crl_extensions);
     }
 }
 
@@ -60,17 +46,14 @@ impl Show for TbsCertList<'_> {
 impl Show for CertificateList<'_> {
     fn show(&self, lines: &mut Lines) {
         self.tbs_cert_list.show(lines);
-        lines.part("signatureAlgorithm", &self.signature_algorithm);
-        lines.part("signatureValue", &self.signature_value);
+        fields!(lines, self, CertificateList: signature_algorithm, signature_value);
     }
 }
 
 impl Show for CertificationRequestInfo<'_> {
     fn show(&self, lines: &mut Lines) {
-        lines.part("version", &self.version);
-        lines.part("subject", &self.subject);
-        lines.part("subjectPKInfo", &self.subject_pk_info);
-        lines.part("attributes", &self.attributes);
+        fields!(lines, self, CertificationRequestInfo:
+            version, subject, subject_pk_info, attributes);
     }
 }
 
@@ -78,7 +61,6 @@ impl Show for CertificationRequestInfo<'_> {
 impl Show for CertificationRequest<'_> {
     fn show(&self, lines: &mut Lines) {
         self.certification_request_info.show(lines);
-        lines.part("signatureAlgorithm", &self.signature_algorithm);
-        lines.part("signature", &self.signature);
+        fields!(lines, self, CertificationRequest: signature_algorithm, signature);
     }
 }

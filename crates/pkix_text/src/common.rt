@@ -1,37 +1,34 @@
 //! What certificates, revocation lists, requests and keys have in common.
 
-use crate::show::{Lines, Numbered, Show};
-use asn1::{BigInt, ObjectIdentifier, SetOf, parse_single};
-use pkix::algorithm_parameters::{AlgorithmParameters, KnownAlgorithm};
+use crate::key_sizes::{modulus_size, show_size, size_by_algorithm};
+use crate::show::{Lines, Numbered, Show, fields};
+use asn1::{ObjectIdentifier, SetOf, parse_single};
+use pkix::algorithm_parameters::AlgorithmParameters;
+use pkix::algorithm_parameters::KnownAlgorithm::{self, RsaEncryption, RsassaPss};
 use pkix::common::{
     AlgorithmIdentifier, Attribute, AttributeTypeAndValue, Attributes, Extensions,
     SubjectPublicKeyInfo,
 };
-use pkix::keys::{DssParms, RsaPublicKey, RsassaPssParams};
-use std::alloc::Global;
+use pkix::keys::{DssParms, RsassaPssParams};
 
 impl Show for DssParms<'_> {
     fn show(&self, lines: &mut Lines) {
-        lines.part("p", &self.p);
-        lines.part("q", &self.q);
-        lines.part("g", &self.g);
+        fields!(lines, self, DssParms: p, q, g);
     }
 }
 
 /// An algorithm within the parameters of another has parameters that could have algorithms again.
 impl Show for RsassaPssParams<'_> {
     fn show(&self, lines: &mut Lines) {
-        lines.part("hashAlgorithm", &self.hash_algorithm.as_ref().map(Plain));
-        lines.part(
-            "maskGenAlgorithm",
-            &self.mask_gen_algorithm.as_ref().map(Plain),
-        );
-        lines.part("saltLength", &self.salt_length);
-        lines.part("trailerField", &self.trailer_field);
+        fields!(lines, self, RsassaPssParams:
+            hash_algorithm = &self.hash_algorithm.as_ref().map(Plain),
+            mask_gen_algorithm = &self.mask_gen_algorithm.as_ref().map(Plain),
+            salt_length, trailer_field);
     }
 }
 
-/// An algorithm whose parameters are shown as an element: an identifier, as of a curve, or the octets.
+/// An algorithm whose parameters are shown as an element: an identifier, as of a curve, or the octets, with the reason
+/// if the contents octets aren't those of the element's type.
 #[derive(Drop)]
 struct Plain<'a>(&'a AlgorithmIdentifier<'a>);
 
@@ -39,58 +36,49 @@ impl Show for Plain<'_> {
     fn show(&self, lines: &mut Lines) {
         self.0.algorithm.show(lines);
         if let Some(parameters) = self.0.parameters {
-            let octets = parameters.full_data();
-            match parse_single::<ObjectIdentifier>(lines.alloc, octets) {
-                Ok(identifier) => lines.part("parameters", &identifier),
-                Err(_) => lines.part("parameters", &octets),
+            match parse_single::<ObjectIdentifier>(lines.alloc, parameters.full_data()) {
+                Ok(curve) => fields!(lines, self, AlgorithmIdentifier: parameters = &curve),
+                Err(_) => lines.element("AlgorithmIdentifier::parameters", parameters),
             }
         }
     }
 }
 
-/// The algorithm, and its parameters: by their fields if they are read as a structure, and else as an element, with the
-/// reason if they aren't those of a known algorithm.
+/// The algorithm, and its parameters: by their fields if they are read as a structure, and else as an element; as
+/// octets if they aren't those of a known algorithm, with the reason.
 impl Show for AlgorithmIdentifier<'_> {
     fn show(&self, lines: &mut Lines) {
         match self.read_parameters(lines.alloc) {
             Ok(AlgorithmParameters::Dss(parameters)) => {
                 self.algorithm.show(lines);
-                lines.part("parameters", &parameters);
+                fields!(lines, self, AlgorithmIdentifier: parameters = &parameters);
             }
             Ok(AlgorithmParameters::RsassaPss(parameters)) => {
                 self.algorithm.show(lines);
-                lines.part("parameters", &parameters);
+                fields!(lines, self, AlgorithmIdentifier: parameters = &parameters);
             }
             Ok(_) => Plain(self).show(lines),
             Err(error) => {
-                Plain(self).show(lines);
-                lines.part("parameters.rejected", &error);
+                self.algorithm.show(lines);
+                let octets = self.parameters.map(|parameters| parameters.full_data());
+                fields!(lines, self, AlgorithmIdentifier: parameters = &octets);
+                lines.part("AlgorithmIdentifier::parameters.rejected", &error);
             }
         }
     }
 }
 
-/// How many bits the modulus of a key has, if its octets are an RSA public key (RFC 8017, A.1.1).
-fn modulus_bits(alloc: Global, octets: &[u8]) -> Option<usize> {
-    let key = parse_single::<RsaPublicKey<'_>>(alloc, octets).ok()?;
-    let modulus = key.modulus.as_bytes();
-    // Contents octets that were read are never longer, which their types don't say.
-    u32::try_from(modulus.len()).ok()?;
-    Some(BigInt::new(modulus)?.bit_length())
-}
-
-/// The fields, and the size of an RSA key.
+/// The fields, and the size of the key: that of its modulus, or the one that its algorithm says.
 impl Show for SubjectPublicKeyInfo<'_> {
     fn show(&self, lines: &mut Lines) {
-        lines.part("algorithm", &self.algorithm);
-        let key = &self.subject_public_key;
-        lines.part("subjectPublicKey", key);
-        let algorithm = KnownAlgorithm::with_identifier(&self.algorithm.algorithm);
-        if algorithm == Some(KnownAlgorithm::RsaEncryption) {
-            if let Some(bits) = modulus_bits(lines.alloc, key.as_bytes()) {
-                lines.part("keySize", &format!(in lines.alloc; "{bits} bits"));
+        fields!(lines, self, SubjectPublicKeyInfo: algorithm, subject_public_key);
+        let size = match KnownAlgorithm::with_identifier(&self.algorithm.algorithm) {
+            Some(RsaEncryption | RsassaPss) => {
+                modulus_size(lines.alloc, self.subject_public_key.as_bytes())
             }
-        }
+            _ => size_by_algorithm(lines.alloc, &self.algorithm),
+        };
+        show_size(lines, size);
     }
 }
 

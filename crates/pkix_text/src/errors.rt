@@ -2,6 +2,11 @@
 
 use crate::show::{escaped, marked};
 use asn1::{BitString, ParseError, ParseErrorKind, Tag, TagClass, is_integer_content, strip_tlv};
+use pkix::certificate::TbsCertificate;
+use pkix::certificate::distribution::{DistributionPoint, IssuingDistributionPoint};
+use pkix::certificate::extensions::BasicConstraints;
+use pkix::common::{Attribute, AttributeTypeAndValue, Extension, OtherName};
+use pkix::request::CertificationRequestInfo;
 use std::alloc::{AllocError, Global};
 
 /// Universal types by their identifier octets, in the words of X.680.
@@ -28,19 +33,17 @@ pub(crate) const UNIVERSAL: &[(u8, &str)] = &[
     (0x1e, "BMPString"),
 ];
 
-/// Fields whose names in the documents are other than their words here with capitals. One name is that of a structure's
-/// own field.
-const NAMES: &[(&str, &str)] = &[
-    ("OtherName::type_id", "type-id"),
-    ("ca", "cA"),
-    ("crl_issuer", "cRLIssuer"),
-    ("extn_id", "extnID"),
-    ("indirect_crl", "indirectCRL"),
-    ("issuer_unique_id", "issuerUniqueID"),
-    ("only_contains_ca_certs", "onlyContainsCACerts"),
-    ("subject_pk_info", "subjectPKInfo"),
-    ("subject_unique_id", "subjectUniqueID"),
-    ("type_id", "type"),
+/// The fields whose names in ASN.1 are other than their words here with capitals.
+const NAMES: &[&[(&str, &str)]] = &[
+    Attribute::NAMES,
+    AttributeTypeAndValue::NAMES,
+    BasicConstraints::NAMES,
+    CertificationRequestInfo::NAMES,
+    DistributionPoint::NAMES,
+    Extension::NAMES,
+    IssuingDistributionPoint::NAMES,
+    OtherName::NAMES,
+    TbsCertificate::NAMES,
 ];
 
 /// The universal type with this tag.
@@ -88,14 +91,15 @@ fn push_found(out: &mut String, found: Tag, expected: &[Tag]) -> Result<(), Allo
     push_tag(out, found, expected)
 }
 
-/// Appends a location, as it is in the lines: the number of an item, or the name of a field, which an error has in
-/// quotes and after that of its struct.
-fn push_field(out: &mut String, location: &str) -> Result<(), AllocError> {
-    let location = location.trim_matches('"');
-    let field = location.rsplit("::").next().unwrap_or(location);
-    if let Some((_, name)) = NAMES.iter().find(|row| row.0 == location || row.0 == field) {
-        return out.push_str(name);
+/// Appends a part of a location, as errors and lines have it: a field goes by its struct and its name here, and is
+/// shown by its name in ASN.1; anything else is shown as it is.
+pub(crate) fn push_part(out: &mut String, part: &str) -> Result<(), AllocError> {
+    for names in NAMES {
+        if let Some((_, name)) = names.iter().find(|row| row.0 == part) {
+            return out.push_str(name);
+        }
     }
+    let field = part.rsplit("::").next().unwrap_or(part);
     let mut is_next = false;
     for letter in field.chars() {
         if letter != '_' {
@@ -117,7 +121,8 @@ fn push_location(alloc: Global, out: &mut String, error: &ParseError) -> Result<
     let locations = locations.trim_end_matches("] }").split(", ");
     for (number, location) in locations.enumerate() {
         out.push_str(if number > 0 { "." } else { "" })?;
-        push_field(out, location)?;
+        // An error has a field's name in quotes.
+        push_part(out, location.trim_matches('"'))?;
     }
     out.push_str(": ")
 }

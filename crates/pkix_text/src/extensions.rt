@@ -1,14 +1,16 @@
 //! Extensions (RFC 5280, 4.2 and 5.2), the known ones with their values.
 
-use crate::show::{Lines, Show, with_name};
+use crate::show::{Lines, Show, bmp_characters, characters, fields, with_name};
+use crate::transparency::Timestamps;
+use asn1::{SequenceOf, parse_single};
 use pkix::certificate::access::AccessDescription;
 use pkix::certificate::distribution::{
     DistributionPoint, DistributionPointName, IssuingDistributionPoint,
 };
 use pkix::certificate::extensions::{AuthorityKeyIdentifier, BasicConstraints};
 use pkix::certificate::policies::{
-    GeneralSubtree, NameConstraints, PolicyConstraints, PolicyInformation, PolicyMapping,
-    PolicyQualifierInfo,
+    DisplayText, GeneralSubtree, NameConstraints, NoticeReference, PolicyConstraints,
+    PolicyInformation, PolicyMapping, PolicyQualifierInfo, UserNotice,
 };
 use pkix::common::{Extension, NamedBits};
 use pkix::extension_values::ExtensionValue;
@@ -16,19 +18,14 @@ use pkix::revocation::extensions::CrlReason;
 
 impl Show for BasicConstraints<'_> {
     fn show(&self, lines: &mut Lines) {
-        lines.part("cA", &self.ca);
-        lines.part("pathLenConstraint", &self.path_len_constraint);
+        fields!(lines, self, BasicConstraints: ca, path_len_constraint);
     }
 }
 
 impl Show for AuthorityKeyIdentifier<'_> {
     fn show(&self, lines: &mut Lines) {
-        lines.part("keyIdentifier", &self.key_identifier);
-        lines.part("authorityCertIssuer", &self.authority_cert_issuer);
-        lines.part(
-            "authorityCertSerialNumber",
-            &self.authority_cert_serial_number,
-        );
+        fields!(lines, self, AuthorityKeyIdentifier:
+            key_identifier, authority_cert_issuer, authority_cert_serial_number);
     }
 }
 
@@ -62,8 +59,7 @@ impl Show for Named<'_> {
 
 impl Show for AccessDescription<'_> {
     fn show(&self, lines: &mut Lines) {
-        lines.part("accessMethod", &self.access_method);
-        lines.part("accessLocation", &self.access_location);
+        fields!(lines, self, AccessDescription: access_method, access_location);
     }
 }
 
@@ -90,26 +86,17 @@ impl Show for DistributionPointName<'_> {
 
 impl Show for DistributionPoint<'_> {
     fn show(&self, lines: &mut Lines) {
-        lines.part("distributionPoint", &self.distribution_point);
-        lines.part("reasons", &Named(self.reasons.as_ref(), REASONS));
-        lines.part("cRLIssuer", &self.crl_issuer);
+        fields!(lines, self, DistributionPoint:
+            distribution_point, reasons = &Named(self.reasons.as_ref(), REASONS), crl_issuer);
     }
 }
 
 impl Show for IssuingDistributionPoint<'_> {
     fn show(&self, lines: &mut Lines) {
-        lines.part("distributionPoint", &self.distribution_point);
-        lines.part("onlyContainsUserCerts", &self.only_contains_user_certs);
-        lines.part("onlyContainsCACerts", &self.only_contains_ca_certs);
-        lines.part(
-            "onlySomeReasons",
-            &Named(self.only_some_reasons.as_ref(), REASONS),
-        );
-        lines.part("indirectCRL", &self.indirect_crl);
-        lines.part(
-            "onlyContainsAttributeCerts",
-            &self.only_contains_attribute_certs,
-        );
+        fields!(lines, self, IssuingDistributionPoint:
+            distribution_point, only_contains_user_certs, only_contains_ca_certs,
+            only_some_reasons = &Named(self.only_some_reasons.as_ref(), REASONS),
+            indirect_crl, only_contains_attribute_certs);
     }
 }
 
@@ -136,6 +123,7 @@ impl Show for ExtensionValue<'_> {
             ExtensionValue::PolicyConstraints(value) => value.show(lines),
             ExtensionValue::PolicyMappings(value) => value.show(lines),
             ExtensionValue::SubjectAltName(value) => value.show(lines),
+            ExtensionValue::SubjectDirectoryAttributes(value) => value.show(lines),
             ExtensionValue::SubjectInfoAccess(value) => value.show(lines),
             ExtensionValue::SubjectKeyIdentifier(value) => value.show(lines),
             ExtensionValue::Other(value) => value.show(lines),
@@ -143,61 +131,132 @@ impl Show for ExtensionValue<'_> {
     }
 }
 
-/// The value of a known extension is shown under the extension's name. Other values are shown as octets, with the
-/// reason if they aren't the encoding of a value that the identifier names.
-impl Show for Extension<'_> {
+/// A list of numbers of extensions of TLS.
+type Numbers<'a> = SequenceOf<'a, u16, 0, { usize::MAX }>;
+
+/// The extensions that a server of TLS has to have, by their numbers (RFC 7633, 4.1).
+#[derive(Drop)]
+struct Features<'a>(Numbers<'a>);
+
+/// Each number, with the extension's name if it is one that certificates demand (RFC 6066, 8; RFC 6961, 2.2).
+impl Show for Features<'_> {
     fn show(&self, lines: &mut Lines) {
-        lines.part("extnID", &self.extn_id);
-        lines.part("critical", &self.critical);
-        match self.value(lines.alloc) {
-            Ok(value) if !matches!(value, ExtensionValue::Other(_)) => {
-                let name = lines.short_name(&self.extn_id);
-                lines.part(name.as_str(), &value);
-            }
-            value => lines.read("extnValue", self.extn_value, value),
+        let mut count = 0usize;
+        for item in self.0.clone().unwrap() {
+            let Some(number) = lines.item(item) else {
+                return
+            };
+            let place = lines.kept(format!(in lines.alloc; "{count}"));
+            let name = match number {
+                5 => "status_request",
+                17 => "status_request_v2",
+                _ => "unknown",
+            };
+            lines.part(
+                place.as_str(),
+                &format!(in lines.alloc; "{number} ({name})"),
+            );
+            count = count.saturating_add(1);
         }
     }
 }
 
+/// Appends the lines of an extension whose value has no type in `pkix`.
+fn show_other(lines: &mut Lines, name: &str, octets: &[u8]) {
+    let alloc = lines.alloc;
+    match name {
+        "tlsFeature" => {
+            let numbers = parse_single::<Numbers<'_>>(alloc, octets);
+            lines.read(name, octets, numbers.map(Features))
+        }
+        "signedCertificateTimestampList" => {
+            let list = parse_single::<&[u8]>(alloc, octets);
+            lines.read(name, octets, list.map(Timestamps))
+        }
+        _ => lines.part("Extension::extn_value", &octets),
+    }
+}
+
+/// The value of a known extension is shown under the extension's name. Other values are shown as octets, with the
+/// reason if they aren't the encoding of a value that the identifier names.
+impl Show for Extension<'_> {
+    fn show(&self, lines: &mut Lines) {
+        fields!(lines, self, Extension: extn_id, critical);
+        let name = lines.short_name(&self.extn_id);
+        match self.value(lines.alloc) {
+            Ok(ExtensionValue::Other(octets)) => show_other(lines, name.as_str(), octets),
+            Ok(value) => lines.part(name.as_str(), &value),
+            value => lines.read("Extension::extn_value", self.extn_value, value),
+        }
+    }
+}
+
+/// The characters after their type, unless that is UTF8String.
+impl Show for DisplayText<'_> {
+    fn show(&self, lines: &mut Lines) {
+        let alloc = lines.alloc;
+        let text = match self {
+            DisplayText::Ia5(text) => characters(alloc, "(IA5String) ", text.as_str()),
+            DisplayText::Visible(text) => characters(alloc, "(VisibleString) ", text.as_str()),
+            DisplayText::Bmp(text) => bmp_characters(alloc, text),
+            DisplayText::Utf8(text) => characters(alloc, "", text.as_str()),
+        };
+        text.show(lines);
+    }
+}
+
+impl Show for NoticeReference<'_> {
+    fn show(&self, lines: &mut Lines) {
+        fields!(lines, self, NoticeReference: organization, notice_numbers);
+    }
+}
+
+impl Show for UserNotice<'_> {
+    fn show(&self, lines: &mut Lines) {
+        fields!(lines, self, UserNotice: notice_ref, explicit_text);
+    }
+}
+
+/// The qualifier is shown as a UserNotice if its identifier is that, and else as an element.
 impl Show for PolicyQualifierInfo<'_> {
     fn show(&self, lines: &mut Lines) {
-        lines.part("policyQualifierId", &self.policy_qualifier_id);
-        lines.part("qualifier", &self.qualifier);
+        fields!(lines, self, PolicyQualifierInfo: policy_qualifier_id);
+        match lines.short_name(&self.policy_qualifier_id).as_str() {
+            "unotice" => {
+                let octets = self.qualifier.full_data();
+                lines.inner::<UserNotice<'_>>("PolicyQualifierInfo::qualifier", octets)
+            }
+            _ => fields!(lines, self, PolicyQualifierInfo: qualifier),
+        }
     }
 }
 
 impl Show for PolicyInformation<'_> {
     fn show(&self, lines: &mut Lines) {
-        lines.part("policyIdentifier", &self.policy_identifier);
-        lines.part("policyQualifiers", &self.policy_qualifiers);
+        fields!(lines, self, PolicyInformation: policy_identifier, policy_qualifiers);
     }
 }
 
 impl Show for PolicyMapping {
     fn show(&self, lines: &mut Lines) {
-        lines.part("issuerDomainPolicy", &self.issuer_domain_policy);
-        lines.part("subjectDomainPolicy", &self.subject_domain_policy);
+        fields!(lines, self, PolicyMapping: issuer_domain_policy, subject_domain_policy);
     }
 }
 
 impl Show for GeneralSubtree<'_> {
     fn show(&self, lines: &mut Lines) {
-        lines.part("base", &self.base);
-        lines.part("minimum", &self.minimum);
-        lines.part("maximum", &self.maximum);
+        fields!(lines, self, GeneralSubtree: base, minimum, maximum);
     }
 }
 
 impl Show for NameConstraints<'_> {
     fn show(&self, lines: &mut Lines) {
-        lines.part("permittedSubtrees", &self.permitted_subtrees);
-        lines.part("excludedSubtrees", &self.excluded_subtrees);
+        fields!(lines, self, NameConstraints: permitted_subtrees, excluded_subtrees);
     }
 }
 
 impl Show for PolicyConstraints<'_> {
     fn show(&self, lines: &mut Lines) {
-        lines.part("requireExplicitPolicy", &self.require_explicit_policy);
-        lines.part("inhibitPolicyMapping", &self.inhibit_policy_mapping);
+        fields!(lines, self, PolicyConstraints: require_explicit_policy, inhibit_policy_mapping);
     }
 }

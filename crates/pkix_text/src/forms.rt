@@ -38,6 +38,8 @@ const DSA_KEY: &str = "a private key of DSA; `openssl pkey` makes it PKCS #8";
 
 const PARAMETERS: &str = "parameters of DSA or Diffie-Hellman";
 
+const DH_PARAMETERS: &str = "parameters of Diffie-Hellman; `openssl dhparam` shows them";
+
 const CURVE: &str = "an identifier, as of an elliptic curve";
 
 const BER: &str = "BER, whose first length is indefinite, and not DER";
@@ -102,6 +104,55 @@ const STARTS: &[(&[u8], &str)] = &[
     (b"30 8", HEX),
 ];
 
+/// The labels in PEM of other documents.
+const OTHER_LABELS: &[(&[u8], &str)] = &[
+    (
+        b"ATTRIBUTE CERTIFICATE",
+        "a certificate of attributes (RFC 5755)",
+    ),
+    (b"DH PARAMETERS", DH_PARAMETERS),
+    (
+        b"DSA PARAMETERS",
+        "parameters of DSA; `openssl dsaparam` shows them",
+    ),
+    (b"DSA PRIVATE KEY", DSA_KEY),
+    (
+        b"EC PARAMETERS",
+        "parameters of elliptic curves; `openssl ecparam` shows them",
+    ),
+    (b"OCSP REQUEST", OCSP_REQUEST),
+    (b"OCSP RESPONSE", OCSP_RESPONSE),
+    (
+        b"OPENSSH PRIVATE KEY",
+        "a private key of SSH; `ssh-keygen -p -m PKCS8` converts it",
+    ),
+    (b"PGP", "OpenPGP; `gpg` shows it"),
+    (b"PKCS12", PKCS12),
+    (
+        b"TRUSTED CERTIFICATE",
+        "a certificate that OpenSSL trusts; `openssl x509` writes the certificate",
+    ),
+    (b"X9.42 DH PARAMETERS", DH_PARAMETERS),
+];
+
+/// What begins with this label in PEM, if it is a document that isn't read.
+pub(crate) fn other_labelled(label: &[u8]) -> Option<&'static str> {
+    begun(OTHER_LABELS, label)
+}
+
+/// Whether these are two integers as parameters of Diffie-Hellman are (PKCS #3, 9): a prime of 512 bits or more, and
+/// the generator 2, which is no exponent of an RSA key.
+fn is_diffie_hellman(octets: &[u8]) -> bool {
+    let Ok((whole, _rest)) = strip_tlv(octets) else {
+        return false;
+    };
+    match strip_tlv(whole.data()) {
+        Ok((prime, generator)) => prime.data().len() >= 64
+            && generator == b"\x02\x01\x02".as_slice(),
+        Err(_error) => false,
+    }
+}
+
 /// How far the next element is: behind a primitive element, or behind the identifier and length octets of one that has
 /// elements within it. The latter's length isn't looked at, as it may be wrong.
 fn step(octets: &[u8]) -> Option<usize> {
@@ -142,6 +193,9 @@ pub(crate) fn other_document(
     alloc: Global,
     octets: &[u8],
 ) -> Result<Option<&'static str>, AllocError> {
+    if is_diffie_hellman(octets) {
+        return Ok(Some(DH_PARAMETERS));
+    }
     let identifiers = identifiers(alloc, octets)?;
     Ok(begun(OTHERS, identifiers.as_slice()).or(begun(STARTS, octets)))
 }

@@ -1,22 +1,48 @@
 //! General names (RFC 5280, 4.2.1.6).
 
-use crate::show::{Lines, Show, marked};
+use crate::show::{Lines, Show, fields, marked};
 use asn1::{Sequence, write_readable};
 use pkix::common::{EdiPartyName, GeneralName, OtherName};
 use std::alloc::{AllocError, Global};
 
-/// An address of IPv6 in hex with colons.
+/// Where the longest run of groups that are zero begins, the first of several, and where it ends; the two are the same
+/// if there is none.
+fn zeros(octets: &[u8]) -> (usize, usize) {
+    let (mut longest, mut start) = ((0usize, 0usize), 0usize);
+    for (number, group) in octets.chunks(2).enumerate() {
+        let end = number.saturating_add(1);
+        if group != [0, 0].as_slice() {
+            start = end;
+        } else if end.saturating_sub(start) > longest.1.saturating_sub(longest.0) {
+            longest = (start, end);
+        }
+    }
+    longest
+}
+
+/// An address of IPv6 in its short form (RFC 5952, 4 and 5): groups in hex without zeros before them, of which the
+/// longest run of zeros, if it has two or more, is left out; an address of IPv4 in one of IPv6 in decimal.
 fn groups(alloc: Global, octets: &[u8]) -> Result<String, AllocError> {
+    if let [0, 0, 0, 0, 0, 0, 0, 0, 0, 0, 0xff, 0xff, a, b, c, d] = octets {
+        return format!(in alloc; "::ffff:{a}.{b}.{c}.{d}");
+    }
+    let (start, end) = zeros(octets);
+    let is_short = end.saturating_sub(start) > 1;
     let mut groups = String::new(alloc);
-    for group in octets.chunks(2) {
-        let colon = if groups.is_empty() { "" } else { ":" };
-        let digits = hex::encode(alloc, group)?;
-        write!(groups, "{colon}{digits}")?;
+    for (number, group) in octets.chunks(2).enumerate() {
+        let [high, low] = group else { continue };
+        if is_short && number >= start && number < end {
+            groups.push_str(if number == start { "::" } else { "" })?;
+        } else {
+            let is_first = groups.is_empty() || groups.as_str().ends_with(':');
+            let colon = if is_first { "" } else { ":" };
+            write!(groups, "{colon}{:x}", u16::from_be_bytes([*high, *low]))?;
+        }
     }
     Ok(groups)
 }
 
-/// An address of IPv4 in decimal, and one of IPv6 in hex with colons; of a range the address and its mask (RFC 5280,
+/// An address of IPv4 in decimal, and one of IPv6 in its short form; of a range the address and its mask (RFC 5280,
 /// 4.2.1.10); other octets in hex after `#`.
 fn address(alloc: Global, octets: &[u8]) -> Result<String, AllocError> {
     match octets {
@@ -43,15 +69,13 @@ impl Show for Sequence<'_> {
 
 impl Show for OtherName<'_> {
     fn show(&self, lines: &mut Lines) {
-        lines.part("type-id", &self.type_id);
-        lines.part("value", &self.value);
+        fields!(lines, self, OtherName: type_id, value);
     }
 }
 
 impl Show for EdiPartyName<'_> {
     fn show(&self, lines: &mut Lines) {
-        lines.part("nameAssigner", &self.name_assigner);
-        lines.part("partyName", &self.party_name);
+        fields!(lines, self, EdiPartyName: name_assigner, party_name);
     }
 }
 

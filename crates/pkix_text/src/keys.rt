@@ -1,53 +1,55 @@
 //! Keys (RFC 5958, 2; RFC 8017, A.1; RFC 5915, 3).
 
-use crate::show::{Lines, Show};
-use pkix::algorithm_parameters::KnownAlgorithm::{self, EcPublicKey, RsaEncryption};
-use pkix::keys::{EcPrivateKey, OneAsymmetricKey, RsaPrivateKey, RsaPublicKey};
+use crate::key_sizes::{bits, show_size, size_by_algorithm, size_on};
+use crate::show::{Lines, Show, fields};
+use pkix::algorithm_parameters::KnownAlgorithm::{self, EcPublicKey, RsaEncryption, RsassaPss};
+use pkix::keys::{EcPrivateKey, OneAsymmetricKey, OtherPrimeInfo, RsaPrivateKey, RsaPublicKey};
 
 /// The first line says what two integers are taken for.
 impl Show for RsaPublicKey<'_> {
     fn show(&self, lines: &mut Lines) {
         lines.part("form", &"two integers, read as an RSAPublicKey");
-        lines.part("modulus", &self.modulus);
-        lines.part("publicExponent", &self.public_exponent);
+        fields!(lines, self, RsaPublicKey: modulus, public_exponent);
+        show_size(lines, bits(&self.modulus));
     }
 }
 
 impl Show for RsaPrivateKey<'_> {
     fn show(&self, lines: &mut Lines) {
-        lines.part("version", &self.version);
-        lines.part("modulus", &self.modulus);
-        lines.part("publicExponent", &self.public_exponent);
-        lines.part("privateExponent", &self.private_exponent);
-        lines.part("prime1", &self.prime1);
-        lines.part("prime2", &self.prime2);
-        lines.part("exponent1", &self.exponent1);
-        lines.part("exponent2", &self.exponent2);
-        lines.part("coefficient", &self.coefficient);
+        fields!(lines, self, RsaPrivateKey:
+            version, modulus, public_exponent, private_exponent, prime1, prime2, exponent1,
+            exponent2, coefficient, other_prime_infos);
+        show_size(lines, bits(&self.modulus));
+    }
+}
+
+impl Show for OtherPrimeInfo<'_> {
+    fn show(&self, lines: &mut Lines) {
+        fields!(lines, self, OtherPrimeInfo: prime, exponent, coefficient);
     }
 }
 
 impl Show for EcPrivateKey<'_> {
     fn show(&self, lines: &mut Lines) {
-        lines.part("version", &self.version);
-        lines.part("privateKey", &self.private_key);
-        lines.part("parameters", &self.parameters);
-        lines.part("publicKey", &self.public_key);
+        fields!(lines, self, EcPrivateKey: version, private_key, parameters, public_key);
+        let size = self.parameters.as_ref().and_then(|curve| size_on(curve));
+        show_size(lines, size);
     }
 }
 
-/// The key itself is shown by its numbers if its algorithm is a known one, and else as octets.
+/// The key itself is shown by its numbers if its algorithm is a known one, and else as octets. The size of an RSA key
+/// is among its numbers.
 impl Show for OneAsymmetricKey<'_> {
     fn show(&self, lines: &mut Lines) {
-        lines.part("version", &self.version);
-        lines.part("privateKeyAlgorithm", &self.private_key_algorithm);
-        let key = self.private_key;
+        fields!(lines, self, OneAsymmetricKey: version, private_key_algorithm);
+        let (name, key) = ("OneAsymmetricKey::private_key", self.private_key);
         match KnownAlgorithm::with_identifier(&self.private_key_algorithm.algorithm) {
-            Some(RsaEncryption) => lines.inner::<RsaPrivateKey<'_>>("privateKey", key),
-            Some(EcPublicKey) => lines.inner::<EcPrivateKey<'_>>("privateKey", key),
-            _ => lines.part("privateKey", &key),
+            Some(RsaEncryption | RsassaPss) => lines.inner::<RsaPrivateKey<'_>>(name, key),
+            Some(EcPublicKey) => lines.inner::<EcPrivateKey<'_>>(name, key),
+            _ => lines.part(name, &key),
         }
-        lines.part("attributes", &self.attributes);
-        lines.part("publicKey", &self.public_key);
+        fields!(lines, self, OneAsymmetricKey: attributes, public_key);
+        let size = size_by_algorithm(lines.alloc, &self.private_key_algorithm);
+        show_size(lines, size);
     }
 }

@@ -17,6 +17,7 @@ const LABELS: &[(&[u8], Kind)] = &[
     (b"EC PRIVATE KEY", Kind::Key),
     (b"CMS", Kind::Signature),
     (b"PKCS7", Kind::Signature),
+    (b"PKCS #7 SIGNED DATA", Kind::Signature),
 ];
 
 /// What an input should be the encoding of.

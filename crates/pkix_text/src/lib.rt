@@ -9,6 +9,7 @@ mod extensions;
 mod forms;
 mod general_names;
 mod identifiers;
+mod key_sizes;
 mod keys;
 mod kinds;
 mod pem;
@@ -16,6 +17,7 @@ mod program;
 mod show;
 mod signatures;
 mod timestamps;
+mod transparency;
 
 pub use answers::{Answer, Fault, Refusal, Report, answer_to, report_on};
 pub use kinds::Kind;

@@ -5,7 +5,7 @@ ghost use Rattle.std.specs.Iterator.{IsFinite};
 ghost use Rattle.pkix_text.specs.Program.{IsMemoryOrWrite};
 
 use crate::answers::Fault;
-use crate::errors::in_words;
+use crate::errors::{in_words, push_part};
 use crate::identifiers::name_of;
 use asn1::{
     Asn1Readable, Asn1Type, BMPString, BigInt, BigUint, BitString, DateTime, GeneralizedTime,
@@ -18,6 +18,21 @@ use std::alloc::{AllocError, Global};
 use std::char::decode_utf16;
 use std::io::{Stdout, Write};
 use std::mem;
+
+/// Appends the lines of fields of a structure, each at its name, as `fields!(lines, self, Validity: not_before,
+/// not_after)`; a field is shown as another value as `reasons = value`.
+macro_rules! fields {
+    ($lines:expr, $of:expr, $type:ident: $($name:ident $(= $value:expr)?),+ $(,)?) => {{
+        $($lines.part(
+            concat!(stringify!($type), "::", stringify!($name)),
+            fields!(@ $of, $name $(, $value)?),
+        );)+
+    }};
+    (@ $of:expr, $name:ident) => { &$of.$name };
+    (@ $of:expr, $name:ident, $value:expr) => { $value };
+}
+
+pub(crate) use fields;
 
 /// What is shown as lines of text.
 pub(crate) trait Show {
@@ -82,11 +97,13 @@ pub(crate) fn lines_of<T: Show>(alloc: Global, value: &T, page: Page<'_>) -> Res
 }
 
 impl Lines {
-    /// Appends the lines of the value at this part of the location: one for a value without lines, unless it is absent.
+    /// Appends the lines of the value at this part of the location, as errors have it: one for a value without lines,
+    /// unless it is absent.
     pub(crate) fn part<T: Show>(&mut self, name: &str, value: &T) {
         let dot = if self.place.is_empty() { "" } else { "." };
-        let inner = format!(in self.alloc; "{}{dot}{name}", self.place);
-        let inner = self.kept(inner);
+        let inner = format!(in self.alloc; "{}{dot}", self.place);
+        let mut inner = self.kept(inner);
+        self.is_out_of_memory |= push_part(&mut inner, name).is_err();
         if !self.is_out_of_memory && !self.is_unwritten {
             let outer = mem::replace(&mut self.place, inner);
             let count = self.count;
@@ -147,6 +164,18 @@ impl Lines {
     /// Appends the lines of the value whose encoding the octets should be, at this part of the location.
     pub(crate) fn inner<'a, T: Asn1Readable<'a> + Show>(&mut self, name: &str, octets: &'a [u8]) {
         self.read(name, octets, parse_single::<T>(self.alloc, octets));
+    }
+
+    /// Appends the octets of an element at this part of the location, and the reason if its contents octets aren't
+    /// those of its type.
+    pub(crate) fn element(&mut self, name: &str, element: Tlv<'_>) {
+        let octets = element.full_data();
+        self.part(name, &octets);
+        if let Err(error) = value_of(self.alloc, element) {
+            let name = self.kept(format!(in self.alloc; "{name}.rejected"));
+            let words = in_words(self.alloc, &error, &[], Some(octets));
+            self.part(name.as_str(), &words);
+        }
     }
 
     /// Appends the line of a text, and writes the lines so far if they are a piece. If memory ran out, a line may lack
@@ -358,7 +387,7 @@ impl Show for ObjectIdentifier {
 }
 
 /// A date and time with this fraction of a second, after its type, if that has to be told.
-fn date(
+pub(crate) fn date(
     alloc: Global,
     its_type: &str,
     time: &DateTime,
@@ -390,14 +419,23 @@ impl Show for X509GeneralizedTime {
     }
 }
 
+/// A time with its fraction, after its type, if that has to be told.
+fn fraction_time(
+    alloc: Global,
+    its_type: &str,
+    time: &GeneralizedTime,
+) -> Result<String, AllocError> {
+    let fraction = match time.nanoseconds() {
+        Some(fraction) => format!(in alloc; ".{fraction:09}")?,
+        None => String::new(alloc),
+    };
+    let fraction = fraction.trim_end_matches('0');
+    date(alloc, its_type, time.as_datetime(), fraction)
+}
+
 impl Show for GeneralizedTime {
     fn show(&self, lines: &mut Lines) {
-        let fraction = match self.nanoseconds() {
-            Some(fraction) => lines.kept(format!(in lines.alloc; ".{fraction:09}")),
-            None => String::new(lines.alloc),
-        };
-        let fraction = fraction.trim_end_matches('0');
-        date(lines.alloc, "", self.as_datetime(), fraction).show(lines);
+        fraction_time(lines.alloc, "", self).show(lines);
     }
 }
 
@@ -419,7 +457,11 @@ pub(crate) fn escaped(alloc: Global, text: &str) -> Result<String, AllocError> {
 }
 
 /// The characters after their type. A `#` or `(` at their start is escaped, since these begin octets in hex and a type.
-fn characters(alloc: Global, string_type: &str, text: &str) -> Result<String, AllocError> {
+pub(crate) fn characters(
+    alloc: Global,
+    string_type: &str,
+    text: &str,
+) -> Result<String, AllocError> {
     let is_marked = text.starts_with('#') || text.starts_with('(');
     let mark = if is_marked { "\\" } else { "" };
     let text = escaped(alloc, text)?;
@@ -439,7 +481,7 @@ impl Show for IA5String<'_> {
 }
 
 /// The characters of a BMPString after its type.
-fn bmp_characters(alloc: Global, text: &BMPString<'_>) -> Result<String, AllocError> {
+pub(crate) fn bmp_characters(alloc: Global, text: &BMPString<'_>) -> Result<String, AllocError> {
     let units = text.as_utf16_be_bytes().chunks(2).map(|unit| {
         match unit {
             [high, low] => u16::from_be_bytes([*high, *low]),
@@ -451,6 +493,19 @@ fn bmp_characters(alloc: Global, text: &BMPString<'_>) -> Result<String, AllocEr
         text.push(c.unwrap_or('\u{fffd}'))?;
     }
     characters(alloc, "(BMPString) ", text.as_str())
+}
+
+/// The characters of a UniversalString after its type: four octets each (X.690 8.23.6).
+fn universal_characters(alloc: Global, text: &UniversalString<'_>) -> Result<String, AllocError> {
+    let mut characters_of = String::new(alloc);
+    for unit in text.as_utf32_be_bytes().chunks(4) {
+        let number = match unit {
+            [a, b, c, d] => u32::from_be_bytes([*a, *b, *c, *d]),
+            _ => 0,
+        };
+        characters_of.push(char::from_u32(number).unwrap_or('\u{fffd}'))?;
+    }
+    characters(alloc, "(UniversalString) ", characters_of.as_str())
 }
 
 /// Octets in hex after `#`, which tells them from characters.
@@ -503,9 +558,17 @@ fn value_of(alloc: Global, element: Tlv<'_>) -> ParseResult<Result<String, Alloc
             let time = parse_single::<UtcTime>(alloc, octets)?;
             date(alloc, "(UTCTime) ", time.as_datetime(), "")
         }
+        Some(0x18) => fraction_time(
+            alloc,
+            "(GeneralizedTime) ",
+            &parse_single::<GeneralizedTime>(alloc, octets)?,
+        ),
         Some(0x1a) => {
             let text = parse_single::<VisibleString<'_>>(alloc, octets)?;
             characters(alloc, "(VisibleString) ", text.as_str())
+        }
+        Some(0x1c) => {
+            universal_characters(alloc, &parse_single::<UniversalString<'_>>(alloc, octets)?)
         }
         Some(0x1e) => bmp_characters(alloc, &parse_single::<BMPString<'_>>(alloc, octets)?),
         Some(0x12) => ascii(alloc, "(NumericString) ", element),
@@ -529,8 +592,6 @@ fn check(alloc: Global, element: Tlv<'_>) -> ParseResult<()> {
         Some(0x01) => parse_single::<bool>(alloc, octets).map(|_value| ()),
         Some(0x03) => parse_single::<BitString<'_>>(alloc, octets).map(|_value| ()),
         Some(0x05) => parse_single::<Null>(alloc, octets).map(|_value| ()),
-        Some(0x18) => parse_single::<GeneralizedTime>(alloc, octets).map(|_value| ()),
-        Some(0x1c) => parse_single::<UniversalString<'_>>(alloc, octets).map(|_value| ()),
         Some(0x30) => parse_single::<AnySequence<'_>>(alloc, octets).map(|_value| ()),
         Some(0x31) => parse_single::<SetOf<'_, Tlv<'_>>>(alloc, octets).map(|_value| ()),
         _ => Ok(()),

@@ -1,6 +1,6 @@
 //! Signatures (RFC 3279, 2.2; RFC 8017, 9.2) and signed data (RFC 5652, 3 and 5).
 
-use crate::show::{Lines, Numbered, Show};
+use crate::show::{Lines, Numbered, Show, fields};
 use pkix::signatures::{
     ContentInfo, DigestInfo, EcdsaSigValue, EncapsulatedContentInfo, IssuerAndSerialNumber,
     SignedData, SignerIdentifier, SignerInfo,
@@ -11,22 +11,19 @@ use pkix::timestamps::TstInfo;
 impl Show for EcdsaSigValue<'_> {
     fn show(&self, lines: &mut Lines) {
         lines.part("form", &"two integers, read as an ECDSA-Sig-Value");
-        lines.part("r", &self.r);
-        lines.part("s", &self.s);
+        fields!(lines, self, EcdsaSigValue: r, s);
     }
 }
 
 impl Show for DigestInfo<'_> {
     fn show(&self, lines: &mut Lines) {
-        lines.part("digestAlgorithm", &self.digest_algorithm);
-        lines.part("digest", &self.digest);
+        fields!(lines, self, DigestInfo: digest_algorithm, digest);
     }
 }
 
 impl Show for IssuerAndSerialNumber<'_> {
     fn show(&self, lines: &mut Lines) {
-        lines.part("issuer", &self.issuer);
-        lines.part("serialNumber", &self.serial_number);
+        fields!(lines, self, IssuerAndSerialNumber: issuer, serial_number);
     }
 }
 
@@ -42,49 +39,46 @@ impl Show for SignerIdentifier<'_> {
 
 impl Show for SignerInfo<'_> {
     fn show(&self, lines: &mut Lines) {
-        lines.part("version", &self.version);
-        lines.part("sid", &self.sid);
-        lines.part("digestAlgorithm", &self.digest_algorithm);
-        lines.part("signedAttrs", &self.signed_attrs);
-        lines.part("signatureAlgorithm", &self.signature_algorithm);
-        lines.part("signature", &self.signature);
-        lines.part("unsignedAttrs", &self.unsigned_attrs);
+        fields!(lines, self, SignerInfo:
+            version, sid, digest_algorithm, signed_attrs, signature_algorithm, signature,
+            unsigned_attrs);
     }
 }
 
 /// The content is shown as a TSTInfo if its type is that, and else as octets.
 impl Show for EncapsulatedContentInfo<'_> {
     fn show(&self, lines: &mut Lines) {
-        lines.part("eContentType", &self.e_content_type);
+        fields!(lines, self, EncapsulatedContentInfo: e_content_type);
         let name = lines.short_name(&self.e_content_type);
         match self.e_content {
             Some(octets) if name.as_str() == "tSTInfo" => {
-                lines.inner::<TstInfo<'_>>("eContent", octets)
+                lines.inner::<TstInfo<'_>>("EncapsulatedContentInfo::e_content", octets)
             }
-            octets => lines.part("eContent", &octets),
+            octets => fields!(lines, self, EncapsulatedContentInfo: e_content = &octets),
         }
     }
 }
 
 impl Show for SignedData<'_> {
     fn show(&self, lines: &mut Lines) {
-        lines.part("version", &self.version);
-        lines.part("digestAlgorithms", &Numbered(Some(&self.digest_algorithms)));
-        lines.part("encapContentInfo", &self.encap_content_info);
-        lines.part("certificates", &Numbered(self.certificates.as_ref()));
-        lines.part("crls", &Numbered(self.crls.as_ref()));
-        lines.part("signerInfos", &Numbered(Some(&self.signer_infos)));
+        fields!(lines, self, SignedData:
+            version, digest_algorithms = &Numbered(Some(&self.digest_algorithms)),
+            encap_content_info, certificates = &Numbered(self.certificates.as_ref()),
+            crls = &Numbered(self.crls.as_ref()),
+            signer_infos = &Numbered(Some(&self.signer_infos)));
     }
 }
 
 /// The content is shown as SignedData if its type is that, and else as octets.
 impl Show for ContentInfo<'_> {
     fn show(&self, lines: &mut Lines) {
-        lines.part("contentType", &self.content_type);
-        let octets = self.content.full_data();
+        fields!(lines, self, ContentInfo: content_type);
         match lines.short_name(&self.content_type).as_str() {
-            "signedData" => lines.inner::<SignedData<'_>>("content", octets),
-            _ => lines.part("content", &octets),
+            "signedData" => lines.inner::<SignedData<'_>>(
+                "ContentInfo::content",
+                self.content.full_data(),
+            ),
+            _ => lines.element("ContentInfo::content", self.content),
         }
     }
 }

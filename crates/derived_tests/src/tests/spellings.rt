@@ -28,6 +28,7 @@ const LOW: &[u8] = &[
 fn spelled_fields(rt: HostRuntime) -> Result<(), Fail> {
     let alloc = rt.alloc();
     are_written_back::<Spelled<'_>>(alloc, &[FEW, ALL])?;
+    same(Spelled::NAMES, &[("Spelled::more", "any-number")])?;
     are_refused::<Spelled<'_>>(alloc, &[(LOW, ParseErrorKind::EncodedDefault)])
 }
 

@@ -1,6 +1,6 @@
 //! Where other data of an issuer or a subject is (RFC 5280, 4.2.2).
 
-use crate::common::{GeneralName, general_name_is_lawful};
+use crate::common::GeneralName;
 
 /// AccessDescription (RFC 5280, 4.2.2.1), a SEQUENCE.
 #[derive(asn1::Asn1Read, asn1::Asn1Write, Debug, Clone, PartialEq, Eq)]

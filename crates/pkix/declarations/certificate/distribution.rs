@@ -1,9 +1,6 @@
 //! Where revocation lists are found, and what they have (RFC 5280, 4.2.1.13 and 5.2.5).
 
-use crate::common::{
-    AttributeTypeAndValue, GeneralNames, NamedBits, attribute_type_and_value_is_lawful,
-    general_names_is_lawful, named_bits_is_lawful,
-};
+use crate::common::{AttributeTypeAndValue, GeneralNames, NamedBits};
 
 /// DistributionPointName (RFC 5280, 4.2.1.13), a CHOICE.
 #[derive(asn1::Asn1Read, asn1::Asn1Write, Debug, Clone, PartialEq, Eq)]
@@ -28,6 +25,7 @@ pub struct DistributionPoint<'a> {
     #[implicit(1)]
     pub reasons: Option<NamedBits<'a>>,
     /// Who issues the list, if that isn't the certificate's issuer.
+    #[name("cRLIssuer")]
     #[implicit(2)]
     pub crl_issuer: Option<GeneralNames<'a>>,
 }
@@ -48,6 +46,7 @@ pub struct IssuingDistributionPoint<'a> {
     #[default(false)]
     pub only_contains_user_certs: bool,
     /// Whether all its certificates are of authorities.
+    #[name("onlyContainsCACerts")]
     #[implicit(2)]
     #[default(false)]
     pub only_contains_ca_certs: bool,
@@ -55,6 +54,7 @@ pub struct IssuingDistributionPoint<'a> {
     #[implicit(3)]
     pub only_some_reasons: Option<NamedBits<'a>>,
     /// Whether it may have certificates of other issuers.
+    #[name("indirectCRL")]
     #[implicit(4)]
     #[default(false)]
     pub indirect_crl: bool,

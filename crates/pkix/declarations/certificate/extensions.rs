@@ -1,11 +1,12 @@
 //! Values of extensions (RFC 5280, 4.2.1 and 4.2.2): each type is what the octets of an extension hold.
 
-use crate::common::{GeneralNames, NamedBits, general_names_is_lawful, named_bits_is_lawful};
+use crate::common::{Attribute, GeneralNames, NamedBits};
 
 /// BasicConstraints (RFC 5280, 4.2.1.9), a SEQUENCE; identifier 2.5.29.19.
 #[derive(asn1::Asn1Read, asn1::Asn1Write, Debug, Clone, PartialEq, Eq)]
 pub struct BasicConstraints<'a> {
     /// Whether the subject may sign certificates.
+    #[name("cA")]
     #[default(false)]
     pub ca: bool,
     /// How many certificates that aren't issued by their own subject may follow in a path.
@@ -36,6 +37,9 @@ pub type KeyUsage<'a> = NamedBits<'a>;
 
 /// SubjectAltName (RFC 5280, 4.2.1.6), GeneralNames; identifier 2.5.29.17.
 pub type SubjectAltName<'a> = GeneralNames<'a>;
+
+/// SubjectDirectoryAttributes (RFC 5280, 4.2.1.8), a SEQUENCE of at least one Attribute; identifier 2.5.29.9.
+pub type SubjectDirectoryAttributes<'a> = asn1::SequenceOf<'a, Attribute<'a>, 1>;
 
 /// ExtKeyUsageSyntax (RFC 5280, 4.2.1.12), a SEQUENCE of at least one purpose; identifier 2.5.29.37.
 pub type ExtendedKeyUsage<'a> = asn1::SequenceOf<'a, asn1::ObjectIdentifier, 1>;

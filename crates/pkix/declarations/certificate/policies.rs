@@ -1,7 +1,7 @@
 //! The policies of a certificate, and what it demands of those that follow it in a path (RFC 5280, 4.2.1.4, 4.2.1.5,
 //! 4.2.1.10, 4.2.1.11 and 4.2.1.14).
 
-use crate::common::{GeneralName, general_name_is_lawful};
+use crate::common::GeneralName;
 
 /// PolicyQualifierInfo (RFC 5280, 4.2.1.4), a SEQUENCE: more about a policy.
 #[derive(asn1::Asn1Read, asn1::Asn1Write, Debug, Clone, PartialEq, Eq)]
@@ -10,6 +10,43 @@ pub struct PolicyQualifierInfo<'a> {
     pub policy_qualifier_id: asn1::ObjectIdentifier,
     /// The qualifier: an element of the type that `policy_qualifier_id` defines, which isn't checked.
     pub qualifier: asn1::Tlv<'a>,
+}
+
+/// CPSuri (RFC 5280, 4.2.1.4), an IA5String: where the statement of how certificates are issued is; the qualifier of
+/// id-qt-cps, identifier 1.3.6.1.5.5.7.2.1.
+pub type CpsUri<'a> = asn1::IA5String<'a>;
+
+/// DisplayText (RFC 5280, 4.2.1.4), a CHOICE: words for people. Of each string the RFC says `SIZE (1..200)`, which
+/// isn't checked.
+#[derive(asn1::Asn1Read, asn1::Asn1Write, Debug, Clone, PartialEq, Eq)]
+pub enum DisplayText<'a> {
+    /// ia5String.
+    Ia5(asn1::IA5String<'a>),
+    /// visibleString.
+    Visible(asn1::VisibleString<'a>),
+    /// bmpString.
+    Bmp(asn1::BMPString<'a>),
+    /// utf8String.
+    Utf8(asn1::Utf8String<'a>),
+}
+
+/// NoticeReference (RFC 5280, 4.2.1.4), a SEQUENCE: notices that an organization has by their numbers.
+#[derive(asn1::Asn1Read, asn1::Asn1Write, Debug, Clone, PartialEq, Eq)]
+pub struct NoticeReference<'a> {
+    /// The organization.
+    pub organization: DisplayText<'a>,
+    /// The numbers of the notices. They may be negative.
+    pub notice_numbers: asn1::SequenceOf<'a, asn1::BigInt<'a>>,
+}
+
+/// UserNotice (RFC 5280, 4.2.1.4), a SEQUENCE: what a user of the certificate is to be shown; the qualifier of
+/// id-qt-unotice, identifier 1.3.6.1.5.5.7.2.2. One without fields is read.
+#[derive(asn1::Asn1Read, asn1::Asn1Write, Debug, Clone, PartialEq, Eq)]
+pub struct UserNotice<'a> {
+    /// Where the notice is.
+    pub notice_ref: Option<NoticeReference<'a>>,
+    /// The notice.
+    pub explicit_text: Option<DisplayText<'a>>,
 }
 
 /// PolicyInformation (RFC 5280, 4.2.1.4), a SEQUENCE: a policy.

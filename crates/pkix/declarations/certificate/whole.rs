@@ -1,10 +1,6 @@
 //! Certificates (RFC 5280, 4.1).
 
-use crate::common::{
-    AlgorithmIdentifier, Extensions, Name, SubjectPublicKeyInfo, Time,
-    algorithm_identifier_is_lawful, extensions_is_lawful, name_is_lawful,
-    subject_public_key_info_is_lawful, time_is_lawful,
-};
+use crate::common::{AlgorithmIdentifier, Extensions, Name, SubjectPublicKeyInfo, Time};
 
 /// Validity (RFC 5280, 4.1.2.5), a SEQUENCE: when a certificate is valid, both ends included.
 #[derive(asn1::Asn1Read, asn1::Asn1Write, Debug, Clone, PartialEq, Eq)]
@@ -35,9 +31,11 @@ pub struct TbsCertificate<'a> {
     /// The key.
     pub subject_public_key_info: SubjectPublicKeyInfo<'a>,
     /// A UniqueIdentifier of the issuer.
+    #[name("issuerUniqueID")]
     #[implicit(1)]
     pub issuer_unique_id: Option<asn1::BitString<'a>>,
     /// A UniqueIdentifier of the subject.
+    #[name("subjectUniqueID")]
     #[implicit(2)]
     pub subject_unique_id: Option<asn1::BitString<'a>>,
     /// The extensions.

@@ -4,6 +4,7 @@
 #[derive(asn1::Asn1Read, asn1::Asn1Write, Debug, Clone, PartialEq, Eq)]
 pub struct Extension<'a> {
     /// Which extension it is.
+    #[name("extnID")]
     pub extn_id: asn1::ObjectIdentifier,
     /// Whether a reader that doesn't know the extension has to reject what carries it.
     #[default(false)]

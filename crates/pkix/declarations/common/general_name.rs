@@ -1,11 +1,12 @@
 //! General names (RFC 5280, 4.2.1.6).
 
-use crate::common::{Name, name_is_lawful};
+use crate::common::Name;
 
 /// OtherName (RFC 5280, 4.2.1.6), a SEQUENCE: a name of a form that an identifier names.
 #[derive(asn1::Asn1Read, asn1::Asn1Write, Debug, Clone, PartialEq, Eq)]
 pub struct OtherName<'a> {
     /// The form.
+    #[name("type-id")]
     pub type_id: asn1::ObjectIdentifier,
     /// The name: an element of the type that `type_id` defines.
     #[explicit(0, required = true)]

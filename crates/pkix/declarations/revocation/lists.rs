@@ -1,9 +1,6 @@
 //! Revocation lists (RFC 5280, 5.1 to 5.3).
 
-use crate::common::{
-    AlgorithmIdentifier, Extensions, Name, Time, algorithm_identifier_is_lawful,
-    extensions_is_lawful, name_is_lawful, time_is_lawful,
-};
+use crate::common::{AlgorithmIdentifier, Extensions, Name, Time};
 
 /// An entry of a revocation list (RFC 5280, 5.1.2.6), a SEQUENCE.
 #[derive(asn1::Asn1Read, asn1::Asn1Write, Debug, Clone, PartialEq, Eq)]

@@ -1,9 +1,9 @@
 //! Signed data (RFC 5652), as far as time stamps need it.
 
-use crate::certificate::{Certificate, certificate_is_lawful};
-use crate::common::{AlgorithmIdentifier, algorithm_identifier_is_lawful};
-use crate::revocation::{CertificateList, certificate_list_is_lawful};
-use crate::signatures::{SignerInfo, signer_info_is_lawful};
+use crate::certificate::Certificate;
+use crate::common::AlgorithmIdentifier;
+use crate::revocation::CertificateList;
+use crate::signatures::SignerInfo;
 
 /// ContentInfo (RFC 5652, 3), a SEQUENCE.
 #[derive(asn1::Asn1Read, asn1::Asn1Write, Debug, Clone, PartialEq, Eq)]

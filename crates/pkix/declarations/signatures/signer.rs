@@ -1,9 +1,6 @@
-//! Who signed (RFC 5652, 5.3).
+//! Who signed (RFC 5652, 5.3), and the values of signed attributes (11.1 to 11.3).
 
-use crate::common::{
-    AlgorithmIdentifier, Attributes, Name, algorithm_identifier_is_lawful, attributes_is_lawful,
-    name_is_lawful,
-};
+use crate::common::{AlgorithmIdentifier, Attributes, Name, Time};
 
 /// IssuerAndSerialNumber (RFC 5652, 10.2.4), a SEQUENCE: a certificate's issuer and serial number.
 #[derive(asn1::Asn1Read, asn1::Asn1Write, Debug, Clone, PartialEq, Eq)]
@@ -45,3 +42,12 @@ pub struct SignerInfo<'a> {
     #[implicit(1)]
     pub unsigned_attrs: Option<Attributes<'a>>,
 }
+
+/// ContentType (RFC 5652, 11.1), an OBJECT IDENTIFIER: which content is signed; the attribute 1.2.840.113549.1.9.3.
+pub type ContentType = asn1::ObjectIdentifier;
+
+/// MessageDigest (RFC 5652, 11.2), an OCTET STRING: the digest of the content; the attribute 1.2.840.113549.1.9.4.
+pub type MessageDigest<'a> = &'a [u8];
+
+/// SigningTime (RFC 5652, 11.3), a Time: when the signer says that he signed; the attribute 1.2.840.113549.1.9.5.
+pub type SigningTime = Time;

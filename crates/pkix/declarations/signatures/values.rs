@@ -1,6 +1,6 @@
 //! Values of signatures (RFC 3279, 2.2.2 and 2.2.3; RFC 8017, 9.2).
 
-use crate::common::{AlgorithmIdentifier, algorithm_identifier_is_lawful};
+use crate::common::AlgorithmIdentifier;
 
 /// ECDSA-Sig-Value (RFC 3279, 2.2.3), a SEQUENCE, and Dss-Sig-Value (RFC 3279, 2.2.2), which is the same. Its numbers
 /// aren't negative.

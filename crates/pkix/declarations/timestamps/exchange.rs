@@ -1,10 +1,7 @@
 //! Requests for time stamps, and responses (RFC 3161, 2.4).
 
-use crate::common::{
-    AlgorithmIdentifier, Extensions, NamedBits, algorithm_identifier_is_lawful,
-    extensions_is_lawful, named_bits_is_lawful,
-};
-use crate::signatures::{ContentInfo, content_info_is_lawful};
+use crate::common::{AlgorithmIdentifier, Extensions, NamedBits};
+use crate::signatures::ContentInfo;
 
 /// MessageImprint (RFC 3161, 2.4.1), a SEQUENCE: the digest of what is stamped.
 #[derive(asn1::Asn1Read, asn1::Asn1Write, Debug, Clone, PartialEq, Eq)]

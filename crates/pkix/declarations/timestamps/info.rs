@@ -1,7 +1,7 @@
 //! What a time stamp says (RFC 3161, 2.4.2).
 
-use crate::common::{Extensions, GeneralName, extensions_is_lawful, general_name_is_lawful};
-use crate::timestamps::{MessageImprint, message_imprint_is_lawful};
+use crate::common::{Extensions, GeneralName};
+use crate::timestamps::MessageImprint;
 
 /// Accuracy (RFC 3161, 2.4.2), a SEQUENCE: how far the time may be off.
 #[derive(asn1::Asn1Read, asn1::Asn1Write, Debug, Clone, PartialEq, Eq)]

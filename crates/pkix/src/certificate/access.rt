@@ -1,11 +1,11 @@
 //! Where other data of an issuer or a subject is (RFC 5280, 4.2.2).
-// Printed by scripts/derive from declarations/certificate/access.rs, with the sum 6a78e136.
+// Printed by scripts/derive from declarations/certificate/access.rs, with the sum 03311605.
 
 ghost use Rattle.std.specs.Prelude.{◌≡◌, ◌∷◌, [], IsTrue};
 ghost use Rattle.asn1.specs.Reads.{HasOneEncoding, ReadsContents};
 ghost use Rattle.asn1.specs.Structures.{field_names, structure, fields2};
 
-use crate::common::{GeneralName, general_name_is_lawful};
+use crate::common::GeneralName;
 use asn1::fields::{Fields2, Row};
 use asn1::{
     Asn1Type, ObjectIdentifier, ParseResult, SequenceOf, SimpleAsn1Readable, SimpleAsn1Writable,
@@ -80,16 +80,22 @@ impl<'a> SimpleAsn1Writable for AccessDescription<'a> {
 /// 1.3.6.1.5.5.7.1.1. SubjectInfoAccessSyntax (4.2.2.2), identifier 1.3.6.1.5.5.7.1.11, is this type too.
 pub type AuthorityInfoAccess<'a> = SequenceOf<'a, AccessDescription<'a>, 1, { usize::MAX }>;
 
-/// Each value of `AccessDescription` has one encoding, which is read back.
-pub fn access_description_is_lawful()
-    ensures { HasOneEncoding ⟦<AccessDescription<'static> as Asn1Type>⟧.der }
-{
-    general_name_is_lawful();
-}
+/// The laws of the types, which do nothing.
+pub mod laws {
+    use super::{AccessDescription, AuthorityInfoAccess};
+    use asn1::Asn1Type;
 
-/// Each value of `AuthorityInfoAccess` has one encoding, which is read back.
-pub fn authority_info_access_is_lawful()
-    ensures { HasOneEncoding ⟦<AuthorityInfoAccess<'static> as Asn1Type>⟧.der }
-{
-    access_description_is_lawful();
+    /// Each value of `AccessDescription` has one encoding, which is read back.
+    pub fn access_description_is_lawful()
+        ensures { HasOneEncoding ⟦<AccessDescription<'static> as Asn1Type>⟧.der }
+    {
+        crate::common::laws::general_name_is_lawful();
+    }
+
+    /// Each value of `AuthorityInfoAccess` has one encoding, which is read back.
+    pub fn authority_info_access_is_lawful()
+        ensures { HasOneEncoding ⟦<AuthorityInfoAccess<'static> as Asn1Type>⟧.der }
+    {
+        access_description_is_lawful();
+    }
 }

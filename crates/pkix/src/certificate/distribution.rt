@@ -1,5 +1,5 @@
 //! Where revocation lists are found, and what they have (RFC 5280, 4.2.1.13 and 5.2.5).
-// Printed by scripts/derive from declarations/certificate/distribution.rs, with the sum f2936a32.
+// Printed by scripts/derive from declarations/certificate/distribution.rs, with the sum 4d830146.
 
 ghost use Rattle.std.specs.Prelude.{◌≡◌, ◌∷◌, [], false, IsTrue, OnErr, IfOk};
 ghost use Rattle.asn1.specs.AlternativeLists.{choice, alternative1, alternative2};
@@ -8,10 +8,7 @@ ghost use Rattle.asn1.specs.Reading.{EndsWith};
 ghost use Rattle.asn1.specs.Reads.{BeginsWithEncodingOf, HasOneEncoding, ReadsContents, ReadsPrefix};
 ghost use Rattle.asn1.specs.Structures.{defaulted, explicit, field_names, implicit, structure, fields3, fields6};
 
-use crate::common::{
-    AttributeTypeAndValue, GeneralNames, NamedBits, attribute_type_and_value_is_lawful,
-    general_names_is_lawful, named_bits_is_lawful,
-};
+use crate::common::{AttributeTypeAndValue, GeneralNames, NamedBits};
 use asn1::alternatives::{Alternatives, AlternativesReadable, AsOneOf, OneOf2, read_choice};
 use asn1::fields::{Fields3, Fields6, Row};
 use asn1::{
@@ -120,6 +117,14 @@ pub struct DistributionPoint<'a> {
     pub crl_issuer: Option<GeneralNames<'a>>,
 }
 
+impl<'a> DistributionPoint<'a> {
+    /// The fields that have another name in ASN.1 than theirs with capitals, as errors name them, with that name.
+    pub const NAMES: &'static [(&'static str, &'static str)] = &[(
+        "DistributionPoint::crl_issuer",
+        "cRLIssuer",
+    )];
+}
+
 type DistributionPointDistributionPointField<'a> = Option<Explicit<DistributionPointName<'a>, 0>>;
 
 type DistributionPointReasonsField<'a> = Option<Implicit<NamedBits<'a>, 1>>;
@@ -212,6 +217,17 @@ pub struct IssuingDistributionPoint<'a> {
     pub indirect_crl: bool,
     /// Whether all its certificates are of attributes.
     pub only_contains_attribute_certs: bool,
+}
+
+impl<'a> IssuingDistributionPoint<'a> {
+    /// The fields that have another name in ASN.1 than theirs with capitals, as errors name them, with that name.
+    pub const NAMES: &'static [(&'static str, &'static str)] = &[
+        (
+            "IssuingDistributionPoint::only_contains_ca_certs",
+            "onlyContainsCACerts",
+        ),
+        ("IssuingDistributionPoint::indirect_crl", "indirectCRL"),
+    ];
 }
 
 /// What `only_contains_user_certs` is if it is left out.
@@ -360,37 +376,45 @@ impl<'a> SimpleAsn1Writable for IssuingDistributionPoint<'a> {
     }
 }
 
-/// Each value of `DistributionPointName` has one encoding, which is read back.
-#[tactic(auto, using(asn1::specs::Lemmas::Fields::tags_differ))]
-pub fn distribution_point_name_is_lawful()
-    ensures { HasOneEncoding ⟦<DistributionPointName<'static> as Asn1Type>⟧.der }
-{
-    general_names_is_lawful();
-    attribute_type_and_value_is_lawful();
-}
+/// The laws of the types, which do nothing.
+pub mod laws {
+    use super::{
+        CrlDistributionPoints, DistributionPoint, DistributionPointName, IssuingDistributionPoint,
+    };
+    use asn1::Asn1Type;
 
-/// Each value of `DistributionPoint` has one encoding, which is read back.
-#[tactic(auto, using(asn1::specs::Lemmas::Fields::tags_differ))]
-pub fn distribution_point_is_lawful()
-    ensures { HasOneEncoding ⟦<DistributionPoint<'static> as Asn1Type>⟧.der }
-{
-    distribution_point_name_is_lawful();
-    named_bits_is_lawful();
-    general_names_is_lawful();
-}
+    /// Each value of `DistributionPointName` has one encoding, which is read back.
+    #[tactic(auto, using(asn1::specs::Lemmas::Fields::tags_differ))]
+    pub fn distribution_point_name_is_lawful()
+        ensures { HasOneEncoding ⟦<DistributionPointName<'static> as Asn1Type>⟧.der }
+    {
+        crate::common::laws::general_names_is_lawful();
+        crate::common::laws::attribute_type_and_value_is_lawful();
+    }
 
-/// Each value of `CrlDistributionPoints` has one encoding, which is read back.
-pub fn crl_distribution_points_is_lawful()
-    ensures { HasOneEncoding ⟦<CrlDistributionPoints<'static> as Asn1Type>⟧.der }
-{
-    distribution_point_is_lawful();
-}
+    /// Each value of `DistributionPoint` has one encoding, which is read back.
+    #[tactic(auto, using(asn1::specs::Lemmas::Fields::tags_differ))]
+    pub fn distribution_point_is_lawful()
+        ensures { HasOneEncoding ⟦<DistributionPoint<'static> as Asn1Type>⟧.der }
+    {
+        distribution_point_name_is_lawful();
+        crate::common::laws::named_bits_is_lawful();
+        crate::common::laws::general_names_is_lawful();
+    }
 
-/// Each value of `IssuingDistributionPoint` has one encoding, which is read back.
-#[tactic(auto, using(asn1::specs::Lemmas::Fields::tags_differ))]
-pub fn issuing_distribution_point_is_lawful()
-    ensures { HasOneEncoding ⟦<IssuingDistributionPoint<'static> as Asn1Type>⟧.der }
-{
-    distribution_point_name_is_lawful();
-    named_bits_is_lawful();
+    /// Each value of `CrlDistributionPoints` has one encoding, which is read back.
+    pub fn crl_distribution_points_is_lawful()
+        ensures { HasOneEncoding ⟦<CrlDistributionPoints<'static> as Asn1Type>⟧.der }
+    {
+        distribution_point_is_lawful();
+    }
+
+    /// Each value of `IssuingDistributionPoint` has one encoding, which is read back.
+    #[tactic(auto, using(asn1::specs::Lemmas::Fields::tags_differ))]
+    pub fn issuing_distribution_point_is_lawful()
+        ensures { HasOneEncoding ⟦<IssuingDistributionPoint<'static> as Asn1Type>⟧.der }
+    {
+        distribution_point_name_is_lawful();
+        crate::common::laws::named_bits_is_lawful();
+    }
 }

@@ -1,12 +1,12 @@
 //! Values of extensions (RFC 5280, 4.2.1 and 4.2.2): each type is what the octets of an extension hold.
-// Printed by scripts/derive from declarations/certificate/extensions.rs, with the sum d668db60.
+// Printed by scripts/derive from declarations/certificate/extensions.rs, with the sum 9006a447.
 
 ghost use Rattle.std.specs.Prelude.{◌≡◌, ◌∷◌, [], false, IsTrue};
 ghost use Rattle.asn1.specs.Options.{option_meaning};
 ghost use Rattle.asn1.specs.Reads.{HasOneEncoding, ReadsContents};
 ghost use Rattle.asn1.specs.Structures.{defaulted, field_names, implicit, structure, fields2, fields3};
 
-use crate::common::{GeneralNames, NamedBits, general_names_is_lawful, named_bits_is_lawful};
+use crate::common::{Attribute, GeneralNames, NamedBits};
 use asn1::fields::{Fields2, Fields3, Row};
 use asn1::{
     Asn1Type, BigInt, BigUint, DefaultValue, Defaulted, Implicit, ObjectIdentifier, ParseResult,
@@ -22,6 +22,11 @@ pub struct BasicConstraints<'a> {
     pub ca: bool,
     /// How many certificates that aren't issued by their own subject may follow in a path.
     pub path_len_constraint: Option<BigUint<'a>>,
+}
+
+impl<'a> BasicConstraints<'a> {
+    /// The fields that have another name in ASN.1 than theirs with capitals, as errors name them, with that name.
+    pub const NAMES: &'static [(&'static str, &'static str)] = &[("BasicConstraints::ca", "cA")];
 }
 
 /// What `ca` is if it is left out.
@@ -68,8 +73,6 @@ impl<'a> SimpleAsn1Readable<'a> for BasicConstraints<'a> {
 
 impl<'a> SimpleAsn1Writable for BasicConstraints<'a> {
     type Error = WriteError;
-
-    ghost length_known = { λ _. Unit {0} };
 
     fn tag() -> Tag
         ensures value { result ≡ ⟦<BasicConstraints<'a> as Asn1Type>⟧.der.content.tag }
@@ -188,43 +191,62 @@ pub type KeyUsage<'a> = NamedBits<'a>;
 /// SubjectAltName (RFC 5280, 4.2.1.6), GeneralNames; identifier 2.5.29.17.
 pub type SubjectAltName<'a> = GeneralNames<'a>;
 
+/// SubjectDirectoryAttributes (RFC 5280, 4.2.1.8), a SEQUENCE of at least one Attribute; identifier 2.5.29.9.
+pub type SubjectDirectoryAttributes<'a> = SequenceOf<'a, Attribute<'a>, 1, { usize::MAX }>;
+
 /// ExtKeyUsageSyntax (RFC 5280, 4.2.1.12), a SEQUENCE of at least one purpose; identifier 2.5.29.37.
 pub type ExtendedKeyUsage<'a> = SequenceOf<'a, ObjectIdentifier, 1, { usize::MAX }>;
 
-/// Each value of `BasicConstraints` has one encoding, which is read back.
-#[tactic(auto, using(asn1::specs::Lemmas::Fields::tags_differ))]
-pub fn basic_constraints_is_lawful()
-    ensures { HasOneEncoding ⟦<BasicConstraints<'static> as Asn1Type>⟧.der }
-{}
+/// The laws of the types, which do nothing.
+pub mod laws {
+    use super::{
+        AuthorityKeyIdentifier, BasicConstraints, ExtendedKeyUsage, KeyUsage, SubjectAltName,
+        SubjectDirectoryAttributes, SubjectKeyIdentifier,
+    };
+    use asn1::Asn1Type;
 
-/// Each value of `AuthorityKeyIdentifier` has one encoding, which is read back.
-#[tactic(auto, using(asn1::specs::Lemmas::Fields::tags_differ))]
-pub fn authority_key_identifier_is_lawful()
-    ensures { HasOneEncoding ⟦<AuthorityKeyIdentifier<'static> as Asn1Type>⟧.der }
-{
-    general_names_is_lawful();
+    /// Each value of `BasicConstraints` has one encoding, which is read back.
+    #[tactic(auto, using(asn1::specs::Lemmas::Fields::tags_differ))]
+    pub fn basic_constraints_is_lawful()
+        ensures { HasOneEncoding ⟦<BasicConstraints<'static> as Asn1Type>⟧.der }
+    {}
+
+    /// Each value of `AuthorityKeyIdentifier` has one encoding, which is read back.
+    #[tactic(auto, using(asn1::specs::Lemmas::Fields::tags_differ))]
+    pub fn authority_key_identifier_is_lawful()
+        ensures { HasOneEncoding ⟦<AuthorityKeyIdentifier<'static> as Asn1Type>⟧.der }
+    {
+        crate::common::laws::general_names_is_lawful();
+    }
+
+    /// Each value of `SubjectKeyIdentifier` has one encoding, which is read back.
+    pub fn subject_key_identifier_is_lawful()
+        ensures { HasOneEncoding ⟦<SubjectKeyIdentifier<'static> as Asn1Type>⟧.der }
+    {}
+
+    /// Each value of `KeyUsage` has one encoding, which is read back.
+    pub fn key_usage_is_lawful()
+        ensures { HasOneEncoding ⟦<KeyUsage<'static> as Asn1Type>⟧.der }
+    {
+        crate::common::laws::named_bits_is_lawful();
+    }
+
+    /// Each value of `SubjectAltName` has one encoding, which is read back.
+    pub fn subject_alt_name_is_lawful()
+        ensures { HasOneEncoding ⟦<SubjectAltName<'static> as Asn1Type>⟧.der }
+    {
+        crate::common::laws::general_names_is_lawful();
+    }
+
+    /// Each value of `SubjectDirectoryAttributes` has one encoding, which is read back.
+    pub fn subject_directory_attributes_is_lawful()
+        ensures { HasOneEncoding ⟦<SubjectDirectoryAttributes<'static> as Asn1Type>⟧.der }
+    {
+        crate::common::laws::attribute_is_lawful();
+    }
+
+    /// Each value of `ExtendedKeyUsage` has one encoding, which is read back.
+    pub fn extended_key_usage_is_lawful()
+        ensures { HasOneEncoding ⟦<ExtendedKeyUsage<'static> as Asn1Type>⟧.der }
+    {}
 }
-
-/// Each value of `SubjectKeyIdentifier` has one encoding, which is read back.
-pub fn subject_key_identifier_is_lawful()
-    ensures { HasOneEncoding ⟦<SubjectKeyIdentifier<'static> as Asn1Type>⟧.der }
-{}
-
-/// Each value of `KeyUsage` has one encoding, which is read back.
-pub fn key_usage_is_lawful()
-    ensures { HasOneEncoding ⟦<KeyUsage<'static> as Asn1Type>⟧.der }
-{
-    named_bits_is_lawful();
-}
-
-/// Each value of `SubjectAltName` has one encoding, which is read back.
-pub fn subject_alt_name_is_lawful()
-    ensures { HasOneEncoding ⟦<SubjectAltName<'static> as Asn1Type>⟧.der }
-{
-    general_names_is_lawful();
-}
-
-/// Each value of `ExtendedKeyUsage` has one encoding, which is read back.
-pub fn extended_key_usage_is_lawful()
-    ensures { HasOneEncoding ⟦<ExtendedKeyUsage<'static> as Asn1Type>⟧.der }
-{}

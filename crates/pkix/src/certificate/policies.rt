@@ -1,18 +1,23 @@
 //! The policies of a certificate, and what it demands of those that follow it in a path (RFC 5280, 4.2.1.4, 4.2.1.5,
 //! 4.2.1.10, 4.2.1.11 and 4.2.1.14).
-// Printed by scripts/derive from declarations/certificate/policies.rs, with the sum ca29e72d.
+// Printed by scripts/derive from declarations/certificate/policies.rs, with the sum 976fa4b9.
 
-ghost use Rattle.std.specs.Prelude.{◌≡◌, ◌∷◌, [], IsTrue};
+ghost use Rattle.std.specs.Prelude.{◌≡◌, ◌∷◌, [], IsTrue, OnErr, IfOk};
+ghost use Rattle.asn1.specs.AlternativeLists.{choice, alternative1, alternative2, alternative3, alternative4};
 ghost use Rattle.asn1.specs.Options.{option_meaning};
-ghost use Rattle.asn1.specs.Reads.{HasOneEncoding, ReadsContents};
+ghost use Rattle.asn1.specs.Reading.{EndsWith};
+ghost use Rattle.asn1.specs.Reads.{BeginsWithEncodingOf, HasOneEncoding, ReadsContents, ReadsPrefix};
 ghost use Rattle.asn1.specs.Structures.{defaulted, field_names, implicit, structure, fields2, fields3};
 
-use crate::common::{GeneralName, general_name_is_lawful};
+use crate::common::GeneralName;
+use asn1::alternatives::{Alternatives, AlternativesReadable, AsOneOf, OneOf4, read_choice};
 use asn1::fields::{Fields2, Fields3, Row};
 use asn1::{
-    Asn1Type, BigUint, DefaultValue, Defaulted, Implicit, ObjectIdentifier, ParseResult,
-    SequenceOf, SimpleAsn1Readable, SimpleAsn1Writable, Tag, Tlv, WriteBuf, WriteError,
-    WriteResult, fields_length, known_fields, read_fields, write_fields,
+    Asn1Readable, Asn1Type, Asn1Writable, BMPString, BigInt, BigUint, DefaultValue, Defaulted,
+    IA5String, Implicit, ObjectIdentifier, ParseResult, Parser, SequenceOf, SimpleAsn1Readable,
+    SimpleAsn1Writable, Tag, Tlv, Utf8String, VisibleString, WriteBuf, WriteError, WriteResult,
+    Writer, choice_length, fields_length, known_choice, known_fields, read_fields, take_choice,
+    write_choice, write_fields,
 };
 use std::alloc::Global;
 
@@ -58,8 +63,6 @@ impl<'a> SimpleAsn1Readable<'a> for PolicyQualifierInfo<'a> {
 impl<'a> SimpleAsn1Writable for PolicyQualifierInfo<'a> {
     type Error = WriteError;
 
-    ghost length_known = { λ _. Unit {0} };
-
     fn tag() -> Tag
         ensures value { result ≡ ⟦<PolicyQualifierInfo<'a> as Asn1Type>⟧.der.content.tag }
         ensures simple { ⟦<PolicyQualifierInfo<'a> as Asn1Type>⟧.der.is_simple }
@@ -73,6 +76,225 @@ impl<'a> SimpleAsn1Writable for PolicyQualifierInfo<'a> {
 
     fn data_length(&self) -> Option<usize> {
         fields_length!(self; policy_qualifier_id, qualifier)
+    }
+
+    fn writes_as_read() -> bool
+        ensures { IsTrue result }
+    {
+        true
+    }
+}
+
+/// CPSuri (RFC 5280, 4.2.1.4), an IA5String: where the statement of how certificates are issued is; the qualifier of
+/// id-qt-cps, identifier 1.3.6.1.5.5.7.2.1.
+pub type CpsUri<'a> = IA5String<'a>;
+
+type DisplayTextChoice<'a> = OneOf4<
+    IA5String<'a>,
+    VisibleString<'a>,
+    BMPString<'a>,
+    Utf8String<'a>,
+>;
+
+/// DisplayText (RFC 5280, 4.2.1.4), a CHOICE: words for people. Of each string the RFC says `SIZE (1..200)`, which
+/// isn't checked.
+#[derive(Debug, Clone, PartialEq, Eq, Drop)]
+pub enum DisplayText<'a> {
+    /// ia5String.
+    Ia5(IA5String<'a>),
+    /// visibleString.
+    Visible(VisibleString<'a>),
+    /// bmpString.
+    Bmp(BMPString<'a>),
+    /// utf8String.
+    Utf8(Utf8String<'a>),
+}
+
+impl<'a> AsOneOf<DisplayTextChoice<'a>> for DisplayText<'a> {
+    ghost use Rattle.pkix.specs.declared.certificate.policies.DisplayText.TheVariants.{Ia5, Visible, Bmp, Utf8};
+
+    ghost seen = { elim [
+      | Ia5 x ↦ alternative1 x
+      | Visible x ↦ alternative2 x
+      | Bmp x ↦ alternative3 x
+      | Utf8 x ↦ alternative4 x
+    ] };
+
+    fn from_one_of(value: DisplayTextChoice<'a>) -> DisplayText<'a>
+        ensures { ⟦<DisplayText<'a> as AsOneOf<DisplayTextChoice<'a>>>⟧.seen result ≡ value.entry }
+    {
+        take_choice!(value; DisplayTextChoice<'a> => DisplayText; Ia5, Visible, Bmp, Utf8)
+    }
+}
+
+impl<'a> Asn1Type for DisplayText<'a> {
+    ghost der = { choice ⟦<DisplayText<'a> as AsOneOf<DisplayTextChoice<'a>>>⟧.seen
+        ⟦<DisplayTextChoice<'a> as Alternatives>⟧.list };
+
+    fn known(&self) {
+        known_choice!(self; DisplayTextChoice<'a> => DisplayText; Ia5, Visible, Bmp, Utf8)
+    }
+}
+
+impl<'a> Asn1Readable<'a> for DisplayText<'a> {
+    fn parse(parser: &mut Parser<'a>) -> ParseResult<DisplayText<'a>>
+        ensures answers { ReadsPrefix ⟦<DisplayText<'a> as Asn1Type>⟧.der parser.old parser.new
+            result }
+        ensures found { IfOk result (λ v. BeginsWithEncodingOf ⟦<DisplayText<'a> as Asn1Type>⟧.der v
+            parser.old parser.new) }
+        ensures rest { EndsWith parser.old parser.new }
+        ensures stops { OnErr result (⟦<DisplayText<'a> as Asn1Type>⟧.der.stops parser.old
+            parser.new) }
+    {
+        read_choice::<DisplayTextChoice<'a>, DisplayText<'a>>(parser)
+    }
+
+    fn can_parse(tag: Tag) -> bool
+        ensures value { result ≡ ⟦<DisplayText<'a> as Asn1Type>⟧.der.accepts tag }
+        ensures plain { ⟦<DisplayText<'a> as Asn1Type>⟧.der.plain }
+    {
+        <DisplayTextChoice<'a> as AlternativesReadable<'a>>::accepts(tag)
+    }
+}
+
+impl<'a> Asn1Writable for DisplayText<'a> {
+    type Error = WriteError;
+
+    fn write(&self, dest: &mut Writer<'_>) -> WriteResult<()> {
+        write_choice!(self, dest; DisplayTextChoice<'a> => DisplayText; Ia5, Visible, Bmp, Utf8)
+    }
+
+    fn encoded_length(&self) -> Option<usize> {
+        choice_length!(self; DisplayTextChoice<'a> => DisplayText; Ia5, Visible, Bmp, Utf8)
+    }
+
+    fn writes_as_read() -> bool
+        ensures { IsTrue result }
+    {
+        true
+    }
+}
+
+/// NoticeReference (RFC 5280, 4.2.1.4), a SEQUENCE: notices that an organization has by their numbers.
+#[derive(Debug, Clone, PartialEq, Eq, Drop)]
+pub struct NoticeReference<'a> {
+    /// The organization.
+    pub organization: DisplayText<'a>,
+    /// The numbers of the notices. They may be negative.
+    pub notice_numbers: SequenceOf<'a, BigInt<'a>, 0, { usize::MAX }>,
+}
+
+type NoticeReferenceFields<'a> = Fields2<
+    DisplayText<'a>,
+    SequenceOf<'a, BigInt<'a>, 0, { usize::MAX }>,
+>;
+
+impl<'a> Asn1Type for NoticeReference<'a> {
+    ghost der = { structure (λ v. fields2 v.organization v.notice_numbers)
+        ⟦<NoticeReferenceFields<'a> as Row>⟧.list (field_names "NoticeReference" ("organization" ∷
+        "notice_numbers" ∷ [])) };
+
+    fn known(&self) {
+        known_fields!(self; organization, notice_numbers)
+    }
+}
+
+impl<'a> SimpleAsn1Readable<'a> for NoticeReference<'a> {
+    fn tag() -> Tag
+        ensures value { result ≡ ⟦<NoticeReference<'a> as Asn1Type>⟧.der.content.tag }
+        ensures simple { ⟦<NoticeReference<'a> as Asn1Type>⟧.der.is_simple }
+        ensures plain { ⟦<NoticeReference<'a> as Asn1Type>⟧.der.plain }
+    {
+        Tag::constructed(0x10)
+    }
+
+    fn parse_data(alloc: Global, data: &'a [u8]) -> ParseResult<NoticeReference<'a>>
+        ensures { ReadsContents ⟦<NoticeReference<'a> as Asn1Type>⟧.der «data».entry.now result }
+    {
+        read_fields!(NoticeReferenceFields<'a>, alloc, data => NoticeReference;
+            organization, notice_numbers)
+    }
+}
+
+impl<'a> SimpleAsn1Writable for NoticeReference<'a> {
+    type Error = WriteError;
+
+    fn tag() -> Tag
+        ensures value { result ≡ ⟦<NoticeReference<'a> as Asn1Type>⟧.der.content.tag }
+        ensures simple { ⟦<NoticeReference<'a> as Asn1Type>⟧.der.is_simple }
+    {
+        Tag::constructed(0x10)
+    }
+
+    fn write_data(&self, dest: &mut WriteBuf) -> WriteResult<()> {
+        write_fields!(self, dest; organization, notice_numbers)
+    }
+
+    fn data_length(&self) -> Option<usize> {
+        fields_length!(self; organization, notice_numbers)
+    }
+
+    fn writes_as_read() -> bool
+        ensures { IsTrue result }
+    {
+        true
+    }
+}
+
+/// UserNotice (RFC 5280, 4.2.1.4), a SEQUENCE: what a user of the certificate is to be shown; the qualifier of
+/// id-qt-unotice, identifier 1.3.6.1.5.5.7.2.2. One without fields is read.
+#[derive(Debug, Clone, PartialEq, Eq, Drop)]
+pub struct UserNotice<'a> {
+    /// Where the notice is.
+    pub notice_ref: Option<NoticeReference<'a>>,
+    /// The notice.
+    pub explicit_text: Option<DisplayText<'a>>,
+}
+
+type UserNoticeFields<'a> = Fields2<Option<NoticeReference<'a>>, Option<DisplayText<'a>>>;
+
+impl<'a> Asn1Type for UserNotice<'a> {
+    ghost der = { structure (λ v. fields2 v.notice_ref v.explicit_text)
+        ⟦<UserNoticeFields<'a> as Row>⟧.list (field_names "UserNotice" ("notice_ref" ∷
+        "explicit_text" ∷ [])) };
+
+    fn known(&self) {
+        known_fields!(self; notice_ref, explicit_text)
+    }
+}
+
+impl<'a> SimpleAsn1Readable<'a> for UserNotice<'a> {
+    fn tag() -> Tag
+        ensures value { result ≡ ⟦<UserNotice<'a> as Asn1Type>⟧.der.content.tag }
+        ensures simple { ⟦<UserNotice<'a> as Asn1Type>⟧.der.is_simple }
+        ensures plain { ⟦<UserNotice<'a> as Asn1Type>⟧.der.plain }
+    {
+        Tag::constructed(0x10)
+    }
+
+    fn parse_data(alloc: Global, data: &'a [u8]) -> ParseResult<UserNotice<'a>>
+        ensures { ReadsContents ⟦<UserNotice<'a> as Asn1Type>⟧.der «data».entry.now result }
+    {
+        read_fields!(UserNoticeFields<'a>, alloc, data => UserNotice; notice_ref, explicit_text)
+    }
+}
+
+impl<'a> SimpleAsn1Writable for UserNotice<'a> {
+    type Error = WriteError;
+
+    fn tag() -> Tag
+        ensures value { result ≡ ⟦<UserNotice<'a> as Asn1Type>⟧.der.content.tag }
+        ensures simple { ⟦<UserNotice<'a> as Asn1Type>⟧.der.is_simple }
+    {
+        Tag::constructed(0x10)
+    }
+
+    fn write_data(&self, dest: &mut WriteBuf) -> WriteResult<()> {
+        write_fields!(self, dest; notice_ref, explicit_text)
+    }
+
+    fn data_length(&self) -> Option<usize> {
+        fields_length!(self; notice_ref, explicit_text)
     }
 
     fn writes_as_read() -> bool
@@ -125,8 +347,6 @@ impl<'a> SimpleAsn1Readable<'a> for PolicyInformation<'a> {
 
 impl<'a> SimpleAsn1Writable for PolicyInformation<'a> {
     type Error = WriteError;
-
-    ghost length_known = { λ _. Unit {0} };
 
     fn tag() -> Tag
         ensures value { result ≡ ⟦<PolicyInformation<'a> as Asn1Type>⟧.der.content.tag }
@@ -189,8 +409,6 @@ impl<'a> SimpleAsn1Readable<'a> for PolicyMapping {
 
 impl SimpleAsn1Writable for PolicyMapping {
     type Error = WriteError;
-
-    ghost length_known = { λ _. Unit {0} };
 
     fn tag() -> Tag {
         Tag::constructed(0x10)
@@ -357,8 +575,6 @@ impl<'a> SimpleAsn1Readable<'a> for NameConstraints<'a> {
 impl<'a> SimpleAsn1Writable for NameConstraints<'a> {
     type Error = WriteError;
 
-    ghost length_known = { λ _. Unit {0} };
-
     fn tag() -> Tag
         ensures value { result ≡ ⟦<NameConstraints<'a> as Asn1Type>⟧.der.content.tag }
         ensures simple { ⟦<NameConstraints<'a> as Asn1Type>⟧.der.is_simple }
@@ -437,8 +653,6 @@ impl<'a> SimpleAsn1Readable<'a> for PolicyConstraints<'a> {
 impl<'a> SimpleAsn1Writable for PolicyConstraints<'a> {
     type Error = WriteError;
 
-    ghost length_known = { λ _. Unit {0} };
-
     fn tag() -> Tag
         ensures value { result ≡ ⟦<PolicyConstraints<'a> as Asn1Type>⟧.der.content.tag }
         ensures simple { ⟦<PolicyConstraints<'a> as Asn1Type>⟧.der.is_simple }
@@ -465,67 +679,104 @@ impl<'a> SimpleAsn1Writable for PolicyConstraints<'a> {
 /// policy; identifier 2.5.29.54.
 pub type InhibitAnyPolicy<'a> = BigUint<'a>;
 
-/// Each value of `PolicyQualifierInfo` has one encoding, which is read back.
-pub fn policy_qualifier_info_is_lawful()
-    ensures { HasOneEncoding ⟦<PolicyQualifierInfo<'static> as Asn1Type>⟧.der }
-{}
+/// The laws of the types, which do nothing.
+pub mod laws {
+    use super::{
+        CertificatePolicies, CpsUri, DisplayText, GeneralSubtree, GeneralSubtrees,
+        InhibitAnyPolicy, NameConstraints, NoticeReference, PolicyConstraints, PolicyInformation,
+        PolicyMapping, PolicyMappings, PolicyQualifierInfo, UserNotice,
+    };
+    use asn1::Asn1Type;
 
-/// Each value of `PolicyInformation` has one encoding, which is read back.
-pub fn policy_information_is_lawful()
-    ensures { HasOneEncoding ⟦<PolicyInformation<'static> as Asn1Type>⟧.der }
-{
-    policy_qualifier_info_is_lawful();
+    /// Each value of `PolicyQualifierInfo` has one encoding, which is read back.
+    pub fn policy_qualifier_info_is_lawful()
+        ensures { HasOneEncoding ⟦<PolicyQualifierInfo<'static> as Asn1Type>⟧.der }
+    {}
+
+    /// Each value of `CpsUri` has one encoding, which is read back.
+    pub fn cps_uri_is_lawful()
+        ensures { HasOneEncoding ⟦<CpsUri<'static> as Asn1Type>⟧.der }
+    {}
+
+    /// Each value of `DisplayText` has one encoding, which is read back.
+    #[tactic(auto, using(asn1::specs::Lemmas::Fields::tags_differ))]
+    pub fn display_text_is_lawful()
+        ensures { HasOneEncoding ⟦<DisplayText<'static> as Asn1Type>⟧.der }
+    {}
+
+    /// Each value of `NoticeReference` has one encoding, which is read back.
+    pub fn notice_reference_is_lawful()
+        ensures { HasOneEncoding ⟦<NoticeReference<'static> as Asn1Type>⟧.der }
+    {
+        display_text_is_lawful();
+    }
+
+    /// Each value of `UserNotice` has one encoding, which is read back.
+    #[tactic(auto, using(asn1::specs::Lemmas::Fields::tags_differ))]
+    pub fn user_notice_is_lawful()
+        ensures { HasOneEncoding ⟦<UserNotice<'static> as Asn1Type>⟧.der }
+    {
+        notice_reference_is_lawful();
+        display_text_is_lawful();
+    }
+
+    /// Each value of `PolicyInformation` has one encoding, which is read back.
+    pub fn policy_information_is_lawful()
+        ensures { HasOneEncoding ⟦<PolicyInformation<'static> as Asn1Type>⟧.der }
+    {
+        policy_qualifier_info_is_lawful();
+    }
+
+    /// Each value of `CertificatePolicies` has one encoding, which is read back.
+    pub fn certificate_policies_is_lawful()
+        ensures { HasOneEncoding ⟦<CertificatePolicies<'static> as Asn1Type>⟧.der }
+    {
+        policy_information_is_lawful();
+    }
+
+    /// Each value of `PolicyMapping` has one encoding, which is read back.
+    pub fn policy_mapping_is_lawful()
+        ensures { HasOneEncoding ⟦<PolicyMapping as Asn1Type>⟧.der }
+    {}
+
+    /// Each value of `PolicyMappings` has one encoding, which is read back.
+    pub fn policy_mappings_is_lawful()
+        ensures { HasOneEncoding ⟦<PolicyMappings<'static> as Asn1Type>⟧.der }
+    {
+        policy_mapping_is_lawful();
+    }
+
+    /// Each value of `GeneralSubtree` has one encoding, which is read back.
+    #[tactic(auto, using(asn1::specs::Lemmas::Fields::tags_differ))]
+    pub fn general_subtree_is_lawful()
+        ensures { HasOneEncoding ⟦<GeneralSubtree<'static> as Asn1Type>⟧.der }
+    {
+        crate::common::laws::general_name_is_lawful();
+    }
+
+    /// Each value of `GeneralSubtrees` has one encoding, which is read back.
+    pub fn general_subtrees_is_lawful()
+        ensures { HasOneEncoding ⟦<GeneralSubtrees<'static> as Asn1Type>⟧.der }
+    {
+        general_subtree_is_lawful();
+    }
+
+    /// Each value of `NameConstraints` has one encoding, which is read back.
+    #[tactic(auto, using(asn1::specs::Lemmas::Fields::tags_differ))]
+    pub fn name_constraints_is_lawful()
+        ensures { HasOneEncoding ⟦<NameConstraints<'static> as Asn1Type>⟧.der }
+    {
+        general_subtrees_is_lawful();
+    }
+
+    /// Each value of `PolicyConstraints` has one encoding, which is read back.
+    #[tactic(auto, using(asn1::specs::Lemmas::Fields::tags_differ))]
+    pub fn policy_constraints_is_lawful()
+        ensures { HasOneEncoding ⟦<PolicyConstraints<'static> as Asn1Type>⟧.der }
+    {}
+
+    /// Each value of `InhibitAnyPolicy` has one encoding, which is read back.
+    pub fn inhibit_any_policy_is_lawful()
+        ensures { HasOneEncoding ⟦<InhibitAnyPolicy<'static> as Asn1Type>⟧.der }
+    {}
 }
-
-/// Each value of `CertificatePolicies` has one encoding, which is read back.
-pub fn certificate_policies_is_lawful()
-    ensures { HasOneEncoding ⟦<CertificatePolicies<'static> as Asn1Type>⟧.der }
-{
-    policy_information_is_lawful();
-}
-
-/// Each value of `PolicyMapping` has one encoding, which is read back.
-pub fn policy_mapping_is_lawful()
-    ensures { HasOneEncoding ⟦<PolicyMapping as Asn1Type>⟧.der }
-{}
-
-/// Each value of `PolicyMappings` has one encoding, which is read back.
-pub fn policy_mappings_is_lawful()
-    ensures { HasOneEncoding ⟦<PolicyMappings<'static> as Asn1Type>⟧.der }
-{
-    policy_mapping_is_lawful();
-}
-
-/// Each value of `GeneralSubtree` has one encoding, which is read back.
-#[tactic(auto, using(asn1::specs::Lemmas::Fields::tags_differ))]
-pub fn general_subtree_is_lawful()
-    ensures { HasOneEncoding ⟦<GeneralSubtree<'static> as Asn1Type>⟧.der }
-{
-    general_name_is_lawful();
-}
-
-/// Each value of `GeneralSubtrees` has one encoding, which is read back.
-pub fn general_subtrees_is_lawful()
-    ensures { HasOneEncoding ⟦<GeneralSubtrees<'static> as Asn1Type>⟧.der }
-{
-    general_subtree_is_lawful();
-}
-
-/// Each value of `NameConstraints` has one encoding, which is read back.
-#[tactic(auto, using(asn1::specs::Lemmas::Fields::tags_differ))]
-pub fn name_constraints_is_lawful()
-    ensures { HasOneEncoding ⟦<NameConstraints<'static> as Asn1Type>⟧.der }
-{
-    general_subtrees_is_lawful();
-}
-
-/// Each value of `PolicyConstraints` has one encoding, which is read back.
-#[tactic(auto, using(asn1::specs::Lemmas::Fields::tags_differ))]
-pub fn policy_constraints_is_lawful()
-    ensures { HasOneEncoding ⟦<PolicyConstraints<'static> as Asn1Type>⟧.der }
-{}
-
-/// Each value of `InhibitAnyPolicy` has one encoding, which is read back.
-pub fn inhibit_any_policy_is_lawful()
-    ensures { HasOneEncoding ⟦<InhibitAnyPolicy<'static> as Asn1Type>⟧.der }
-{}

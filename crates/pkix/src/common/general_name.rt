@@ -1,14 +1,15 @@
 //! General names (RFC 5280, 4.2.1.6).
-// Printed by scripts/derive from declarations/common/general_name.rs, with the sum 223ebe0b.
+// Printed by scripts/derive from declarations/common/general_name.rs, with the sum 2e6617a9.
 
 ghost use Rattle.std.specs.Prelude.{◌≡◌, ◌∷◌, [], IsTrue, OnErr, IfOk};
-ghost use Rattle.asn1.specs.AlternativeLists.{choice, alternative1, alternative2, alternative3, alternative4, alternative5, alternative6, alternative7, alternative8, alternative9};
+ghost use Rattle.asn1.specs.AlternativeLists.{choice, alternative1, alternative2, alternative3, alternative4};
+ghost use Rattle.asn1.specs.AlternativeLists.{alternative5, alternative6, alternative7, alternative8, alternative9};
 ghost use Rattle.asn1.specs.Options.{option_meaning};
 ghost use Rattle.asn1.specs.Reading.{EndsWith};
 ghost use Rattle.asn1.specs.Reads.{BeginsWithEncodingOf, HasOneEncoding, ReadsContents, ReadsPrefix};
 ghost use Rattle.asn1.specs.Structures.{explicit, field_names, implicit, structure, fields2};
 
-use crate::common::{Name, name_is_lawful};
+use crate::common::Name;
 use asn1::alternatives::{Alternatives, AlternativesReadable, AsOneOf, OneOf9, read_choice};
 use asn1::fields::{Fields2, Row};
 use asn1::{
@@ -26,6 +27,11 @@ pub struct OtherName<'a> {
     pub type_id: ObjectIdentifier,
     /// The name: an element of the type that `type_id` defines.
     pub value: Tlv<'a>,
+}
+
+impl<'a> OtherName<'a> {
+    /// The fields that have another name in ASN.1 than theirs with capitals, as errors name them, with that name.
+    pub const NAMES: &'static [(&'static str, &'static str)] = &[("OtherName::type_id", "type-id")];
 }
 
 type OtherNameValueField<'a> = Explicit<Tlv<'a>, 0>;
@@ -60,8 +66,6 @@ impl<'a> SimpleAsn1Readable<'a> for OtherName<'a> {
 
 impl<'a> SimpleAsn1Writable for OtherName<'a> {
     type Error = WriteError;
-
-    ghost length_known = { λ _. Unit {0} };
 
     fn tag() -> Tag
         ensures value { result ≡ ⟦<OtherName<'a> as Asn1Type>⟧.der.content.tag }
@@ -138,8 +142,6 @@ impl<'a> SimpleAsn1Readable<'a> for EdiPartyName<'a> {
 impl<'a> SimpleAsn1Writable for EdiPartyName<'a> {
     type Error = WriteError;
 
-    ghost length_known = { λ _. Unit {0} };
-
     fn tag() -> Tag
         ensures value { result ≡ ⟦<EdiPartyName<'a> as Asn1Type>⟧.der.content.tag }
         ensures simple { ⟦<EdiPartyName<'a> as Asn1Type>⟧.der.is_simple }
@@ -208,7 +210,8 @@ pub enum GeneralName<'a> {
 impl<'a> AsOneOf<GeneralNameChoice<'a>> for GeneralName<'a> {
     ghost use Rattle.pkix.specs.declared.common.general_name.GeneralName.TheVariants.{OtherName, Rfc822Name, DnsName};
     ghost use Rattle.pkix.specs.declared.common.general_name.GeneralName.TheVariants.{X400Address, DirectoryName};
-    ghost use Rattle.pkix.specs.declared.common.general_name.GeneralName.TheVariants.{EdiPartyName, UniformResourceIdentifier};
+    ghost use Rattle.pkix.specs.declared.common.general_name.GeneralName.TheVariants.{EdiPartyName};
+    ghost use Rattle.pkix.specs.declared.common.general_name.GeneralName.TheVariants.{UniformResourceIdentifier};
     ghost use Rattle.pkix.specs.declared.common.general_name.GeneralName.TheVariants.{IpAddress, RegisteredId};
 
     ghost seen = { elim [
@@ -281,30 +284,36 @@ impl<'a> Asn1Writable for GeneralName<'a> {
 /// GeneralNames (RFC 5280, 4.2.1.6), a SEQUENCE of at least one GeneralName.
 pub type GeneralNames<'a> = SequenceOf<'a, GeneralName<'a>, 1, { usize::MAX }>;
 
-/// Each value of `OtherName` has one encoding, which is read back.
-pub fn other_name_is_lawful()
-    ensures { HasOneEncoding ⟦<OtherName<'static> as Asn1Type>⟧.der }
-{}
+/// The laws of the types, which do nothing.
+pub mod laws {
+    use super::{EdiPartyName, GeneralName, GeneralNames, OtherName};
+    use asn1::Asn1Type;
 
-/// Each value of `EdiPartyName` has one encoding, which is read back.
-#[tactic(auto, using(asn1::specs::Lemmas::Fields::tags_differ))]
-pub fn edi_party_name_is_lawful()
-    ensures { HasOneEncoding ⟦<EdiPartyName<'static> as Asn1Type>⟧.der }
-{}
+    /// Each value of `OtherName` has one encoding, which is read back.
+    pub fn other_name_is_lawful()
+        ensures { HasOneEncoding ⟦<OtherName<'static> as Asn1Type>⟧.der }
+    {}
 
-/// Each value of `GeneralName` has one encoding, which is read back.
-#[tactic(auto, using(asn1::specs::Lemmas::Fields::tags_differ))]
-pub fn general_name_is_lawful()
-    ensures { HasOneEncoding ⟦<GeneralName<'static> as Asn1Type>⟧.der }
-{
-    other_name_is_lawful();
-    name_is_lawful();
-    edi_party_name_is_lawful();
-}
+    /// Each value of `EdiPartyName` has one encoding, which is read back.
+    #[tactic(auto, using(asn1::specs::Lemmas::Fields::tags_differ))]
+    pub fn edi_party_name_is_lawful()
+        ensures { HasOneEncoding ⟦<EdiPartyName<'static> as Asn1Type>⟧.der }
+    {}
 
-/// Each value of `GeneralNames` has one encoding, which is read back.
-pub fn general_names_is_lawful()
-    ensures { HasOneEncoding ⟦<GeneralNames<'static> as Asn1Type>⟧.der }
-{
-    general_name_is_lawful();
+    /// Each value of `GeneralName` has one encoding, which is read back.
+    #[tactic(auto, using(asn1::specs::Lemmas::Fields::tags_differ))]
+    pub fn general_name_is_lawful()
+        ensures { HasOneEncoding ⟦<GeneralName<'static> as Asn1Type>⟧.der }
+    {
+        other_name_is_lawful();
+        crate::common::laws::name_is_lawful();
+        edi_party_name_is_lawful();
+    }
+
+    /// Each value of `GeneralNames` has one encoding, which is read back.
+    pub fn general_names_is_lawful()
+        ensures { HasOneEncoding ⟦<GeneralNames<'static> as Asn1Type>⟧.der }
+    {
+        general_name_is_lawful();
+    }
 }

@@ -122,7 +122,13 @@ impl<'a> SimpleAsn1Writable for NamedBits<'a> {
     }
 }
 
-/// Each value has one encoding, which is read back.
-pub fn named_bits_is_lawful()
-    ensures { HasOneEncoding ⟦<NamedBits<'static> as Asn1Type>⟧.der }
-{}
+/// The law of the type, which does nothing.
+pub mod laws {
+    use super::NamedBits;
+    use asn1::Asn1Type;
+
+    /// Each value of `NamedBits` has one encoding, which is read back.
+    pub fn named_bits_is_lawful()
+        ensures { HasOneEncoding ⟦<NamedBits<'static> as Asn1Type>⟧.der }
+    {}
+}

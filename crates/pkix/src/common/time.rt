@@ -1,5 +1,5 @@
 //! Times (RFC 5280, 4.1.2.5).
-// Printed by scripts/derive from declarations/common/time.rs, with the sum 787cd662.
+// Printed by scripts/derive from declarations/common/time.rs, with the sum c4b741a8.
 
 ghost use Rattle.asn1.specs.AlternativeLists.{choice, alternative1, alternative2};
 ghost use Rattle.asn1.specs.Reads.{HasOneEncoding};
@@ -67,8 +67,14 @@ impl Asn1Writable for Time {
     }
 }
 
-/// Each value of `Time` has one encoding, which is read back.
-#[tactic(auto, using(asn1::specs::Lemmas::Fields::tags_differ))]
-pub fn time_is_lawful()
-    ensures { HasOneEncoding ⟦<Time as Asn1Type>⟧.der }
-{}
+/// The laws of the types, which do nothing.
+pub mod laws {
+    use super::Time;
+    use asn1::Asn1Type;
+
+    /// Each value of `Time` has one encoding, which is read back.
+    #[tactic(auto, using(asn1::specs::Lemmas::Fields::tags_differ))]
+    pub fn time_is_lawful()
+        ensures { HasOneEncoding ⟦<Time as Asn1Type>⟧.der }
+    {}
+}

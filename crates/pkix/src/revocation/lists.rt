@@ -1,15 +1,12 @@
 //! Revocation lists (RFC 5280, 5.1 to 5.3).
-// Printed by scripts/derive from declarations/revocation/lists.rs, with the sum 5344f7c7.
+// Printed by scripts/derive from declarations/revocation/lists.rs, with the sum 24855b33.
 
 ghost use Rattle.std.specs.Prelude.{◌≡◌, ◌∷◌, [], IsTrue};
 ghost use Rattle.asn1.specs.Options.{option_meaning};
 ghost use Rattle.asn1.specs.Reads.{HasOneEncoding, ReadsContents};
 ghost use Rattle.asn1.specs.Structures.{explicit, field_names, structure, fields3, fields7};
 
-use crate::common::{
-    AlgorithmIdentifier, Extensions, Name, Time, algorithm_identifier_is_lawful,
-    extensions_is_lawful, name_is_lawful, time_is_lawful,
-};
+use crate::common::{AlgorithmIdentifier, Extensions, Name, Time};
 use asn1::fields::{Fields3, Fields7, Row};
 use asn1::{
     Asn1Type, BigInt, BitString, Explicit, ParseResult, SequenceOf, SimpleAsn1Readable,
@@ -242,37 +239,43 @@ impl<'a> SimpleAsn1Writable for CertificateList<'a> {
     }
 }
 
-/// Each value of `RevokedCertificate` has one encoding, which is read back.
-pub fn revoked_certificate_is_lawful()
-    ensures { HasOneEncoding ⟦<RevokedCertificate<'static> as Asn1Type>⟧.der }
-{
-    time_is_lawful();
-    extensions_is_lawful();
-}
+/// The laws of the types, which do nothing.
+pub mod laws {
+    use super::{CertificateList, RevokedCertificate, RevokedCertificates, TbsCertList};
+    use asn1::Asn1Type;
 
-/// Each value of `RevokedCertificates` has one encoding, which is read back.
-pub fn revoked_certificates_is_lawful()
-    ensures { HasOneEncoding ⟦<RevokedCertificates<'static> as Asn1Type>⟧.der }
-{
-    revoked_certificate_is_lawful();
-}
+    /// Each value of `RevokedCertificate` has one encoding, which is read back.
+    pub fn revoked_certificate_is_lawful()
+        ensures { HasOneEncoding ⟦<RevokedCertificate<'static> as Asn1Type>⟧.der }
+    {
+        crate::common::laws::time_is_lawful();
+        crate::common::laws::extensions_is_lawful();
+    }
 
-/// Each value of `TbsCertList` has one encoding, which is read back.
-#[tactic(auto, using(asn1::specs::Lemmas::Fields::tags_differ))]
-pub fn tbs_cert_list_is_lawful()
-    ensures { HasOneEncoding ⟦<TbsCertList<'static> as Asn1Type>⟧.der }
-{
-    algorithm_identifier_is_lawful();
-    name_is_lawful();
-    time_is_lawful();
-    revoked_certificates_is_lawful();
-    extensions_is_lawful();
-}
+    /// Each value of `RevokedCertificates` has one encoding, which is read back.
+    pub fn revoked_certificates_is_lawful()
+        ensures { HasOneEncoding ⟦<RevokedCertificates<'static> as Asn1Type>⟧.der }
+    {
+        revoked_certificate_is_lawful();
+    }
 
-/// Each value of `CertificateList` has one encoding, which is read back.
-pub fn certificate_list_is_lawful()
-    ensures { HasOneEncoding ⟦<CertificateList<'static> as Asn1Type>⟧.der }
-{
-    tbs_cert_list_is_lawful();
-    algorithm_identifier_is_lawful();
+    /// Each value of `TbsCertList` has one encoding, which is read back.
+    #[tactic(auto, using(asn1::specs::Lemmas::Fields::tags_differ))]
+    pub fn tbs_cert_list_is_lawful()
+        ensures { HasOneEncoding ⟦<TbsCertList<'static> as Asn1Type>⟧.der }
+    {
+        crate::common::laws::algorithm_identifier_is_lawful();
+        crate::common::laws::name_is_lawful();
+        crate::common::laws::time_is_lawful();
+        revoked_certificates_is_lawful();
+        crate::common::laws::extensions_is_lawful();
+    }
+
+    /// Each value of `CertificateList` has one encoding, which is read back.
+    pub fn certificate_list_is_lawful()
+        ensures { HasOneEncoding ⟦<CertificateList<'static> as Asn1Type>⟧.der }
+    {
+        tbs_cert_list_is_lawful();
+        crate::common::laws::algorithm_identifier_is_lawful();
+    }
 }

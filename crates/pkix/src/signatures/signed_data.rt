@@ -1,15 +1,15 @@
 //! Signed data (RFC 5652), as far as time stamps need it.
-// Printed by scripts/derive from declarations/signatures/signed_data.rs, with the sum 1156ab03.
+// Printed by scripts/derive from declarations/signatures/signed_data.rs, with the sum 3d6fcea2.
 
 ghost use Rattle.std.specs.Prelude.{◌≡◌, ◌∷◌, [], IsTrue};
 ghost use Rattle.asn1.specs.Options.{option_meaning};
 ghost use Rattle.asn1.specs.Reads.{HasOneEncoding, ReadsContents};
 ghost use Rattle.asn1.specs.Structures.{explicit, field_names, implicit, structure, fields2, fields6};
 
-use crate::certificate::{Certificate, certificate_is_lawful};
-use crate::common::{AlgorithmIdentifier, algorithm_identifier_is_lawful};
-use crate::revocation::{CertificateList, certificate_list_is_lawful};
-use crate::signatures::{SignerInfo, signer_info_is_lawful};
+use crate::certificate::Certificate;
+use crate::common::AlgorithmIdentifier;
+use crate::revocation::CertificateList;
+use crate::signatures::SignerInfo;
 use asn1::fields::{Fields2, Fields6, Row};
 use asn1::{
     Asn1Type, Explicit, Implicit, ObjectIdentifier, ParseResult, SetOf, SimpleAsn1Readable,
@@ -60,8 +60,6 @@ impl<'a> SimpleAsn1Readable<'a> for ContentInfo<'a> {
 
 impl<'a> SimpleAsn1Writable for ContentInfo<'a> {
     type Error = WriteError;
-
-    ghost length_known = { λ _. Unit {0} };
 
     fn tag() -> Tag
         ensures value { result ≡ ⟦<ContentInfo<'a> as Asn1Type>⟧.der.content.tag }
@@ -131,8 +129,6 @@ impl<'a> SimpleAsn1Readable<'a> for EncapsulatedContentInfo<'a> {
 
 impl<'a> SimpleAsn1Writable for EncapsulatedContentInfo<'a> {
     type Error = WriteError;
-
-    ghost length_known = { λ _. Unit {0} };
 
     fn tag() -> Tag
         ensures value { result ≡ ⟦<EncapsulatedContentInfo<'a> as Asn1Type>⟧.der.content.tag }
@@ -225,8 +221,6 @@ impl<'a> SimpleAsn1Readable<'a> for SignedData<'a> {
 impl<'a> SimpleAsn1Writable for SignedData<'a> {
     type Error = WriteError;
 
-    ghost length_known = { λ _. Unit {0} };
-
     fn tag() -> Tag
         ensures value { result ≡ ⟦<SignedData<'a> as Asn1Type>⟧.der.content.tag }
         ensures simple { ⟦<SignedData<'a> as Asn1Type>⟧.der.is_simple }
@@ -249,24 +243,30 @@ impl<'a> SimpleAsn1Writable for SignedData<'a> {
     }
 }
 
-/// Each value of `ContentInfo` has one encoding, which is read back.
-pub fn content_info_is_lawful()
-    ensures { HasOneEncoding ⟦<ContentInfo<'static> as Asn1Type>⟧.der }
-{}
+/// The laws of the types, which do nothing.
+pub mod laws {
+    use super::{ContentInfo, EncapsulatedContentInfo, SignedData};
+    use asn1::Asn1Type;
 
-/// Each value of `EncapsulatedContentInfo` has one encoding, which is read back.
-pub fn encapsulated_content_info_is_lawful()
-    ensures { HasOneEncoding ⟦<EncapsulatedContentInfo<'static> as Asn1Type>⟧.der }
-{}
+    /// Each value of `ContentInfo` has one encoding, which is read back.
+    pub fn content_info_is_lawful()
+        ensures { HasOneEncoding ⟦<ContentInfo<'static> as Asn1Type>⟧.der }
+    {}
 
-/// Each value of `SignedData` has one encoding, which is read back.
-#[tactic(auto, using(asn1::specs::Lemmas::Fields::tags_differ))]
-pub fn signed_data_is_lawful()
-    ensures { HasOneEncoding ⟦<SignedData<'static> as Asn1Type>⟧.der }
-{
-    algorithm_identifier_is_lawful();
-    encapsulated_content_info_is_lawful();
-    certificate_is_lawful();
-    certificate_list_is_lawful();
-    signer_info_is_lawful();
+    /// Each value of `EncapsulatedContentInfo` has one encoding, which is read back.
+    pub fn encapsulated_content_info_is_lawful()
+        ensures { HasOneEncoding ⟦<EncapsulatedContentInfo<'static> as Asn1Type>⟧.der }
+    {}
+
+    /// Each value of `SignedData` has one encoding, which is read back.
+    #[tactic(auto, using(asn1::specs::Lemmas::Fields::tags_differ))]
+    pub fn signed_data_is_lawful()
+        ensures { HasOneEncoding ⟦<SignedData<'static> as Asn1Type>⟧.der }
+    {
+        crate::common::laws::algorithm_identifier_is_lawful();
+        encapsulated_content_info_is_lawful();
+        crate::certificate::laws::certificate_is_lawful();
+        crate::revocation::laws::certificate_list_is_lawful();
+        crate::signatures::laws::signer_info_is_lawful();
+    }
 }

@@ -1,5 +1,5 @@
-//! Who signed (RFC 5652, 5.3).
-// Printed by scripts/derive from declarations/signatures/signer.rs, with the sum 7f9c3cd2.
+//! Who signed (RFC 5652, 5.3), and the values of signed attributes (11.1 to 11.3).
+// Printed by scripts/derive from declarations/signatures/signer.rs, with the sum b28a0dd5.
 
 ghost use Rattle.std.specs.Prelude.{◌≡◌, ◌∷◌, [], IsTrue, OnErr, IfOk};
 ghost use Rattle.asn1.specs.AlternativeLists.{choice, alternative1, alternative2};
@@ -8,14 +8,11 @@ ghost use Rattle.asn1.specs.Reading.{EndsWith};
 ghost use Rattle.asn1.specs.Reads.{BeginsWithEncodingOf, HasOneEncoding, ReadsContents, ReadsPrefix};
 ghost use Rattle.asn1.specs.Structures.{field_names, implicit, structure, fields2, fields7};
 
-use crate::common::{
-    AlgorithmIdentifier, Attributes, Name, algorithm_identifier_is_lawful, attributes_is_lawful,
-    name_is_lawful,
-};
+use crate::common::{AlgorithmIdentifier, Attributes, Name, Time};
 use asn1::alternatives::{Alternatives, AlternativesReadable, AsOneOf, OneOf2, read_choice};
 use asn1::fields::{Fields2, Fields7, Row};
 use asn1::{
-    Asn1Readable, Asn1Type, Asn1Writable, BigInt, Implicit, ParseResult, Parser,
+    Asn1Readable, Asn1Type, Asn1Writable, BigInt, Implicit, ObjectIdentifier, ParseResult, Parser,
     SimpleAsn1Readable, SimpleAsn1Writable, Tag, WriteBuf, WriteError, WriteResult, Writer,
     choice_length, fields_length, known_choice, known_fields, read_fields, take_choice,
     write_choice, write_fields,
@@ -260,27 +257,62 @@ impl<'a> SimpleAsn1Writable for SignerInfo<'a> {
     }
 }
 
-/// Each value of `IssuerAndSerialNumber` has one encoding, which is read back.
-pub fn issuer_and_serial_number_is_lawful()
-    ensures { HasOneEncoding ⟦<IssuerAndSerialNumber<'static> as Asn1Type>⟧.der }
-{
-    name_is_lawful();
-}
+/// ContentType (RFC 5652, 11.1), an OBJECT IDENTIFIER: which content is signed; the attribute 1.2.840.113549.1.9.3.
+pub type ContentType = ObjectIdentifier;
 
-/// Each value of `SignerIdentifier` has one encoding, which is read back.
-#[tactic(auto, using(asn1::specs::Lemmas::Fields::tags_differ))]
-pub fn signer_identifier_is_lawful()
-    ensures { HasOneEncoding ⟦<SignerIdentifier<'static> as Asn1Type>⟧.der }
-{
-    issuer_and_serial_number_is_lawful();
-}
+/// MessageDigest (RFC 5652, 11.2), an OCTET STRING: the digest of the content; the attribute 1.2.840.113549.1.9.4.
+pub type MessageDigest<'a> = &'a [u8];
 
-/// Each value of `SignerInfo` has one encoding, which is read back.
-#[tactic(auto, using(asn1::specs::Lemmas::Fields::tags_differ))]
-pub fn signer_info_is_lawful()
-    ensures { HasOneEncoding ⟦<SignerInfo<'static> as Asn1Type>⟧.der }
-{
-    signer_identifier_is_lawful();
-    algorithm_identifier_is_lawful();
-    attributes_is_lawful();
+/// SigningTime (RFC 5652, 11.3), a Time: when the signer says that he signed; the attribute 1.2.840.113549.1.9.5.
+pub type SigningTime = Time;
+
+/// The laws of the types, which do nothing.
+pub mod laws {
+    use super::{
+        ContentType, IssuerAndSerialNumber, MessageDigest, SignerIdentifier, SignerInfo,
+        SigningTime,
+    };
+    use asn1::Asn1Type;
+
+    /// Each value of `IssuerAndSerialNumber` has one encoding, which is read back.
+    pub fn issuer_and_serial_number_is_lawful()
+        ensures { HasOneEncoding ⟦<IssuerAndSerialNumber<'static> as Asn1Type>⟧.der }
+    {
+        crate::common::laws::name_is_lawful();
+    }
+
+    /// Each value of `SignerIdentifier` has one encoding, which is read back.
+    #[tactic(auto, using(asn1::specs::Lemmas::Fields::tags_differ))]
+    pub fn signer_identifier_is_lawful()
+        ensures { HasOneEncoding ⟦<SignerIdentifier<'static> as Asn1Type>⟧.der }
+    {
+        issuer_and_serial_number_is_lawful();
+    }
+
+    /// Each value of `SignerInfo` has one encoding, which is read back.
+    #[tactic(auto, using(asn1::specs::Lemmas::Fields::tags_differ))]
+    pub fn signer_info_is_lawful()
+        ensures { HasOneEncoding ⟦<SignerInfo<'static> as Asn1Type>⟧.der }
+    {
+        signer_identifier_is_lawful();
+        crate::common::laws::algorithm_identifier_is_lawful();
+        crate::common::laws::attributes_is_lawful();
+    }
+
+    /// Each value of `ContentType` has one encoding, which is read back.
+    pub fn content_type_is_lawful()
+        ensures { HasOneEncoding ⟦<ContentType as Asn1Type>⟧.der }
+    {}
+
+    /// Each value of `MessageDigest` has one encoding, which is read back.
+    pub fn message_digest_is_lawful()
+        ensures { HasOneEncoding ⟦<MessageDigest<'static> as Asn1Type>⟧.der }
+    {}
+
+    /// Each value of `SigningTime` has one encoding, which is read back.
+    pub fn signing_time_is_lawful()
+        ensures { HasOneEncoding ⟦<SigningTime as Asn1Type>⟧.der }
+    {
+        crate::common::laws::time_is_lawful();
+    }
 }

@@ -1,11 +1,11 @@
 //! Values of signatures (RFC 3279, 2.2.2 and 2.2.3; RFC 8017, 9.2).
-// Printed by scripts/derive from declarations/signatures/values.rs, with the sum 0daf2b1b.
+// Printed by scripts/derive from declarations/signatures/values.rs, with the sum 6fd34bda.
 
 ghost use Rattle.std.specs.Prelude.{◌≡◌, ◌∷◌, [], IsTrue};
 ghost use Rattle.asn1.specs.Reads.{HasOneEncoding, ReadsContents};
 ghost use Rattle.asn1.specs.Structures.{field_names, structure, fields2};
 
-use crate::common::{AlgorithmIdentifier, algorithm_identifier_is_lawful};
+use crate::common::AlgorithmIdentifier;
 use asn1::fields::{Fields2, Row};
 use asn1::{
     Asn1Type, BigUint, ParseResult, SimpleAsn1Readable, SimpleAsn1Writable, Tag, WriteBuf,
@@ -52,8 +52,6 @@ impl<'a> SimpleAsn1Readable<'a> for EcdsaSigValue<'a> {
 
 impl<'a> SimpleAsn1Writable for EcdsaSigValue<'a> {
     type Error = WriteError;
-
-    ghost length_known = { λ _. Unit {0} };
 
     fn tag() -> Tag
         ensures value { result ≡ ⟦<EcdsaSigValue<'a> as Asn1Type>⟧.der.content.tag }
@@ -139,14 +137,20 @@ impl<'a> SimpleAsn1Writable for DigestInfo<'a> {
     }
 }
 
-/// Each value of `EcdsaSigValue` has one encoding, which is read back.
-pub fn ecdsa_sig_value_is_lawful()
-    ensures { HasOneEncoding ⟦<EcdsaSigValue<'static> as Asn1Type>⟧.der }
-{}
+/// The laws of the types, which do nothing.
+pub mod laws {
+    use super::{DigestInfo, EcdsaSigValue};
+    use asn1::Asn1Type;
 
-/// Each value of `DigestInfo` has one encoding, which is read back.
-pub fn digest_info_is_lawful()
-    ensures { HasOneEncoding ⟦<DigestInfo<'static> as Asn1Type>⟧.der }
-{
-    algorithm_identifier_is_lawful();
+    /// Each value of `EcdsaSigValue` has one encoding, which is read back.
+    pub fn ecdsa_sig_value_is_lawful()
+        ensures { HasOneEncoding ⟦<EcdsaSigValue<'static> as Asn1Type>⟧.der }
+    {}
+
+    /// Each value of `DigestInfo` has one encoding, which is read back.
+    pub fn digest_info_is_lawful()
+        ensures { HasOneEncoding ⟦<DigestInfo<'static> as Asn1Type>⟧.der }
+    {
+        crate::common::laws::algorithm_identifier_is_lawful();
+    }
 }

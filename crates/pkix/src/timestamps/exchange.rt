@@ -1,16 +1,13 @@
 //! Requests for time stamps, and responses (RFC 3161, 2.4).
-// Printed by scripts/derive from declarations/timestamps/exchange.rs, with the sum 9f0bad2b.
+// Printed by scripts/derive from declarations/timestamps/exchange.rs, with the sum b7c6036c.
 
 ghost use Rattle.std.specs.Prelude.{◌≡◌, ◌∷◌, [], false, IsTrue};
 ghost use Rattle.asn1.specs.Options.{option_meaning};
 ghost use Rattle.asn1.specs.Reads.{HasOneEncoding, ReadsContents};
 ghost use Rattle.asn1.specs.Structures.{defaulted, field_names, implicit, structure, fields2, fields3, fields6};
 
-use crate::common::{
-    AlgorithmIdentifier, Extensions, NamedBits, algorithm_identifier_is_lawful,
-    extensions_is_lawful, named_bits_is_lawful,
-};
-use crate::signatures::{ContentInfo, content_info_is_lawful};
+use crate::common::{AlgorithmIdentifier, Extensions, NamedBits};
+use crate::signatures::ContentInfo;
 use asn1::fields::{Fields2, Fields3, Fields6, Row};
 use asn1::{
     Asn1Type, BigInt, DefaultValue, Defaulted, Implicit, ObjectIdentifier, ParseResult, SequenceOf,
@@ -312,40 +309,46 @@ impl<'a> SimpleAsn1Writable for TimeStampResp<'a> {
     }
 }
 
-/// Each value of `MessageImprint` has one encoding, which is read back.
-pub fn message_imprint_is_lawful()
-    ensures { HasOneEncoding ⟦<MessageImprint<'static> as Asn1Type>⟧.der }
-{
-    algorithm_identifier_is_lawful();
-}
+/// The laws of the types, which do nothing.
+pub mod laws {
+    use super::{MessageImprint, PkiFreeText, PkiStatusInfo, TimeStampReq, TimeStampResp};
+    use asn1::Asn1Type;
 
-/// Each value of `TimeStampReq` has one encoding, which is read back.
-#[tactic(auto, using(asn1::specs::Lemmas::Fields::tags_differ))]
-pub fn time_stamp_req_is_lawful()
-    ensures { HasOneEncoding ⟦<TimeStampReq<'static> as Asn1Type>⟧.der }
-{
-    message_imprint_is_lawful();
-    extensions_is_lawful();
-}
+    /// Each value of `MessageImprint` has one encoding, which is read back.
+    pub fn message_imprint_is_lawful()
+        ensures { HasOneEncoding ⟦<MessageImprint<'static> as Asn1Type>⟧.der }
+    {
+        crate::common::laws::algorithm_identifier_is_lawful();
+    }
 
-/// Each value of `PkiStatusInfo` has one encoding, which is read back.
-#[tactic(auto, using(asn1::specs::Lemmas::Fields::tags_differ))]
-pub fn pki_status_info_is_lawful()
-    ensures { HasOneEncoding ⟦<PkiStatusInfo<'static> as Asn1Type>⟧.der }
-{
-    pki_free_text_is_lawful();
-    named_bits_is_lawful();
-}
+    /// Each value of `TimeStampReq` has one encoding, which is read back.
+    #[tactic(auto, using(asn1::specs::Lemmas::Fields::tags_differ))]
+    pub fn time_stamp_req_is_lawful()
+        ensures { HasOneEncoding ⟦<TimeStampReq<'static> as Asn1Type>⟧.der }
+    {
+        message_imprint_is_lawful();
+        crate::common::laws::extensions_is_lawful();
+    }
 
-/// Each value of `PkiFreeText` has one encoding, which is read back.
-pub fn pki_free_text_is_lawful()
-    ensures { HasOneEncoding ⟦<PkiFreeText<'static> as Asn1Type>⟧.der }
-{}
+    /// Each value of `PkiStatusInfo` has one encoding, which is read back.
+    #[tactic(auto, using(asn1::specs::Lemmas::Fields::tags_differ))]
+    pub fn pki_status_info_is_lawful()
+        ensures { HasOneEncoding ⟦<PkiStatusInfo<'static> as Asn1Type>⟧.der }
+    {
+        pki_free_text_is_lawful();
+        crate::common::laws::named_bits_is_lawful();
+    }
 
-/// Each value of `TimeStampResp` has one encoding, which is read back.
-pub fn time_stamp_resp_is_lawful()
-    ensures { HasOneEncoding ⟦<TimeStampResp<'static> as Asn1Type>⟧.der }
-{
-    pki_status_info_is_lawful();
-    content_info_is_lawful();
+    /// Each value of `PkiFreeText` has one encoding, which is read back.
+    pub fn pki_free_text_is_lawful()
+        ensures { HasOneEncoding ⟦<PkiFreeText<'static> as Asn1Type>⟧.der }
+    {}
+
+    /// Each value of `TimeStampResp` has one encoding, which is read back.
+    pub fn time_stamp_resp_is_lawful()
+        ensures { HasOneEncoding ⟦<TimeStampResp<'static> as Asn1Type>⟧.der }
+    {
+        pki_status_info_is_lawful();
+        crate::signatures::laws::content_info_is_lawful();
+    }
 }

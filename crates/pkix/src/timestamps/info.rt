@@ -1,13 +1,13 @@
 //! What a time stamp says (RFC 3161, 2.4.2).
-// Printed by scripts/derive from declarations/timestamps/info.rs, with the sum df9e157d.
+// Printed by scripts/derive from declarations/timestamps/info.rs, with the sum 8da88d6b.
 
 ghost use Rattle.std.specs.Prelude.{◌≡◌, ◌∷◌, [], false, IsTrue};
 ghost use Rattle.asn1.specs.Options.{option_meaning};
 ghost use Rattle.asn1.specs.Reads.{HasOneEncoding, ReadsContents};
 ghost use Rattle.asn1.specs.Structures.{defaulted, explicit, field_names, implicit, structure, fields3, fields10};
 
-use crate::common::{Extensions, GeneralName, extensions_is_lawful, general_name_is_lawful};
-use crate::timestamps::{MessageImprint, message_imprint_is_lawful};
+use crate::common::{Extensions, GeneralName};
+use crate::timestamps::MessageImprint;
 use asn1::fields::{Fields3, Fields10, Row};
 use asn1::{
     Asn1Type, BigInt, DefaultValue, Defaulted, Explicit, GeneralizedTime, Implicit,
@@ -62,8 +62,6 @@ impl<'a> SimpleAsn1Readable<'a> for Accuracy<'a> {
 
 impl<'a> SimpleAsn1Writable for Accuracy<'a> {
     type Error = WriteError;
-
-    ghost length_known = { λ _. Unit {0} };
 
     fn tag() -> Tag
         ensures value { result ≡ ⟦<Accuracy<'a> as Asn1Type>⟧.der.content.tag }
@@ -202,19 +200,25 @@ impl<'a> SimpleAsn1Writable for TstInfo<'a> {
     }
 }
 
-/// Each value of `Accuracy` has one encoding, which is read back.
-#[tactic(auto, using(asn1::specs::Lemmas::Fields::tags_differ))]
-pub fn accuracy_is_lawful()
-    ensures { HasOneEncoding ⟦<Accuracy<'static> as Asn1Type>⟧.der }
-{}
+/// The laws of the types, which do nothing.
+pub mod laws {
+    use super::{Accuracy, TstInfo};
+    use asn1::Asn1Type;
 
-/// Each value of `TstInfo` has one encoding, which is read back.
-#[tactic(auto, using(asn1::specs::Lemmas::Fields::tags_differ))]
-pub fn tst_info_is_lawful()
-    ensures { HasOneEncoding ⟦<TstInfo<'static> as Asn1Type>⟧.der }
-{
-    message_imprint_is_lawful();
-    accuracy_is_lawful();
-    general_name_is_lawful();
-    extensions_is_lawful();
+    /// Each value of `Accuracy` has one encoding, which is read back.
+    #[tactic(auto, using(asn1::specs::Lemmas::Fields::tags_differ))]
+    pub fn accuracy_is_lawful()
+        ensures { HasOneEncoding ⟦<Accuracy<'static> as Asn1Type>⟧.der }
+    {}
+
+    /// Each value of `TstInfo` has one encoding, which is read back.
+    #[tactic(auto, using(asn1::specs::Lemmas::Fields::tags_differ))]
+    pub fn tst_info_is_lawful()
+        ensures { HasOneEncoding ⟦<TstInfo<'static> as Asn1Type>⟧.der }
+    {
+        crate::timestamps::laws::message_imprint_is_lawful();
+        accuracy_is_lawful();
+        crate::common::laws::general_name_is_lawful();
+        crate::common::laws::extensions_is_lawful();
+    }
 }

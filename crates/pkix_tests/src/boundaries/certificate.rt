@@ -7,11 +7,12 @@ use pkix::certificate::distribution::{
 };
 use pkix::certificate::extensions::{
     AuthorityKeyIdentifier, BasicConstraints, ExtendedKeyUsage, KeyUsage, SubjectAltName,
-    SubjectKeyIdentifier,
+    SubjectDirectoryAttributes, SubjectKeyIdentifier,
 };
 use pkix::certificate::policies::{
-    CertificatePolicies, GeneralSubtree, GeneralSubtrees, InhibitAnyPolicy, NameConstraints,
-    PolicyConstraints, PolicyInformation, PolicyMapping, PolicyMappings, PolicyQualifierInfo,
+    CertificatePolicies, CpsUri, DisplayText, GeneralSubtree, GeneralSubtrees, InhibitAnyPolicy,
+    NameConstraints, NoticeReference, PolicyConstraints, PolicyInformation, PolicyMapping,
+    PolicyMappings, PolicyQualifierInfo, UserNotice,
 };
 use pkix::certificate::{Certificate, TbsCertificate, Validity};
 use std::alloc::Global;
@@ -110,6 +111,15 @@ ae03820161: tag ae
 3069820c66756c6c2e6578616d706c658704c0000201810e614066756c6c2e6578616d706c658614687474703a2f2f66756c6c2e6578616d\
     706c652f88032a0304a41830163114301206035504030c0b63726c2e6578616d706c65a00e06032a0305a0070c056f74686572: read";
 
+/// SubjectDirectoryAttributes (RFC 5280, 4.2.1.8).
+const SUBJECT_DIRECTORY_ATTRIBUTES: &str = "\
+300a300806022a0331020500: read
+3000: 0 items
+30023000: short 1 0 Attribute::type_id
+3010300606022a033100300606022a033100: read
+ae0a300806022a0331020500: tag ae
+: short 1";
+
 /// ExtendedKeyUsage (RFC 5280, 4.2.1.12).
 const EXTENDED_KEY_USAGE: &str = "\
 300406022a03: read
@@ -136,6 +146,46 @@ const POLICY_QUALIFIER_INFO: &str = "\
 + 06022a03: tag 05 policy_qualifier_id; ExtraData; tag 8e policy_qualifier_id
 = 0600: InvalidValue policy_qualifier_id
 + 0500: short 1 qualifier; ExtraData; read";
+
+/// CpsUri (RFC 5280, 4.2.1.4).
+const CPS_URI: &str = "\
+160161: read
+160180: InvalidValue
+0c0161: tag 0c
+: short 1";
+
+/// DisplayText (RFC 5280, 4.2.1.4).
+const DISPLAY_TEXT: &str = "\
+160161: read
+160180: InvalidValue
+1a0161: read
+1a010a: InvalidValue
+1e020061: read
+1e0161: InvalidValue
+0c02c3a9: read
+0c01c3: InvalidValue
+130161: tag 13
+8e0161: tag 8e
+: short 1";
+
+/// NoticeReference (RFC 5280, 4.2.1.4).
+const NOTICE_REFERENCE: &str = "\
++ 160161: tag 30 organization; tag 16 notice_numbers; tag 8e organization
+= 0c0161: read
+= 160180: InvalidValue organization
++ 3003020105: short 1 notice_numbers; ExtraData; tag ae notice_numbers
+= 3000: read
+= 30030201ff: read
+= 300402020005: InvalidValue notice_numbers 0";
+
+/// UserNotice (RFC 5280, 4.2.1.4).
+const USER_NOTICE: &str = "\
+? 30081601613003020105: read; ExtraData; ExtraData
+= 3000: short 1 notice_ref NoticeReference::organization
+? 0c0161: read; ExtraData; ExtraData
+= 160161: read
+= 0c01c3: InvalidValue explicit_text
+3000: read";
 
 /// PolicyInformation (RFC 5280, 4.2.1.4).
 const POLICY_INFORMATION: &str = "\
@@ -189,9 +239,18 @@ pub fn certificates_and_policies(alloc: Global) -> Result<(), Fail> {
     )?;
     are_answered::<KeyUsage<'_>>(alloc, "KeyUsage", KEY_USAGE)?;
     are_answered::<SubjectAltName<'_>>(alloc, "SubjectAltName", SUBJECT_ALT_NAME)?;
+    are_answered::<SubjectDirectoryAttributes<'_>>(
+        alloc,
+        "SubjectDirectoryAttributes",
+        SUBJECT_DIRECTORY_ATTRIBUTES,
+    )?;
     are_answered::<ExtendedKeyUsage<'_>>(alloc, "ExtendedKeyUsage", EXTENDED_KEY_USAGE)?;
     are_answered::<BasicConstraints<'_>>(alloc, "BasicConstraints", BASIC_CONSTRAINTS)?;
     are_answered::<PolicyQualifierInfo<'_>>(alloc, "PolicyQualifierInfo", POLICY_QUALIFIER_INFO)?;
+    are_answered::<CpsUri<'_>>(alloc, "CpsUri", CPS_URI)?;
+    are_answered::<DisplayText<'_>>(alloc, "DisplayText", DISPLAY_TEXT)?;
+    are_answered::<NoticeReference<'_>>(alloc, "NoticeReference", NOTICE_REFERENCE)?;
+    are_answered::<UserNotice<'_>>(alloc, "UserNotice", USER_NOTICE)?;
     are_answered::<PolicyInformation<'_>>(alloc, "PolicyInformation", POLICY_INFORMATION)?;
     are_answered::<CertificatePolicies<'_>>(alloc, "CertificatePolicies", CERTIFICATE_POLICIES)?;
     are_answered::<PolicyMapping>(alloc, "PolicyMapping", POLICY_MAPPING)?;

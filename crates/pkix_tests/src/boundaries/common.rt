@@ -2,8 +2,9 @@
 
 use crate::boundaries::are_answered;
 use pkix::common::{
-    AlgorithmIdentifier, Attribute, AttributeTypeAndValue, Attributes, EdiPartyName, Extension,
-    Extensions, GeneralName, GeneralNames, Name, OtherName, SubjectPublicKeyInfo, Time,
+    AlgorithmIdentifier, Attribute, AttributeTypeAndValue, Attributes, DirectoryString,
+    EdiPartyName, Extension, Extensions, GeneralName, GeneralNames, Name, OtherName,
+    SubjectPublicKeyInfo, TeletexString, Time,
 };
 use std::alloc::Global;
 use std::test::Fail;
@@ -86,6 +87,35 @@ const ATTRIBUTES: &str = "\
 3110300606022a033100300606022a043100: read
 3110300606022a043100300606022a033100: InvalidSetOrdering 1
 ae00: tag ae
+: short 1";
+
+/// DirectoryString (RFC 5280, 4.1.2.4).
+const DIRECTORY_STRING: &str = "\
+140161: read
+1401e9: read
+1400: read
+130161: read
+130140: InvalidValue
+1c0400000061: read
+1c03000061: InvalidValue
+0c02c3a9: read
+0c01c3: InvalidValue
+1e020061: read
+1e0161: InvalidValue
+120131: tag 12
+160161: tag 16
+040161: tag 04
+330161: tag 33
+8e0161: tag 8e
+: short 1";
+
+/// TeletexString (X.680 41).
+const TELETEX_STRING: &str = "\
+140161: read
+1401e9: read
+1400: read
+040161: tag 04
+340161: tag 34
 : short 1";
 
 /// OtherName (RFC 5280, 4.2.1.6).
@@ -174,6 +204,8 @@ pub fn names_and_extensions(alloc: Global) -> Result<(), Fail> {
     are_answered::<Name<'_>>(alloc, "Name", NAME)?;
     are_answered::<Attribute<'_>>(alloc, "Attribute", ATTRIBUTE)?;
     are_answered::<Attributes<'_>>(alloc, "Attributes", ATTRIBUTES)?;
+    are_answered::<DirectoryString<'_>>(alloc, "DirectoryString", DIRECTORY_STRING)?;
+    are_answered::<TeletexString<'_>>(alloc, "TeletexString", TELETEX_STRING)?;
     are_answered::<OtherName<'_>>(alloc, "OtherName", OTHER_NAME)?;
     are_answered::<EdiPartyName<'_>>(alloc, "EdiPartyName", EDI_PARTY_NAME)?;
     are_answered::<GeneralName<'_>>(alloc, "GeneralName", GENERAL_NAME)?;

@@ -2,8 +2,8 @@
 
 use crate::boundaries::are_answered;
 use pkix::keys::{
-    DssParms, EcPrivateKey, EncryptedPrivateKeyInfo, OneAsymmetricKey, RsaPrivateKey, RsaPublicKey,
-    RsassaPssParams,
+    DssParms, EcPrivateKey, EncryptedPrivateKeyInfo, OneAsymmetricKey, OtherPrimeInfo,
+    OtherPrimeInfos, RsaPrivateKey, RsaPublicKey, RsassaPssParams,
 };
 use std::alloc::Global;
 use std::test::Fail;
@@ -45,50 +45,80 @@ const RSA_PUBLIC_KEY: &str = "\
 
 /// RsaPrivateKey (RFC 8017, A.1.2).
 const RSA_PRIVATE_KEY: &str = "\
-+ 020100: short 1 coefficient; ExtraData; tag 8e version
++ 020100: tag 30 coefficient; ExtraData; tag 8e version
 = 020200ff: read
 = 02020100: IntegerOverflow version
 = 0201ff: InvalidValue version
-+ 020103: short 1 coefficient; ExtraData; tag 8e modulus
++ 020103: tag 30 coefficient; ExtraData; tag 8e modulus
 = 020100: read
 = 0209010000000000000000: read
 = 0201ff: InvalidValue modulus
 = 02020005: InvalidValue modulus
-+ 020104: short 1 coefficient; ExtraData; tag 8e public_exponent
++ 020104: tag 30 coefficient; ExtraData; tag 8e public_exponent
 = 020100: read
 = 0209010000000000000000: read
 = 0201ff: InvalidValue public_exponent
 = 02020005: InvalidValue public_exponent
-+ 020105: short 1 coefficient; ExtraData; tag 8e private_exponent
++ 020105: tag 30 coefficient; ExtraData; tag 8e private_exponent
 = 020100: read
 = 0209010000000000000000: read
 = 0201ff: InvalidValue private_exponent
 = 02020005: InvalidValue private_exponent
-+ 020106: short 1 coefficient; ExtraData; tag 8e prime1
++ 020106: tag 30 coefficient; ExtraData; tag 8e prime1
 = 020100: read
 = 0209010000000000000000: read
 = 0201ff: InvalidValue prime1
 = 02020005: InvalidValue prime1
-+ 020107: short 1 coefficient; ExtraData; tag 8e prime2
++ 020107: tag 30 coefficient; ExtraData; tag 8e prime2
 = 020100: read
 = 0209010000000000000000: read
 = 0201ff: InvalidValue prime2
 = 02020005: InvalidValue prime2
-+ 020108: short 1 coefficient; ExtraData; tag 8e exponent1
++ 020108: tag 30 coefficient; ExtraData; tag 8e exponent1
 = 020100: read
 = 0209010000000000000000: read
 = 0201ff: InvalidValue exponent1
 = 02020005: InvalidValue exponent1
-+ 020109: short 1 coefficient; ExtraData; tag 8e exponent2
++ 020109: tag 30 coefficient; ExtraData; tag 8e exponent2
 = 020100: read
 = 0209010000000000000000: read
 = 0201ff: InvalidValue exponent2
 = 02020005: InvalidValue exponent2
-+ 02010a: short 1 coefficient; ExtraData; tag 8e coefficient
++ 02010a: tag 30 coefficient; ExtraData; tag 8e coefficient
+= 020100: read
+= 0209010000000000000000: read
+= 0201ff: InvalidValue coefficient
+= 02020005: InvalidValue coefficient
+? 300b3009020105020106020107: read; ExtraData; ExtraData
+= 3000: 0 items other_prime_infos
+= 30023000: short 1 other_prime_infos 0 OtherPrimeInfo::prime";
+
+/// OtherPrimeInfo (RFC 8017, A.1.2).
+const OTHER_PRIME_INFO: &str = "\
++ 020105: short 1 coefficient; ExtraData; tag 8e prime
+= 020100: read
+= 0209010000000000000000: read
+= 0201ff: InvalidValue prime
+= 02020005: InvalidValue prime
++ 020106: short 1 coefficient; ExtraData; tag 8e exponent
+= 020100: read
+= 0209010000000000000000: read
+= 0201ff: InvalidValue exponent
+= 02020005: InvalidValue exponent
++ 020107: short 1 coefficient; ExtraData; tag 8e coefficient
 = 020100: read
 = 0209010000000000000000: read
 = 0201ff: InvalidValue coefficient
 = 02020005: InvalidValue coefficient";
+
+/// OtherPrimeInfos (RFC 8017, A.1.2).
+const OTHER_PRIME_INFOS: &str = "\
+300b3009020105020106020107: read
+3000: 0 items
+30023000: short 1 0 OtherPrimeInfo::prime
+30163009020105020106020107300902010802010902010a: read
+ae0b3009020105020106020107: tag ae
+: short 1";
 
 /// EcPrivateKey (RFC 5915, 3).
 const EC_PRIVATE_KEY: &str = "\
@@ -160,6 +190,8 @@ pub fn keys_and_parameters(alloc: Global) -> Result<(), Fail> {
     )?;
     are_answered::<RsaPublicKey<'_>>(alloc, "RsaPublicKey", RSA_PUBLIC_KEY)?;
     are_answered::<RsaPrivateKey<'_>>(alloc, "RsaPrivateKey", RSA_PRIVATE_KEY)?;
+    are_answered::<OtherPrimeInfo<'_>>(alloc, "OtherPrimeInfo", OTHER_PRIME_INFO)?;
+    are_answered::<OtherPrimeInfos<'_>>(alloc, "OtherPrimeInfos", OTHER_PRIME_INFOS)?;
     are_answered::<EcPrivateKey<'_>>(alloc, "EcPrivateKey", EC_PRIVATE_KEY)?;
     are_answered::<DssParms<'_>>(alloc, "DssParms", DSS_PARMS)?;
     are_answered::<RsassaPssParams<'_>>(alloc, "RsassaPssParams", RSASSA_PSS_PARAMS)

@@ -2,8 +2,8 @@
 
 use crate::boundaries::are_answered;
 use pkix::signatures::{
-    ContentInfo, DigestInfo, EcdsaSigValue, EncapsulatedContentInfo, IssuerAndSerialNumber,
-    SignedData, SignerIdentifier, SignerInfo,
+    ContentInfo, ContentType, DigestInfo, EcdsaSigValue, EncapsulatedContentInfo,
+    IssuerAndSerialNumber, MessageDigest, SignedData, SignerIdentifier, SignerInfo, SigningTime,
 };
 use std::alloc::Global;
 use std::test::Fail;
@@ -104,6 +104,28 @@ const SIGNER_INFO: &str = "\
 = a1023000: short 1 unsigned_attrs 0 Attribute::type_id
 = a110300606022a043100300606022a033100: InvalidSetOrdering unsigned_attrs 1";
 
+/// ContentType (RFC 5652, 11.1).
+const CONTENT_TYPE: &str = "\
+06022a03: read
+0600: InvalidValue
+04022a03: tag 04
+: short 1";
+
+/// MessageDigest (RFC 5652, 11.2).
+const MESSAGE_DIGEST: &str = "\
+0401ab: read
+0400: read
+0301ab: tag 03
+: short 1";
+
+/// SigningTime (RFC 5652, 11.3).
+const SIGNING_TIME: &str = "\
+170d3236313132343130353031305a: read
+180f32303236313132343130353031305a: read
+181132303236313132343130353031302e355a: InvalidValue
+040161: tag 04
+: short 1";
+
 /// Each of these types answers as its rows say.
 pub fn signed_data(alloc: Global) -> Result<(), Fail> {
     are_answered::<EcdsaSigValue<'_>>(alloc, "EcdsaSigValue", ECDSA_SIG_VALUE)?;
@@ -121,5 +143,8 @@ pub fn signed_data(alloc: Global) -> Result<(), Fail> {
         ISSUER_AND_SERIAL_NUMBER,
     )?;
     are_answered::<SignerIdentifier<'_>>(alloc, "SignerIdentifier", SIGNER_IDENTIFIER)?;
-    are_answered::<SignerInfo<'_>>(alloc, "SignerInfo", SIGNER_INFO)
+    are_answered::<SignerInfo<'_>>(alloc, "SignerInfo", SIGNER_INFO)?;
+    are_answered::<ContentType>(alloc, "ContentType", CONTENT_TYPE)?;
+    are_answered::<MessageDigest<'_>>(alloc, "MessageDigest", MESSAGE_DIGEST)?;
+    are_answered::<SigningTime>(alloc, "SigningTime", SIGNING_TIME)
 }

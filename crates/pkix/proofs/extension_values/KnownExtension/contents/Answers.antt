@@ -83,6 +83,10 @@ pub returns-in-SubjectAltName-clause-octets : goal.returns-in-SubjectAltName-cla
 unfolding read_identifier numbers_in number_front
 returns-in-SubjectAltName-clause-octets c = rw c.in-SubjectAltName.is refl
 
+pub returns-in-SubjectDirectoryAttributes-clause-octets : goal.returns-in-SubjectDirectoryAttributes-clause-octets
+unfolding read_identifier numbers_in number_front
+returns-in-SubjectDirectoryAttributes-clause-octets c = rw c.in-SubjectDirectoryAttributes.is refl
+
 pub returns-in-SubjectInfoAccess-clause-octets : goal.returns-in-SubjectInfoAccess-clause-octets
 unfolding read_identifier numbers_in number_front
 returns-in-SubjectInfoAccess-clause-octets c = rw c.in-SubjectInfoAccess.is refl

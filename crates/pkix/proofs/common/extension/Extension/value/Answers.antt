@@ -163,16 +163,24 @@ returns-in-Err-parse_single-19 c =
 
 pub returns-in-Ok-parse_single-20 : goal.returns-in-Ok-parse_single-20
 returns-in-Ok-parse_single-20 c =
-    rw (sym c.with_identifier.ensures ∙ c.in-Some.is ∙ ap Some c.in-SubjectInfoAccess.is) (c.in-Ok-parse_single-20.value, refl, c.in-Ok-parse_single-20.ensures.exact)
+    rw (sym c.with_identifier.ensures ∙ c.in-Some.is ∙ ap Some c.in-SubjectDirectoryAttributes.is) (c.in-Ok-parse_single-20.value, refl, c.in-Ok-parse_single-20.ensures.exact)
 
 pub returns-in-Err-parse_single-20 : goal.returns-in-Err-parse_single-20
 returns-in-Err-parse_single-20 c =
-    rw (sym c.with_identifier.ensures ∙ c.in-Some.is ∙ ap Some c.in-SubjectInfoAccess.is) c.in-Err-parse_single-20.ensures.exact
+    rw (sym c.with_identifier.ensures ∙ c.in-Some.is ∙ ap Some c.in-SubjectDirectoryAttributes.is) c.in-Err-parse_single-20.ensures.exact
 
 pub returns-in-Ok-parse_single-21 : goal.returns-in-Ok-parse_single-21
 returns-in-Ok-parse_single-21 c =
-    rw (sym c.with_identifier.ensures ∙ c.in-Some.is ∙ ap Some c.in-SubjectKeyIdentifier.is) (c.in-Ok-parse_single-21.value, refl, c.in-Ok-parse_single-21.ensures.exact)
+    rw (sym c.with_identifier.ensures ∙ c.in-Some.is ∙ ap Some c.in-SubjectInfoAccess.is) (c.in-Ok-parse_single-21.value, refl, c.in-Ok-parse_single-21.ensures.exact)
 
 pub returns-in-Err-parse_single-21 : goal.returns-in-Err-parse_single-21
 returns-in-Err-parse_single-21 c =
-    rw (sym c.with_identifier.ensures ∙ c.in-Some.is ∙ ap Some c.in-SubjectKeyIdentifier.is) c.in-Err-parse_single-21.ensures.exact
+    rw (sym c.with_identifier.ensures ∙ c.in-Some.is ∙ ap Some c.in-SubjectInfoAccess.is) c.in-Err-parse_single-21.ensures.exact
+
+pub returns-in-Ok-parse_single-22 : goal.returns-in-Ok-parse_single-22
+returns-in-Ok-parse_single-22 c =
+    rw (sym c.with_identifier.ensures ∙ c.in-Some.is ∙ ap Some c.in-SubjectKeyIdentifier.is) (c.in-Ok-parse_single-22.value, refl, c.in-Ok-parse_single-22.ensures.exact)
+
+pub returns-in-Err-parse_single-22 : goal.returns-in-Err-parse_single-22
+returns-in-Err-parse_single-22 c =
+    rw (sym c.with_identifier.ensures ∙ c.in-Some.is ∙ ap Some c.in-SubjectKeyIdentifier.is) c.in-Err-parse_single-22.ensures.exact
