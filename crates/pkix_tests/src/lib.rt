@@ -9,6 +9,8 @@ mod boundaries;
 #[cfg(test)]
 mod built;
 #[cfg(test)]
+mod built_objects;
+#[cfg(test)]
 mod changes;
 #[cfg(test)]
 mod extension_values;
