@@ -1,9 +1,8 @@
 -- The dates of Rust values, and their `Content`.
 use Rattle.asn1.specs.declared.date.Date.{Date}
 use Rattle.asn1_core.specs.Tag.{universal}
-use Rattle.asn1_core.specs.Der.{Content, basic}
+use Rattle.asn1_core.specs.Encoding.{Content, basic}
 use Rattle.asn1.specs.Dates.{Day, IsDate, day_text, read_day}
-use Rattle.asn1.specs.Lemmas.Dates.{day_takes, day_again, day_faults}
 
 -- The three numbers of a `Date`.
 abbrev pub day_of : Date → Day
@@ -16,7 +15,4 @@ date_content = basic (record {
   text = day_text;
   valid = IsDate;
   read = read_day;
-  takes = day_takes;
-  again = day_again;
-  faults = day_faults;
 })

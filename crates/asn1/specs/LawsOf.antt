@@ -10,3 +10,4 @@ pub mod Fields
 pub mod Defined
 pub mod Numbered
 pub mod InHand
+pub mod Values

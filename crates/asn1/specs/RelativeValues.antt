@@ -2,10 +2,9 @@
 use Rattle.std.specs.Prelude.{ℕ, List, [], Option, Some, None}
 use Rattle.asn1.specs.declared.relative_oid.RelativeOid.{RelativeOid}
 use Rattle.asn1_core.specs.Tag.{universal}
-use Rattle.asn1_core.specs.Der.{Content, basic}
+use Rattle.asn1_core.specs.Encoding.{Content, basic}
 use Rattle.asn1_values.specs.Identifier.{identifier_content, identifier_numbers}
 use Rattle.asn1.specs.Relative.{IsRelative, read_relative}
-use Rattle.asn1.specs.Lemmas.Relative.{relative_takes, relative_again, relative_faults}
 
 -- The arcs of a `RelativeOid`.
 abbrev pub relative_arcs : RelativeOid → List ℕ
@@ -23,7 +22,4 @@ relative_content = basic (record {
   text = identifier_content;
   valid = IsRelative;
   read = read_relative;
-  takes = relative_takes;
-  again = relative_again;
-  faults = relative_faults;
 })

@@ -1,6 +1,6 @@
 //! DATE (X.680 38.4.1, X.690 8.26).
 
-ghost use Rattle.std.specs.Prelude.{◌≡◌, ◌+◌, ◌/◌, ◌%◌, ⊤, Some, Ok, MatchOption, MatchResult};
+ghost use Rattle.std.specs.Prelude.{◌≡◌, ◌+◌, ◌/◌, ◌%◌, ⊤, MatchOption, MatchResult};
 ghost use Rattle.asn1_core.specs.declared.parser.ParseErrorKind.TheVariants.{InvalidValue};
 ghost use Rattle.asn1_core.specs.Fault.{fault};
 ghost use Rattle.asn1_core.specs.Der.{simple_der};
@@ -188,8 +188,9 @@ impl Clone for Date {
 
 impl Asn1Type for Date {
     ghost use Rattle.asn1.specs.DateValues.{day_of, date_content};
+    ghost use Rattle.asn1.specs.LawsOf.Values.{date_laws};
 
-    ghost der = { simple_der day_of date_content };
+    ghost der = { simple_der day_of date_content date_laws };
 
     fn known(&self) {}
 }

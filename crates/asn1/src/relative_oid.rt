@@ -1,6 +1,6 @@
 //! RELATIVE-OID (X.690 8.20).
 
-ghost use Rattle.std.specs.Prelude.{◌≡◌, ◌∷◌, ◌<◌, IsTrue, true, ⊤, Some, Ok, length, is_some};
+ghost use Rattle.std.specs.Prelude.{◌≡◌, ◌∷◌, ◌<◌, IsTrue, true, ⊤, Some, length, is_some};
 ghost use Rattle.asn1_core.specs.Base128.{number_front};
 ghost use Rattle.asn1_core.specs.Reading.{Answers};
 ghost use Rattle.asn1_core.specs.Reads.{ReadsContents};
@@ -147,8 +147,9 @@ impl fmt::Debug for RelativeOid<'_> {
 
 impl<'a> Asn1Type for RelativeOid<'a> {
     ghost use Rattle.asn1.specs.RelativeValues.{relative_arcs, relative_content};
+    ghost use Rattle.asn1.specs.LawsOf.Values.{relative_laws};
 
-    ghost der = { simple_der relative_arcs relative_content };
+    ghost der = { simple_der relative_arcs relative_content relative_laws };
 
     fn known(&self) {}
 }

@@ -11,10 +11,6 @@ pub some_number : (n : ℕ) → 0 < length (digits_of 256 n) → 0 < n
 some_number zero h = absurd (omega (arith, h))
 some_number (suc n) h = omega arith
 
-pub none_left : (xs : List ℕ) → length xs ≡ 0 → xs ≡ []
-none_left [] e = refl
-none_left (x ∷ xs) e = absurd (omega (arith, e))
-
 -- the first octet of a long length
 pub top_of : (n : ℕ) → 128 ≤ n → n < 2 ^ 64 → bit_or 128 (length (digits_of 256 n)) ∷ digits_of 256 n ≡ length_text n
 top_of n l small =

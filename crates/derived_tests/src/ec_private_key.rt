@@ -1,5 +1,5 @@
 //! Private keys of elliptic curves (RFC 5915, 3).
-// Printed by scripts/derive from declarations/ec_private_key.rs, with the sum a100ff45.
+// Printed by scripts/derive from declarations/ec_private_key.rs, with the sum d5cc7102.
 
 ghost use Rattle.std.specs.Prelude.{◌≡◌, ◌∷◌, [], IsTrue};
 ghost use Rattle.asn1.specs.Options.{option_meaning};
@@ -73,6 +73,8 @@ impl<'a> SimpleAsn1Readable<'a> for EcPrivateKey<'a> {
 
 impl<'a> SimpleAsn1Writable for EcPrivateKey<'a> {
     type Error = WriteError;
+
+    ghost length_known = { λ _. Unit {0} };
 
     fn tag() -> Tag
         ensures value { result ≡ ⟦<EcPrivateKey<'a> as Asn1Type>⟧.der.content.tag }

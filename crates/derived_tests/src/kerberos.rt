@@ -1,5 +1,5 @@
 //! Kerberos messages (RFC 4120, 5): a ticket, and the requests and replies of AS and TGS.
-// Printed by scripts/derive from declarations/kerberos.rs, with the sum 87f33c7c.
+// Printed by scripts/derive from declarations/kerberos.rs, with the sum 5e19b358.
 
 ghost use Rattle.std.specs.Prelude.{◌≡◌, ◌∷◌, [], IsTrue};
 ghost use Rattle.asn1.specs.Options.{option_meaning};
@@ -68,6 +68,8 @@ impl<'a> SimpleAsn1Readable<'a> for PrincipalName<'a> {
 
 impl<'a> SimpleAsn1Writable for PrincipalName<'a> {
     type Error = WriteError;
+
+    ghost length_known = { λ _. Unit {0} };
 
     fn tag() -> Tag
         ensures value { result ≡ ⟦<PrincipalName<'a> as Asn1Type>⟧.der.content.tag }
@@ -139,6 +141,8 @@ impl<'a> SimpleAsn1Readable<'a> for HostAddress<'a> {
 impl<'a> SimpleAsn1Writable for HostAddress<'a> {
     type Error = WriteError;
 
+    ghost length_known = { λ _. Unit {0} };
+
     fn tag() -> Tag
         ensures value { result ≡ ⟦<HostAddress<'a> as Asn1Type>⟧.der.content.tag }
         ensures simple { ⟦<HostAddress<'a> as Asn1Type>⟧.der.is_simple }
@@ -208,6 +212,8 @@ impl<'a> SimpleAsn1Readable<'a> for PaData<'a> {
 
 impl<'a> SimpleAsn1Writable for PaData<'a> {
     type Error = WriteError;
+
+    ghost length_known = { λ _. Unit {0} };
 
     fn tag() -> Tag
         ensures value { result ≡ ⟦<PaData<'a> as Asn1Type>⟧.der.content.tag }
@@ -291,6 +297,8 @@ impl<'a> SimpleAsn1Readable<'a> for EncryptedData<'a> {
 
 impl<'a> SimpleAsn1Writable for EncryptedData<'a> {
     type Error = WriteError;
+
+    ghost length_known = { λ _. Unit {0} };
 
     fn tag() -> Tag
         ensures value { result ≡ ⟦<EncryptedData<'a> as Asn1Type>⟧.der.content.tag }
@@ -376,6 +384,8 @@ impl<'a> SimpleAsn1Readable<'a> for TicketBody<'a> {
 
 impl<'a> SimpleAsn1Writable for TicketBody<'a> {
     type Error = WriteError;
+
+    ghost length_known = { λ _. Unit {0} };
 
     fn tag() -> Tag
         ensures value { result ≡ ⟦<TicketBody<'a> as Asn1Type>⟧.der.content.tag }
@@ -518,6 +528,8 @@ impl<'a> SimpleAsn1Readable<'a> for KdcReqBody<'a> {
 impl<'a> SimpleAsn1Writable for KdcReqBody<'a> {
     type Error = WriteError;
 
+    ghost length_known = { λ _. Unit {0} };
+
     fn tag() -> Tag
         ensures value { result ≡ ⟦<KdcReqBody<'a> as Asn1Type>⟧.der.content.tag }
         ensures simple { ⟦<KdcReqBody<'a> as Asn1Type>⟧.der.is_simple }
@@ -602,6 +614,8 @@ impl<'a> SimpleAsn1Readable<'a> for KdcReq<'a> {
 
 impl<'a> SimpleAsn1Writable for KdcReq<'a> {
     type Error = WriteError;
+
+    ghost length_known = { λ _. Unit {0} };
 
     fn tag() -> Tag
         ensures value { result ≡ ⟦<KdcReq<'a> as Asn1Type>⟧.der.content.tag }
@@ -710,6 +724,8 @@ impl<'a> SimpleAsn1Readable<'a> for KdcRep<'a> {
 
 impl<'a> SimpleAsn1Writable for KdcRep<'a> {
     type Error = WriteError;
+
+    ghost length_known = { λ _. Unit {0} };
 
     fn tag() -> Tag
         ensures value { result ≡ ⟦<KdcRep<'a> as Asn1Type>⟧.der.content.tag }

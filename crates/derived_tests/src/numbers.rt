@@ -1,5 +1,5 @@
 //! Items that are numbers, and defaults that aren't literals: each form of the script for them, once.
-// Printed by scripts/derive from declarations/numbers.rs, with the sum e8dcb88e.
+// Printed by scripts/derive from declarations/numbers.rs, with the sum 2ca4e0c1.
 
 ghost use Rattle.std.specs.Prelude.{◌≡◌, ◌⊎◌, ◌∷◌, [], pos, negsuc, nat_eq, true, false, ⊤, IsTrue, MatchOption, OnErr};
 ghost use Rattle.std.specs.Cmp.{partial_equiv_from_equiv};
@@ -7,6 +7,8 @@ ghost use Rattle.std.specs.Ordering.{int_eq, on};
 ghost use Rattle.std.proofs.Common.{inl, inr, refl, sym};
 ghost use Rattle.std.proofs.lemmas.Bool.Decides.{Decides-int_eq};
 ghost use Rattle.std.proofs.lemmas.Cmp.{nat_eq_equiv, on_equiv};
+ghost use Rattle.asn1.specs.DefaultIdentifiers.{identifier_from};
+ghost use Rattle.asn1.specs.IdentifierValues.{identifier_of};
 ghost use Rattle.asn1.specs.ItemsAndValues.{by_item, word_for_word};
 ghost use Rattle.asn1.specs.Lemmas.Equalities.{naturals_content_tells, naturals_tell, number_text, seen_tells};
 ghost use Rattle.asn1.specs.Numbered.{numbered};
@@ -15,14 +17,17 @@ ghost use Rattle.asn1.specs.Reads.{HasOneEncoding, ReadsContents, ReadsDefined};
 ghost use Rattle.asn1.specs.Structures.{defaulted, explicit, field_names, implicit, structure, fields4};
 ghost use Rattle.asn1.specs.Tag.{universal};
 ghost use Rattle.asn1.specs.Variants.{any_variant, or_variant};
+ghost use Rattle.derived_tests.specs.declared.numbers.TheConstants.{SHA1_NUMBERS};
 
-use asn1::fields::{DefinedField, Fields4, Item, LastValue, Row, plain_length, write_plain};
+use asn1::fields::{
+    DefinedField, Fields4, Item, LastValue, Row, known_identifier, plain_length, write_plain,
+};
 use asn1::{
     Asn1DefinedBy, Asn1DefinedByReadable, Asn1DefinedByWritable, Asn1Type, Asn1Writable,
-    DefaultValue, Defaulted, DefinedByMarker, Explicit, Implicit, MeaningEq, Numbered, ParseResult,
-    Parser, SimpleAsn1Readable, SimpleAsn1Writable, SimpleMeaningEq, Tag, Tlv, WriteBuf,
-    WriteError, WriteResult, Writer, fields_length, known_fields, known_number, read_fields,
-    read_number, write_fields,
+    DefaultValue, Defaulted, DefinedByMarker, Explicit, Implicit, MeaningEq, Numbered,
+    ObjectIdentifier, ParseResult, Parser, RelativeOid, SimpleAsn1Readable, SimpleAsn1Writable,
+    SimpleMeaningEq, Tag, TeletexString, Tlv, WriteBuf, WriteError, WriteResult, Writer,
+    fields_length, known_fields, known_number, read_fields, read_number, write_fields,
 };
 use std::alloc::{AllocError, Global};
 
@@ -689,6 +694,8 @@ impl<'a> SimpleAsn1Readable<'a> for Defaults {
 impl SimpleAsn1Writable for Defaults {
     type Error = WriteError;
 
+    ghost length_known = { λ _. Unit {0} };
+
     fn tag() -> Tag {
         Tag::constructed(0x10)
     }
@@ -706,9 +713,116 @@ impl SimpleAsn1Writable for Defaults {
     }
 }
 
+/// The numbers of [`sha1`], as they are encoded: the first means two.
+pub(crate) const SHA1_NUMBERS: [u64; 5] = [43, 14, 3, 2, 26];
+
+/// SHA-1, which is the default of a hash function in RFC 8017, A.2.1.
+pub(crate) fn sha1() -> ObjectIdentifier
+    ensures { identifier_of result ≡ SHA1_NUMBERS }
+{
+    known_identifier(b"\x2b\x0e\x03\x02\x1a")
+}
+
+/// Identifiers that may be left out, and types whose octets are kept.
+#[derive(PartialEq, Drop)]
+pub(crate) struct Named<'a> {
+    /// The field.
+    pub hash: ObjectIdentifier,
+    /// The field.
+    pub other: ObjectIdentifier,
+    /// The field.
+    pub place: RelativeOid<'a>,
+    /// The field.
+    pub name: TeletexString<'a>,
+}
+
+/// What `hash` is if it is left out.
+pub(crate) struct NamedHash;
+
+impl DefaultValue<Explicit<ObjectIdentifier, 0>> for NamedHash {
+    ghost default = { record { inner = identifier_from SHA1_NUMBERS } };
+
+    #[tactic(auto, using(asn1::specs::Lemmas::DefaultIdentifiers::identifier_of_default))]
+    fn value() -> Explicit<ObjectIdentifier, 0> {
+        Explicit::new(sha1())
+    }
+}
+
+/// What `other` is if it is left out.
+pub(crate) struct NamedOther;
+
+impl DefaultValue<ObjectIdentifier> for NamedOther {
+    ghost default = { identifier_from SHA1_NUMBERS };
+
+    #[tactic(auto, using(asn1::specs::Lemmas::DefaultIdentifiers::identifier_of_default))]
+    fn value() -> ObjectIdentifier {
+        sha1()
+    }
+}
+
+type NamedHashField = Defaulted<Explicit<ObjectIdentifier, 0>, NamedHash>;
+
+type NamedOtherField = Defaulted<ObjectIdentifier, NamedOther>;
+
+type NamedFields<'a> = Fields4<NamedHashField, NamedOtherField, RelativeOid<'a>, TeletexString<'a>>;
+
+impl<'a> Asn1Type for Named<'a> {
+    ghost der = { structure (λ v. fields4 (defaulted (explicit v.hash)) (defaulted v.other) v.place
+        v.name) ⟦<NamedFields<'a> as Row>⟧.list (field_names "Named" ("hash" ∷ "other" ∷ "place" ∷
+        "name" ∷ [])) };
+
+    fn known(&self) {
+        known_fields!(self; hash: NamedHashField, other: NamedOtherField, place, name)
+    }
+}
+
+impl<'a> SimpleAsn1Readable<'a> for Named<'a> {
+    fn tag() -> Tag
+        ensures value { result ≡ ⟦<Named<'a> as Asn1Type>⟧.der.content.tag }
+        ensures simple { ⟦<Named<'a> as Asn1Type>⟧.der.is_simple }
+        ensures plain { ⟦<Named<'a> as Asn1Type>⟧.der.plain }
+    {
+        Tag::constructed(0x10)
+    }
+
+    fn parse_data(alloc: Global, data: &'a [u8]) -> ParseResult<Named<'a>>
+        ensures { ReadsContents ⟦<Named<'a> as Asn1Type>⟧.der «data».entry.now result }
+    {
+        read_fields!(NamedFields<'a>, alloc, data => Named;
+            hash: NamedHashField, other: NamedOtherField, place, name)
+    }
+}
+
+impl<'a> SimpleAsn1Writable for Named<'a> {
+    type Error = WriteError;
+
+    ghost length_known = { λ _. Unit {0} };
+
+    fn tag() -> Tag
+        ensures value { result ≡ ⟦<Named<'a> as Asn1Type>⟧.der.content.tag }
+        ensures simple { ⟦<Named<'a> as Asn1Type>⟧.der.is_simple }
+    {
+        Tag::constructed(0x10)
+    }
+
+    fn write_data(&self, dest: &mut WriteBuf) -> WriteResult<()> {
+        write_fields!(self, dest; hash: NamedHashField, other: NamedOtherField, place, name)
+    }
+
+    fn data_length(&self) -> Option<usize> {
+        fields_length!(self; hash: NamedHashField, other: NamedOtherField, place, name)
+    }
+
+    fn writes_as_read() -> bool
+        ensures { IsTrue result }
+    {
+        true
+    }
+}
+
 /// The laws of the types, which do nothing.
 pub mod laws {
-    use super::{Defaults, PaData, Version, Versioned};
+    use super::{Defaults, Named, PaData, Version, Versioned};
     use asn1::Asn1Type;
 
     /// Each value of `PaData` has one encoding, which is read back.
@@ -733,4 +847,10 @@ pub mod laws {
     {
         version_is_lawful();
     }
+
+    /// Each value of `Named` has one encoding, which is read back.
+    #[tactic(auto, using(asn1::specs::Lemmas::Fields::tags_differ))]
+    pub(crate) fn named_is_lawful()
+        ensures { HasOneEncoding ⟦<Named<'static> as Asn1Type>⟧.der }
+    {}
 }

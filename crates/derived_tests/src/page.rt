@@ -1,5 +1,5 @@
 //! Structures and choices: each attribute of the original's derives for them, once.
-// Printed by scripts/derive from declarations/page.rs, with the sum 8957226f.
+// Printed by scripts/derive from declarations/page.rs, with the sum 103a85d2.
 
 ghost use Rattle.std.specs.Prelude.{◌≡◌, ◌∷◌, [], negsuc, IsTrue, OnErr, IfOk};
 ghost use Rattle.asn1.specs.AlternativeLists.{choice, alternative1, alternative2};
@@ -52,6 +52,8 @@ impl<'a> SimpleAsn1Readable<'a> for Signature {
 impl SimpleAsn1Writable for Signature {
     type Error = WriteError;
 
+    ghost length_known = { λ _. Unit {0} };
+
     fn tag() -> Tag {
         Tag::constructed(0x10)
     }
@@ -96,6 +98,8 @@ impl<'a> SimpleAsn1Readable<'a> for Nothing {
 
 impl SimpleAsn1Writable for Nothing {
     type Error = WriteError;
+
+    ghost length_known = { λ _. Unit {0} };
 
     fn tag() -> Tag {
         Tag::constructed(0x10)
@@ -198,6 +202,8 @@ impl<'a> SimpleAsn1Readable<'a> for Tagged<'a> {
 
 impl<'a> SimpleAsn1Writable for Tagged<'a> {
     type Error = WriteError;
+
+    ghost length_known = { λ _. Unit {0} };
 
     fn tag() -> Tag
         ensures value { result ≡ ⟦<Tagged<'a> as Asn1Type>⟧.der.content.tag }
@@ -383,6 +389,8 @@ impl<'a> SimpleAsn1Writable for Bag<'a> {
 
     ghost write_errors = { λ v e. ⟦<SetOfWriter<'a, u64> as SimpleAsn1Writable>⟧.write_errors
         v.numbers e };
+
+    ghost length_known = { λ _. Unit {0} };
 
     fn tag() -> Tag
         ensures value { result ≡ ⟦<Bag<'a> as Asn1Type>⟧.der.content.tag }

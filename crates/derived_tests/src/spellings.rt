@@ -1,5 +1,5 @@
 //! Spellings of Rust that the script reads: numbers, comments, attributes, lifetimes and visibility.
-// Printed by scripts/derive from declarations/spellings.rs, with the sum e84d926e.
+// Printed by scripts/derive from declarations/spellings.rs, with the sum a12b6ff3.
 
 ghost use Rattle.std.specs.Prelude.{◌≡◌, ◌∷◌, [], negsuc, IsTrue};
 ghost use Rattle.asn1.specs.Options.{option_meaning};
@@ -111,6 +111,8 @@ impl<'b> SimpleAsn1Readable<'b> for Spelled<'b> {
 impl<'b> SimpleAsn1Writable for Spelled<'b> {
     type Error = WriteError;
 
+    ghost length_known = { λ _. Unit {0} };
+
     fn tag() -> Tag
         ensures value { result ≡ ⟦<Spelled<'b> as Asn1Type>⟧.der.content.tag }
         ensures simple { ⟦<Spelled<'b> as Asn1Type>⟧.der.is_simple }
@@ -181,6 +183,8 @@ impl Asn1Type for Sent {
 
 impl SimpleAsn1Writable for Sent {
     type Error = WriteError;
+
+    ghost length_known = { λ _. Unit {0} };
 
     fn tag() -> Tag {
         Tag::constructed(0x10)

@@ -1,5 +1,5 @@
 //! Tags of every class, sets, and enums whose values have numbers: each form of the script for them, once.
-// Printed by scripts/derive from declarations/tags.rs, with the sum dbe11e8c.
+// Printed by scripts/derive from declarations/tags.rs, with the sum ca01da85.
 
 ghost use Rattle.std.specs.Prelude.{◌≡◌, ◌∷◌, [], true, false, IsTrue, OnErr, IfOk};
 ghost use Rattle.asn1.specs.AlternativeLists.{choice, alternative1, alternative2, alternative3};
@@ -292,6 +292,8 @@ impl<'a> SimpleAsn1Readable<'a> for Report<'a> {
 impl<'a> SimpleAsn1Writable for Report<'a> {
     type Error = WriteError;
 
+    ghost length_known = { λ _. Unit {0} };
+
     fn tag() -> Tag
         ensures value { result ≡ ⟦<Report<'a> as Asn1Type>⟧.der.content.tag }
         ensures simple { ⟦<Report<'a> as Asn1Type>⟧.der.is_simple }
@@ -366,6 +368,8 @@ impl<'a> SimpleAsn1Readable<'a> for Settings {
 
 impl SimpleAsn1Writable for Settings {
     type Error = WriteError;
+
+    ghost length_known = { λ _. Unit {0} };
 
     fn tag() -> Tag {
         Tag::constructed(0x11)

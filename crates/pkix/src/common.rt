@@ -11,9 +11,7 @@ pub use algorithm::{AlgorithmIdentifier, SubjectPublicKeyInfo};
 pub use extension::{Extension, Extensions};
 pub use general_name::{EdiPartyName, GeneralName, GeneralNames, OtherName};
 pub use named_bits::NamedBits;
-pub use names::{
-    Attribute, AttributeTypeAndValue, Attributes, DirectoryString, Name, TeletexString,
-};
+pub use names::{Attribute, AttributeTypeAndValue, Attributes, DirectoryString, Name};
 pub use time::Time;
 
 /// The laws of the types, which do nothing.
@@ -29,7 +27,7 @@ pub mod laws {
     pub use super::named_bits::laws::named_bits_is_lawful;
     pub use super::names::laws::{
         attribute_is_lawful, attribute_type_and_value_is_lawful, attributes_is_lawful,
-        directory_string_is_lawful, name_is_lawful, teletex_string_is_lawful,
+        directory_string_is_lawful, name_is_lawful,
     };
     pub use super::time::laws::time_is_lawful;
 }

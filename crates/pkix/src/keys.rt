@@ -1,5 +1,5 @@
 //! Keys, and the parameters of their algorithms (RFC 5958, 8017, 5915, 5480, 3279 and 4055).
-// Printed by scripts/derive from declarations/keys.rs, with the sum 9c7afdfd.
+// Printed by scripts/derive from declarations/keys.rs, with the sum b5da5c5d.
 
 ghost use Rattle.std.specs.Prelude.{◌≡◌, ◌∷◌, [], IsTrue};
 ghost use Rattle.asn1.specs.Options.{option_meaning};
@@ -209,6 +209,8 @@ impl<'a> SimpleAsn1Readable<'a> for RsaPublicKey<'a> {
 impl<'a> SimpleAsn1Writable for RsaPublicKey<'a> {
     type Error = WriteError;
 
+    ghost length_known = { λ _. Unit {0} };
+
     fn tag() -> Tag
         ensures value { result ≡ ⟦<RsaPublicKey<'a> as Asn1Type>⟧.der.content.tag }
         ensures simple { ⟦<RsaPublicKey<'a> as Asn1Type>⟧.der.is_simple }
@@ -273,6 +275,8 @@ impl<'a> SimpleAsn1Readable<'a> for OtherPrimeInfo<'a> {
 
 impl<'a> SimpleAsn1Writable for OtherPrimeInfo<'a> {
     type Error = WriteError;
+
+    ghost length_known = { λ _. Unit {0} };
 
     fn tag() -> Tag
         ensures value { result ≡ ⟦<OtherPrimeInfo<'a> as Asn1Type>⟧.der.content.tag }
@@ -375,6 +379,8 @@ impl<'a> SimpleAsn1Readable<'a> for RsaPrivateKey<'a> {
 impl<'a> SimpleAsn1Writable for RsaPrivateKey<'a> {
     type Error = WriteError;
 
+    ghost length_known = { λ _. Unit {0} };
+
     fn tag() -> Tag
         ensures value { result ≡ ⟦<RsaPrivateKey<'a> as Asn1Type>⟧.der.content.tag }
         ensures simple { ⟦<RsaPrivateKey<'a> as Asn1Type>⟧.der.is_simple }
@@ -457,6 +463,8 @@ impl<'a> SimpleAsn1Readable<'a> for EcPrivateKey<'a> {
 impl<'a> SimpleAsn1Writable for EcPrivateKey<'a> {
     type Error = WriteError;
 
+    ghost length_known = { λ _. Unit {0} };
+
     fn tag() -> Tag
         ensures value { result ≡ ⟦<EcPrivateKey<'a> as Asn1Type>⟧.der.content.tag }
         ensures simple { ⟦<EcPrivateKey<'a> as Asn1Type>⟧.der.is_simple }
@@ -519,6 +527,8 @@ impl<'a> SimpleAsn1Readable<'a> for DssParms<'a> {
 
 impl<'a> SimpleAsn1Writable for DssParms<'a> {
     type Error = WriteError;
+
+    ghost length_known = { λ _. Unit {0} };
 
     fn tag() -> Tag
         ensures value { result ≡ ⟦<DssParms<'a> as Asn1Type>⟧.der.content.tag }

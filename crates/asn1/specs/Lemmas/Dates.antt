@@ -1,15 +1,16 @@
 -- Dates: only contents octets are read, and all of them are.
-use Rattle.std.proofs.Common.{◌≡◌, ◌∙◌, ℕ, ◌+◌, ◌*◌, ◌/◌, ◌%◌, ◌<◌, ◌≤◌, ◌⊎◌, Bool, true, false, eqb, leb, get_or, zero, suc, Option, Some, None, List, [], ◌∷◌, length, Result, Ok, Err, IfErr, refl, sym, ap, subst, arith}
+use Rattle.std.proofs.Common.{◌≡◌, ◌∙◌, ℕ, ◌+◌, ◌*◌, ◌/◌, ◌%◌, ◌≤◌, Bool, true, false, eqb, leb, get_or, zero, suc, Option, Some, None, List, [], ◌∷◌, length, Ok, Err, IfErr, refl, sym, ap, subst, arith}
 use Rattle.std.specs.Prelude.{◌↔◌, ◌&&◌, MatchOption}
 use Rattle.std.specs.List.{list_all}
+use Rattle.std.proofs.lemmas.List.{nil_from_length}
 use Rattle.std.proofs.lemmas.Bool.{and_parts, and_from, le-leb, leb-true, eqb-true}
 use Rattle.asn1_core.specs.declared.parser.ParseErrorKind.TheVariants.{InvalidValue}
 use Rattle.asn1_core.specs.Text.{IsText}
-use Rattle.asn1_core.specs.Fault.{Fault, fault, IsOfText}
+use Rattle.asn1_core.specs.Fault.{fault, IsOfText}
 use Rattle.asn1_core.specs.Lemmas.Results.{ok_is, bind_ok, passed}
 use Rattle.asn1_values.specs.Times.{IsDate as IsDateAndTime, Moment, IsMoment, days, is_leap, month_lengths, two}
 use Rattle.asn1_values.specs.TimeSteps.{is_digit, front_two}
-use Rattle.asn1_values.specs.Lemmas.Times.{moment_by_test, two_takes, two_again, IsRejected, bind_rejected, if_rejected, rejected_faults, none_rejected}
+use Rattle.asn1_values.specs.Lemmas.Times.{moment_by_test, two_rejected, two_takes, two_again, IsRejected, bind_rejected, if_rejected, rejected_faults, none_rejected}
 use Rattle.asn1.specs.Dates.{Day, IsDay, IsDate, IsDayText, is_day, day_alone, day_text, read_day}
 
 -- ---- the test of a date
@@ -51,16 +52,12 @@ few_days year month = all_at (month_lengths (is_leap year)) (few_lengths (is_lea
 
 -- ---- the end
 
-nil_of : (c : List ℕ) → length c ≡ 0 → c ≡ []
-nil_of [] e = refl
-nil_of (x ∷ c) e = absurd (omega (arith, e))
-
 alone_is : (d : Day) (after : List ℕ) (x : Day) → day_alone d after ≡ Ok x → (is_day d ≡ true) × (after ≡ []) × (d ≡ x)
 unfolding day_alone
 alone_is d after x e =
     let p = passed (is_day d && eqb (length after) 0) (Ok d) _ x e in
     let q = and_parts _ _ p.0 in
-    (q.0, nil_of after (eqb-true (length after) 0 q.1), ok_is _ _ p.1)
+    (q.0, nil_from_length after (eqb-true (length after) 0 q.1), ok_is _ _ p.1)
 
 pub alone_ok : (d : Day) → IsDate d → day_alone d [] ≡ Ok d
 unfolding day_alone
@@ -111,12 +108,6 @@ day_again d h =
 
 -- ---- errors
 
-two_rejected : (c : List ℕ) → IsRejected (front_two c)
-unfolding front_two
-two_rejected [] = refl
-two_rejected (a ∷ []) = refl
-two_rejected (a ∷ b ∷ after) = if_rejected (is_digit a && is_digit b) _ _ tt refl
-
 alone_rejected : (d : Day) (after : List ℕ) → IsRejected (day_alone d after)
 unfolding day_alone
 alone_rejected d after = if_rejected (is_day d && eqb (length after) 0) _ _ tt refl
@@ -134,7 +125,7 @@ day_faults c = rejected_faults (read_day c) (day_rejected c)
 -- ---- what the code returns
 
 pub alone_read : (d : Day) (after : List ℕ) → IsDate d → length after ≡ 0 → day_alone d after ≡ Ok d
-alone_read d after h e = ap (day_alone d) (nil_of after e) ∙ alone_ok d h
+alone_read d after h e = ap (day_alone d) (nil_from_length after e) ∙ alone_ok d h
 
 pub alone_refused : (d : Day) (after : List ℕ) → (IsDate d → length after ≡ 0 → ⊥) → day_alone d after ≡ Err (fault InvalidValue)
 alone_refused d after none = none_rejected (day_alone d after) (alone_rejected d after) (λ x e. let a = alone_is d after x e in none (day_by_test d a.0) (ap length a.1))

@@ -1,16 +1,17 @@
 -- Relative object identifiers: only contents octets are read, and all of them are.
-use Rattle.std.proofs.Common.{◌≡◌, ℕ, zero, suc, ◌<◌, ◌≤◌, get_or, lit<, Bool, true, false, List, [], ◌∷◌, ◌++◌, length, Option, Some, None, Result, Ok, Err, IfErr, refl, sym, ap, ◌∙◌, ⊎_elim, arith, eqb}
-use Rattle.std.specs.Prelude.{◌↔◌, is_some, decimal, codes}
+use Rattle.std.proofs.Common.{◌≡◌, ℕ, zero, suc, ◌<◌, ◌≤◌, get_or, lit<, true, false, List, [], ◌∷◌, ◌++◌, length, Option, Some, None, Result, Ok, Err, IfErr, refl, sym, ap, ◌∙◌, ⊎_elim, arith, eqb}
+use Rattle.std.specs.Prelude.{is_some, decimal}
 use Rattle.std.proofs.lemmas.Bool.{cases_lt, ne_eqb}
 use Rattle.asn1_core.specs.declared.parser.ParseErrorKind.TheVariants.{InvalidValue}
 use Rattle.asn1_core.specs.Text.{IsText}
 use Rattle.asn1_core.specs.Base128.{number_front}
 use Rattle.asn1_core.specs.Fault.{Fault, fault, IsOfText}
+use Rattle.asn1_core.specs.Lemmas.Facts.{octet_at}
 use Rattle.asn1_core.specs.Lemmas.Faults.{missed_faults}
 use Rattle.asn1_core.specs.Lemmas.Texts.{IsText-from_reads}
 use Rattle.asn1_values.specs.Identifier.{identifier_content, numbers_in, or_invalid, or_none, identifier_numbers}
 use Rattle.asn1_values.specs.IdentifierSteps.{others_text}
-use Rattle.asn1_values.specs.Lemmas.Identifier.{has_front, numbers_is, numbers_nil, numbers_of, numbers_joined, some_content}
+use Rattle.asn1_values.specs.Lemmas.Identifier.{content_some, has_front, none_of, numbers_is, numbers_nil, numbers_of, numbers_joined, or_invalid_faults, refuses_ok, some_content, valid_numbers}
 use Rattle.asn1_values.specs.Lemmas.Dotted.{front_numbers}
 use Rattle.asn1.specs.Relative.{IsRelative, IsRelativeContent, IsRelativeForm, RelativesAreRead, read_relative, arcs_text}
 
@@ -24,25 +25,14 @@ pub relative_some : (t : List ℕ) → 0 < length t → read_relative t ≡ or_i
 unfolding read_relative
 relative_some t some = rw (ne_eqb (length t) 0 (λ (z : length t ≡ 0). absurd (omega arith))) refl
 
-found : (o : Option (List ℕ)) (arcs : List ℕ) → or_invalid o ≡ Ok arcs → o ≡ Some arcs
-found None arcs e = absurd cc
-found (Some ns) arcs e = cc
-
-refused : (f : Fault) (arcs : List ℕ) (r : Result (List ℕ) Fault) → r ≡ Err f → r ≡ Ok arcs → ⊥
-refused f arcs r a b = cc
-
-arcs_some : (arcs : List ℕ) → 0 < length (identifier_content arcs) → 0 < length arcs
-arcs_some [] some = absurd (omega (arith, some))
-arcs_some (n ∷ ns) some = omega arith
-
 pub relative_takes : (c arcs : List ℕ) → IsText c → read_relative c ≡ Ok arcs → (c ≡ identifier_content arcs) × IsRelative arcs
 relative_takes c arcs is e = ⊎_elim
-    (λ (none : length c < 1). absurd (refused _ arcs _ (relative_none c (omega arith)) e))
+    (λ (none : length c < 1). absurd (refuses_ok _ arcs _ (relative_none c (omega arith)) e))
     (λ (some : 1 ≤ length c).
-    let cut = numbers_is c arcs is (found (numbers_in c) arcs (sym (relative_some c (omega arith)) ∙ e)) in
+    let cut = numbers_is c arcs is (valid_numbers (numbers_in c) arcs (sym (relative_some c (omega arith)) ∙ e)) in
     let same = ap length cut.content in (
       cut.content,
-      record { some = arcs_some arcs (omega arith); small = cut.small },
+      record { some = content_some arcs (omega arith); small = cut.small },
     )) (cases_lt (length c) 1)
 
 pub relative_again : (arcs : List ℕ) → IsRelative arcs → read_relative (identifier_content arcs) ≡ Ok arcs
@@ -54,17 +44,9 @@ relatives_are_read octets arcs is = (
   λ h. ap read_relative h.content ∙ relative_again arcs h.identifier,
 )
 
-or_invalid_faults : (o : Option (List ℕ)) → IfErr (or_invalid o) IsOfText
-or_invalid_faults (Some arcs) = tt
-or_invalid_faults None = λ e. cc
-
 pub relative_faults : (c : List ℕ) → IfErr (read_relative c) IsOfText
 unfolding read_relative
 relative_faults c = missed_faults (eqb (length c) 0) InvalidValue _ (λ e. cc) (or_invalid_faults (numbers_in c))
-
-none_of : (o : Option (List ℕ)) → is_some o ≡ false → or_invalid o ≡ Err (fault InvalidValue)
-none_of None e = refl
-none_of (Some ns) e = absurd cc
 
 pub relative_refused : (t : List ℕ) (f : Fault) → is_some (numbers_in t) ≡ false → 0 < length t → f ≡ fault InvalidValue → read_relative t ≡ Err f
 relative_refused t f cuts some e = relative_some t some ∙ none_of (numbers_in t) cuts ∙ ap Err (sym e)
@@ -82,11 +64,6 @@ form_content t form =
     let taken = relative_takes t (identifier_numbers t) (form_text t form) (relative_read t form.some form.cuts) in
     record { identifier = taken.1; content = taken.0 }
 
-reads : (t : List ℕ) → IsText t → (k : ℕ) → get_or t k 0 < 256
-reads [] is k = lit< tt
-reads (x ∷ xs) is zero = is.0
-reads (x ∷ xs) is (suc k) = reads xs is.1 k
-
 -- the first arc, and the octets after it
 pub record IsSplit (t : List ℕ) (n : ℕ) (rest : List ℕ) : Type 0 where
   pub arcs : identifier_numbers t ≡ n ∷ identifier_numbers rest
@@ -103,7 +80,7 @@ split t n rest form e =
 pub form_rest : (t : List ℕ) (n : ℕ) (rest : List ℕ) → IsRelativeForm t → number_front t ≡ Ok (n, rest) → 0 < length rest → IsRelativeForm rest
 form_rest t n rest form e some =
     let found = split t n rest form e in
-    record { some = some; cuts = found.cuts; each = reads rest found.octets }
+    record { some = some; cuts = found.cuts; each = octet_at rest found.octets }
 
 pub split_last : (t : List ℕ) (n : ℕ) (rest : List ℕ) → IsRelativeForm t → number_front t ≡ Ok (n, rest) → length rest ≡ 0 → identifier_numbers t ≡ n ∷ []
 split_last t n rest form e none = (split t n rest form e).arcs ∙ ap (λ (o : Option (List ℕ)). n ∷ or_none o) (numbers_nil rest none)

@@ -28,15 +28,12 @@ pub struct Attribute<'a> {
 /// Attributes (RFC 2986, 4.1), a SET OF Attribute.
 pub type Attributes<'a> = asn1::SetOf<'a, Attribute<'a>>;
 
-/// TeletexString (X.680 41), of any octets.
-pub type TeletexString<'a> = asn1::UniversalImplicit<&'a [u8], 20>;
-
 /// DirectoryString (RFC 5280, 4.1.2.4), a CHOICE: the value of most attributes of names. Of each string the RFC says
 /// `SIZE (1..MAX)`, which isn't checked.
 #[derive(asn1::Asn1Read, asn1::Asn1Write, Debug, Clone, PartialEq, Eq)]
 pub enum DirectoryString<'a> {
     /// teletexString: the RFC allows it only in names that stood before.
-    Teletex(TeletexString<'a>),
+    Teletex(asn1::TeletexString<'a>),
     /// printableString.
     Printable(asn1::PrintableString<'a>),
     /// universalString: the RFC allows it only in names that stood before.

@@ -1,6 +1,6 @@
 //! The policies of a certificate, and what it demands of those that follow it in a path (RFC 5280, 4.2.1.4, 4.2.1.5,
 //! 4.2.1.10, 4.2.1.11 and 4.2.1.14).
-// Printed by scripts/derive from declarations/certificate/policies.rs, with the sum 976fa4b9.
+// Printed by scripts/derive from declarations/certificate/policies.rs, with the sum b508cb35.
 
 ghost use Rattle.std.specs.Prelude.{◌≡◌, ◌∷◌, [], IsTrue, OnErr, IfOk};
 ghost use Rattle.asn1.specs.AlternativeLists.{choice, alternative1, alternative2, alternative3, alternative4};
@@ -62,6 +62,8 @@ impl<'a> SimpleAsn1Readable<'a> for PolicyQualifierInfo<'a> {
 
 impl<'a> SimpleAsn1Writable for PolicyQualifierInfo<'a> {
     type Error = WriteError;
+
+    ghost length_known = { λ _. Unit {0} };
 
     fn tag() -> Tag
         ensures value { result ≡ ⟦<PolicyQualifierInfo<'a> as Asn1Type>⟧.der.content.tag }
@@ -348,6 +350,8 @@ impl<'a> SimpleAsn1Readable<'a> for PolicyInformation<'a> {
 impl<'a> SimpleAsn1Writable for PolicyInformation<'a> {
     type Error = WriteError;
 
+    ghost length_known = { λ _. Unit {0} };
+
     fn tag() -> Tag
         ensures value { result ≡ ⟦<PolicyInformation<'a> as Asn1Type>⟧.der.content.tag }
         ensures simple { ⟦<PolicyInformation<'a> as Asn1Type>⟧.der.is_simple }
@@ -409,6 +413,8 @@ impl<'a> SimpleAsn1Readable<'a> for PolicyMapping {
 
 impl SimpleAsn1Writable for PolicyMapping {
     type Error = WriteError;
+
+    ghost length_known = { λ _. Unit {0} };
 
     fn tag() -> Tag {
         Tag::constructed(0x10)
@@ -575,6 +581,8 @@ impl<'a> SimpleAsn1Readable<'a> for NameConstraints<'a> {
 impl<'a> SimpleAsn1Writable for NameConstraints<'a> {
     type Error = WriteError;
 
+    ghost length_known = { λ _. Unit {0} };
+
     fn tag() -> Tag
         ensures value { result ≡ ⟦<NameConstraints<'a> as Asn1Type>⟧.der.content.tag }
         ensures simple { ⟦<NameConstraints<'a> as Asn1Type>⟧.der.is_simple }
@@ -652,6 +660,8 @@ impl<'a> SimpleAsn1Readable<'a> for PolicyConstraints<'a> {
 
 impl<'a> SimpleAsn1Writable for PolicyConstraints<'a> {
     type Error = WriteError;
+
+    ghost length_known = { λ _. Unit {0} };
 
     fn tag() -> Tag
         ensures value { result ≡ ⟦<PolicyConstraints<'a> as Asn1Type>⟧.der.content.tag }

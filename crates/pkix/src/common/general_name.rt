@@ -1,5 +1,5 @@
 //! General names (RFC 5280, 4.2.1.6).
-// Printed by scripts/derive from declarations/common/general_name.rs, with the sum 2e6617a9.
+// Printed by scripts/derive from declarations/common/general_name.rs, with the sum 2430951a.
 
 ghost use Rattle.std.specs.Prelude.{◌≡◌, ◌∷◌, [], IsTrue, OnErr, IfOk};
 ghost use Rattle.asn1.specs.AlternativeLists.{choice, alternative1, alternative2, alternative3, alternative4};
@@ -66,6 +66,8 @@ impl<'a> SimpleAsn1Readable<'a> for OtherName<'a> {
 
 impl<'a> SimpleAsn1Writable for OtherName<'a> {
     type Error = WriteError;
+
+    ghost length_known = { λ _. Unit {0} };
 
     fn tag() -> Tag
         ensures value { result ≡ ⟦<OtherName<'a> as Asn1Type>⟧.der.content.tag }
@@ -141,6 +143,8 @@ impl<'a> SimpleAsn1Readable<'a> for EdiPartyName<'a> {
 
 impl<'a> SimpleAsn1Writable for EdiPartyName<'a> {
     type Error = WriteError;
+
+    ghost length_known = { λ _. Unit {0} };
 
     fn tag() -> Tag
         ensures value { result ≡ ⟦<EdiPartyName<'a> as Asn1Type>⟧.der.content.tag }

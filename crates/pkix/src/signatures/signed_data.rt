@@ -1,5 +1,5 @@
 //! Signed data (RFC 5652), as far as time stamps need it.
-// Printed by scripts/derive from declarations/signatures/signed_data.rs, with the sum 3d6fcea2.
+// Printed by scripts/derive from declarations/signatures/signed_data.rs, with the sum 6aa76679.
 
 ghost use Rattle.std.specs.Prelude.{◌≡◌, ◌∷◌, [], IsTrue};
 ghost use Rattle.asn1.specs.Options.{option_meaning};
@@ -60,6 +60,8 @@ impl<'a> SimpleAsn1Readable<'a> for ContentInfo<'a> {
 
 impl<'a> SimpleAsn1Writable for ContentInfo<'a> {
     type Error = WriteError;
+
+    ghost length_known = { λ _. Unit {0} };
 
     fn tag() -> Tag
         ensures value { result ≡ ⟦<ContentInfo<'a> as Asn1Type>⟧.der.content.tag }
@@ -129,6 +131,8 @@ impl<'a> SimpleAsn1Readable<'a> for EncapsulatedContentInfo<'a> {
 
 impl<'a> SimpleAsn1Writable for EncapsulatedContentInfo<'a> {
     type Error = WriteError;
+
+    ghost length_known = { λ _. Unit {0} };
 
     fn tag() -> Tag
         ensures value { result ≡ ⟦<EncapsulatedContentInfo<'a> as Asn1Type>⟧.der.content.tag }
@@ -220,6 +224,8 @@ impl<'a> SimpleAsn1Readable<'a> for SignedData<'a> {
 
 impl<'a> SimpleAsn1Writable for SignedData<'a> {
     type Error = WriteError;
+
+    ghost length_known = { λ _. Unit {0} };
 
     fn tag() -> Tag
         ensures value { result ≡ ⟦<SignedData<'a> as Asn1Type>⟧.der.content.tag }

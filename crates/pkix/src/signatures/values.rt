@@ -1,5 +1,5 @@
 //! Values of signatures (RFC 3279, 2.2.2 and 2.2.3; RFC 8017, 9.2).
-// Printed by scripts/derive from declarations/signatures/values.rs, with the sum 6fd34bda.
+// Printed by scripts/derive from declarations/signatures/values.rs, with the sum 7ca5e094.
 
 ghost use Rattle.std.specs.Prelude.{◌≡◌, ◌∷◌, [], IsTrue};
 ghost use Rattle.asn1.specs.Reads.{HasOneEncoding, ReadsContents};
@@ -52,6 +52,8 @@ impl<'a> SimpleAsn1Readable<'a> for EcdsaSigValue<'a> {
 
 impl<'a> SimpleAsn1Writable for EcdsaSigValue<'a> {
     type Error = WriteError;
+
+    ghost length_known = { λ _. Unit {0} };
 
     fn tag() -> Tag
         ensures value { result ≡ ⟦<EcdsaSigValue<'a> as Asn1Type>⟧.der.content.tag }

@@ -1,5 +1,5 @@
 //! What a time stamp says (RFC 3161, 2.4.2).
-// Printed by scripts/derive from declarations/timestamps/info.rs, with the sum 8da88d6b.
+// Printed by scripts/derive from declarations/timestamps/info.rs, with the sum 21fd2407.
 
 ghost use Rattle.std.specs.Prelude.{◌≡◌, ◌∷◌, [], false, IsTrue};
 ghost use Rattle.asn1.specs.Options.{option_meaning};
@@ -62,6 +62,8 @@ impl<'a> SimpleAsn1Readable<'a> for Accuracy<'a> {
 
 impl<'a> SimpleAsn1Writable for Accuracy<'a> {
     type Error = WriteError;
+
+    ghost length_known = { λ _. Unit {0} };
 
     fn tag() -> Tag
         ensures value { result ≡ ⟦<Accuracy<'a> as Asn1Type>⟧.der.content.tag }

@@ -1,10 +1,11 @@
 //! What certificates, revocation lists, requests and time stamps have in common (RFC 5280).
 
 use crate::boundaries::are_answered;
+use asn1::TeletexString;
 use pkix::common::{
     AlgorithmIdentifier, Attribute, AttributeTypeAndValue, Attributes, DirectoryString,
     EdiPartyName, Extension, Extensions, GeneralName, GeneralNames, Name, OtherName,
-    SubjectPublicKeyInfo, TeletexString, Time,
+    SubjectPublicKeyInfo, Time,
 };
 use std::alloc::Global;
 use std::test::Fail;

@@ -1,11 +1,11 @@
 use Rattle.std.proofs.Common.{◌≡◌, ◌+◌, ◌-◌, ◌^◌, ◌<◌, ◌≤◌, ◌++◌, ◌∷◌, [], suc, length, take, drop, replicate, bit_or, ℕ, List, arith, sym, ap, refl, ◌∙◌, append_assoc}
 use Rattle.std.specs.Int.Digits.{digits_of}
 use Rattle.std.proofs.lemmas.Int.Digits.{length-digits_of_step}
-use Rattle.std.proofs.lemmas.List.{length-append, length-replicate, length-set, set_split, take-set-le, take-take}
+use Rattle.std.proofs.lemmas.List.{length-append, length-replicate, length-set, nil_from_length, set_split, take-set-le, take-take}
 use Rattle.asn1_core.specs.Length.{length_text}
 use Rattle.asn1_core.specs.Buffer.{Buffer}
 use Rattle.asn1_core.specs.Lemmas.Lengths.{length_text_high, write_step, low_eight}
-use Rattle.asn1_core.proofs.Patch.{moved_is, moved_tail, moved_front, some_number, none_left, top_of}
+use Rattle.asn1_core.proofs.Patch.{moved_is, moved_tail, moved_front, some_number, top_of}
 use Rattle.asn1_core.proofs.writer.WriteBuf.patch_long_length.Goals as goal
 
 -- a prefix of a prefix
@@ -77,7 +77,7 @@ returns-clause-ok c =
     let m : moved ≡ take (start + more) c.push_zeros.new.octets.items ++ drop start xs = moved_is xs start more low within _ _ big (rw ll at c.copy_within.ensures.items) in
     let now = c.loop-place.self-inside.octets.items in
     let place : c.loop-place.place ≡ start = omega (arith, inv.left, c.loop-place-test.false) in
-    let done : digits_of 256 c.loop-place.rest ≡ [] = none_left _ (omega (arith, inv.left, place)) in
+    let done : digits_of 256 c.loop-place.rest ≡ [] = nil_from_length _ (omega (arith, inv.left, place)) in
     let behind : drop start now ≡ digits_of 256 n ++ drop start xs =
     ap (λ (k : ℕ). drop k now) (sym place) ∙ ap (λ (t : List ℕ). t ++ drop c.loop-place.place now) (sym done) ∙ inv.whole ∙ ap (λ (t : List ℕ). digits_of 256 n ++ t) (moved_tail xs start more low within _ _ big m) in
     let front : take (start - 1) now ≡ take (start - 1) xs =
