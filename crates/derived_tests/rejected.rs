@@ -1,4 +1,4 @@
-// What scripts/derive rejects: declarations with a line between them, each with the reason at the line that it names, and
+// What tools/derive rejects: declarations with a line between them, each with the reason at the line that it names, and
 // with the section of docs/OWN_TYPES.md that it names, unless this is "What the script prints".
 
 #[derive(asn1::Asn1Read)]

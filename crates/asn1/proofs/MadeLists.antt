@@ -8,11 +8,12 @@ use Rattle.asn1_core.specs.declared.parser.ParseErrorKind.{ParseErrorKind}
 use Rattle.asn1_core.specs.declared.parser.ParseErrorKind.TheVariants.{InvalidLength}
 use Rattle.asn1_core.specs.declared.parser.Place.{Place}
 use Rattle.asn1_core.specs.declared.tag.Tag.{Tag}
-use Rattle.asn1_core.specs.Text.{IsText}
-use Rattle.asn1_core.specs.Fault.{Fault}
-use Rattle.asn1_core.specs.Element.{Element, element, element_text, front}
-use Rattle.asn1_core.specs.Reading.{Answers, Fits}
-use Rattle.asn1_core.specs.Listing.{text_less, Each, InOrder, joined, join, listing, place_text}
+use Rattle.asn1_core.specs.Base256.{IsOctets}
+use Rattle.asn1_core.specs.ReadError.{ReadError}
+use Rattle.asn1_core.specs.Element.{Element, element, element_encoding, leading_element}
+use Rattle.asn1_core.specs.Reading.{Returns, Fits}
+use Rattle.std.specs.List.{concat, flat_map, AllByRecursion}
+use Rattle.asn1_core.specs.Listing.{encoding_less, InOrder, listing, place_encoding}
 use Rattle.asn1_core.specs.Lemmas.Contents.{fits_is_readable}
 use Rattle.asn1_core.specs.Lemmas.Elements.{element_ok, element_octets, front_long}
 use Rattle.asn1_core.specs.Lemmas.Listing.{listing_is}
@@ -21,46 +22,46 @@ use Rattle.asn1_core.specs.Der.{Der, encoding_of}
 use Rattle.asn1_core.specs.Reads.{ReadsContents}
 use Rattle.asn1.specs.Lists.{IsInBounds, sequence_read}
 use Rattle.asn1.specs.ListTypes.{items_inside}
-use Rattle.asn1.specs.LawsOf.Lists.{sequence_of_takes, sequence_of_again, set_of_again}
+use Rattle.asn1.specs.LawsOf.Lists.{sequence_of_consumes, sequence_of_read_back, set_of_read_back}
 use Rattle.asn1.specs.Types.{list_der, set_der}
 use Rattle.asn1.specs.Sets.{set_read}
 use Rattle.asn1.specs.SetTypes.{set_inside}
 use Rattle.asn1.specs.MadeLists.{AreContents, place_value, in_order}
 use Rattle.asn1.proofs.ReadListings.{joined_map}
 
-module _ {M : Type 0} (text : M → List ℕ) where
-  placed : (m n : M) (ns : List M) (b : Bool) → map text (place_value text m ns) ≡ place_text (text m) (map text ns) →
-      map text (if b then n ∷ place_value text m ns else m ∷ n ∷ ns) ≡ (if b then text n ∷ place_text (text m) (map text ns) else text m ∷ text n ∷ map text ns)
-  placed m n ns true e = ap (λ (ts : List (List ℕ)). text n ∷ ts) e
+module _ {M : Type 0} (encoding : M → List ℕ) where
+  placed : (m n : M) (ns : List M) (b : Bool) → map encoding (place_value encoding m ns) ≡ place_encoding (encoding m) (map encoding ns) →
+      map encoding (if b then n ∷ place_value encoding m ns else m ∷ n ∷ ns) ≡ (if b then encoding n ∷ place_encoding (encoding m) (map encoding ns) else encoding m ∷ encoding n ∷ map encoding ns)
+  placed m n ns true e = ap (λ (ts : List (List ℕ)). encoding n ∷ ts) e
   placed m n ns false e = refl
 
-  place_texts : (m : M) (ns : List M) → map text (place_value text m ns) ≡ place_text (text m) (map text ns)
+  place_texts : (m : M) (ns : List M) → map encoding (place_value encoding m ns) ≡ place_encoding (encoding m) (map encoding ns)
   place_texts m [] = refl
-  place_texts m (n ∷ ns) = placed m n ns (text_less (text n) (text m)) (place_texts m ns)
+  place_texts m (n ∷ ns) = placed m n ns (encoding_less (encoding n) (encoding m)) (place_texts m ns)
 
   -- the encodings of values in order are the listing of their encodings
-  in_order_texts : (ms : List M) → map text (in_order text ms) ≡ listing (map text ms)
+  in_order_texts : (ms : List M) → map encoding (in_order encoding ms) ≡ listing (map encoding ms)
   in_order_texts [] = refl
-  in_order_texts (m ∷ ms) = place_texts m (in_order text ms) ∙ ap (place_text (text m)) (in_order_texts ms)
+  in_order_texts (m ∷ ms) = place_texts m (in_order encoding ms) ∙ ap (place_encoding (encoding m)) (in_order_texts ms)
 
-  pub in_order_joined : (ms : List M) → join (listing (map text ms)) ≡ joined text (in_order text ms)
-  in_order_joined ms = sym (joined_map text (in_order text ms) ∙ ap join (in_order_texts ms))
+  pub in_order_joined : (ms : List M) → concat (listing (map encoding ms)) ≡ flat_map encoding (in_order encoding ms)
+  in_order_joined ms = sym (joined_map encoding (in_order encoding ms) ∙ ap concat (in_order_texts ms))
 
-  in_order_is : (ms : List M) → InOrder text_less [] (map text (in_order text ms))
-  in_order_is ms = subst (InOrder text_less []) (sym (in_order_texts ms)) (listing_is (map text ms)).sorted
+  in_order_is : (ms : List M) → InOrder encoding_less [] (map encoding (in_order encoding ms))
+  in_order_is ms = subst (InOrder encoding_less []) (sym (in_order_texts ms)) (listing_is (map encoding ms)).sorted
 
   module _ (P : M → Type 0) where
-    each_by : (m n : M) (ns : List M) (b : Bool) → P m → P n → Each P ns → Each P (place_value text m ns) → Each P (if b then n ∷ place_value text m ns else m ∷ n ∷ ns)
+    each_by : (m n : M) (ns : List M) (b : Bool) → P m → P n → AllByRecursion P ns → AllByRecursion P (place_value encoding m ns) → AllByRecursion P (if b then n ∷ place_value encoding m ns else m ∷ n ∷ ns)
     each_by m n ns true p q each placed = (q, placed)
     each_by m n ns false p q each placed = (p, (q, each))
 
-    each_placed : (m : M) (ns : List M) → P m → Each P ns → Each P (place_value text m ns)
+    each_placed : (m : M) (ns : List M) → P m → AllByRecursion P ns → AllByRecursion P (place_value encoding m ns)
     each_placed m [] p each = (p, tt)
-    each_placed m (n ∷ ns) p each = each_by m n ns (text_less (text n) (text m)) p each.0 each.1 (each_placed m ns p each.1)
+    each_placed m (n ∷ ns) p each = each_by m n ns (encoding_less (encoding n) (encoding m)) p each.0 each.1 (each_placed m ns p each.1)
 
-    pub each_in_order : (ms : List M) → Each P ms → Each P (in_order text ms)
+    pub each_in_order : (ms : List M) → AllByRecursion P ms → AllByRecursion P (in_order encoding ms)
     each_in_order [] each = tt
-    each_in_order (m ∷ ms) each = each_placed m (in_order text ms) each.0 (each_in_order ms each.1)
+    each_in_order (m ∷ ms) each = each_placed m (in_order encoding ms) each.0 (each_in_order ms each.1)
 
 -- ---- the contents octets that are read
 
@@ -77,24 +78,24 @@ element_or e (Err kind) = e
 one_front : (e f : Element) (rest other : List ℕ) → ◌≡◌ {A = Front} (Ok (e, rest)) (Ok (f, other)) → e ≡ f
 one_front e f rest other same = ap (element_or e) same
 
-module _ (octets : List ℕ) (tag : Tag) (content : List ℕ) (small : tag.value < 2 ^ 32) (is : octets ≡ element_text (element tag content)) where
-  fronts_short : length content < 2 ^ 32 → front octets ≡ Ok (element tag content, [])
-  fronts_short short = ap front (is ∙ sym (append-nil (element_text (element tag content)))) ∙ element_ok (element tag content) [] (record { tag = small; content = short })
+module _ (octets : List ℕ) (tag : Tag) (content : List ℕ) (small : tag.value < 2 ^ 32) (is : octets ≡ element_encoding (element tag content)) where
+  fronts_short : length content < 2 ^ 32 → leading_element octets ≡ Ok (element tag content, [])
+  fronts_short short = ap leading_element (is ∙ sym (append-nil (element_encoding (element tag content)))) ∙ element_ok (element tag content) [] (record { tag = small; content = short })
 
-  fronts_long : 2 ^ 32 ≤ length content → front octets ≡ Err InvalidLength
-  fronts_long long = ap front (is ∙ sym (append-nil (element_text (element tag content)))) ∙ front_long (element tag content) [] small long
+  fronts_long : 2 ^ 32 ≤ length content → leading_element octets ≡ Err InvalidLength
+  fronts_long long = ap leading_element (is ∙ sym (append-nil (element_encoding (element tag content)))) ∙ front_long (element tag content) [] small long
 
   -- an element is found
-  pub contents_found : (e : Element) (rest : List ℕ) (found : Bor (List ℕ)) → IsText octets → front octets ≡ Ok (e, rest) → found.now ≡ e.content → AreContents content (Ok found)
+  pub contents_found : (e : Element) (rest : List ℕ) (found : Bor (List ℕ)) → IsOctets octets → leading_element octets ≡ Ok (e, rest) → found.now ≡ e.content → AreContents content (Ok found)
   contents_found e rest found text front_is now = ⊎_elim
       (λ (short : length content < 2 ^ 32).
       let same : e ≡ element tag content = one_front e (element tag content) rest [] (sym front_is ∙ fronts_short short) in
-      (now ∙ ap (λ (x : Element). x.content) same, element_octets (element tag content) (subst IsText is text), short))
+      (now ∙ ap (λ (x : Element). x.content) same, element_octets (element tag content) (subst IsOctets is text), short))
       (λ (long : 2 ^ 32 ≤ length content). absurd (no_fault (e, rest) InvalidLength (sym front_is ∙ fronts_long long)))
       (cases_lt (length content) (2 ^ 32))
 
   -- no element is found
-  pub contents_refused : (result : Result (Bor (List ℕ)) Fault) (fault : Fault) → IsErrAnd result (λ x. x ≡ fault) → front octets ≡ Err fault.kind → AreContents content result
+  pub contents_refused : (result : Result (Bor (List ℕ)) ReadError) (fault : ReadError) → IsErrAnd result (λ x. x ≡ fault) → leading_element octets ≡ Err fault.kind → AreContents content result
   contents_refused (Ok found) fault is_err front_is = absurd is_err
   contents_refused (Err f) fault is_err front_is = ⊎_elim
       (λ (short : length content < 2 ^ 32). absurd (no_fault (element tag content, []) fault.kind (sym (fronts_short short) ∙ front_is)))
@@ -102,60 +103,60 @@ module _ (octets : List ℕ) (tag : Tag) (content : List ℕ) (small : tag.value
       (cases_lt (length content) (2 ^ 32))
 
 -- an encoding that can be read has fewer than 2^32 contents octets
-pub fits_is_short : (tag : Tag) (content : List ℕ) → tag.value < 2 ^ 32 → Fits (element_text (element tag content)) → length content < 2 ^ 32
+pub fits_is_short : (tag : Tag) (content : List ℕ) → tag.value < 2 ^ 32 → Fits (element_encoding (element tag content)) → length content < 2 ^ 32
 fits_is_short tag content small fits = (fits_is_readable (element tag content) small fits).content
 
 -- ---- what lists and sets of such octets mean
 
 -- a value that is returned means what is read
-pub means_read : {V M : Type 0} (view : V → M) (out : List Place → Type 0) (result : Result V Fault) (read : Result M Fault) (m : M) → Answers view out result read → ((n : M) → read ≡ Ok n → n ≡ m) → IfOk result (λ v. view v ≡ m)
+pub means_read : {V M : Type 0} (view : V → M) (out : List Place → Type 0) (result : Result V ReadError) (read : Result M ReadError) (m : M) → Returns view out result read → ((n : M) → read ≡ Ok n → n ≡ m) → IfOk result (λ v. view v ≡ m)
 means_read view out (Ok v) read m answers same = same (view v) answers
 means_read view out (Err f) read m answers same = tt
 
-module _ {V : Type 0} (d : Der V) (ms : List d.Meaning) (valid : Each d.valid ms) where
+module _ {V : Type 0} (d : Der V) (ms : List d.Meaning) (valid : AllByRecursion d.valid ms) where
   -- values in order are a value of a set
-  pub valid_in_order : Each d.valid (in_order d.text ms) × InOrder text_less [] (map d.text (in_order d.text ms))
-  valid_in_order = (each_in_order d.text d.valid ms valid, in_order_is d.text ms)
+  pub valid_in_order : AllByRecursion d.valid (in_order d.encoding ms) × InOrder encoding_less [] (map d.encoding (in_order d.encoding ms))
+  valid_in_order = (each_in_order d.encoding d.valid ms valid, in_order_is d.encoding ms)
 
-  module _ (lawful : d.lawful) (is_element : d.is_element) (allowed : Each d.allowed ms) where
+  module _ (lawful : d.lawful) (is_element : d.is_element) (allowed : AllByRecursion d.allowed ms) where
     -- items of a list have one encoding, however many a list may have
-    pub same_list : (low high : ℕ) (ns : List d.Meaning) → IsText (joined d.text ms) → length (joined d.text ms) < 2 ^ 32 → sequence_read d.read low high (joined d.text ms) ≡ Ok ns → ns ≡ ms
-    same_list low high ns text short e =
-        let h = sequence_of_takes low high (encoding_of d) d.laws (joined d.text ms) ns text e in
+    pub same_list : (low high : ℕ) (ns : List d.Meaning) → IsOctets (flat_map d.encoding ms) → length (flat_map d.encoding ms) < 2 ^ 32 → sequence_read d.read low high (flat_map d.encoding ms) ≡ Ok ns → ns ≡ ms
+    same_list low high ns octets short e =
+        let h = sequence_of_consumes low high (encoding_of d) d.laws (flat_map d.encoding ms) ns octets e in
         let free : (count : ℕ) → (0 ≤ count) × (2 ^ 64 + 1 < 2 ^ 64 → count ≤ 2 ^ 64) = λ count. (omega arith, λ less. absurd (omega (arith, less))) in
-        let again : (ks : List d.Meaning) → Each d.valid ks → Each d.allowed ks → length (joined d.text ks) < 2 ^ 32 → sequence_read d.read 0 (2 ^ 64) (joined d.text ks) ≡ Ok ks = λ ks v a s. sequence_of_again 0 (2 ^ 64) (encoding_of d) d.laws ks (lawful, is_element) v (a, free (length ks)) s in
+        let again : (ks : List d.Meaning) → AllByRecursion d.valid ks → AllByRecursion d.allowed ks → length (flat_map d.encoding ks) < 2 ^ 32 → sequence_read d.read 0 (2 ^ 64) (flat_map d.encoding ks) ≡ Ok ks = λ ks v a s. sequence_of_read_back 0 (2 ^ 64) (encoding_of d) d.laws ks (lawful, is_element) v (a, free (length ks)) s in
         ok_is ns ms (sym (again ns h.1.0 h.1.1.0 (subst (λ (t : List ℕ). length t < 2 ^ 32) h.0 short)) ∙ (ap (sequence_read d.read 0 (2 ^ 64)) (sym h.0) ∙ again ms valid allowed short))
 
-    pub same_set : (ns : List d.Meaning) → length (joined d.text (in_order d.text ms)) < 2 ^ 32 → set_read text_less d.read (joined d.text (in_order d.text ms)) ≡ Ok ns → ns ≡ in_order d.text ms
-    same_set ns short e = ok_is ns (in_order d.text ms) (sym e ∙ set_of_again (encoding_of d) d.laws (in_order d.text ms) (lawful, is_element) valid_in_order (each_in_order d.text d.allowed ms allowed) short)
+    pub same_set : (ns : List d.Meaning) → length (flat_map d.encoding (in_order d.encoding ms)) < 2 ^ 32 → set_read encoding_less d.read (flat_map d.encoding (in_order d.encoding ms)) ≡ Ok ns → ns ≡ in_order d.encoding ms
+    same_set ns short e = ok_is ns (in_order d.encoding ms) (sym e ∙ set_of_read_back (encoding_of d) d.laws (in_order d.encoding ms) (lawful, is_element) valid_in_order (each_in_order d.encoding d.allowed ms allowed) short)
 
     -- a list that is read of these octets means the items
-    pub list_means : {W : Type 0} (view : W → List d.Meaning) (low high : ℕ) (result : Result W Fault) (contents : List ℕ) → contents ≡ joined d.text ms → IsText (joined d.text ms) → length (joined d.text ms) < 2 ^ 32
+    pub list_means : {W : Type 0} (view : W → List d.Meaning) (low high : ℕ) (result : Result W ReadError) (contents : List ℕ) → contents ≡ flat_map d.encoding ms → IsOctets (flat_map d.encoding ms) → length (flat_map d.encoding ms) < 2 ^ 32
         → ReadsContents (list_der low high d view) contents result → IfOk result (λ v. view v ≡ ms)
-    list_means view low high result contents same text short answers =
+    list_means view low high result contents same octets short answers =
         let there = subst (λ (t : List ℕ). ReadsContents (list_der low high d view) t result) same answers in
-        means_read view _ result _ ms there (λ ns e. same_list low high ns text short e)
+        means_read view _ result _ ms there (λ ns e. same_list low high ns octets short e)
 
-    pub set_means : {W : Type 0} (view : W → List d.Meaning) (result : Result W Fault) (contents : List ℕ) → contents ≡ joined d.text (in_order d.text ms) → length (joined d.text (in_order d.text ms)) < 2 ^ 32
-        → ReadsContents (set_der d view) contents result → IfOk result (λ v. view v ≡ in_order d.text ms)
+    pub set_means : {W : Type 0} (view : W → List d.Meaning) (result : Result W ReadError) (contents : List ℕ) → contents ≡ flat_map d.encoding (in_order d.encoding ms) → length (flat_map d.encoding (in_order d.encoding ms)) < 2 ^ 32
+        → ReadsContents (set_der d view) contents result → IfOk result (λ v. view v ≡ in_order d.encoding ms)
     set_means view result contents same short answers =
         let there = subst (λ (t : List ℕ). ReadsContents (set_der d view) t result) same answers in
-        means_read view _ result _ (in_order d.text ms) there (λ ns e. same_set ns short e)
+        means_read view _ result _ (in_order d.encoding ms) there (λ ns e. same_set ns short e)
 
   -- the items are read from these octets
-  pub list_made : d.lawful → d.is_element → {W : Type 0} (view : W → List d.Meaning) (low high : ℕ) → Each d.allowed ms × IsInBounds low high (length ms) → (result : Result W Fault) (contents : List ℕ) → contents ≡ joined d.text ms → length (joined d.text ms) < 2 ^ 32
-      → ReadsContents (list_der low high d view) contents result → Answers view ((items_inside low high (encoding_of d)).runs_out (joined d.text ms)) result (Ok ms)
+  pub list_made : d.lawful → d.is_element → {W : Type 0} (view : W → List d.Meaning) (low high : ℕ) → AllByRecursion d.allowed ms × IsInBounds low high (length ms) → (result : Result W ReadError) (contents : List ℕ) → contents ≡ flat_map d.encoding ms → length (flat_map d.encoding ms) < 2 ^ 32
+      → ReadsContents (list_der low high d view) contents result → Returns view ((items_inside low high (encoding_of d)).runs_out (flat_map d.encoding ms)) result (Ok ms)
   list_made lawful is_element view low high allowed result contents same short answers =
       let there = subst (λ (t : List ℕ). ReadsContents (list_der low high d view) t result) same answers in
-      subst (λ (r : Result (List d.Meaning) Fault). Answers view ((items_inside low high (encoding_of d)).runs_out (joined d.text ms)) result r) (sequence_of_again low high (encoding_of d) d.laws ms (lawful, is_element) valid allowed short) there
+      subst (λ (r : Result (List d.Meaning) ReadError). Returns view ((items_inside low high (encoding_of d)).runs_out (flat_map d.encoding ms)) result r) (sequence_of_read_back low high (encoding_of d) d.laws ms (lawful, is_element) valid allowed short) there
 
-  pub set_made : d.lawful → d.is_element → {W : Type 0} (view : W → List d.Meaning) → Each d.allowed ms → (result : Result W Fault) (contents : List ℕ) → contents ≡ joined d.text (in_order d.text ms) → length (joined d.text (in_order d.text ms)) < 2 ^ 32
-      → ReadsContents (set_der d view) contents result → Answers view ((set_inside (encoding_of d)).runs_out (joined d.text (in_order d.text ms))) result (Ok (in_order d.text ms))
+  pub set_made : d.lawful → d.is_element → {W : Type 0} (view : W → List d.Meaning) → AllByRecursion d.allowed ms → (result : Result W ReadError) (contents : List ℕ) → contents ≡ flat_map d.encoding (in_order d.encoding ms) → length (flat_map d.encoding (in_order d.encoding ms)) < 2 ^ 32
+      → ReadsContents (set_der d view) contents result → Returns view ((set_inside (encoding_of d)).runs_out (flat_map d.encoding (in_order d.encoding ms))) result (Ok (in_order d.encoding ms))
   set_made lawful is_element view allowed result contents same short answers =
       let there = subst (λ (t : List ℕ). ReadsContents (set_der d view) t result) same answers in
-      subst (λ (r : Result (List d.Meaning) Fault). Answers view ((set_inside (encoding_of d)).runs_out (joined d.text (in_order d.text ms))) result r) (set_of_again (encoding_of d) d.laws (in_order d.text ms) (lawful, is_element) valid_in_order (each_in_order d.text d.allowed ms allowed) short) there
+      subst (λ (r : Result (List d.Meaning) ReadError). Returns view ((set_inside (encoding_of d)).runs_out (flat_map d.encoding (in_order d.encoding ms))) result r) (set_of_read_back (encoding_of d) d.laws (in_order d.encoding ms) (lawful, is_element) valid_in_order (each_in_order d.encoding d.allowed ms allowed) short) there
 
 -- a set is read of the octets of items in order
-pub set_read_there : {V : Type 0} (d : Der V) (ms : List d.Meaning) {W : Type 0} (view : W → List d.Meaning) (result : Result W Fault) (contents : List ℕ) → contents ≡ joined d.text (in_order d.text ms)
-    → ReadsContents (set_der d view) contents result → ReadsContents (set_der d view) (joined d.text (in_order d.text ms)) result
+pub set_read_there : {V : Type 0} (d : Der V) (ms : List d.Meaning) {W : Type 0} (view : W → List d.Meaning) (result : Result W ReadError) (contents : List ℕ) → contents ≡ flat_map d.encoding (in_order d.encoding ms)
+    → ReadsContents (set_der d view) contents result → ReadsContents (set_der d view) (flat_map d.encoding (in_order d.encoding ms)) result
 set_read_there d ms view result contents same answers = subst (λ (t : List ℕ). ReadsContents (set_der d view) t result) same answers

@@ -2,50 +2,50 @@
 use Rattle.std.proofs.Common.{◌≡◌, ℕ, List, ◌⊎◌, Result, Ok, Err, refl, sym, ap, ◌∙◌, inl, inr}
 use Rattle.asn1_core.specs.declared.parser.Place.{Place}
 use Rattle.asn1_core.specs.Element.{◌>>=◌}
-use Rattle.asn1_core.specs.Fault.{Fault}
-use Rattle.asn1_core.specs.Reading.{Answers, IsRefusal}
+use Rattle.asn1_core.specs.ReadError.{ReadError}
+use Rattle.asn1_core.specs.Reading.{Returns, IsErrorOf}
 use Rattle.asn1_core.specs.Lemmas.Results.{ok_is}
 use Rattle.asn1.specs.FieldReads.{field_out, others_out, field_read, item_read, behind_out}
 use Rattle.asn1.specs.ItemsAndValues.{seen_front, same_front as is_same}
 
-pair_ok : {K M : Type 0} (k l : K) (r : Result M Fault) (n : M)
-    → ◌≡◌ {A = Result (K × M) Fault} (r >>= λ m. Ok (k, m)) (Ok (l, n)) → (r ≡ Ok n) × (k ≡ l)
+pair_ok : {K M : Type 0} (k l : K) (r : Result M ReadError) (n : M)
+    → ◌≡◌ {A = Result (K × M) ReadError} (r >>= λ m. Ok (k, m)) (Ok (l, n)) → (r ≡ Ok n) × (k ≡ l)
 pair_ok {K} {M} k l (Ok m) n e =
     let same = ok_is (k, m) (l, n) e in
     (ap (λ (x : K × M). Ok x.1) same, ap (λ (x : K × M). x.0) same)
 pair_ok k l (Err f) n e = absurd cc
 
-pair_err : {K M : Type 0} (k : K) (r : Result M Fault) (f : Fault)
-    → ◌≡◌ {A = Result (K × M) Fault} (r >>= λ m. Ok (k, m)) (Err f) → r ≡ Err f
+pair_err : {K M : Type 0} (k : K) (r : Result M ReadError) (f : ReadError)
+    → ◌≡◌ {A = Result (K × M) ReadError} (r >>= λ m. Ok (k, m)) (Err f) → r ≡ Err f
 pair_err k (Ok m) f e = absurd cc
 pair_err k (Err g) f e = cc
 
-no_value : {A : Type 0} (f : Fault) (x : A) → ◌≡◌ {A = Result A Fault} (Err f) (Ok x) → ⊥
+no_value : {A : Type 0} (f : ReadError) (x : A) → ◌≡◌ {A = Result A ReadError} (Err f) (Ok x) → ⊥
 no_value f x e = absurd cc
 
-same_error : {A B : Type 0} (f g : Fault) → ◌≡◌ {A = Result A Fault} (Err f) (Err g) → ◌≡◌ {A = Result B Fault} (Err f) (Err g)
+same_error : {A B : Type 0} (f g : ReadError) → ◌≡◌ {A = Result A ReadError} (Err f) (Err g) → ◌≡◌ {A = Result B ReadError} (Err f) (Err g)
 same_error f g e = cc
 
-pub same_front : {M : Type 0} (read : List ℕ → Result (M × List ℕ) Fault) (t : List ℕ) → read t ≡ seen_front (λ m. m) (read t)
+pub same_front : {M : Type 0} (read : List ℕ → Result (M × List ℕ) ReadError) (t : List ℕ) → read t ≡ seen_front (λ m. m) (read t)
 same_front read t = is_same (read t)
 
 -- a field, and those after it
 module _ {U W K M N : Type 0} (first : W → K) (rest : W → U) (one : U → M) (other : U → N)
-    (name : List ℕ) (read : List ℕ → Result (K × List ℕ) Fault) (out : List ℕ → List Place → Type 0)
-    (read1 : List ℕ → Result M Fault) (out1 : List ℕ → List Place → Type 0)
-    (read2 : List ℕ → Result N Fault) (out2 : List ℕ → List Place → Type 0)
-    (same : (t : List ℕ) (result : Result U Fault) → Answers one (out1 t) result (read1 t) → Answers other (out2 t) result (read2 t)) where
+    (name : List ℕ) (read : List ℕ → Result (K × List ℕ) ReadError) (out : List ℕ → List Place → Type 0)
+    (read1 : List ℕ → Result M ReadError) (out1 : List ℕ → List Place → Type 0)
+    (read2 : List ℕ → Result N ReadError) (out2 : List ℕ → List Place → Type 0)
+    (same : (t : List ℕ) (result : Result U ReadError) → Returns one (out1 t) result (read1 t) → Returns other (out2 t) result (read2 t)) where
   abbrev Out : (List ℕ → List Place → Type 0) → List ℕ → List Place → Type 0
   Out behind c places = field_out name out c places ⊎ others_out read behind c places
 
-  refused : (c : List ℕ) (x : K × List ℕ) (f : Fault) → read c ≡ Ok x
-      → Answers {V = U} other (out2 x.1) (Err f) (read2 x.1) → IsRefusal (Out out2 c) (field_read name read read2 c) f
+  refused : (c : List ℕ) (x : K × List ℕ) (f : ReadError) → read c ≡ Ok x
+      → Returns {V = U} other (out2 x.1) (Err f) (read2 x.1) → IsErrorOf (Out out2 c) (field_read name read read2 c) f
   refused c x f e (inl q) = inl (rw (e, q) refl)
   refused c x f e (inr o) = inr (o.0, inr (x, e, o.1))
 
-  answered : (c : List ℕ) (r : Result (K × List ℕ) Fault) → read c ≡ r → (result : Result W Fault)
-      → Answers (λ w. (first w, one (rest w))) (Out out1 c) result (field_read name read read1 c)
-      → Answers (λ w. (first w, other (rest w))) (Out out2 c) result (field_read name read read2 c)
+  answered : (c : List ℕ) (r : Result (K × List ℕ) ReadError) → read c ≡ r → (result : Result W ReadError)
+      → Returns (λ w. (first w, one (rest w))) (Out out1 c) result (field_read name read read1 c)
+      → Returns (λ w. (first w, other (rest w))) (Out out2 c) result (field_read name read read2 c)
   answered c (Ok x) e (Ok w) h =
       let was = pair_ok x.0 (first w) (read1 x.1) (one (rest w)) (rw e at h) in
       let is : read2 x.1 ≡ Ok (other (rest w)) = same x.1 (Ok (rest w)) was.0 in
@@ -56,41 +56,41 @@ module _ {U W K M N : Type 0} (first : W → K) (rest : W → U) (one : U → M)
   answered c (Err g) e (Ok w) h = absurd cc
   answered c (Err g) e (Err f) (inl h) = inl (rw e (same_error _ f (rw e at h)))
 
-  pub one_field_more : (c : List ℕ) (result : Result W Fault)
-      → Answers (λ w. (first w, one (rest w))) (Out out1 c) result (field_read name read read1 c)
-      → Answers (λ w. (first w, other (rest w))) (Out out2 c) result (field_read name read read2 c)
+  pub one_field_more : (c : List ℕ) (result : Result W ReadError)
+      → Returns (λ w. (first w, one (rest w))) (Out out1 c) result (field_read name read read1 c)
+      → Returns (λ w. (first w, other (rest w))) (Out out2 c) result (field_read name read read2 c)
   one_field_more c result h = answered c (read c) refl result h
 
 -- an item, which two statements map to what they say of it, and the fields after it
 module _ {U W K I J M N : Type 0} (rest : W → U) (one : U → M) (other : U → N)
-    (name : List ℕ) (read : List ℕ → Result (K × List ℕ) Fault) (s1 : K → I) (s2 : K → J)
-    (item1 : List ℕ → Result (I × List ℕ) Fault) (item2 : List ℕ → Result (J × List ℕ) Fault)
+    (name : List ℕ) (read : List ℕ → Result (K × List ℕ) ReadError) (s1 : K → I) (s2 : K → J)
+    (item1 : List ℕ → Result (I × List ℕ) ReadError) (item2 : List ℕ → Result (J × List ℕ) ReadError)
     (is1 : (t : List ℕ) → item1 t ≡ seen_front s1 (read t)) (is2 : (t : List ℕ) → item2 t ≡ seen_front s2 (read t))
     (item_out1 item_out2 : List ℕ → List Place → Type 0)
     (outs : (t : List ℕ) (places : List Place) → item_out1 t places → item_out2 t places)
-    (read1 : I → List ℕ → Result M Fault) (out1 : I → List ℕ → List Place → Type 0)
-    (read2 : J → List ℕ → Result N Fault) (out2 : J → List ℕ → List Place → Type 0)
-    (same : (k : K) (t : List ℕ) (result : Result U Fault)
-    → Answers one (out1 (s1 k) t) result (read1 (s1 k) t) → Answers other (out2 (s2 k) t) result (read2 (s2 k) t)) where
+    (read1 : I → List ℕ → Result M ReadError) (out1 : I → List ℕ → List Place → Type 0)
+    (read2 : J → List ℕ → Result N ReadError) (out2 : J → List ℕ → List Place → Type 0)
+    (same : (k : K) (t : List ℕ) (result : Result U ReadError)
+    → Returns one (out1 (s1 k) t) result (read1 (s1 k) t) → Returns other (out2 (s2 k) t) result (read2 (s2 k) t)) where
   abbrev Out1 : List ℕ → List Place → Type 0
   Out1 c places = field_out name item_out1 c places ⊎ behind_out item1 out1 c places
 
   abbrev Out2 : List ℕ → List Place → Type 0
   Out2 c places = field_out name item_out2 c places ⊎ behind_out item2 out2 c places
 
-  item_refused : (c : List ℕ) (x : K × List ℕ) (f : Fault) → item2 c ≡ Ok (s2 x.0, x.1)
-      → Answers {V = U} other (out2 (s2 x.0) x.1) (Err f) (read2 (s2 x.0) x.1) → IsRefusal (Out2 c) (item_read name item2 read2 c) f
+  item_refused : (c : List ℕ) (x : K × List ℕ) (f : ReadError) → item2 c ≡ Ok (s2 x.0, x.1)
+      → Returns {V = U} other (out2 (s2 x.0) x.1) (Err f) (read2 (s2 x.0) x.1) → IsErrorOf (Out2 c) (item_read name item2 read2 c) f
   item_refused c x f e (inl q) = inl (rw (e, q) refl)
   item_refused c x f e (inr o) = inr (o.0, inr ((s2 x.0, x.1), e, o.1))
 
-  ran_out : (r : Result (K × List ℕ) Fault) (y : I × List ℕ) → seen_front s1 r ≡ Ok y → (out : I → List ℕ → Type 0)
+  ran_out : (r : Result (K × List ℕ) ReadError) (y : I × List ℕ) → seen_front s1 r ≡ Ok y → (out : I → List ℕ → Type 0)
       → out y.0 y.1 → (x : K × List ℕ) × (r ≡ Ok x) × out (s1 x.0) x.1
   ran_out (Ok x) y e out o = (x, refl, rw (← ok_is (s1 x.0, x.1) y e) at o)
   ran_out (Err f) y e out o = absurd cc
 
-  item_answered : (c : List ℕ) (r : Result (K × List ℕ) Fault) → item1 c ≡ seen_front s1 r → item2 c ≡ seen_front s2 r
-      → (result : Result W Fault) → Answers (λ w. one (rest w)) (Out1 c) result (item_read name item1 read1 c)
-      → Answers (λ w. other (rest w)) (Out2 c) result (item_read name item2 read2 c)
+  item_answered : (c : List ℕ) (r : Result (K × List ℕ) ReadError) → item1 c ≡ seen_front s1 r → item2 c ≡ seen_front s2 r
+      → (result : Result W ReadError) → Returns (λ w. one (rest w)) (Out1 c) result (item_read name item1 read1 c)
+      → Returns (λ w. other (rest w)) (Out2 c) result (item_read name item2 read2 c)
   item_answered c (Ok x) e e2 (Ok w) h = rw e2 (same x.0 x.1 (Ok (rest w)) (rw e at h))
   item_answered c (Ok x) e e2 (Err f) (inl h) = item_refused c x f e2 (same x.0 x.1 (Err f) (inl (rw e at h)))
   item_answered c r e e2 (Err f) (inr (k, inl (inner, o, is))) = inr (k, inl (inner, outs c inner o, is))
@@ -100,7 +100,7 @@ module _ {U W K I J M N : Type 0} (rest : W → U) (one : U → M) (other : U �
   item_answered c (Err g) e e2 (Ok w) h = absurd (no_value _ _ (rw e at h))
   item_answered c (Err g) e e2 (Err f) (inl h) = inl (rw e2 (same_error _ f (rw e at h)))
 
-  pub one_item_more : (c : List ℕ) (result : Result W Fault)
-      → Answers (λ w. one (rest w)) (Out1 c) result (item_read name item1 read1 c)
-      → Answers (λ w. other (rest w)) (Out2 c) result (item_read name item2 read2 c)
+  pub one_item_more : (c : List ℕ) (result : Result W ReadError)
+      → Returns (λ w. one (rest w)) (Out1 c) result (item_read name item1 read1 c)
+      → Returns (λ w. other (rest w)) (Out2 c) result (item_read name item2 read2 c)
   one_item_more c result h = item_answered c (read c) (is1 c) (is2 c) result h

@@ -4,10 +4,10 @@ use Rattle.std.proofs.lemmas.List.{append-nil}
 use Rattle.std.specs.Fn.{Once}
 use Rattle.std.specs.Borrow.{MutBor}
 use Rattle.asn1_core.specs.declared.tag.Tag.{Tag}
-use Rattle.asn1_core.specs.Tag.{tag_text, IsTagBefore, before_tag}
-use Rattle.asn1_core.specs.Length.{length_text}
-use Rattle.asn1_core.specs.Element.{Element, element_text, IsReadable}
-use Rattle.asn1_core.specs.Listing.{Each, joined}
+use Rattle.asn1_core.specs.Tag.{identifier_octets, IsTagBefore, before_tag}
+use Rattle.asn1_core.specs.Length.{length_octets}
+use Rattle.asn1_core.specs.Element.{Element, element_encoding, IsReadable}
+use Rattle.std.specs.List.{flat_map, AllByRecursion}
 use Rattle.asn1_core.specs.SetWriting.{SetState, OrderedElements, no_element, one_more}
 use Rattle.asn1_core.proofs.TagOrder.{tag_order_is_answered}
 use Rattle.asn1.specs.Sets.{TagsInOrder, IsSetContent}
@@ -22,16 +22,16 @@ last_tag (e ∷ f ∷ es) = last_tag (f ∷ es)
 -- elements with tag numbers below 2^32, concatenated in the order of their tags
 record Ordered (done : List ℕ) (last : Option Tag) : Type 0 where
   pub elements : List Element
-  pub small : Each (λ e. e.tag.value < 2 ^ 32) elements
+  pub small : AllByRecursion (λ e. e.tag.value < 2 ^ 32) elements
   pub ordered : TagsInOrder elements
-  pub is : done ≡ joined element_text elements
+  pub is : done ≡ flat_map element_encoding elements
   pub ends : last ≡ last_tag elements
 
-joined_more : (es : List Element) (e : Element) → joined element_text (es ++ e ∷ []) ≡ joined element_text es ++ element_text e
-joined_more [] e = append-nil (element_text e)
-joined_more (f ∷ es) e = ap (λ (t : List ℕ). element_text f ++ t) (joined_more es e) ∙ sym (append_assoc (element_text f) (joined element_text es) (element_text e))
+joined_more : (es : List Element) (e : Element) → flat_map element_encoding (es ++ e ∷ []) ≡ flat_map element_encoding es ++ element_encoding e
+joined_more [] e = append-nil (element_encoding e)
+joined_more (f ∷ es) e = ap (λ (t : List ℕ). element_encoding f ++ t) (joined_more es e) ∙ sym (append_assoc (element_encoding f) (flat_map element_encoding es) (element_encoding e))
 
-small_more : (es : List Element) (e : Element) → Each (λ x. x.tag.value < 2 ^ 32) es → e.tag.value < 2 ^ 32 → Each (λ x. x.tag.value < 2 ^ 32) (es ++ e ∷ [])
+small_more : (es : List Element) (e : Element) → AllByRecursion (λ x. x.tag.value < 2 ^ 32) es → e.tag.value < 2 ^ 32 → AllByRecursion (λ x. x.tag.value < 2 ^ 32) (es ++ e ∷ [])
 small_more [] e h small = (small, tt)
 small_more (f ∷ es) e h small = (h.0, small_more es e h.1 small)
 
@@ -56,18 +56,18 @@ ordered_elements _ _ (one_more {done} {last} e before small apart) =
       elements = h.elements ++ e ∷ [];
       small = small_more h.elements e h.small small;
       ordered = tags_more h.elements e h.ordered (subst (λ (t : Option Tag). before_tag (Some e.tag) t ≡ false) h.ends apart);
-      is = ap (λ (t : List ℕ). t ++ element_text e) h.is ∙ sym (joined_more h.elements e);
+      is = ap (λ (t : List ℕ). t ++ element_encoding e) h.is ∙ sym (joined_more h.elements e);
       ends = sym (ends_more h.elements e);
     }
 
-content_most : (e : Element) → length e.content ≤ length (element_text e)
-unfolding element_text
-content_most e = omega (arith, length-append (tag_text e.tag) (length_text (length e.content) ++ e.content), length-append (length_text (length e.content)) e.content)
+content_most : (e : Element) → length e.content ≤ length (element_encoding e)
+unfolding element_encoding
+content_most e = omega (arith, length-append (identifier_octets e.tag) (length_octets (length e.content) ++ e.content), length-append (length_octets (length e.content)) e.content)
 
-readable_all : (es : List Element) → Each (λ e. e.tag.value < 2 ^ 32) es → length (joined element_text es) < 2 ^ 32 → Each IsReadable es
+readable_all : (es : List Element) → AllByRecursion (λ e. e.tag.value < 2 ^ 32) es → length (flat_map element_encoding es) < 2 ^ 32 → AllByRecursion IsReadable es
 readable_all [] h short = tt
 readable_all (e ∷ es) h short =
-    let both = length-append (element_text e) (joined element_text es) in
+    let both = length-append (element_encoding e) (flat_map element_encoding es) in
     let most = content_most e in
     (record { tag = h.0; content = omega (arith, both, most, short) }, readable_all es h.1 (omega (arith, both, short)))
 

@@ -1,9 +1,9 @@
 -- Choices of any number of alternatives (X.680 29): what a list of alternatives means.
 use Rattle.std.specs.Prelude.{◌≡◌, ◌⊎◌, Result}
 use Rattle.std.proofs.Common.{inl, inr}
-use Rattle.asn1_core.specs.Element.{Element, element_text}
-use Rattle.asn1_core.specs.Fault.{Fault}
-use Rattle.asn1_core.specs.Reading.{Answers}
+use Rattle.asn1_core.specs.Element.{Element, element_encoding}
+use Rattle.asn1_core.specs.ReadError.{ReadError}
+use Rattle.asn1_core.specs.Reading.{Returns}
 use Rattle.asn1_core.specs.Der.{Der, encoding_of}
 use Rattle.asn1.specs.declared.alternatives.NoOther.{NoOther}
 use Rattle.asn1.specs.declared.alternatives.OneOf.{OneOf}
@@ -44,12 +44,12 @@ one_of d others = record {
 }
 
 -- What reading this element as one of the alternatives returns.
-abbrev pub ReadsAlternative : {V : Type 0} → AlternativeList V → Element → Result V Fault → Type 0
-ReadsAlternative list e result = Answers list.meaning (list.all.runs_out e) result (list.all.read e)
+abbrev pub ReadsAlternative : {V : Type 0} → AlternativeList V → Element → Result V ReadError → Type 0
+ReadsAlternative list e result = Returns list.meaning (list.all.runs_out e) result (list.all.read e)
 
 -- This element is the encoding of this value, which is valid and within the bounds of its type.
 abbrev pub IsAlternative : {V : Type 0} → AlternativeList V → V → Element → Type 0
-IsAlternative list v e = (element_text e ≡ list.all.text (list.meaning v)) × (list.all.valid (list.meaning v) × list.all.allowed (list.meaning v))
+IsAlternative list v e = (element_encoding e ≡ list.all.encoding (list.meaning v)) × (list.all.valid (list.meaning v) × list.all.allowed (list.meaning v))
 
 -- Each value of the list has one encoding, which is read back.
 abbrev pub EachHasOneEncoding : {V : Type 0} → AlternativeList V → Type 0

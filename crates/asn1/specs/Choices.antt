@@ -3,17 +3,17 @@ use Rattle.std.specs.Prelude.{ℕ, ◌≡◌, ◌⊎◌, ◌||◌, List, [], Res
 use Rattle.asn1_core.specs.declared.tag.Tag.{Tag}
 use Rattle.asn1_core.specs.declared.parser.Place.{Place}
 use Rattle.asn1_core.specs.declared.parser.ParseErrorKind.TheVariants.{UnexpectedTag}
-use Rattle.asn1_core.specs.Text.{IsText}
-use Rattle.asn1_core.specs.Element.{Element, element_text, IsReadable}
-use Rattle.asn1_core.specs.Fault.{Fault, fault, IsOfText}
+use Rattle.asn1_core.specs.Base256.{IsOctets}
+use Rattle.asn1_core.specs.Element.{Element, element_encoding, IsReadable}
+use Rattle.asn1_core.specs.ReadError.{ReadError, read_error, IsOfInput}
 use Rattle.asn1_core.specs.Reading.{IsOneElement, IsNothingOrElement, simple_stops}
 use Rattle.asn1_core.specs.Encoding.{Encoding, no_content}
-use Rattle.asn1.specs.Alternatives.{Disjoint, either, either_text, only_read, or_read, only_out, or_out, choice_read, choice_out}
+use Rattle.asn1.specs.Alternatives.{Disjoint, either, either_encoding, only_read, or_read, only_out, or_out, choice_read, choice_out}
 
 -- One or more alternatives, whose abstract values are an M: what an element is read as.
 pub record Alternatives (M : Type 0) : Type 1 where
-  pub text : M → List ℕ
-  pub texts : M → List ℕ → Type 0
+  pub encoding : M → List ℕ
+  pub encodings : M → List ℕ → Type 0
   pub closures : M → Type 0
   pub valid : M → Type 0
   pub allowed : M → Type 0
@@ -24,27 +24,27 @@ pub record Alternatives (M : Type 0) : Type 1 where
   pub is_read : Type 0
   pub runs_out : Element → List Place → Type 0
   pub accepts : Tag → Bool
-  pub read : Element → Result M Fault
+  pub read : Element → Result M ReadError
 
 -- the laws of alternatives
 pub record AlternativesLaws {M : Type 0} (a : Alternatives M) : Type 0 where
-  pub one_text : a.plain → (m : M) (t : List ℕ) → a.texts m t → t ≡ a.text m
-  pub has_text : a.plain → (m : M) → a.valid m → a.texts m (a.text m)
-  pub at_most_one : (m : M) (t : List ℕ) → a.texts m t → IsNothingOrElement t
+  pub one_encoding : a.plain → (m : M) (t : List ℕ) → a.encodings m t → t ≡ a.encoding m
+  pub has_encoding : a.plain → (m : M) → a.valid m → a.encodings m (a.encoding m)
+  pub at_most_one : (m : M) (t : List ℕ) → a.encodings m t → IsNothingOrElement t
   pub no_closures : a.plain → (m : M) → a.closures m
-  pub takes : (e : Element) (m : M) → IsText (element_text e) → a.read e ≡ Ok m → (element_text e ≡ a.text m) × (a.valid m × a.allowed m)
-  pub shape : (m : M) → a.lawful → a.valid m → IsOneElement (a.text m)
-  pub accepted : (m : M) (e : Element) → a.valid m → a.text m ≡ element_text e → a.accepts e.tag ≡ true
-  pub again : (m : M) (e : Element) → a.lawful → a.valid m → a.allowed m → IsReadable e → a.text m ≡ element_text e → a.read e ≡ Ok m
+  pub consumes : (e : Element) (m : M) → IsOctets (element_encoding e) → a.read e ≡ Ok m → (element_encoding e ≡ a.encoding m) × (a.valid m × a.allowed m)
+  pub nothing_or_element : (m : M) → a.lawful → a.valid m → IsOneElement (a.encoding m)
+  pub accepted : (m : M) (e : Element) → a.valid m → a.encoding m ≡ element_encoding e → a.accepts e.tag ≡ true
+  pub read_back : (m : M) (e : Element) → a.lawful → a.valid m → a.allowed m → IsReadable e → a.encoding m ≡ element_encoding e → a.read e ≡ Ok m
   pub unbounded : (a.bounded → ⊥) → (m : M) → a.valid m → a.allowed m
   pub memory : (e : Element) (places : List Place) → a.runs_out e places → a.takes_memory
-  pub faults : (e : Element) → IfErr (a.read e) IsOfText
+  pub errors : (e : Element) → IfErr (a.read e) IsOfInput
 
 -- one alternative
 abbrev pub only : {A : Type 0} → (d : Encoding A) → Alternatives A
 only d = record {
-  text = d.text;
-  texts = d.texts;
+  encoding = d.encoding;
+  encodings = d.encodings;
   closures = d.closures;
   valid = d.valid;
   allowed = d.allowed;
@@ -61,8 +61,8 @@ only d = record {
 -- one alternative before others
 abbrev pub or : {A N : Type 0} → (d : Encoding A) → Alternatives N → Alternatives (A ⊎ N)
 or d c = record {
-  text = either_text d.text c.text;
-  texts = either d.texts c.texts;
+  encoding = either_encoding d.encoding c.encoding;
+  encodings = either d.encodings c.encodings;
   closures = either d.closures c.closures;
   valid = either d.valid c.valid;
   allowed = either d.allowed c.allowed;
@@ -79,8 +79,8 @@ or d c = record {
 -- no alternative: each tag is unexpected
 abbrev pub none : Alternatives ⊥
 none = record {
-  text = λ m. [];
-  texts = λ m t. ⊥;
+  encoding = λ m. [];
+  encodings = λ m t. ⊥;
   closures = λ m. Unit {0};
   valid = λ m. Unit {0};
   allowed = λ m. Unit {0};
@@ -91,14 +91,14 @@ none = record {
   is_read = Unit {0};
   runs_out = λ e places. ⊥;
   accepts = λ tag. false;
-  read = λ e. Err (fault (UnexpectedTag e.tag));
+  read = λ e. Err (read_error (UnexpectedTag e.tag));
 }
 
 -- The encodings of a type whose values are those of alternatives.
 abbrev pub choice_encoding : {M : Type 0} → Alternatives M → Encoding M
 choice_encoding c = record {
-  text = c.text;
-  texts = c.texts;
+  encoding = c.encoding;
+  encodings = c.encodings;
   closures = c.closures;
   valid = c.valid;
   allowed = c.allowed;

@@ -12,7 +12,7 @@ day_of d = record { year = d.year; month = d.month; day = d.day }
 abbrev pub date_content : Content Day
 date_content = basic (record {
   tag = universal 31;
-  text = day_text;
+  encoding = day_text;
   valid = IsDate;
   read = read_day;
 })

@@ -1,6 +1,6 @@
 -- DATE (X.680 38.4.1, X.690 8.26): dates of the Gregorian calendar, and their contents octets.
 use Rattle.std.specs.Prelude.{◌≡◌, ◌≤◌, ◌/◌, ◌%◌, ◌+◌, ◌*◌, ℕ, List, [], Bool, Result, Ok, ◌&&◌, nat_le, nat_eq, length, if◌then◌else◌}
-use Rattle.asn1_core.specs.Fault.{Fault}
+use Rattle.asn1_core.specs.ReadError.{ReadError}
 use Rattle.asn1_core.specs.Element.{◌>>=◌}
 use Rattle.asn1_values.specs.Times.{days, two}
 use Rattle.asn1_values.specs.TimeSteps.{front_two, wrong}
@@ -38,10 +38,10 @@ abbrev pub is_day : Day → Bool
 is_day d = (nat_le 1582 d.year && nat_le d.year 9999) && (nat_le 1 d.day && nat_le d.day (days d.year d.month))
 
 -- The date, if it is one and nothing follows.
-unfoldable pub day_alone : Day → List ℕ → Result Day Fault
+unfoldable pub day_alone : Day → List ℕ → Result Day ReadError
 day_alone d after = if is_day d && nat_eq (length after) 0 then Ok d else wrong
 
 -- The date with these contents octets.
-abbrev pub read_day : List ℕ → Result Day Fault
+abbrev pub read_day : List ℕ → Result Day ReadError
 read_day c = front_two c >>= λ hundreds. front_two hundreds.1 >>= λ years. front_two years.1 >>= λ month. front_two month.1 >>= λ day.
     day_alone (record { year = hundreds.0 * 100 + years.0; month = month.0; day = day.0 }) day.1

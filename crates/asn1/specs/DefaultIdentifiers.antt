@@ -4,7 +4,7 @@ use Rattle.std.proofs.Common.{refl}
 use Rattle.asn1_values.specs.declared.object_identifier.ObjectIdentifier.{ObjectIdentifier}
 use Rattle.asn1_values.specs.Identifier.{IsIdentifier, identifier_content}
 use Rattle.asn1.specs.IdentifierTests.{is_identifier}
-use Rattle.asn1.specs.LawsOf.Values.{known_content_form, known_by_test, known_zero}
+use Rattle.asn1.specs.LawsOf.Identifiers.{known_content_form, known_by_test, known_zero}
 
 -- The identifier with these numbers in memory.
 abbrev pub identifier_with_form : (numbers : List ℕ) → IsIdentifier numbers → ObjectIdentifier

@@ -3,20 +3,20 @@ use Rattle.std.specs.Prelude.{ℕ, ◌≡◌, ◌<◌, ◌^◌, ◌⊎◌, ◌&&
 use Rattle.asn1_core.specs.declared.tag.Tag.{Tag}
 use Rattle.asn1_core.specs.declared.parser.Place.{Place}
 use Rattle.asn1_core.specs.Tag.{tag_eq}
-use Rattle.asn1_core.specs.Element.{Element, element, element_text, ◌>>=◌}
+use Rattle.asn1_core.specs.Element.{Element, element, element_encoding, ◌>>=◌}
 use Rattle.asn1_core.specs.Writing.{IsElementOf}
-use Rattle.asn1_core.specs.Reading.{simple, simple_out, simple_stops, element_front, whole}
+use Rattle.asn1_core.specs.Reading.{simple, simple_out, simple_stops, framed_element, whole}
 use Rattle.asn1_core.specs.Encoding.{Encoding}
 use Rattle.asn1_core.specs.DefinedBy.{DefinedEncoding}
-use Rattle.asn1.specs.Alternatives.{either, either_text}
+use Rattle.asn1.specs.Alternatives.{either, either_encoding}
 use Rattle.asn1.specs.DefinedReads.{Known, variant_read, or_item, or_known, with_item, element_read}
 
 -- One variant, for the known item.
 abbrev pub variant_encoding : {I A : Type 0} → Known I → Encoding A → DefinedEncoding I A
 variant_encoding k d = record {
   item = λ m. k.item;
-  text = d.text;
-  texts = d.texts;
+  encoding = d.encoding;
+  encodings = d.encodings;
   closures = d.closures;
   valid = d.valid;
   allowed = d.allowed;
@@ -37,8 +37,8 @@ variant_encoding k d = record {
 abbrev pub or_variant_encoding : {I A N : Type 0} → Known I → Encoding A → DefinedEncoding I N → DefinedEncoding I (A ⊎ N)
 or_variant_encoding k d others = record {
   item = or_item k.item others.item;
-  text = either_text d.text others.text;
-  texts = either d.texts others.texts;
+  encoding = either_encoding d.encoding others.encoding;
+  encodings = either d.encodings others.encodings;
   closures = either d.closures others.closures;
   valid = either d.valid (λ n. others.valid n × (k.is (others.item n) ≡ false));
   allowed = either d.allowed others.allowed;
@@ -59,8 +59,8 @@ or_variant_encoding k d others = record {
 abbrev pub any_variant_encoding : {I A : Type 0} → Encoding A → DefinedEncoding I (I × A)
 any_variant_encoding d = record {
   item = λ m. m.0;
-  text = λ m. d.text m.1;
-  texts = λ m. d.texts m.1;
+  encoding = λ m. d.encoding m.1;
+  encodings = λ m. d.encodings m.1;
   closures = λ m. d.closures m.1;
   valid = λ m. d.valid m.1;
   allowed = λ m. d.allowed m.1;
@@ -79,14 +79,14 @@ any_variant_encoding d = record {
 
 -- Memory may run out for the value whose encoding is the one element in the contents octets.
 abbrev pub element_out : (List ℕ → List Place → Type 0) → List ℕ → List Place → Type 0
-element_out out c places = (e : Element) × (whole (element_front c) ≡ Ok e) × out (element_text e) places
+element_out out c places = (e : Element) × (whole (framed_element c) ≡ Ok e) × out (element_encoding e) places
 
 -- A value that an item defines, in an element with a tag of its own.
 abbrev pub inside_encoding : {I M : Type 0} → Tag → DefinedEncoding I M → DefinedEncoding I M
 inside_encoding {I} tag d = record {
   item = d.item;
-  text = λ m. element_text (element tag (d.text m));
-  texts = λ m. IsElementOf tag (d.texts m);
+  encoding = λ m. element_encoding (element tag (d.encoding m));
+  encodings = λ m. IsElementOf tag (d.encodings m);
   closures = d.closures;
   valid = d.valid;
   allowed = d.allowed;

@@ -115,8 +115,8 @@ MadeFrom {A} gives one e = (a : A) × one a × gives a e
 abbrev pub closure_written : {F E : Type 0} → Once F (MutBor Writer × Unit {0}) (Result (Unit {0}) E × (MutBor Writer × Unit {0})) → Content F
 closure_written calls = written (record {
   tag = sequence_tag;
-  text = λ f. [];
-  texts = MayWrite calls;
+  encoding = λ f. [];
+  encodings = MayWrite calls;
   closures = IsWriter calls;
   valid = λ f. Unit {0};
   plain = ⊥;

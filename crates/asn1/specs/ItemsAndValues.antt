@@ -5,10 +5,10 @@ use Rattle.std.proofs.Common.{refl, ap, ◌∙◌}
 use Rattle.asn1_core.specs.declared.tag.Tag.{Tag}
 use Rattle.asn1_core.specs.declared.parser.Place.{Place}
 use Rattle.asn1_core.specs.Tag.{tag_eq}
-use Rattle.asn1_core.specs.Element.{Element, element_text, ◌>>=◌}
-use Rattle.asn1_core.specs.Fault.{Fault}
+use Rattle.asn1_core.specs.Element.{Element, element_encoding, ◌>>=◌}
+use Rattle.asn1_core.specs.ReadError.{ReadError}
 use Rattle.asn1_core.specs.Writing.{IsElementOf}
-use Rattle.asn1_core.specs.Reading.{expected, element_front, whole}
+use Rattle.asn1_core.specs.Reading.{expected, framed_element, whole}
 use Rattle.asn1_core.specs.Der.{Der}
 use Rattle.asn1_core.specs.DefinedBy.{DefinedBy, ByItem}
 use Rattle.asn1.specs.DefinedReads.{element_read}
@@ -24,11 +24,11 @@ abbrev pub by_item : {T V : Type 0} → ItemAndValue T V → ByItem T V
 by_item both = record { Item = both.item.Meaning; seen = both.item.meaning; means = both.value }
 
 -- The result of a read, with its abstract value mapped by f.
-abbrev pub seen_front : {M N : Type 0} → (M → N) → Result (M × List ℕ) Fault → Result (N × List ℕ) Fault
+abbrev pub seen_front : {M N : Type 0} → (M → N) → Result (M × List ℕ) ReadError → Result (N × List ℕ) ReadError
 seen_front f (Ok x) = Ok (f x.0, x.1)
 seen_front f (Err e) = Err e
 
-abbrev pub seen_whole : {M N : Type 0} → (M → N) → Result M Fault → Result N Fault
+abbrev pub seen_whole : {M N : Type 0} → (M → N) → Result M ReadError → Result N ReadError
 seen_whole f (Ok m) = Ok (f m)
 seen_whole f (Err e) = Err e
 
@@ -38,7 +38,7 @@ pub record ItemAgrees {T : Type 0} (a b : Der T) : Type 0 where
   pub meaning : (v : T) → stands_for (a.meaning v) ≡ b.meaning v
   pub read : (t : List ℕ) → b.read t ≡ seen_front stands_for (a.read t)
   pub runs_out : (t : List ℕ) (places : List Place) → a.runs_out t places → b.runs_out t places
-  pub texts : (m : a.Meaning) (t : List ℕ) → a.texts m t ↔ b.texts (stands_for m) t
+  pub encodings : (m : a.Meaning) (t : List ℕ) → a.encodings m t ↔ b.encodings (stands_for m) t
   pub closures : (m : a.Meaning) → b.closures (stands_for m) → a.closures m
   pub plain : a.plain → b.plain
 
@@ -49,7 +49,7 @@ pub record ValueAgrees {T V : Type 0} (by : ByItem T V) (both : ItemAndValue T V
   pub item : (i : T) (m : by.means.Meaning) → by.seen i ≡ by.means.item m → both.item.meaning i ≡ both.value.item (stands_for m)
   pub read : (i : T) (t : List ℕ) → both.value.read (both.item.meaning i) t ≡ seen_front stands_for (by.means.read (by.seen i) t)
   pub runs_out : (i : T) (t : List ℕ) (places : List Place) → by.means.runs_out (by.seen i) t places → both.value.runs_out (both.item.meaning i) t places
-  pub texts : (m : by.means.Meaning) (t : List ℕ) → by.means.texts m t ↔ both.value.texts (stands_for m) t
+  pub encodings : (m : by.means.Meaning) (t : List ℕ) → by.means.encodings m t ↔ both.value.encodings (stands_for m) t
   pub closures : (m : by.means.Meaning) → both.value.closures (stands_for m) → by.means.closures m
   pub valid : (m : by.means.Meaning) → by.means.valid m → both.value.valid (stands_for m)
   pub plain : by.means.plain → both.value.plain
@@ -58,7 +58,7 @@ pub record ValueAgrees {T V : Type 0} (by : ByItem T V) (both : ItemAndValue T V
 abbrev pub Agrees : {T V : Type 0} → Der T → ByItem T V → ItemAndValue T V → Type 0
 Agrees d by both = ItemAgrees d both.item × ValueAgrees by both
 
-pub same_front : {M : Type 0} (r : Result (M × List ℕ) Fault) → r ≡ seen_front (λ m. m) r
+pub same_front : {M : Type 0} (r : Result (M × List ℕ) ReadError) → r ≡ seen_front (λ m. m) r
 same_front (Ok x) = refl
 same_front (Err e) = refl
 
@@ -70,7 +70,7 @@ word_for_word both = (
     meaning = λ v. refl;
     read = λ t. same_front (both.item.read t);
     runs_out = λ t places out. out;
-    texts = λ m t. (λ h. h, λ h. h);
+    encodings = λ m t. (λ h. h, λ h. h);
     closures = λ m h. h;
     plain = λ p. p;
   },
@@ -80,7 +80,7 @@ word_for_word both = (
     item = λ i m e. e;
     read = λ i t. same_front (both.value.read (both.item.meaning i) t);
     runs_out = λ i t places out. out;
-    texts = λ m t. (λ h. h, λ h. h);
+    encodings = λ m t. (λ h. h, λ h. h);
     closures = λ m h. h;
     valid = λ m h. h;
     plain = λ p. p;
@@ -89,35 +89,35 @@ word_for_word both = (
 
 -- ---- under an explicit tag
 
-module _ {M N : Type 0} (f : M → N) (read : List ℕ → Result (M × List ℕ) Fault) (read2 : List ℕ → Result (N × List ℕ) Fault) (same : (t : List ℕ) → read2 t ≡ seen_front f (read t)) where
-  whole_seen : (r : Result (M × List ℕ) Fault) → whole (seen_front f r) ≡ seen_whole f (whole r)
+module _ {M N : Type 0} (f : M → N) (read : List ℕ → Result (M × List ℕ) ReadError) (read2 : List ℕ → Result (N × List ℕ) ReadError) (same : (t : List ℕ) → read2 t ≡ seen_front f (read t)) where
+  whole_seen : (r : Result (M × List ℕ) ReadError) → whole (seen_front f r) ≡ seen_whole f (whole r)
   whole_seen (Ok (m, [])) = refl
   whole_seen (Ok (m, octet ∷ octets)) = refl
   whole_seen (Err e) = refl
 
-  element_seen : (c : Result Element Fault) → (c >>= λ e. whole (read2 (element_text e))) ≡ seen_whole f (c >>= λ e. whole (read (element_text e)))
-  element_seen (Ok e) = ap whole (same (element_text e)) ∙ whole_seen (read (element_text e))
+  element_seen : (c : Result Element ReadError) → (c >>= λ e. whole (read2 (element_encoding e))) ≡ seen_whole f (c >>= λ e. whole (read (element_encoding e)))
+  element_seen (Ok e) = ap whole (same (element_encoding e)) ∙ whole_seen (read (element_encoding e))
   element_seen (Err e) = refl
 
-  behind_seen : (r : Result M Fault) (rest : List ℕ) → (seen_whole f r >>= λ m. Ok (m, rest)) ≡ seen_front f (r >>= λ m. Ok (m, rest))
+  behind_seen : (r : Result M ReadError) (rest : List ℕ) → (seen_whole f r >>= λ m. Ok (m, rest)) ≡ seen_front f (r >>= λ m. Ok (m, rest))
   behind_seen (Ok m) rest = refl
   behind_seen (Err e) rest = refl
 
-  chosen_seen : (b : Bool) (x : Result (M × List ℕ) Fault) (e : Fault) → (if b then seen_front f x else Err e) ≡ seen_front f (if b then x else Err e)
+  chosen_seen : (b : Bool) (x : Result (M × List ℕ) ReadError) (e : ReadError) → (if b then seen_front f x else Err e) ≡ seen_front f (if b then x else Err e)
   chosen_seen true x e = refl
   chosen_seen false x e = refl
 
   expected_seen : (tag : Tag) (x : Element × List ℕ) → expected tag (element_read read2) x ≡ seen_front f (expected tag (element_read read) x)
   expected_seen tag x =
-      let inner : element_read read2 x.0.content ≡ seen_whole f (element_read read x.0.content) = element_seen (whole (element_front x.0.content)) in
+      let inner : element_read read2 x.0.content ≡ seen_whole f (element_read read x.0.content) = element_seen (whole (framed_element x.0.content)) in
       rw (inner, behind_seen (element_read read x.0.content) x.1) (chosen_seen (tag_eq x.0.tag tag) _ _)
 
-  tagged_seen : (tag : Tag) (r : Result (Element × List ℕ) Fault) → (r >>= expected tag (element_read read2)) ≡ seen_front f (r >>= expected tag (element_read read))
+  tagged_seen : (tag : Tag) (r : Result (Element × List ℕ) ReadError) → (r >>= expected tag (element_read read2)) ≡ seen_front f (r >>= expected tag (element_read read))
   tagged_seen tag (Ok x) = expected_seen tag x
   tagged_seen tag (Err e) = refl
 
-element_texts : (tag : Tag) (texts texts2 : List ℕ → Type 0) → ((t : List ℕ) → texts t → texts2 t) → (t : List ℕ) → IsElementOf tag texts t → IsElementOf tag texts2 t
-element_texts tag texts texts2 law t h = record { content = h.content; is_content = law h.content h.is_content; is = h.is }
+element_texts : (tag : Tag) (encodings texts2 : List ℕ → Type 0) → ((t : List ℕ) → encodings t → texts2 t) → (t : List ℕ) → IsElementOf tag encodings t → IsElementOf tag texts2 t
+element_texts tag encodings texts2 law t h = record { content = h.content; is_content = law h.content h.is_content; is = h.is }
 
 -- `Agrees` of a type under an explicit tag, if it holds of the type without the tag.
 pub agrees_inside : {T V W : Type 0} (tag : Tag) (view : W → V) (d : Der T) (by : ByItem T V) (both : ItemAndValue T V) → Agrees d by both →
@@ -129,9 +129,9 @@ agrees_inside tag view d by both h =
         stands_for = k.stands_for;
         meaning = λ w. k.meaning (view w);
         item = k.item;
-        read = λ i t. tagged_seen k.stands_for (by.means.read (by.seen i)) (both.value.read (both.item.meaning i)) (k.read i) tag (element_front t);
-        runs_out = λ i t places out. (out.0, out.1, out.2, (out.3.0, out.3.1, k.runs_out i (element_text out.3.0) places out.3.2));
-        texts = λ m t. (element_texts tag _ _ (λ x. (k.texts m x).0) t, element_texts tag _ _ (λ x. (k.texts m x).1) t);
+        read = λ i t. tagged_seen k.stands_for (by.means.read (by.seen i)) (both.value.read (both.item.meaning i)) (k.read i) tag (framed_element t);
+        runs_out = λ i t places out. (out.0, out.1, out.2, (out.3.0, out.3.1, k.runs_out i (element_encoding out.3.0) places out.3.2));
+        encodings = λ m t. (element_texts tag _ _ (λ x. (k.encodings m x).0) t, element_texts tag _ _ (λ x. (k.encodings m x).1) t);
         closures = k.closures;
         valid = k.valid;
         plain = k.plain;

@@ -10,4 +10,6 @@ pub mod Fields
 pub mod Defined
 pub mod Numbered
 pub mod InHand
-pub mod Values
+pub mod Dates
+pub mod Relative
+pub mod Identifiers

@@ -1,21 +1,21 @@
 -- Lists and sets that are made of items in hand (X.690 8.10, 8.12, 11.6).
 use Rattle.std.specs.Prelude.{ℕ, ◌≡◌, ◌<◌, ◌≤◌, ◌^◌, List, [], ◌∷◌, length, Result, Ok, Err, if◌then◌else◌}
 use Rattle.std.specs.Borrow.{Bor}
-use Rattle.asn1_core.specs.Text.{IsText}
-use Rattle.asn1_core.specs.Fault.{Fault}
-use Rattle.asn1_core.specs.Listing.{text_less}
+use Rattle.asn1_core.specs.Base256.{IsOctets}
+use Rattle.asn1_core.specs.ReadError.{ReadError}
+use Rattle.asn1_core.specs.Listing.{encoding_less}
 
 -- A value among values in ascending order of their encodings: it comes after those whose encodings are less.
 abbrev pub place_value : {M : Type 0} → (M → List ℕ) → M → List M → List M
-place_value text m [] = m ∷ []
-place_value text m (n ∷ ns) = if text_less (text n) (text m) then n ∷ place_value text m ns else m ∷ n ∷ ns
+place_value octets m [] = m ∷ []
+place_value octets m (n ∷ ns) = if encoding_less (octets n) (octets m) then n ∷ place_value octets m ns else m ∷ n ∷ ns
 
 -- Values in ascending order of their encodings, each as often as it is there. (11.6)
 abbrev pub in_order : {M : Type 0} → (M → List ℕ) → List M → List M
-in_order text [] = []
-in_order text (m ∷ ms) = place_value text m (in_order text ms)
+in_order octets [] = []
+in_order octets (m ∷ ms) = place_value octets m (in_order octets ms)
 
 -- The result is these contents octets; or an error, since there are too many of them.
-abbrev pub AreContents : List ℕ → Result (Bor (List ℕ)) Fault → Type 0
-AreContents content (Ok found) = (found.now ≡ content) × IsText content × (length content < 2 ^ 32)
+abbrev pub AreContents : List ℕ → Result (Bor (List ℕ)) ReadError → Type 0
+AreContents content (Ok found) = (found.now ≡ content) × IsOctets content × (length content < 2 ^ 32)
 AreContents content (Err fault) = 2 ^ 32 ≤ length content

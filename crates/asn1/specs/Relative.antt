@@ -1,8 +1,9 @@
--- Relative object identifiers (X.690 8.20): lists of arcs, whose contents octets are the arcs in base 128, concatenated.
+-- Relative object identifiers (X.690 8.20): lists of arcs, whose contents octets are the arcs in base 128,
+-- concatenated.
 use Rattle.std.specs.Prelude.{◌≡◌, ◌<◌, ◌↔◌, Ok, ℕ, List, length, slice_index, Result, Err, nat_eq, if◌then◌else◌, is_some, true, codes, decimal}
 use Rattle.std.specs.List.{join_by}
-use Rattle.asn1_core.specs.Fault.{Fault, fault}
-use Rattle.asn1_core.specs.Text.{IsText}
+use Rattle.asn1_core.specs.ReadError.{ReadError, read_error}
+use Rattle.asn1_core.specs.Base256.{IsOctets}
 use Rattle.asn1_core.specs.declared.parser.ParseErrorKind.TheVariants.{InvalidValue}
 use Rattle.asn1_values.specs.Identifier.{AllSmall, identifier_content, numbers_in, or_invalid}
 
@@ -18,8 +19,8 @@ pub record IsRelativeContent (octets arcs : List ℕ) : Type 0 where
   pub content : octets ≡ identifier_content arcs
 
 -- The arcs that the octets are the contents octets of.
-unfoldable pub read_relative : List ℕ → Result (List ℕ) Fault
-read_relative octets = if nat_eq (length octets) 0 then Err (fault InvalidValue) else or_invalid (numbers_in octets)
+unfoldable pub read_relative : List ℕ → Result (List ℕ) ReadError
+read_relative octets = if nat_eq (length octets) 0 then Err (read_error InvalidValue) else or_invalid (numbers_in octets)
 
 -- The form in memory: octets that are numbers in base 128, at least one.
 pub record IsRelativeForm (octets : List ℕ) : Type 0 where
@@ -33,4 +34,4 @@ arcs_text arcs = join_by decimal (codes ".") arcs
 
 -- Reading returns the arcs of contents octets, and rejects all other octets.
 abbrev pub RelativesAreRead : Type 0
-RelativesAreRead = (octets arcs : List ℕ) → IsText octets → (read_relative octets ≡ Ok arcs) ↔ IsRelativeContent octets arcs
+RelativesAreRead = (octets arcs : List ℕ) → IsOctets octets → (read_relative octets ≡ Ok arcs) ↔ IsRelativeContent octets arcs

@@ -19,7 +19,7 @@ left_arcs (Some o) = relative_arcs o
 abbrev pub relative_content : Content (List ℕ)
 relative_content = basic (record {
   tag = universal 13;
-  text = identifier_content;
+  encoding = identifier_content;
   valid = IsRelative;
   read = read_relative;
 })

@@ -2,17 +2,17 @@
 use Prim.Native.String.{String}
 use Rattle.std.specs.Prelude.{◌≡◌, ◌↔◌, ℕ, List, map, codes, ◌++◌, Result}
 use Rattle.asn1_core.specs.declared.parser.Place.{Place}
-use Rattle.asn1_core.specs.Der.{Der, encoding_of, simple_der}
+use Rattle.asn1_core.specs.Encoding.{simple_encoding}
+use Rattle.asn1_core.specs.Der.{Der, encoding_of, der_of}
 use Rattle.asn1_core.specs.DefinedBy.{defined_encoding}
-use Rattle.asn1_core.specs.Fault.{Fault}
-use Rattle.asn1_core.specs.Reading.{Answers}
+use Rattle.asn1_core.specs.ReadError.{ReadError}
+use Rattle.asn1_core.specs.Reading.{Returns}
 use Rattle.asn1.specs.declared.fields.Names.{Names}
 use Rattle.asn1.specs.ItemsAndValues.{ItemAndValue, seen_front}
 use Rattle.asn1.specs.Fields.{Fields, FieldsLaws, FieldsBy, FieldsByLaws, field, last, no_fields, value_last, value_field, between, with_item, sequence}
 use Rattle.asn1_core.specs.declared.tag.Tag.{Tag}
 use Rattle.asn1.specs.Tagged.{retagged}
-use Rattle.asn1.specs.LawsOf.Fields.{last_laws, field_laws, no_fields_laws, value_last_laws, value_field_laws, between_laws, with_item_laws, sequence_laws}
-use Rattle.asn1.specs.LawsOf.Tagged.{retagged_laws}
+use Rattle.asn1.specs.LawsOf.Fields.{last_laws, field_laws, no_fields_laws, value_last_laws, value_field_laws, between_laws, with_item_laws, structure_laws, structure_with_tag_laws}
 use Rattle.asn1.specs.declared.fields.NoFields.{NoFields}
 use Rattle.asn1.specs.declared.fields.Field.{Field}
 use Rattle.asn1.specs.declared.fields.Last.{Last}
@@ -65,12 +65,12 @@ first_field view d rest others = record {
 }
 
 -- What reading fields with these names from the octets returns.
-abbrev pub ReadsRow : {V : Type 0} → FieldList V → List (List ℕ) → List ℕ → Result V Fault → Type 0
-ReadsRow row names octets result = Answers row.meaning (row.fields.runs_out names octets) result (row.fields.read names octets)
+abbrev pub ReadsRow : {V : Type 0} → FieldList V → List (List ℕ) → List ℕ → Result V ReadError → Type 0
+ReadsRow row names octets result = Returns row.meaning (row.fields.runs_out names octets) result (row.fields.read names octets)
 
 -- Reading returns the same as either of the two says.
 abbrev pub IsReadAs : {V : Type 0} → FieldList V → FieldList V → Type 0
-IsReadAs {V} a b = (names : List (List ℕ)) (octets : List ℕ) (result : Result V Fault) → ReadsRow a names octets result ↔ ReadsRow b names octets result
+IsReadAs {V} a b = (names : List (List ℕ)) (octets : List ℕ) (result : Result V ReadError) → ReadsRow a names octets result ↔ ReadsRow b names octets result
 
 -- one of these errors, for an item that defines this value
 abbrev pub ItemErrors : {T V E : Type 0} → ItemAndValue T V → V → (T → E → Type 0) → E → Type 0
@@ -120,9 +120,9 @@ pub record IsReadBehind {T V : Type 0} (a b : BehindItem T V) : Type 0 where
   pub stands_for : a.item.Meaning → b.item.Meaning
   pub item : (octets : List ℕ) → b.item.read octets ≡ seen_front stands_for (a.item.read octets)
   pub item_runs_out : (octets : List ℕ) (places : List Place) → a.item.runs_out octets places ↔ b.item.runs_out octets places
-  pub fields : (names : List (List ℕ)) (m : a.item.Meaning) (octets : List ℕ) (result : Result V Fault) →
-      Answers a.meaning (a.fields.runs_out names m octets) result (a.fields.read names m octets)
-      ↔ Answers b.meaning (b.fields.runs_out names (stands_for m) octets) result (b.fields.read names (stands_for m) octets)
+  pub fields : (names : List (List ℕ)) (m : a.item.Meaning) (octets : List ℕ) (result : Result V ReadError) →
+      Returns a.meaning (a.fields.runs_out names m octets) result (a.fields.read names m octets)
+      ↔ Returns b.meaning (b.fields.runs_out names (stands_for m) octets) result (b.fields.read names (stands_for m) octets)
 
 -- An item and the fields after it have one encoding for each value.
 abbrev pub IsPlainBehind : {T V : Type 0} → BehindItem T V → Type 0
@@ -141,15 +141,15 @@ item_list rest behind = record {
 
 -- A sequence of a row's fields with these names. Each value is seen as this row.
 abbrev pub structure : {V W : Type 0} → (W → V) → FieldList V → List (List ℕ) → Der W
-structure view row names = simple_der (λ w. row.meaning (view w)) (sequence row.fields names) (sequence_laws names row.laws)
+structure view row names = der_of (λ w. row.meaning (view w)) (simple_encoding (sequence row.fields names)) (structure_laws names row.laws)
 
 -- The same under another tag, for example the tag of a set (8.11) or of an application (8.14.3).
 abbrev pub structure_with_tag : {V W : Type 0} → Tag → (W → V) → FieldList V → List (List ℕ) → Der W
-structure_with_tag tag view row names = simple_der (λ w. row.meaning (view w)) (retagged (λ own. tag) (sequence row.fields names)) (retagged_laws (λ own. tag) (sequence_laws names row.laws))
+structure_with_tag tag view row names = der_of (λ w. row.meaning (view w)) (simple_encoding (retagged (λ own. tag) (sequence row.fields names))) (structure_with_tag_laws tag names row.laws)
 
 -- The encodings that a write of a field's value may append.
 abbrev pub encoded : {V : Type 0} → Der V → V → List ℕ → Type 0
-encoded d v = d.texts (d.meaning v)
+encoded d v = d.encodings (d.meaning v)
 
 -- What a write of a field's value requires of the closures in it.
 abbrev pub owed : {V : Type 0} → Der V → V → Type 0
@@ -157,11 +157,11 @@ owed d v = d.closures (d.meaning v)
 
 -- What is written, and what is required of closures, is as these say of the meaning.
 abbrev pub IsWrittenAs : {P M : Type 0} → (M → List ℕ → Type 0) → (M → Type 0) → (P → M) → (P → List ℕ → Type 0) → (P → Type 0) → Type 0
-IsWrittenAs {P} texts closures meaning encodings owes = ((v : P) (text : List ℕ) → encodings v text ↔ texts (meaning v) text) × ((v : P) → owes v ↔ closures (meaning v))
+IsWrittenAs {P} texts closures meaning encodings owes = ((v : P) (octets : List ℕ) → encodings v octets ↔ texts (meaning v) octets) × ((v : P) → owes v ↔ closures (meaning v))
 
 -- The same of a value that is seen as one of another type.
 abbrev pub IsEncoded : {P V : Type 0} → Der V → (P → V) → (P → List ℕ → Type 0) → (P → Type 0) → Type 0
-IsEncoded d wrap = IsWrittenAs d.texts d.closures (λ v. d.meaning (wrap v))
+IsEncoded d wrap = IsWrittenAs d.encodings d.closures (λ v. d.meaning (wrap v))
 
 -- ---- values of a struct's fields as a row has them: under a tag, or with a default
 

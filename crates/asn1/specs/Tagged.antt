@@ -10,8 +10,8 @@ use Rattle.asn1_core.specs.Tag.{class_of, tag_with}
 abbrev pub one_inside : {A : Type 0} → Tag → (d : Encoding A) → Content A
 one_inside tag d = record {
   tag = tag;
-  text = d.text;
-  texts = d.texts;
+  encoding = d.encoding;
+  encodings = d.encodings;
   closures = d.closures;
   valid = d.valid;
   allowed = d.allowed;

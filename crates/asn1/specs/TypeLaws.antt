@@ -1,8 +1,9 @@
 -- What holds of the types of this library, by what holds of their parts; and the laws of lists and of sets.
 use Rattle.asn1_core.specs.Der.{Der}
 use Rattle.std.specs.Prelude.{◌≡◌, ◌<◌, ◌^◌, ◌↔◌, ℕ, List, length, Ok, map, Result}
-use Rattle.asn1_core.specs.Text.{IsText}
-use Rattle.asn1_core.specs.Listing.{text_less, Each, join, IsListing, SameTexts, IsElementText}
+use Rattle.asn1_core.specs.Base256.{IsOctets}
+use Rattle.std.specs.List.{concat, AllByRecursion}
+use Rattle.asn1_core.specs.Listing.{encoding_less, IsListing, SameEncodings, IsElementEncoding}
 use Rattle.asn1.specs.Sets.{set_read, AreOrdered, set_left, IsSetContent}
 use Rattle.asn1.specs.Lists.{AreItems, left}
 use Rattle.asn1_core.specs.Reading.{Fits}
@@ -40,40 +41,40 @@ pub record InheritsBoth {V U W : Type 0} (a : Der V) (b : Der U) (whole : Der W)
 
 -- The encoding of a valid value of the type that may be read back.
 abbrev pub IsTextOf : {V : Type 0} → Der V → List ℕ → Type 0
-IsTextOf d t = (m : d.Meaning) × d.valid m × d.allowed m × (t ≡ d.text m)
+IsTextOf d t = (m : d.Meaning) × d.valid m × d.allowed m × (t ≡ d.encoding m)
 
 -- The contents octets are the listing of encodings of the type.
 pub record IsListingOf {V : Type 0} (d : Der V) (c : List ℕ) : Type 0 where
-  pub texts : List (List ℕ)
-  pub each : Each (IsTextOf d) texts
+  pub encodings : List (List ℕ)
+  pub each : AllByRecursion (IsTextOf d) encodings
   pub listed : List (List ℕ)
-  pub listing : IsListing texts listed
-  pub is : c ≡ join listed
+  pub listing : IsListing encodings listed
+  pub is : c ≡ concat listed
 
 -- Contents octets that are short enough are read exactly if they are a listing of this kind.
 abbrev pub ReadsListings : {V : Type 0} → Der V → Type 0
-ReadsListings d = d.lawful → d.is_element → (c : List ℕ) → IsText c → length c < 2 ^ 32 → ((ms : List d.Meaning) × (set_read text_less d.read c ≡ Ok ms)) ↔ IsListingOf d c
+ReadsListings d = d.lawful → d.is_element → (c : List ℕ) → IsOctets c → length c < 2 ^ 32 → ((ms : List d.Meaning) × (set_read encoding_less d.read c ≡ Ok ms)) ↔ IsListingOf d c
 
 -- The octets of items are the same exactly if the items are.
 abbrev pub ListsTellItems : {V : Type 0} → Der V → Type 0
-ListsTellItems d = (a b : List ℕ) (m n : ℕ) → IsText a → IsText b → AreItems d.read a m → AreItems d.read b n → (a ≡ b) ↔ (left d.read a ≡ left d.read b)
+ListsTellItems d = (a b : List ℕ) (m n : ℕ) → IsOctets a → IsOctets b → AreItems d.read a m → AreItems d.read b n → (a ≡ b) ↔ (left d.read a ≡ left d.read b)
 
 -- Two sets that were read have the same octets exactly if they have the same items.
 abbrev pub SetsTellItems : {V : Type 0} → Der V → Type 0
-SetsTellItems d = (a b : List ℕ) → IsText a → IsText b → AreOrdered text_less d.read a → AreOrdered text_less d.read b → (a ≡ b) ↔ (set_left text_less d.read a ≡ set_left text_less d.read b)
+SetsTellItems d = (a b : List ℕ) → IsOctets a → IsOctets b → AreOrdered encoding_less d.read a → AreOrdered encoding_less d.read b → (a ≡ b) ↔ (set_left encoding_less d.read a ≡ set_left encoding_less d.read b)
 
 -- The encoding of each value is a readable element.
 abbrev pub AreElements : {V : Type 0} → (d : Der V) → List d.Meaning → Type 0
-AreElements d = Each (λ m. IsElementText (d.text m))
+AreElements d = AllByRecursion (λ m. IsElementEncoding (d.encoding m))
 
 -- Sets of these values have the same encoding exactly if they have the same encodings of items, each as often.
 abbrev pub SetsTellMultisets : {V : Type 0} → (d : Der V) → (List d.Meaning → List ℕ) → Type 0
 SetsTellMultisets d set_text = (ms ns : List d.Meaning) → AreElements d ms → AreElements d ns
-    → (set_text ms ≡ set_text ns) ↔ SameTexts (map d.text ms) (map d.text ns)
+    → (set_text ms ≡ set_text ns) ↔ SameEncodings (map d.encoding ms) (map d.encoding ns)
 
 -- The encoding of a valid value of a lawful element type is a readable element, if it is short enough to be read.
 abbrev pub ValuesAreElements : {V : Type 0} → Der V → Type 0
-ValuesAreElements d = d.lawful → d.is_element → (m : d.Meaning) → d.valid m → Fits (d.text m) → IsElementText (d.text m)
+ValuesAreElements d = d.lawful → d.is_element → (m : d.Meaning) → d.valid m → Fits (d.encoding m) → IsElementEncoding (d.encoding m)
 
 -- What a closure writes as a set is the contents octets of a set, if these are short enough to be read.
 abbrev pub WritesSets : {F E : Type 0} → Once F (MutBor SetState × Unit {0}) (Result (Unit {0}) E × (MutBor SetState × Unit {0})) → Type 0

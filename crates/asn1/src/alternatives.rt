@@ -3,11 +3,11 @@
 //! is written as that of the alternative at a position in the list ([`WritableAt`]).
 
 ghost use Rattle.std.specs.Prelude.{◌≡◌, IfErr, IfOk, OnErr, OnOk};
-ghost use Rattle.asn1_core.specs.Buffer.{Appends, KeepsFront};
+ghost use Rattle.asn1_core.specs.Buffer.{Appends, KeepsPrefix};
 ghost use Rattle.asn1_core.specs.Reading.{EndsWith};
 ghost use Rattle.asn1_core.specs.Reads.{BeginsWithEncodingOf, ReadsPrefix};
 ghost use Rattle.asn1_core.specs.Tlv.{element_of};
-ghost use Rattle.asn1_core.specs.Writing.{buffer_name, octets_of, GivesLength, Refuses};
+ghost use Rattle.asn1_core.specs.Writing.{buffer_name, octets_of, GivesLength, NamesError};
 ghost use Rattle.asn1.specs.declared.alternatives.OneOf.TheVariants.{First, Other};
 ghost use Rattle.asn1.specs.AlternativeLists.{AlternativeList, IsAlternative, ReadsAlternative};
 ghost use Rattle.asn1.specs.AlternativeLists.{choice, no_list, one_of};
@@ -164,14 +164,15 @@ pub trait WritableAt<P, V>: Sized {
     fn write_at(value: &V, dest: &mut Writer<'_>) -> Result<(), Self::Error>
         requires { list.all.closures (list.meaning (put value.now)) }
         ensures same_buffer { buffer_name dest.new ≡ buffer_name dest.old }
-        ensures ok { OnOk result (Appends (list.all.texts (list.meaning (put value.now)))
+        ensures ok { OnOk result (Appends (list.all.encodings (list.meaning (put value.now)))
             (octets_of dest.old) (octets_of dest.new)) }
-        ensures err { OnErr result (KeepsFront (octets_of dest.old) (octets_of dest.new)) }
-        ensures error { IfErr result (Refuses Self.Error.from_gives (write_errors_at value.now)) };
+        ensures err { OnErr result (KeepsPrefix (octets_of dest.old) (octets_of dest.new)) }
+        ensures error { IfErr result (NamesError Self.Error.from_gives
+            (write_errors_at value.now)) };
 
     /// How many octets the encoding of the value has, if that is known without writing it.
     fn length_at(value: &V) -> Option<usize>
-        ensures { GivesLength (length_known_at value.now) (list.all.texts (list.meaning
+        ensures { GivesLength (length_known_at value.now) (list.all.encodings (list.meaning
             (put value.now))) result };
 }
 
@@ -308,10 +309,10 @@ pub fn write_variant<C: AsOneOf<R>, R: WritableAt<P, V>, P, V>(
     requires is { C.seen _choice.now ≡ R.put value.now }
     requires owed { R.list.all.closures (R.list.meaning (C.seen _choice.now)) }
     ensures same_buffer { buffer_name dest.new ≡ buffer_name dest.old }
-    ensures ok { OnOk result (Appends (R.list.all.texts (R.list.meaning (C.seen _choice.now)))
+    ensures ok { OnOk result (Appends (R.list.all.encodings (R.list.meaning (C.seen _choice.now)))
         (octets_of dest.old) (octets_of dest.new)) }
-    ensures err { OnErr result (KeepsFront (octets_of dest.old) (octets_of dest.new)) }
-    ensures error { IfErr result (Refuses R.Error.from_gives (R.write_errors_at value.now)) }
+    ensures err { OnErr result (KeepsPrefix (octets_of dest.old) (octets_of dest.new)) }
+    ensures error { IfErr result (NamesError R.Error.from_gives (R.write_errors_at value.now)) }
 {
     R::write_at(value, dest)
 }
@@ -322,7 +323,7 @@ pub fn variant_length<C: AsOneOf<R>, R: WritableAt<P, V>, P, V>(
     value: &V,
 ) -> Option<usize>
     requires { C.seen _choice.now ≡ R.put value.now }
-    ensures { GivesLength (R.length_known_at value.now) (R.list.all.texts (R.list.meaning
+    ensures { GivesLength (R.length_known_at value.now) (R.list.all.encodings (R.list.meaning
         (C.seen _choice.now))) result }
 {
     R::length_at(value)

@@ -2,7 +2,7 @@
 
 ghost use Rattle.std.specs.Prelude.{◌≡◌, ◌+◌, ◌/◌, ◌%◌, ⊤, MatchOption, MatchResult};
 ghost use Rattle.asn1_core.specs.declared.parser.ParseErrorKind.TheVariants.{InvalidValue};
-ghost use Rattle.asn1_core.specs.Fault.{fault};
+ghost use Rattle.asn1_core.specs.ReadError.{read_error};
 ghost use Rattle.asn1_core.specs.Der.{simple_der};
 ghost use Rattle.asn1_values.specs.TimeSteps.{front_two, is_digit, wrong};
 ghost use Rattle.asn1.specs.Dates.{IsDay, day_alone, day_text, read_day};
@@ -77,7 +77,7 @@ impl Date {
           month = month;
           day = day;
         })
-            (λ e. (e ≡ fault InvalidValue) × ¬ IsDay year month day) }
+            (λ e. (e ≡ read_error InvalidValue) × ¬ IsDay year month day) }
     {
         match Date::of_numbers(year, month, day) {
             Some(date) => Ok(date),
@@ -188,7 +188,7 @@ impl Clone for Date {
 
 impl Asn1Type for Date {
     ghost use Rattle.asn1.specs.DateValues.{day_of, date_content};
-    ghost use Rattle.asn1.specs.LawsOf.Values.{date_laws};
+    ghost use Rattle.asn1.specs.LawsOf.Dates.{date_laws};
 
     ghost der = { simple_der day_of date_content date_laws };
 

@@ -5,7 +5,7 @@
 
 ghost use Rattle.std.specs.Prelude.{◌≡◌, ℕ, Option, true, false, IfSome, IsTrue};
 ghost use Rattle.std.specs.Fn.{FnReturnsAt};
-ghost use Rattle.asn1_core.specs.Fault.{Fault};
+ghost use Rattle.asn1_core.specs.ReadError.{ReadError};
 ghost use Rattle.asn1.specs.ErrorOctets.{Decide, IsElement, IsErrorOctet, IsWrongElement, IsWrongHeader};
 ghost use Rattle.asn1.specs.ErrorOctets.{LeaveOpen, kept, replacement, takes_tag, with_tag};
 
@@ -347,7 +347,7 @@ pub fn error_octet<F: Fn(&[u8]) -> Option<ParseError>>(
     rejects: F,
 ) -> Option<usize>
     requires { F.IsAlwaysCallable rejects }
-    ensures { IfSome result (λ octet. (error : Fault)
+    ensures { IfSome result (λ octet. (error : ReadError)
         × FnReturnsAt F.Fn rejects «data».now (Some error)
         × IsErrorOctet (FnReturnsAt F.Fn rejects) «data».now error octet) }
 {
@@ -408,7 +408,7 @@ pub fn expects_tag<F: Fn(&[u8]) -> Option<ParseError>>(
     rejects: F,
 ) -> Option<bool>
     requires { F.IsAlwaysCallable rejects }
-    ensures { IfSome result (λ yes. (end : ℕ) × (other : Option Fault)
+    ensures { IfSome result (λ yes. (end : ℕ) × (other : Option ReadError)
         × FnReturnsAt F.Fn rejects (with_tag octet end tag «data».now) other
         × (yes ≡ takes_tag tag error.now other)) }
 {

@@ -3,7 +3,7 @@
 //! its fields.
 
 ghost use Rattle.std.specs.Prelude.{◌≡◌, List, ℕ};
-ghost use Rattle.asn1_core.specs.Reading.{rest_refused};
+ghost use Rattle.asn1_core.specs.Reading.{rest_rejected};
 ghost use Rattle.asn1.specs.Fields.{first_name, other_names};
 ghost use Rattle.asn1.specs.FieldReads.{in_field, IsSum};
 ghost use Rattle.asn1.specs.Structures.{FieldList, ReadsRow, empty_list, last_field, first_field, texts_of};
@@ -192,7 +192,7 @@ pub fn placed<T: Drop>(answer: ParseResult<T>, name: &'static str) -> ParseResul
 /// Rejects octets that remain after the last field, with `ExtraData` without a location.
 #[inline(always)]
 pub fn finish(parser: Parser<'_>) -> ParseResult<()>
-    ensures { result ≡ rest_refused parser.entry }
+    ensures { result ≡ rest_rejected parser.entry }
 {
     if !parser.is_empty() {
         return Err(ParseError::new(ParseErrorKind::ExtraData));

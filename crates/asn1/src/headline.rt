@@ -4,11 +4,11 @@
 //! words of `specs/Headline.antt`.
 
 ghost use Rattle.std.specs.Prelude.{◌≡◌, ◌↔◌, ◌++◌, ℕ, List, map, IfOk, IfErr, IsOk, IsOkAnd};
-ghost use Rattle.asn1_core.specs.Element.{Element, IsFront};
+ghost use Rattle.asn1_core.specs.Element.{Element, IsLeadingElement};
 ghost use Rattle.asn1_core.specs.Tlv.{element_of, stripped};
-ghost use Rattle.asn1_core.specs.Reading.{Answers, IsRefusal, whole};
-ghost use Rattle.asn1_core.specs.Writing.{Refuses};
-ghost use Rattle.asn1_core.specs.Listing.{SameTexts};
+ghost use Rattle.asn1_core.specs.Reading.{Returns, IsErrorOf, whole};
+ghost use Rattle.asn1_core.specs.Writing.{NamesError};
+ghost use Rattle.asn1_core.specs.Listing.{SameEncodings};
 ghost use Rattle.asn1_core.specs.Laws.{IsShort, with_more};
 ghost use Rattle.asn1.specs.Headline.{Encodes, BeginsWith, AllFit};
 
@@ -35,7 +35,7 @@ pub fn reads_the_one_encoding<'a, T: Asn1Readable<'a>>(
 
     // If the input is the encoding of a value, that value is returned, or memory ran out.
     ensures each { (m : T.der.Meaning) → Encodes T.der m «data».entry.now
-        → Answers T.der.meaning (T.der.runs_out «data».entry.now) result (Ok m) }
+        → Returns T.der.meaning (T.der.runs_out «data».entry.now) result (Ok m) }
 
     // A type that doesn't allocate returns a value exactly if the input is the encoding of one.
     ensures exactly { ¬ T.der.takes_memory → IsOk result
@@ -44,7 +44,7 @@ pub fn reads_the_one_encoding<'a, T: Asn1Readable<'a>>(
     // The input is the encoding of one value at most.
     ensures one { (m n : T.der.Meaning) → Encodes T.der m «data».entry.now
         → Encodes T.der n «data».entry.now → m ≡ n }
-    ensures refused { IfErr result (IsRefusal (T.der.runs_out «data».entry.now)
+    ensures refused { IfErr result (IsErrorOf (T.der.runs_out «data».entry.now)
         (whole (T.der.read «data».entry.now))) }
 {
     parse_single::<T>(alloc, data)
@@ -58,9 +58,10 @@ pub fn writes_the_one_encoding<T: Asn1Writable>(
     value: &T,
 ) -> Result<Vec<u8>, T::Error>
     requires { T.der.plain }
-    ensures text { IfOk result (λ octets. octets.items ≡ T.der.text (T.der.meaning value.now)) }
+    ensures encoding { IfOk result (λ octets. octets.items ≡ T.der.encoding
+        (T.der.meaning value.now)) }
     ensures valid { T.der.valid (T.der.meaning value.now) }
-    ensures error { IfErr result (Refuses T.Error.from_gives (T.write_errors value.now)) }
+    ensures error { IfErr result (NamesError T.Error.from_gives (T.write_errors value.now)) }
 {
     value.known();
     write_single(alloc, value)
@@ -71,8 +72,9 @@ pub fn writes_the_one_encoding<T: Asn1Writable>(
 /// The caller has to prove that the closures keep what they owe (`closures`).
 pub fn writes_an_encoding<T: Asn1Writable>(alloc: Global, value: &T) -> Result<Vec<u8>, T::Error>
     requires { T.der.closures (T.der.meaning value.now) }
-    ensures text { IfOk result (λ octets. T.der.texts (T.der.meaning value.now) octets.items) }
-    ensures error { IfErr result (Refuses T.Error.from_gives (T.write_errors value.now)) }
+    ensures encoding { IfOk result (λ octets. T.der.encodings (T.der.meaning value.now)
+        octets.items) }
+    ensures error { IfErr result (NamesError T.Error.from_gives (T.write_errors value.now)) }
 {
     write_single(alloc, value)
 }
@@ -86,7 +88,8 @@ pub fn writes_alike<T: Asn1Writable, U: Asn1Writable<Error = T::Error>>(
 ) -> Result<(Vec<u8>, Vec<u8>), T::Error>
     requires plain { T.der.plain }
     requires other_plain { U.der.plain }
-    requires same { T.der.text (T.der.meaning one.now) ≡ U.der.text (U.der.meaning other.now) }
+    requires same { T.der.encoding (T.der.meaning one.now) ≡ U.der.encoding
+        (U.der.meaning other.now) }
     ensures { IfOk result (λ both. both.0.items ≡ both.1.items) }
 {
     let octets = write_single(alloc, one)?;
@@ -109,8 +112,8 @@ pub fn sets_tell_multisets<'a, T: Asn1Writable>(
     requires fit { AllFit T.der (map T.der.meaning items.now) }
     requires others_fit { AllFit T.der (map T.der.meaning others.now) }
     ensures { IfOk result (λ both. (both.0.items ≡ both.1.items)
-        ↔ SameTexts (map T.der.text (map T.der.meaning items.entry.now))
-        (map T.der.text (map T.der.meaning others.entry.now))) }
+        ↔ SameEncodings (map T.der.encoding (map T.der.meaning items.entry.now))
+        (map T.der.encoding (map T.der.meaning others.entry.now))) }
 {
     equal_multisets::<T>();
     let first = SetOfWriter::new(items);
@@ -127,7 +130,7 @@ pub fn cuts_off_the_element<'a>(data: &'a [u8]) -> ParseResult<(Tlv<'a>, &'a [u8
     ensures found { IfOk result (λ x. BeginsWith «data».entry.now (element_of x.0) x.1.now) }
     ensures each { (e : Element) (rest : List ℕ) → BeginsWith «data».entry.now e rest
         → IsOkAnd result (λ x. (element_of x.0 ≡ e) × (x.1.now ≡ rest)) }
-    ensures refused { IfErr result (λ e. IsFront «data».entry.now (Err e.kind)) }
+    ensures refused { IfErr result (λ e. IsLeadingElement «data».entry.now (Err e.kind)) }
 {
     strip_tlv(data)
 }

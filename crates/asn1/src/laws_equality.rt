@@ -1,7 +1,7 @@
 //! How elements, lists, wrappers, choices, tags and errors compare. Each law is the contract of a function that does
 //! nothing.
 
-ghost use Rattle.asn1_core.specs.Fault.{place_of};
+ghost use Rattle.asn1_core.specs.ReadError.{place_of};
 ghost use Rattle.asn1_core.specs.Tlv.{element_of};
 ghost use Rattle.asn1_values.specs.Comparisons.{ClonesAreEqual, HashesAlike, IsEqualityOf, NeverFails};
 ghost use Rattle.asn1.specs.InHand.{octets_of_set, sequence_octets};

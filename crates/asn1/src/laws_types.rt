@@ -103,12 +103,13 @@ pub fn lists_are_lawful<'a, T: Asn1Type + 'a, const MIN: usize, const MAX: usize
 /// one element.
 pub fn encodings_tell_values<T: Asn1Type>()
     ensures one_value { T.der.lawful → (m n : T.der.Meaning) → T.der.valid m → T.der.valid n
-        → T.der.allowed m → T.der.allowed n → Fits (T.der.text m) → T.der.text m ≡ T.der.text n
+        → T.der.allowed m → T.der.allowed n → Fits (T.der.encoding m) → T.der.encoding m ≡
+        T.der.encoding n
         → m ≡ n }
-    ensures has_text { T.der.plain → (m : T.der.Meaning) → T.der.valid m
-        → T.der.texts m (T.der.text m) }
+    ensures has_encoding { T.der.plain → (m : T.der.Meaning) → T.der.valid m
+        → T.der.encodings m (T.der.encoding m) }
     ensures short { T.der.lawful → (m : T.der.Meaning) → T.der.valid m
-        → length (T.der.text m) < 2 ^ 32 → Fits (T.der.text m) }
+        → length (T.der.encoding m) < 2 ^ 32 → Fits (T.der.encoding m) }
     ensures element { (m : T.der.Meaning) → IsElementWritten T.der m }
 {}
 

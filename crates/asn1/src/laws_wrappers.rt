@@ -147,10 +147,10 @@ pub fn fields_are_encoded<
 
 /// The same of an item, which is written from the value that it defines, and of that value.
 pub fn items_are_encoded<T: Asn1Writable + Drop, C: DefinedField<T> + Asn1DefinedByWritable<T>>()
-    ensures item { IsWrittenAs C.both.item.texts C.both.item.closures
+    ensures item { IsWrittenAs C.both.item.encodings C.both.item.closures
         (λ v. C.both.value.item (C.both.value.meaning v))
         ⟦<ItemOf<T> as FieldWritable<C>>⟧.encodings ⟦<ItemOf<T> as FieldWritable<C>>⟧.owes }
-    ensures value { IsWrittenAs C.both.value.texts C.both.value.closures C.both.value.meaning
+    ensures value { IsWrittenAs C.both.value.encodings C.both.value.closures C.both.value.meaning
         ⟦<ValueOf<T> as FieldWritable<C>>⟧.encodings ⟦<ValueOf<T> as FieldWritable<C>>⟧.owes }
 {}
 
@@ -198,17 +198,19 @@ pub fn rows_are_written<
     W: RowWritable<KR, Error = K::Error>,
 >()
     ensures last { (row : V → Last (Bor P)) (m : V → A.der.Meaning)
-        → IsWrittenAs A.der.texts A.der.closures m (λ v. K.encodings (row v).value.now)
+        → IsWrittenAs A.der.encodings A.der.closures m (λ v. K.encodings (row v).value.now)
         (λ v. K.owes (row v).value.now)
-        → IsWrittenAs ⟦<Last<A> as Row>⟧.list.fields.texts ⟦<Last<A> as Row>⟧.list.fields.closures
+        → IsWrittenAs ⟦<Last<A> as Row>⟧.list.fields.encodings
+        ⟦<Last<A> as Row>⟧.list.fields.closures
         m (λ v. ⟦<Last<&'a P> as RowWritable<Last<K>>>⟧.encodings (row v))
         (λ v. ⟦<Last<&'a P> as RowWritable<Last<K>>>⟧.owes (row v)) }
     ensures field { (row : V → Field (Bor P) W) (m : V → A.der.Meaning) (n : V → R.list.Meaning)
-        → IsWrittenAs A.der.texts A.der.closures m (λ v. K.encodings (row v).value.now)
+        → IsWrittenAs A.der.encodings A.der.closures m (λ v. K.encodings (row v).value.now)
         (λ v. K.owes (row v).value.now)
-        → IsWrittenAs R.list.fields.texts R.list.fields.closures n (λ v. W.encodings (row v).rest)
+        → IsWrittenAs R.list.fields.encodings R.list.fields.closures n
+        (λ v. W.encodings (row v).rest)
         (λ v. W.owes (row v).rest)
-        → IsWrittenAs ⟦<Field<A, R> as Row>⟧.list.fields.texts
+        → IsWrittenAs ⟦<Field<A, R> as Row>⟧.list.fields.encodings
         ⟦<Field<A, R> as Row>⟧.list.fields.closures (λ v. (m v, n v))
         (λ v. ⟦<Field<&'a P, W> as RowWritable<Field<K, KR>>>⟧.encodings (row v))
         (λ v. ⟦<Field<&'a P, W> as RowWritable<Field<K, KR>>>⟧.owes (row v)) }
@@ -230,37 +232,38 @@ pub fn rows_behind_items_are_written<
     W: RowWritable<KR, Error = K::Error>,
 >()
     ensures last_value { (row : V → Last (Bor P)) (m : V → C.both.value.Meaning)
-        → IsWrittenAs C.both.value.texts C.both.value.closures m
+        → IsWrittenAs C.both.value.encodings C.both.value.closures m
         (λ v. K.encodings (row v).value.now) (λ v. K.owes (row v).value.now)
-        → IsWrittenAs ⟦<LastValue<C> as RowBehind<T>>⟧.behind.fields.texts
+        → IsWrittenAs ⟦<LastValue<C> as RowBehind<T>>⟧.behind.fields.encodings
         ⟦<LastValue<C> as RowBehind<T>>⟧.behind.fields.closures m
         (λ v. ⟦<Last<&'a P> as RowWritable<Last<K>>>⟧.encodings (row v))
         (λ v. ⟦<Last<&'a P> as RowWritable<Last<K>>>⟧.owes (row v)) }
     ensures value { (row : V → Field (Bor P) W) (m : V → C.both.value.Meaning)
         → (n : V → R.list.Meaning)
-        → IsWrittenAs C.both.value.texts C.both.value.closures m
+        → IsWrittenAs C.both.value.encodings C.both.value.closures m
         (λ v. K.encodings (row v).value.now) (λ v. K.owes (row v).value.now)
-        → IsWrittenAs R.list.fields.texts R.list.fields.closures n
+        → IsWrittenAs R.list.fields.encodings R.list.fields.closures n
         (λ v. W.encodings (row v).rest) (λ v. W.owes (row v).rest)
-        → IsWrittenAs ⟦<Value<C, R> as RowBehind<T>>⟧.behind.fields.texts
+        → IsWrittenAs ⟦<Value<C, R> as RowBehind<T>>⟧.behind.fields.encodings
         ⟦<Value<C, R> as RowBehind<T>>⟧.behind.fields.closures (λ v. (m v, n v))
         (λ v. ⟦<Field<&'a P, W> as RowWritable<Field<K, KR>>>⟧.encodings (row v))
         (λ v. ⟦<Field<&'a P, W> as RowWritable<Field<K, KR>>>⟧.owes (row v)) }
     ensures before { (row : V → Field (Bor P) W) (m : V → A.der.Meaning) (n : V → B.behind.Meaning)
-        → IsWrittenAs A.der.texts A.der.closures m
+        → IsWrittenAs A.der.encodings A.der.closures m
         (λ v. K.encodings (row v).value.now) (λ v. K.owes (row v).value.now)
-        → IsWrittenAs B.behind.fields.texts B.behind.fields.closures n
+        → IsWrittenAs B.behind.fields.encodings B.behind.fields.closures n
         (λ v. W.encodings (row v).rest) (λ v. W.owes (row v).rest)
-        → IsWrittenAs ⟦<Before<A, B> as RowBehind<T>>⟧.behind.fields.texts
+        → IsWrittenAs ⟦<Before<A, B> as RowBehind<T>>⟧.behind.fields.encodings
         ⟦<Before<A, B> as RowBehind<T>>⟧.behind.fields.closures (λ v. (m v, n v))
         (λ v. ⟦<Field<&'a P, W> as RowWritable<Field<K, KR>>>⟧.encodings (row v))
         (λ v. ⟦<Field<&'a P, W> as RowWritable<Field<K, KR>>>⟧.owes (row v)) }
     ensures item { (row : V → Field (Bor P) W) (n : V → B.behind.Meaning)
-        → IsWrittenAs B.behind.item.texts B.behind.item.closures (λ v. B.behind.fields.item (n v))
+        → IsWrittenAs B.behind.item.encodings B.behind.item.closures
+        (λ v. B.behind.fields.item (n v))
         (λ v. K.encodings (row v).value.now) (λ v. K.owes (row v).value.now)
-        → IsWrittenAs B.behind.fields.texts B.behind.fields.closures n
+        → IsWrittenAs B.behind.fields.encodings B.behind.fields.closures n
         (λ v. W.encodings (row v).rest) (λ v. W.owes (row v).rest)
-        → IsWrittenAs ⟦<Item<T, B> as Row>⟧.list.fields.texts
+        → IsWrittenAs ⟦<Item<T, B> as Row>⟧.list.fields.encodings
         ⟦<Item<T, B> as Row>⟧.list.fields.closures n
         (λ v. ⟦<Field<&'a P, W> as RowWritable<Field<K, KR>>>⟧.encodings (row v))
         (λ v. ⟦<Field<&'a P, W> as RowWritable<Field<K, KR>>>⟧.owes (row v)) }

@@ -3,9 +3,9 @@
 
 ghost use Rattle.std.specs.Prelude.{◌≡◌, ◌<◌, ◌^◌, ℕ, List};
 ghost use Rattle.asn1_core.specs.declared.parser.Place.TheVariants.{Index};
-ghost use Rattle.asn1_core.specs.Fault.{within};
+ghost use Rattle.asn1_core.specs.ReadError.{within};
 ghost use Rattle.asn1_core.specs.declared.tag.Tag.{Tag};
-ghost use Rattle.asn1_core.specs.Element.{element, element_text};
+ghost use Rattle.asn1_core.specs.Element.{element, element_encoding};
 ghost use Rattle.asn1.specs.Lists.{AreOctets};
 ghost use Rattle.asn1.specs.MadeLists.{AreContents};
 
@@ -39,7 +39,7 @@ pub(crate) fn are_octets(octets: &[u8])
 /// The contents octets of the element that these octets are.
 pub(crate) fn contents_of<'a>(octets: &'a [u8]) -> ParseResult<&'a [u8]>
     ensures { (tag : Tag) (content : List ℕ) → tag.value < 2 ^ 32
-        → octets.entry.now ≡ element_text (element tag content) → AreContents content result }
+        → octets.entry.now ≡ element_encoding (element tag content) → AreContents content result }
 {
     octets.known();
     let (tlv, _rest) = strip_tlv(octets)?;

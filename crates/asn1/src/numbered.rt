@@ -1,7 +1,7 @@
 //! Enums whose values have numbers: ENUMERATED (X.690 8.4), and INTEGER with named numbers alone (X.680 19.3).
 
 ghost use Rattle.std.specs.Prelude.{◌≡◌, ℕ, List, MatchOption, pos, false, true};
-ghost use Rattle.asn1_core.specs.Reading.{Answers};
+ghost use Rattle.asn1_core.specs.Reading.{Returns};
 ghost use Rattle.asn1.specs.Listed.{lists, numbered_content, read_listed};
 ghost use Rattle.asn1_core.specs.Tag.{universal};
 
@@ -38,7 +38,7 @@ pub fn known_number<T: Numbered>(value: T)
 /// Errors: `InvalidValue` for no octets, more than the fewest, a negative number, or one that no value has;
 /// `IntegerOverflow` for a number from 2^32 on.
 pub fn read_number<T: Numbered>(alloc: Global, data: &[u8]) -> ParseResult<T>
-    ensures { Answers (λ v. pos (T.number_of v)) (λ places. ⊥) result
+    ensures { Returns (λ v. pos (T.number_of v)) (λ places. ⊥) result
         (read_listed T.numbers «data».entry.now) }
 {
     let number = u32::parse_data(alloc, data)?;

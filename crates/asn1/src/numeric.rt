@@ -157,7 +157,7 @@ impl SimpleAsn1Writable for NumericString<'_> {
     }
 
     fn data_length(&self) -> Option<usize>
-        ensures known { GivesLength (Unit {0}) (numeric_content.texts (numeric_octets self.now))
+        ensures known { GivesLength (Unit {0}) (numeric_content.encodings (numeric_octets self.now))
             result }
         ensures exact { result ≡ Some (length (numeric_octets self.now)) }
     {

@@ -1,8 +1,8 @@
 //! RELATIVE-OID (X.690 8.20).
 
 ghost use Rattle.std.specs.Prelude.{◌≡◌, ◌∷◌, ◌<◌, IsTrue, true, ⊤, Some, length, is_some};
-ghost use Rattle.asn1_core.specs.Base128.{number_front};
-ghost use Rattle.asn1_core.specs.Reading.{Answers};
+ghost use Rattle.asn1_core.specs.Base128.{leading_number};
+ghost use Rattle.asn1_core.specs.Reading.{Returns};
 ghost use Rattle.asn1_core.specs.Reads.{ReadsContents};
 ghost use Rattle.asn1_core.specs.Tag.{universal};
 ghost use Rattle.asn1_core.specs.Writing.{GivesLength};
@@ -35,7 +35,7 @@ fn are_arcs(octets: &[u8]) -> bool
 fn first_arc(octets: &[u8]) -> (u128, &[u8])
     requires some { 0 < length octets.now }
     requires arcs { is_some (numbers_in octets.now) ≡ true }
-    ensures { number_front octets.now ≡ Ok (result.0, result.1.now) }
+    ensures { leading_number octets.now ≡ Ok (result.0, result.1.now) }
 {
     match base128::read(octets) {
         Ok(found) => found,
@@ -68,7 +68,7 @@ impl<'a> RelativeOid<'a> {
     /// The relative identifier with these contents octets. The error is `InvalidValue`, without a location, if there
     /// are none, or if they aren't arcs in base 128, each below 2^128 and in the fewest octets.
     pub fn from_der(octets: &'a [u8]) -> ParseResult<RelativeOid<'a>>
-        ensures { Answers relative_arcs (λ _. ⊥) result (read_relative octets.entry.now) }
+        ensures { Returns relative_arcs (λ _. ⊥) result (read_relative octets.entry.now) }
     {
         if octets.is_empty() || !are_arcs(octets) {
             return Err(ParseError::new(ParseErrorKind::InvalidValue));
@@ -147,7 +147,7 @@ impl fmt::Debug for RelativeOid<'_> {
 
 impl<'a> Asn1Type for RelativeOid<'a> {
     ghost use Rattle.asn1.specs.RelativeValues.{relative_arcs, relative_content};
-    ghost use Rattle.asn1.specs.LawsOf.Values.{relative_laws};
+    ghost use Rattle.asn1.specs.LawsOf.Relative.{relative_laws};
 
     ghost der = { simple_der relative_arcs relative_content relative_laws };
 
@@ -189,7 +189,7 @@ impl SimpleAsn1Writable for RelativeOid<'_> {
     }
 
     fn data_length(&self) -> Option<usize>
-        ensures known { GivesLength (Unit {0}) (relative_content.texts (relative_arcs self.now))
+        ensures known { GivesLength (Unit {0}) (relative_content.encodings (relative_arcs self.now))
             result }
         ensures exact { result ≡ Some (length (identifier_content (relative_arcs self.now))) }
     {

@@ -2,8 +2,8 @@
 //! requires nothing of its values.
 
 ghost use Rattle.std.specs.Prelude.{◌≡◌, IfOk, IfErr};
-ghost use Rattle.asn1_core.specs.Reading.{Answers, Fits, IsRefusal, whole};
-ghost use Rattle.asn1_core.specs.Writing.{Refuses};
+ghost use Rattle.asn1_core.specs.Reading.{Returns, Fits, IsErrorOf, whole};
+ghost use Rattle.asn1_core.specs.Writing.{NamesError};
 ghost use Rattle.asn1_core.specs.Listing.{OneNames};
 
 use asn1_core::{Asn1Readable, Asn1Writable, ParseResult, Tag, parse_single, write_single};
@@ -15,8 +15,8 @@ pub fn write_readable<'a, T: Asn1Readable<'a> + Asn1Writable>(
     alloc: Global,
     value: &T,
 ) -> Result<Vec<u8>, T::Error>
-    ensures text { IfOk result (λ v. v.items ≡ T.der.text (T.der.meaning value.now)) }
-    ensures error { IfErr result (Refuses T.Error.from_gives (T.write_errors value.now)) }
+    ensures encoding { IfOk result (λ v. v.items ≡ T.der.encoding (T.der.meaning value.now)) }
+    ensures error { IfErr result (NamesError T.Error.from_gives (T.write_errors value.now)) }
 {
     // By this call's contract each value has one encoding.
     let _accepted = T::can_parse(Tag::primitive(0));
@@ -30,10 +30,10 @@ pub fn read_and_write_back<'a, T: Asn1Readable<'a> + Asn1Writable>(
     data: &'a [u8],
 ) -> ParseResult<Result<Vec<u8>, T::Error>>
     ensures written { IfOk result (λ written. IfOk written (λ v. v.items ≡ «data».entry.now)) }
-    ensures refused { IfErr result (IsRefusal (T.der.runs_out «data».entry.now)
+    ensures refused { IfErr result (IsErrorOf (T.der.runs_out «data».entry.now)
         (whole (T.der.read «data».entry.now))) }
     ensures error { IfOk result (λ written. IfErr written
-        (Refuses T.Error.from_gives (OneNames T.write_errors))) }
+        (NamesError T.Error.from_gives (OneNames T.write_errors))) }
 {
     let value = parse_single::<T>(alloc, data)?;
     Ok(write_readable(alloc, &value))
@@ -51,11 +51,11 @@ pub fn write_and_read_back<'a, T: Asn1Readable<'a> + Asn1Writable>(
 ) -> Result<ParseResult<T>, T::Error>
     requires lawful { T.der.lawful }
     requires allowed { T.der.allowed (T.der.meaning value.now) }
-    requires fits { Fits (T.der.text (T.der.meaning value.now)) }
-    ensures read { IfOk result (λ read. Answers T.der.meaning
-        (T.der.runs_out (T.der.text (T.der.meaning value.now))) read
+    requires fits { Fits (T.der.encoding (T.der.meaning value.now)) }
+    ensures read { IfOk result (λ read. Returns T.der.meaning
+        (T.der.runs_out (T.der.encoding (T.der.meaning value.now))) read
         (Ok (T.der.meaning value.now))) }
-    ensures error { IfErr result (Refuses T.Error.from_gives (T.write_errors value.now)) }
+    ensures error { IfErr result (NamesError T.Error.from_gives (T.write_errors value.now)) }
 {
     value.known();
     *store = write_readable(alloc, value)?;

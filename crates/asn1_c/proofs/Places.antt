@@ -12,8 +12,8 @@ use Rattle.asn1_c.specs.Texts.{LeavesText}
 -- ---- a text in parts
 
 -- Two parts.
-pub both : (s t text b₀ b₁ b₂ : List ℕ) (c₀ c₁ c₂ : ℕ) → Appends s b₀ c₀ b₁ c₁ → Appends t b₁ c₁ b₂ c₂ → text ≡ s ++ t → Appends text b₀ c₀ b₂ c₂
-both s t text b₀ b₁ b₂ c₀ c₁ c₂ first second is front old holds =
+pub both : (s t octets b₀ b₁ b₂ : List ℕ) (c₀ c₁ c₂ : ℕ) → Appends s b₀ c₀ b₁ c₁ → Appends t b₁ c₁ b₂ c₂ → octets ≡ s ++ t → Appends octets b₀ c₀ b₂ c₂
+both s t octets b₀ b₁ b₂ c₀ c₁ c₂ first second is front old holds =
     subst (λ all. Holds all old b₂ c₂) (append_assoc front s t ∙ ap (λ l. front ++ l) (sym is)) (second (front ++ s) old (first front old holds))
 
 -- One octet more of a name.
@@ -86,31 +86,31 @@ innermost places place some is =
 
 -- ---- what is left
 
-module _ (text old : List ℕ) where
+module _ (octets old : List ℕ) where
   abbrev cut : List ℕ
-  cut = take (2 ^ 64 - 1) text
+  cut = take (2 ^ 64 - 1) octets
 
   none : Holds [] old old 0
   none = record { octets = sym (ap (λ l. l ++ old) (take_all (length old) [] (omega arith))); counted = refl }
 
-  counted : (empty : List ℕ) (count : ℕ) → Appends text [] 0 empty count → count ≡ length cut
-  counted empty count counts = (counts [] [] (record { octets = refl; counted = refl })).counted ∙ sym (length-take (2 ^ 64 - 1) text)
+  counted : (empty : List ℕ) (count : ℕ) → Appends octets [] 0 empty count → count ≡ length cut
+  counted empty count counts = (counts [] [] (record { octets = refl; counted = refl })).counted ∙ sym (length-take (2 ^ 64 - 1) octets)
 
-  same : length cut ≤ length old → length old < 2 ^ 64 → take (length old) text ++ drop (length text) old ≡ cut ++ drop (length cut) old
+  same : length cut ≤ length old → length old < 2 ^ 64 → take (length old) octets ++ drop (length octets) old ≡ cut ++ drop (length cut) old
   same room short =
-      let size : length cut ≡ min (2 ^ 64 - 1) (length text) = length-take (2 ^ 64 - 1) text in
-      let fronts : take (length old) text ≡ cut = sym (take_min (length old) text) ∙ ap (λ n. take n text) (omega (arith, size, room, short)) ∙ take_min (2 ^ 64 - 1) text in
-      let backs : drop (length text) old ≡ drop (length cut) old = sym (drop_min (length text) old) ∙ ap (λ n. drop n old) (omega (arith, size, room, short)) ∙ drop_min (length cut) old in
-      ap (λ l. l ++ drop (length text) old) fronts ∙ ap (λ l. cut ++ l) backs
+      let size : length cut ≡ min (2 ^ 64 - 1) (length octets) = length-take (2 ^ 64 - 1) octets in
+      let fronts : take (length old) octets ≡ cut = sym (take_min (length old) octets) ∙ ap (λ n. take n octets) (omega (arith, size, room, short)) ∙ take_min (2 ^ 64 - 1) octets in
+      let backs : drop (length octets) old ≡ drop (length cut) old = sym (drop_min (length octets) old) ∙ ap (λ n. drop n old) (omega (arith, size, room, short)) ∙ drop_min (length cut) old in
+      ap (λ l. l ++ drop (length octets) old) fronts ∙ ap (λ l. cut ++ l) backs
 
-  pub left : (empty new : List ℕ) (count last : ℕ) → length old < 2 ^ 64 → Appends text [] 0 empty count → count ≤ length old → Appends text old 0 new last → LeavesText cut old new last
+  pub left : (empty new : List ℕ) (count last : ℕ) → length old < 2 ^ 64 → Appends octets [] 0 empty count → count ≤ length old → Appends octets old 0 new last → LeavesText cut old new last
   left empty new count last short counts room puts =
       let holds = puts [] old none in
       let size = counted empty count counts in
       let fits : leb (length cut) (length old) ≡ true = le-leb (length cut) (length old) (omega (arith, size, room)) in
-      (holds.octets ∙ same (omega (arith, size, room)) short ∙ sym (rw fits refl), holds.counted ∙ sym (length-take (2 ^ 64 - 1) text))
+      (holds.octets ∙ same (omega (arith, size, room)) short ∙ sym (rw fits refl), holds.counted ∙ sym (length-take (2 ^ 64 - 1) octets))
 
-  pub not_left : (empty : List ℕ) (count : ℕ) → Appends text [] 0 empty count → length old < count → LeavesText cut old old count
+  pub not_left : (empty : List ℕ) (count : ℕ) → Appends octets [] 0 empty count → length old < count → LeavesText cut old old count
   not_left empty count counts room =
       let size = counted empty count counts in
       let few : leb (length cut) (length old) ≡ false = lt-leb (length cut) (length old) (omega (arith, size, room)) in

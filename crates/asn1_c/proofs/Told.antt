@@ -3,10 +3,10 @@ use Rattle.std.proofs.Common.{◌≡◌, ℕ, ◌+◌, ◌≤◌, ◌-◌, ◌++
 use Rattle.std.proofs.lemmas.List.{length-append}
 use Rattle.asn1.specs.declared.ParseErrorKind.{ParseErrorKind}
 use Rattle.asn1.specs.declared.ParseErrorKind.TheVariants.{InvalidValue, InvalidTag, InvalidLength, InvalidSize, UnexpectedTag, ShortData, IntegerOverflow, ExtraData, InvalidSetOrdering, EncodedDefault, OidTooLong, UnknownDefinedBy, AllocationError}
-use Rattle.asn1.specs.Element.{Element, element_text, IsFront}
+use Rattle.asn1.specs.Element.{Element, element_encoding, IsLeadingElement}
 use Rattle.asn1.specs.Laws.{IsShort, with_more}
-use Rattle.asn1.specs.Length.{length_text}
-use Rattle.asn1.specs.Tag.{tag_text}
+use Rattle.asn1.specs.Length.{length_octets}
+use Rattle.asn1.specs.Tag.{identifier_octets}
 use Rattle.asn1_c.specs.declared.elements.Asn1Element.{Asn1Element}
 use Rattle.asn1_c.specs.declared.errors.Asn1Error.{Asn1Error}
 use Rattle.asn1_c.specs.Errors.{told}
@@ -63,9 +63,9 @@ some_number UnknownDefinedBy none = absurd (omega (arith, none))
 some_number AllocationError none = absurd (omega (arith, none))
 
 -- Header and contents octets of an element together.
-header_and_contents : (e : Element) → (length (element_text e) - length e.content) + length e.content ≡ length (element_text e)
-unfolding element_text
-header_and_contents e = omega (arith, length-append (tag_text e.tag) (length_text (length e.content) ++ e.content), length-append (length_text (length e.content)) e.content)
+header_and_contents : (e : Element) → (length (element_encoding e) - length e.content) + length e.content ≡ length (element_encoding e)
+unfolding element_encoding
+header_and_contents e = omega (arith, length-append (identifier_octets e.tag) (length_octets (length e.content) ++ e.content), length-append (length_octets (length e.content)) e.content)
 
 module _ (old new : Asn1Element) (found : Asn1Error) where
   -- What is told stays the same with more remaining octets.
@@ -74,10 +74,10 @@ module _ (old new : Asn1Element) (found : Asn1Error) where
   leaves_more (Err kind) more l = record { element = l.element; error = l.error }
 
   -- An element is within the octets.
-  pub element_within : (octets : List ℕ) (answer : Result (Element × List ℕ) ParseErrorKind) → IsFront octets answer → Leaves old new found answer → found.number ≡ 0
+  pub element_within : (octets : List ℕ) (answer : Result (Element × List ℕ) ParseErrorKind) → IsLeadingElement octets answer → Leaves old new found answer → found.number ≡ 0
       → new.header_length + new.contents_length ≤ length octets
   element_within octets (Ok x) is l none =
-      let whole = ap length is.1 ∙ length-append (element_text x.0) x.1 in
+      let whole = ap length is.1 ∙ length-append (element_encoding x.0) x.1 in
       let header = ap (λ (e : Asn1Element). e.header_length) l.element in
       let contents = ap (λ (e : Asn1Element). e.contents_length) l.element in
       omega (arith, whole, header, contents, header_and_contents x.0)

@@ -2,7 +2,7 @@
 use Rattle.std.specs.Prelude.{ℕ, ◌≡◌, ◌-◌, List, length, Result}
 use Rattle.asn1.specs.declared.ParseErrorKind.{ParseErrorKind}
 use Rattle.asn1.specs.Tag.{tag_class, tag_constructed, tag_number, class_number}
-use Rattle.asn1.specs.Element.{Element, element_text}
+use Rattle.asn1.specs.Element.{Element, element_encoding}
 use Rattle.asn1_c.specs.declared.elements.Asn1Element.{Asn1Element}
 use Rattle.asn1_c.specs.declared.errors.Asn1Error.{Asn1Error}
 use Rattle.asn1_c.specs.Errors.{told, left_by}
@@ -13,7 +13,7 @@ shown_element e = record {
   number = tag_number e.tag;
   class = class_number (tag_class e.tag);
   constructed = tag_constructed e.tag;
-  header_length = length (element_text e) - length e.content;
+  header_length = length (element_encoding e) - length e.content;
   contents_length = length e.content;
 }
 

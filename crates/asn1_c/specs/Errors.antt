@@ -3,7 +3,7 @@ use Rattle.std.specs.Prelude.{ℕ, false, Result, Ok, Err}
 use Rattle.asn1.specs.declared.ParseErrorKind.{ParseErrorKind}
 use Rattle.asn1.specs.declared.ParseErrorKind.TheVariants.{InvalidValue, InvalidTag, InvalidLength, InvalidSize, UnexpectedTag, ShortData, IntegerOverflow, ExtraData, InvalidSetOrdering, EncodedDefault, OidTooLong, UnknownDefinedBy, AllocationError}
 use Rattle.asn1.specs.Tag.{tag_class, tag_constructed, tag_number, class_number}
-use Rattle.asn1.specs.Fault.{Fault}
+use Rattle.asn1.specs.ReadError.{ReadError}
 use Rattle.asn1_c.specs.declared.errors.Asn1Error.{Asn1Error}
 
 -- The numbers of the kinds of errors.
@@ -47,7 +47,7 @@ told (Ok value) = without_details 0
 told (Err kind) = error_of kind
 
 -- The same of a result whose error has locations, which are left out.
-abbrev pub told_read : {A : Type 0} → Result A Fault → Asn1Error
+abbrev pub told_read : {A : Type 0} → Result A ReadError → Asn1Error
 told_read (Ok value) = without_details 0
 told_read (Err fault) = error_of fault.kind
 

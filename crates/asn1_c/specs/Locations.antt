@@ -5,7 +5,7 @@ use Rattle.std.specs.List.{after_last, join_with_byte}
 use Rattle.std.specs.Str.{bytes_eq}
 use Rattle.asn1.specs.declared.Place.{Place}
 use Rattle.asn1.specs.declared.Place.TheVariants.{Field, Index}
-use Rattle.asn1.specs.Fault.{Fault}
+use Rattle.asn1.specs.ReadError.{ReadError}
 
 -- The octet `:`.
 abbrev pub colon : ℕ
@@ -58,18 +58,18 @@ abbrev pub shown_location : List Place → List ℕ
 shown_location places = take (2 ^ 64 - 1) (location_text places)
 
 -- The location that is told of a result: that of its error, if it has one.
-abbrev pub told_location : {A : Type 0} → Result A Fault → List ℕ
+abbrev pub told_location : {A : Type 0} → Result A ReadError → List ℕ
 told_location (Ok value) = []
 told_location (Err fault) = shown_location fault.places
 
 -- ---- how a text grows in a buffer
 
--- A buffer begins with a text, as far as it has room, and behind the text it holds what it held before. The count is how
--- many octets the text has, or the greatest count.
+-- A buffer begins with a text, as far as it has room, and behind the text it holds what it held before. The count is
+-- how many octets the text has, or the greatest count.
 pub record Holds (text old buffer : List ℕ) (count : ℕ) : Type 0 where
   pub octets : buffer ≡ take (length old) text ++ drop (length text) old
   pub counted : count ≡ min (2 ^ 64 - 1) (length text)
 
 -- A call appends a text to the one that a buffer holds.
 abbrev pub Appends : List ℕ → List ℕ → ℕ → List ℕ → ℕ → Type 0
-Appends text buffer count buffer' count' = (front old : List ℕ) → Holds front old buffer count → Holds (front ++ text) old buffer' count'
+Appends octets buffer count buffer' count' = (front old : List ℕ) → Holds front old buffer count → Holds (front ++ octets) old buffer' count'

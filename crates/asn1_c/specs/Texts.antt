@@ -4,11 +4,11 @@ use Rattle.asn1_c.specs.Errors.{unknown_type, buffer_too_small}
 
 -- What a buffer holds after a text: the text at its start, if it has room for it, and else what it held before.
 abbrev pub copied : List ℕ → List ℕ → List ℕ
-copied text old = if nat_le (length text) (length old) then text ++ drop (length text) old else old
+copied octets old = if nat_le (length octets) (length old) then octets ++ drop (length octets) old else old
 
 -- A call leaves a text in a buffer, if it has room for it, and how many octets the text has.
 abbrev pub LeavesText : List ℕ → List ℕ → List ℕ → ℕ → Type 0
-LeavesText text old new count = (new ≡ copied text old) × (count ≡ length text)
+LeavesText octets old new count = (new ≡ copied octets old) × (count ≡ length octets)
 
 -- What an error's number means.
 abbrev pub words_of : ℕ → List ℕ
@@ -32,4 +32,4 @@ words_of number = if nat_eq number 0 then codes "no error" else
 
 -- The number that says whether a buffer has room for a text.
 abbrev pub text_number : List ℕ → List ℕ → ℕ
-text_number text buffer = if nat_le (length text) (length buffer) then 0 else buffer_too_small
+text_number octets buffer = if nat_le (length octets) (length buffer) then 0 else buffer_too_small

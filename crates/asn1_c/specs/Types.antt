@@ -22,7 +22,7 @@ use Rattle.asn1.specs.IdentifierValues.{identifier_basic}
 use Rattle.asn1.specs.TimeValues.{utc_content, x509_content, instant_content}
 use Rattle.asn1.specs.InHand.{sequence_content}
 use Rattle.asn1.specs.SetTypes.{set_content}
-use Rattle.asn1.specs.Fault.{Fault}
+use Rattle.asn1.specs.ReadError.{ReadError}
 use Rattle.asn1.specs.Reading.{Fits, whole}
 use Rattle.asn1_c.specs.declared.errors.Asn1Error.{Asn1Error}
 use Rattle.asn1_c.specs.declared.types.TypeName.{TypeName}
@@ -126,7 +126,7 @@ type_of types.SeqOfInt = record { Value = List ℤ; der = list_der 0 (2 ^ 64 - 1
 type_of types.SetOfInt = record { Value = List ℤ; der = set_der int_der (λ value. value) }
 
 -- What reading octets to their end returns, at a type.
-abbrev pub reading : (one : TypeName) → List ℕ → Result (type_of one).der.Meaning Fault
+abbrev pub reading : (one : TypeName) → List ℕ → Result (type_of one).der.Meaning ReadError
 reading one octets = whole ((type_of one).der.read octets)
 
 -- What is told of octets, at the type that has a number, if there is one.
@@ -136,10 +136,10 @@ told_at (Some one) octets = told_read (reading one octets)
 
 -- The octets are the encoding of a value of the type, which is valid and within the type's bounds.
 abbrev pub IsEncoding : {V : Type 0} → Der V → List ℕ → Type 0
-IsEncoding d octets = (value : d.Meaning) × (octets ≡ d.text value) × d.valid value × d.allowed value
+IsEncoding d octets = (value : d.Meaning) × (octets ≡ d.encoding value) × d.valid value × d.allowed value
 
--- A call returned this number and told this error of octets, at a type: the error that reading all of them gives. The number
--- is 0 exactly if they are the encoding of a value, as far as the library reads any.
+-- A call returned this number and told this error of octets, at a type: the error that reading all of them gives. The
+-- number is 0 exactly if they are the encoding of a value, as far as the library reads any.
 abbrev pub Checks : {V : Type 0} → Der V → List ℕ → ℕ → Asn1Error → Type 0
 Checks d octets number error = (error ≡ told_read (whole (d.read octets))) × (number ≡ error.number) × (number ≡ 0 → IsEncoding d octets)
     × (IsEncoding d octets → Fits octets → number ≡ 0)
@@ -173,11 +173,11 @@ abbrev pub LeavesChecked : Form → List ℕ → ℕ → Asn1Error → List ℕ 
 LeavesChecked f octets number error old new count = (location : List ℕ) × ChecksForm f octets number error location × LeavesText location old new count
 
 -- What a call leaves in the places for a value and for an error, if reading gives this.
-pub record LeavesRead {M S : Type 0} (shown : M → S) (old new : S) (found : Asn1Error) (read : Result M Fault) : Type 0 where
+pub record LeavesRead {M S : Type 0} (shown : M → S) (old new : S) (found : Asn1Error) (read : Result M ReadError) : Type 0 where
   pub value : new ≡ left_by shown old read
   pub error : found ≡ told_read read
 
 -- A call returned the value that reading gives, or `None` if reading gives an error.
-abbrev pub IsReadAs : {V M : Type 0} → (V → M) → Option V → Result M Fault → Type 0
+abbrev pub IsReadAs : {V M : Type 0} → (V → M) → Option V → Result M ReadError → Type 0
 IsReadAs meaning (Some value) read = read ≡ Ok (meaning value)
 IsReadAs meaning None read = IsErr read

@@ -1,7 +1,7 @@
 -- The values of include/asn1.h.
 use Rattle.std.specs.Prelude.{ℕ, ◌≡◌, ◌-◌, ◌⊎◌, ℤ, pos, nat_le, if◌then◌else◌, List, length, Option, Some, None, Result, Ok, Err}
 use Rattle.asn1.specs.Bits.{Bits}
-use Rattle.asn1.specs.Fault.{Fault}
+use Rattle.asn1.specs.ReadError.{ReadError}
 use Rattle.asn1.specs.Identifier.{dotted_text}
 use Rattle.asn1.specs.Times.{Moment}
 use Rattle.asn1.specs.declared.ParseErrorKind.TheVariants.{AllocationError}
@@ -16,7 +16,7 @@ abbrev pub IsWidth : ℕ → Type 0
 IsWidth bits = (bits ≡ 8) ⊎ (bits ≡ 16) ⊎ (bits ≡ 32) ⊎ (bits ≡ 64)
 
 -- What a place for a number without a sign holds after a call, and what the call tells, if reading gives this.
-abbrev pub LeavesNatural : ℕ → ℕ → Asn1Error → Result ℤ Fault → Type 0
+abbrev pub LeavesNatural : ℕ → ℕ → Asn1Error → Result ℤ ReadError → Type 0
 LeavesNatural old new found (Ok value) = (pos new ≡ value) × (found ≡ without_details 0)
 LeavesNatural old new found (Err fault) = (new ≡ old) × (found ≡ error_of fault.kind)
 
@@ -33,9 +33,9 @@ fraction None = 0
 abbrev pub shown_time : Moment → Option ℕ → Asn1Time
 shown_time m nanoseconds = record { year = m.year; month = m.month; day = m.day; hour = m.hour; minute = m.minute; second = m.second; nanoseconds = fraction nanoseconds }
 
--- What a call leaves in a buffer, and how many octets the dotted text has, if reading gives this: the text, a buffer that
--- is too small, or a text that is too long for the library.
-abbrev pub LeavesDotted : List ℕ → List ℕ → ℕ → Asn1Error → Result (List ℕ) Fault → Type 0
+-- What a call leaves in a buffer, and how many octets the dotted text has, if reading gives this: the text, a buffer
+-- that is too small, or a text that is too long for the library.
+abbrev pub LeavesDotted : List ℕ → List ℕ → ℕ → Asn1Error → Result (List ℕ) ReadError → Type 0
 LeavesDotted old new count found (Ok numbers) =
     (LeavesText (dotted_text numbers) old new count
     × (found ≡ without_details (if nat_le (length (dotted_text numbers)) (length old) then 0 else buffer_too_small)))

@@ -2,9 +2,9 @@
 
 ghost use Rattle.std.specs.Prelude.{◌≡◌, ◌+◌, ◌<◌, ◌≤◌, ◌++◌, ℕ, List, length, Result};
 ghost use Rattle.asn1.specs.declared.ParseErrorKind.{ParseErrorKind};
-ghost use Rattle.asn1.specs.Element.{Element, IsFront, front};
+ghost use Rattle.asn1.specs.Element.{Element, IsLeadingElement, leading_element};
 ghost use Rattle.asn1.specs.Laws.{IsShort};
-ghost use Rattle.asn1.specs.Text.{IsText};
+ghost use Rattle.asn1.specs.Base256.{IsOctets};
 ghost use Rattle.asn1.specs.Tlv.{element_of, stripped};
 ghost use Rattle.asn1_c.specs.Elements.{Leaves, shown_element};
 
@@ -63,9 +63,9 @@ pub extern "C" fn asn1_strip_tlv(
 ) -> u32
     // The result is the one that the definitions allow.
     ensures grammar { (answer : Result (Element × List ℕ) ParseErrorKind)
-        × IsFront octets.now answer × Leaves element.old element.new error.new answer }
+        × IsLeadingElement octets.now answer × Leaves element.old element.new error.new answer }
     ensures only { (answer : Result (Element × List ℕ) ParseErrorKind)
-        → IsFront octets.now answer → Leaves element.old element.new error.new answer }
+        → IsLeadingElement octets.now answer → Leaves element.old element.new error.new answer }
     ensures number { result ≡ error.new.number }
 
     // The element is within the octets.
@@ -73,11 +73,11 @@ pub extern "C" fn asn1_strip_tlv(
         → element.new.header_length + element.new.contents_length ≤ length octets.now }
 
     // The result stays the same for every longer input, unless octets are missing.
-    ensures stands { (more : List ℕ) → IsText more → ¬ (result ≡ 6)
-        → Leaves element.old element.new error.new (front (octets.now ++ more)) }
-    ensures fewer { (more : List ℕ) → IsText more → result ≡ 6
-        → length more < error.new.needed → IsShort (front (octets.now ++ more)) }
-    ensures exact { Leaves element.old element.new error.new (front octets.now) }
+    ensures stays { (more : List ℕ) → IsOctets more → ¬ (result ≡ 6)
+        → Leaves element.old element.new error.new (leading_element (octets.now ++ more)) }
+    ensures fewer { (more : List ℕ) → IsOctets more → result ≡ 6
+        → length more < error.new.needed → IsShort (leading_element (octets.now ++ more)) }
+    ensures exact { Leaves element.old element.new error.new (leading_element octets.now) }
 {
     let found = strip_tlv(octets);
     tell(&found, element, error);

@@ -1,7 +1,7 @@
 //! At which octet an object of `pkix` has its error.
 
 ghost use Rattle.std.specs.Prelude.{◌≡◌, ℕ, List, Option, IfSome, false};
-ghost use Rattle.asn1.specs.Fault.{Fault};
+ghost use Rattle.asn1.specs.ReadError.{ReadError};
 ghost use Rattle.asn1_c.specs.Objects.{IsNoObject, TellsOf, key_number, object_numbered, signature_number};
 ghost use Rattle.asn1_c.specs.Octets.{LeavesOctet, rejected_as};
 ghost use Rattle.asn1_c.specs.declared.objects.Object.TheVariants as objects;
@@ -31,11 +31,11 @@ use std::alloc::Global;
 
 /// With which error octets are rejected that have to be an object.
 pub(crate) trait Rejecting {
-    ghost rejected: { Self → List ℕ → Option Fault };
+    ghost rejected: { Self → List ℕ → Option ReadError };
 }
 
 impl Rejecting for Object {
-    ghost rejected = { λ one. elim one as (λ _. List ℕ → Option Fault) [
+    ghost rejected = { λ one. elim one as (λ _. List ℕ → Option ReadError) [
       | objects.Certificate ↦ rejected_as ⟦<Certificate<'static> as Asn1Type>⟧.der
       | objects.Crl ↦ rejected_as ⟦<CertificateList<'static> as Asn1Type>⟧.der
       | objects.Request ↦ rejected_as ⟦<CertificationRequest<'static> as Asn1Type>⟧.der

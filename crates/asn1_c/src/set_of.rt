@@ -1,7 +1,8 @@
 //! The contents octets of a SET OF, from its elements in any order.
 
 ghost use Rattle.std.specs.Prelude.{◌≡◌, ◌-◌, ◌+◌, ◌++◌, ◌≤◌, take, drop, length, ℕ, List, Option, MatchOption};
-ghost use Rattle.asn1.specs.Listing.{join, place_text};
+ghost use Rattle.std.specs.List.{concat};
+ghost use Rattle.asn1.specs.Listing.{place_encoding};
 ghost use Rattle.asn1_c.specs.SetOf.{AreElements, IsSetOf, LeavesSetOf, StopsAt};
 
 use crate::errors::{Asn1Error, BUFFER_TOO_SMALL, error_of};
@@ -26,7 +27,7 @@ fn framing_error(octets: &[u8]) -> Option<ParseErrorKind>
 fn place_of(listed: &[u8], text: &[u8]) -> usize
     ensures within { result ≤ length listed.now }
     ensures place { (texts : List (List ℕ)) → AreElements listed.now texts
-        → join (place_text text.now texts)
+        → concat (place_encoding text.now texts)
         ≡ take result listed.now ++ text.now ++ drop result listed.now }
 {
     let mut rest = listed;
@@ -44,7 +45,7 @@ fn insert(listed: &mut [u8], text: &[u8])
     requires { length text.now ≤ length listed.old }
     ensures { (texts : List (List ℕ))
         → AreElements (take (length listed.old - length text.now) listed.old) texts
-        → listed.new ≡ join (place_text text.now texts) }
+        → listed.new ≡ concat (place_encoding text.now texts) }
 {
     let end = listed.len() - text.len();
     let at = place_of(&listed[..end], text);

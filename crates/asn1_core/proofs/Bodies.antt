@@ -2,23 +2,23 @@
 use Rattle.std.proofs.Common.{◌≡◌, ◌+◌, ◌-◌, ◌++◌, [], ◌∷◌, length, take, drop, ℕ, ◌<◌, ◌^◌, List, refl, sym, ◌∙◌, ap, append_assoc, arith, length-append, Result, Ok, Err, OnOk, OnErr, IfErr, IsErrAnd, inr, subst, Option, Some, None}
 use Rattle.std.specs.Prelude.{SomeIff}
 use Rattle.std.proofs.lemmas.Result.{on_ok_weaker}
-use Rattle.asn1_core.specs.Writing.{KnowsLength, GivesLength, IsElementOf, full_count, LeavesFront, MayAppend, Announces, Appended, Refused}
+use Rattle.asn1_core.specs.Writing.{KnowsLength, GivesLength, IsElementOf, full_count, LeavesPrefix, MayAppend, Announces, Appended, FailsAs}
 use Rattle.std.proofs.lemmas.Grind.{common_steps}
 use Rattle.std.specs.Fn.{FnOnceReturnsAtMut, Once}
 use Rattle.std.specs.Borrow.{MutBor}
-use Rattle.asn1_core.specs.Buffer.{Buffer, Appends, KeepsFront}
+use Rattle.asn1_core.specs.Buffer.{Buffer, Appends, KeepsPrefix}
 use Rattle.asn1_core.specs.declared.tag.Tag.{Tag}
-use Rattle.asn1_core.specs.Tag.{tag_text}
-use Rattle.asn1_core.specs.Length.{length_text}
-use Rattle.asn1_core.specs.Element.{element, element_text}
+use Rattle.asn1_core.specs.Tag.{identifier_octets}
+use Rattle.asn1_core.specs.Length.{length_octets}
+use Rattle.asn1_core.specs.Element.{element, element_encoding}
 use Rattle.asn1_core.specs.declared.writer.WriteError.{WriteError}
 use Rattle.std.proofs.lemmas.Option.{none-some}
 
-pub keeps_front_by : {a b : List ℕ} (t : List ℕ) → b ≡ a ++ t → KeepsFront a b
+pub keeps_front_by : {a b : List ℕ} (t : List ℕ) → b ≡ a ++ t → KeepsPrefix a b
 keeps_front_by {a} {b} t e = let d : drop (length a) b ≡ t = grind (arith, common_steps) in record { joined = e ∙ ap (λ xs. a ++ xs) (sym d) }
 
 -- two steps that each keep the prefix keep it together
-pub keeps_front_on : {a b c : List ℕ} → KeepsFront a b → KeepsFront b c → KeepsFront a c
+pub keeps_front_on : {a b c : List ℕ} → KeepsPrefix a b → KeepsPrefix b c → KeepsPrefix a c
 keeps_front_on {a} {b} {c} h k = keeps_front_by (drop (length a) b ++ drop (length b) c) (k.joined ∙ ap (λ xs. xs ++ drop (length b) c) h.joined ∙ append_assoc a (drop (length a) b) (drop (length b) c))
 
 take_front : (n : ℕ) (xs ys : List ℕ) → n ≡ length xs → take n (xs ++ ys) ≡ xs
@@ -28,8 +28,8 @@ drop_front : (n : ℕ) (xs ys : List ℕ) → n ≡ length xs → drop n (xs ++ 
 drop_front n xs ys e = grind (arith, common_steps)
 
 -- the length octets replaced the octet that was kept for them
-pub patched_is : (old b1 b2 b3 b4 t : List ℕ) (tag : Tag) (start : ℕ) → b1 ≡ old ++ tag_text tag → b2 ≡ b1 ++ 0 ∷ [] → start ≡ length b2 → b3 ≡ b2 ++ t → b4 ≡ take (start - 1) b3 ++ length_text (length b3 - start) ++ drop start b3 → b4 ≡ old ++ element_text (element tag t)
-unfolding element_text
+pub patched_is : (old b1 b2 b3 b4 t : List ℕ) (tag : Tag) (start : ℕ) → b1 ≡ old ++ identifier_octets tag → b2 ≡ b1 ++ 0 ∷ [] → start ≡ length b2 → b3 ≡ b2 ++ t → b4 ≡ take (start - 1) b3 ++ length_octets (length b3 - start) ++ drop start b3 → b4 ≡ old ++ element_encoding (element tag t)
+unfolding element_encoding
 patched_is old b1 b2 b3 b4 t tag start e1 e2 s e3 e4 =
     let k : length b2 ≡ length b1 + 1 = grind (arith, common_steps) in
     let long : length b3 ≡ length b2 + length t = grind (arith, common_steps) in
@@ -40,8 +40,8 @@ patched_is old b1 b2 b3 b4 t tag start e1 e2 s e3 e4 =
     grind (arith, common_steps)
 
 -- the length octets are already before the contents octets
-pub announced_is : (old b1 b2 b3 t : List ℕ) (tag : Tag) (n : ℕ) → b1 ≡ old ++ tag_text tag → b2 ≡ b1 ++ length_text n → b3 ≡ b2 ++ t → length t ≡ n → b3 ≡ old ++ element_text (element tag t)
-unfolding element_text
+pub announced_is : (old b1 b2 b3 t : List ℕ) (tag : Tag) (n : ℕ) → b1 ≡ old ++ identifier_octets tag → b2 ≡ b1 ++ length_octets n → b3 ≡ b2 ++ t → length t ≡ n → b3 ≡ old ++ element_encoding (element tag t)
+unfolding element_encoding
 announced_is old b1 b2 b3 t tag n e1 e2 e3 l = grind (arith, common_steps)
 
 pub on_err_any : {T E P : Type 0} (r : Result T E) → P → OnErr r P
@@ -54,7 +54,7 @@ module _ {F E : Type 0} (calls : Once F (MutBor Buffer × Unit {0}) (Result (Uni
   call_at p q r h = record { shown = p; shows = refl; left = q; met = h; leaves = refl }
 
   -- with an announced length
-  module _ (old b1 : List ℕ) (before after : Buffer) (tag : Tag) (n : ℕ) (front : LeavesFront calls body) (announced : (t : List ℕ) → MayAppend calls body t → length t ≡ n) (e1 : b1 ≡ old ++ tag_text tag) (e2 : before.bytes ≡ b1 ++ length_text n) where
+  module _ (old b1 : List ℕ) (before after : Buffer) (tag : Tag) (n : ℕ) (front : LeavesPrefix calls body) (announced : (t : List ℕ) → MayAppend calls body t → length t ≡ n) (e1 : b1 ≡ old ++ identifier_octets tag) (e2 : before.bytes ≡ b1 ++ length_octets n) where
     pub announced_ok : (r : Result (Unit {0}) E) → FnOnceReturnsAtMut calls body before r after → OnOk r (Appended calls body tag old after.bytes)
     announced_ok (Err e) h = tt
     announced_ok (Ok u) h =
@@ -63,20 +63,20 @@ module _ {F E : Type 0} (calls : Once F (MutBor Buffer × Unit {0}) (Result (Uni
         let m : MayAppend calls body t = record { old = before; new = after; called = h; joined = k.joined } in
         record { content = t; allowed = m; joined = announced_is old b1 before.bytes after.bytes t tag n e1 e2 k.joined (announced t m) }
 
-    pub announced_err : (r : Result (Unit {0}) E) → FnOnceReturnsAtMut calls body before r after → OnErr r (KeepsFront old after.bytes)
-    announced_err r h = on_err_any r (keeps_front_on (keeps_front_by (tag_text tag) e1) (keeps_front_on (keeps_front_by (length_text n) e2) (front _ _ _ h)))
+    pub announced_err : (r : Result (Unit {0}) E) → FnOnceReturnsAtMut calls body before r after → OnErr r (KeepsPrefix old after.bytes)
+    announced_err r h = on_err_any r (keeps_front_on (keeps_front_by (identifier_octets tag) e1) (keeps_front_on (keeps_front_by (length_octets n) e2) (front _ _ _ h)))
 
-  pub refused : (gives : WriteError → E → Type 0) (before after : Buffer) (r : Result (Unit {0}) E) → FnOnceReturnsAtMut calls body before r after → IfErr r (Refused calls body gives)
+  pub refused : (gives : WriteError → E → Type 0) (before after : Buffer) (r : Result (Unit {0}) E) → FnOnceReturnsAtMut calls body before r after → IfErr r (FailsAs calls body gives)
   refused gives before after (Ok u) h = tt
   refused gives before after (Err e) h = inr (record { old = before; new = after; called = h })
 
   -- the exit of a `?` on the body's result
-  pub refused_by : (gives : WriteError → E → Type 0) (before after : Buffer) (r s : Result (Unit {0}) E) (e : E) → s ≡ Err e → FnOnceReturnsAtMut calls body before s after → IsErrAnd r (λ x. x ≡ e) → IfErr r (Refused calls body gives)
+  pub refused_by : (gives : WriteError → E → Type 0) (before after : Buffer) (r s : Result (Unit {0}) E) (e : E) → s ≡ Err e → FnOnceReturnsAtMut calls body before s after → IsErrAnd r (λ x. x ≡ e) → IfErr r (FailsAs calls body gives)
   refused_by gives before after (Ok u) s e i h a = tt
   refused_by gives before after (Err x) s e i h a = inr (record { old = before; new = after; called = rw (i, ← a) at h })
 
   -- if the length is patched
-  pub patched_ok : (old b1 : List ℕ) (before after : Buffer) (b4 : List ℕ) (tag : Tag) (start : ℕ) (r : Result (Unit {0}) E) → LeavesFront calls body → b1 ≡ old ++ tag_text tag → before.bytes ≡ b1 ++ 0 ∷ [] → start ≡ length before.bytes → r ≡ Ok tt → FnOnceReturnsAtMut calls body before r after → b4 ≡ take (start - 1) after.bytes ++ length_text (length after.bytes - start) ++ drop start after.bytes → Appended calls body tag old b4
+  pub patched_ok : (old b1 : List ℕ) (before after : Buffer) (b4 : List ℕ) (tag : Tag) (start : ℕ) (r : Result (Unit {0}) E) → LeavesPrefix calls body → b1 ≡ old ++ identifier_octets tag → before.bytes ≡ b1 ++ 0 ∷ [] → start ≡ length before.bytes → r ≡ Ok tt → FnOnceReturnsAtMut calls body before r after → b4 ≡ take (start - 1) after.bytes ++ length_octets (length after.bytes - start) ++ drop start after.bytes → Appended calls body tag old b4
   patched_ok old b1 before after b4 tag start r front e1 e2 s i h e4 =
       let k = front _ _ _ h in
       let t = drop (length before.bytes) after.bytes in
@@ -86,63 +86,63 @@ cancel_front : (xs ys zs : List ℕ) → xs ++ ys ≡ xs ++ zs → ys ≡ zs
 cancel_front [] ys zs e = e
 cancel_front (x ∷ xs) ys zs e = cancel_front xs ys zs (cc)
 
-module _ {F E : Type 0} (calls : Once F (MutBor Buffer × Unit {0}) (Result (Unit {0}) E × (MutBor Buffer × Unit {0}))) (body : F) (texts : List ℕ → Type 0) (appends : (old new : Buffer) → FnOnceReturnsAtMut calls body old (Ok tt) new → Appends texts old.bytes new.bytes) where
+module _ {F E : Type 0} (calls : Once F (MutBor Buffer × Unit {0}) (Result (Unit {0}) E × (MutBor Buffer × Unit {0}))) (body : F) (encodings : List ℕ → Type 0) (appends : (old new : Buffer) → FnOnceReturnsAtMut calls body old (Ok tt) new → Appends encodings old.bytes new.bytes) where
   -- what the body may append is one of `texts`
-  pub may_append_is : (t : List ℕ) → MayAppend calls body t → texts t
+  pub may_append_is : (t : List ℕ) → MayAppend calls body t → encodings t
   may_append_is t m =
       let a = appends m.old m.new m.called in
-      subst texts (cancel_front m.old.bytes a.text t (sym a.joined ∙ m.joined)) a.is_one
+      subst encodings (cancel_front m.old.bytes a.encoding t (sym a.joined ∙ m.joined)) a.is_one
 
-  pub announced_by : (known : Option ℕ) → KnowsLength texts known → Announces calls body known
+  pub announced_by : (known : Option ℕ) → KnowsLength encodings known → Announces calls body known
   announced_by None k = tt
   announced_by (Some n) k = λ t m. k t (may_append_is t m)
 
-  pub appended_by : (r : Result (Unit {0}) E) {tag tag' : Tag} (old new : List ℕ) → tag ≡ tag' → OnOk r (Appended calls body tag old new) → OnOk r (Appends (IsElementOf tag' texts) old new)
-  appended_by r {tag} {tag'} old new e h = on_ok_weaker r (λ a. record { text = element_text (element tag a.content); is_one = record { content = a.content; is_content = may_append_is a.content a.allowed; is = ap (λ (x : Tag). element_text (element x a.content)) e }; joined = a.joined }) h
+  pub appended_by : (r : Result (Unit {0}) E) {tag tag' : Tag} (old new : List ℕ) → tag ≡ tag' → OnOk r (Appended calls body tag old new) → OnOk r (Appends (IsElementOf tag' encodings) old new)
+  appended_by r {tag} {tag'} old new e h = on_ok_weaker r (λ a. record { encoding = element_encoding (element tag a.content); is_one = record { content = a.content; is_content = may_append_is a.content a.allowed; is = ap (λ (x : Tag). element_encoding (element x a.content)) e }; joined = a.joined }) h
 
 module _ {F E : Type 0} (calls : Once F (MutBor Buffer × Unit {0}) (Result (Unit {0}) E × (MutBor Buffer × Unit {0}))) (body : F) (content : List ℕ) (appends : (old new : Buffer) → FnOnceReturnsAtMut calls body old (Ok tt) new → Appends (λ t. t ≡ content) old.bytes new.bytes) where
   -- a body that may append only these contents octets
-  pub appended_one : (r : Result (Unit {0}) E) (tag : Tag) (old new : List ℕ) → OnOk r (Appended calls body tag old new) → OnOk r (Appends (λ t. t ≡ element_text (element tag content)) old new)
-  appended_one r tag old new h = on_ok_weaker r (λ a. record { text = element_text (element tag content); is_one = refl; joined = a.joined ∙ ap (λ t. old ++ element_text (element tag t)) (may_append_is calls body (λ t. t ≡ content) appends a.content a.allowed) }) h
+  pub appended_one : (r : Result (Unit {0}) E) (tag : Tag) (old new : List ℕ) → OnOk r (Appended calls body tag old new) → OnOk r (Appends (λ t. t ≡ element_encoding (element tag content)) old new)
+  appended_one r tag old new h = on_ok_weaker r (λ a. record { encoding = element_encoding (element tag content); is_one = refl; joined = a.joined ∙ ap (λ t. old ++ element_encoding (element tag t)) (may_append_is calls body (λ t. t ≡ content) appends a.content a.allowed) }) h
 
 -- what was appended to an empty buffer
-pub appended_to_nothing : (texts : List ℕ → Type 0) (old new all : List ℕ) → old ≡ [] → new ≡ all → Appends texts old new → texts all
-appended_to_nothing texts old new all e f a = subst texts (sym (subst (λ xs. new ≡ xs ++ a.text) e a.joined) ∙ f) a.is_one
+pub appended_to_nothing : (encodings : List ℕ → Type 0) (old new all : List ℕ) → old ≡ [] → new ≡ all → Appends encodings old new → encodings all
+appended_to_nothing encodings old new all e f a = subst encodings (sym (subst (λ xs. new ≡ xs ++ a.encoding) e a.joined) ∙ f) a.is_one
 
 -- the length of an element, by the number of its contents octets
-pub length-element : (tag : Tag) (content : List ℕ) → length (element_text (element tag content)) ≡ full_count tag (length content)
-unfolding element_text full_count
-length-element tag content = omega (arith, length-append (tag_text tag) (length_text (length content) ++ content), length-append (length_text (length content)) content)
+pub length-element : (tag : Tag) (content : List ℕ) → length (element_encoding (element tag content)) ≡ full_count tag (length content)
+unfolding element_encoding full_count
+length-element tag content = omega (arith, length-append (identifier_octets tag) (length_octets (length content) ++ content), length-append (length_octets (length content)) content)
 
-pub element_length : (texts : List ℕ → Type 0) {tag tag' : Tag} (n : ℕ) → tag ≡ tag' → ((t : List ℕ) → texts t → length t ≡ n) → (P : Type 0) (r : Option ℕ) → SomeIff r P (full_count tag n) → KnowsLength (IsElementOf tag' texts) r
-element_length texts n same known P None h = tt
-element_length texts {tag} {tag'} n same known P (Some m) h = λ t e. ap length e.is ∙ (length-element tag' e.content ∙ (ap (full_count tag') (known e.content e.is_content) ∙ (ap (λ (x : Tag). full_count x n) (sym same) ∙ sym h.1)))
+pub element_length : (encodings : List ℕ → Type 0) {tag tag' : Tag} (n : ℕ) → tag ≡ tag' → ((t : List ℕ) → encodings t → length t ≡ n) → (P : Type 0) (r : Option ℕ) → SomeIff r P (full_count tag n) → KnowsLength (IsElementOf tag' encodings) r
+element_length encodings n same known P None h = tt
+element_length encodings {tag} {tag'} n same known P (Some m) h = λ t e. ap length e.is ∙ (length-element tag' e.content ∙ (ap (full_count tag') (known e.content e.is_content) ∙ (ap (λ (x : Tag). full_count x n) (sym same) ∙ sym h.1)))
 
 -- the same, if the number of contents octets isn't known, and if it is
-shorter : (texts : List ℕ → Type 0) (tag : Tag) (t : List ℕ) (e : IsElementOf tag texts t) → length t < 2 ^ 64 → length e.content < 2 ^ 64
+shorter : (encodings : List ℕ → Type 0) (tag : Tag) (t : List ℕ) (e : IsElementOf tag encodings t) → length t < 2 ^ 64 → length e.content < 2 ^ 64
 unfolding full_count
-shorter texts tag t e small = omega (arith, ap length e.is ∙ length-element tag e.content)
+shorter encodings tag t e small = omega (arith, ap length e.is ∙ length-element tag e.content)
 
-pub element_unknown : (has : Type 0) (texts : List ℕ → Type 0) (tag : Tag) → GivesLength has texts None → GivesLength has (IsElementOf tag texts) None
-element_unknown has texts tag g = record { right = tt; told = λ h t e small. absurd (none-some _ (g.told h e.content e.is_content (shorter texts tag t e small))) }
+pub element_unknown : (has : Type 0) (encodings : List ℕ → Type 0) (tag : Tag) → GivesLength has encodings None → GivesLength has (IsElementOf tag encodings) None
+element_unknown has encodings tag g = record { right = tt; told = λ h t e small. absurd (none-some _ (g.told h e.content e.is_content (shorter encodings tag t e small))) }
 
-pub element_gives : (has : Type 0) (texts : List ℕ → Type 0) {tag tag' : Tag} (n : ℕ) → tag ≡ tag' → GivesLength has texts (Some n) → (r : Option ℕ) → SomeIff r (full_count tag n < 2 ^ 64) (full_count tag n) → GivesLength has (IsElementOf tag' texts) r
-element_gives has texts {tag} {tag'} n same g None h =
+pub element_gives : (has : Type 0) (encodings : List ℕ → Type 0) {tag tag' : Tag} (n : ℕ) → tag ≡ tag' → GivesLength has encodings (Some n) → (r : Option ℕ) → SomeIff r (full_count tag n < 2 ^ 64) (full_count tag n) → GivesLength has (IsElementOf tag' encodings) r
+element_gives has encodings {tag} {tag'} n same g None h =
     record { right = tt; told = λ k t e small. absurd (h (subst (λ m. m < 2 ^ 64) (ap length e.is ∙ (length-element tag' e.content ∙ (ap (full_count tag') (g.right e.content e.is_content) ∙ ap (λ (x : Tag). full_count x n) (sym same)))) small)) }
-element_gives has texts {tag} {tag'} n same g (Some m) h =
-    let right = element_length texts n same g.right (full_count tag n < 2 ^ 64) (Some m) h in
+element_gives has encodings {tag} {tag'} n same g (Some m) h =
+    let right = element_length encodings n same g.right (full_count tag n < 2 ^ 64) (Some m) h in
     record { right = right; told = λ k t e small. ap Some (sym (right t e)) }
 
 -- the same for given contents octets, if the count fits
-pub one_length : (P : Type 0) (tag : Tag) (content : List ℕ) (r : Option ℕ) → SomeIff r P (full_count tag (length content)) → P → r ≡ Some (length (element_text (element tag content)))
+pub one_length : (P : Type 0) (tag : Tag) (content : List ℕ) (r : Option ℕ) → SomeIff r P (full_count tag (length content)) → P → r ≡ Some (length (element_encoding (element tag content)))
 one_length P tag content None h p = absurd (h p)
-one_length P tag content (Some m) h p = let e : m ≡ length (element_text (element tag content)) = h.1 ∙ sym (length-element tag content) in rw e refl
+one_length P tag content (Some m) h p = let e : m ≡ length (element_encoding (element tag content)) = h.1 ∙ sym (length-element tag content) in rw e refl
 
 -- the length of the only encoding
-pub gives_one : (has : Type 0) (text : List ℕ) (r : Option ℕ) → r ≡ Some (length text) → GivesLength has (λ t. t ≡ text) r
-gives_one has text r e = record { right = rw e (λ t same. ap length same); told = λ k t same small. e ∙ ap (λ u. Some (length u)) (sym same) }
+pub gives_one : (has : Type 0) (octets : List ℕ) (r : Option ℕ) → r ≡ Some (length octets) → GivesLength has (λ t. t ≡ octets) r
+gives_one has octets r e = record { right = rw e (λ t same. ap length same); told = λ k t same small. e ∙ ap (λ u. Some (length u)) (sym same) }
 
 -- from what a body states at Ok and at Err
-pub front_of : {E : Type 0} (r : Result (Unit {0}) E) (t old new : List ℕ) → OnOk r (new ≡ old ++ t) → OnErr r (KeepsFront old new) → KeepsFront old new
+pub front_of : {E : Type 0} (r : Result (Unit {0}) E) (t old new : List ℕ) → OnOk r (new ≡ old ++ t) → OnErr r (KeepsPrefix old new) → KeepsPrefix old new
 front_of (Ok u) t old new h k = keeps_front_by t h
 front_of (Err e) t old new h k = k

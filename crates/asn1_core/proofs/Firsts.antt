@@ -4,8 +4,8 @@ use Rattle.std.proofs.lemmas.Bool.{lt-ltb, le-ltb, eq-eqb, cases_lt, cases_eq}
 use Rattle.std.proofs.lemmas.List.{length-take-le, length-append, length-replicate, take_all, take-replicate, drop-replicate}
 use Rattle.std.proofs.lemmas.Grind.{common_steps}
 use Rattle.std.proofs.lemmas.Nat.{mul-add-lt}
-use Rattle.asn1_core.specs.Text.{IsText, number}
-use Rattle.asn1_core.specs.Listing.{text_less}
+use Rattle.asn1_core.specs.Base256.{IsOctets, number}
+use Rattle.asn1_core.specs.Listing.{encoding_less}
 use Rattle.std.specs.List.{All}
 use Rattle.std.specs.List.Sorted.{IsSortedBy}
 use Rattle.std.specs.Ordering.{is_lt, nat_cmp, ordering_then}
@@ -15,7 +15,7 @@ use Rattle.asn1_core.specs.declared.writer.sets.Span.{Span}
 use Rattle.asn1_core.specs.Lemmas.Listing.{less_once}
 use Rattle.asn1_core.specs.SetSteps.{part_of, first_number, span_cmp, IsBefore, NotesFirst}
 use Rattle.asn1_core.specs.Lemmas.Lengths.{number_lt}
-use Rattle.asn1_core.specs.Lemmas.Texts.{IsText-both}
+use Rattle.asn1_core.specs.Lemmas.Texts.{IsOctets-both}
 use Rattle.asn1_core.proofs.Ordered.{less_below, less_same}
 use Rattle.asn1_core.specs.Lemmas.Facts.{zeros_are_octets}
 
@@ -23,7 +23,7 @@ zeros_number : (n : ℕ) → number (replicate n 0) ≡ 0
 zeros_number zero = refl
 zeros_number (suc n) = omega (arith, zeros_number n)
 
-take_text : (k : ℕ) (t : List ℕ) → IsText t → IsText (take k t)
+take_text : (k : ℕ) (t : List ℕ) → IsOctets t → IsOctets (take k t)
 take_text zero t is = tt
 take_text (suc k) [] is = tt
 take_text (suc k) (x ∷ xs) is = (is.0, take_text k xs is.1)
@@ -35,10 +35,10 @@ firsts n k t = take k (t ++ replicate n 0)
 firsts_length : (n k : ℕ) (t : List ℕ) → k ≤ n → length (firsts n k t) ≡ k
 firsts_length n k t h = length-take-le k (t ++ replicate n 0) (omega (arith, length-append t (replicate n 0), length-replicate {A = ℕ} n 0))
 
-firsts_below : (n k : ℕ) (t : List ℕ) → IsText t → k ≤ n → number (firsts n k t) < 256 ^ k
+firsts_below : (n k : ℕ) (t : List ℕ) → IsOctets t → k ≤ n → number (firsts n k t) < 256 ^ k
 firsts_below n k t is h =
     subst (λ (m : ℕ). number (firsts n k t) < 256 ^ m) (firsts_length n k t h)
-    (number_lt (firsts n k t) (take_text k (t ++ replicate n 0) (IsText-both t (replicate n 0) is (zeros_are_octets n))))
+    (number_lt (firsts n k t) (take_text k (t ++ replicate n 0) (IsOctets-both t (replicate n 0) is (zeros_are_octets n))))
 
 firsts_none : (n k : ℕ) → k ≤ n → number (firsts n k []) ≡ 0
 firsts_none n k h = ap number (take-replicate {X = ℕ} k n 0 h) ∙ zeros_number k
@@ -55,7 +55,7 @@ decided x y p r s less hr hs below same = ⊎_elim
     (λ (n : x ≡ y → ⊥). let over : y * p + s < p * x = mul-add-lt y p s x (omega arith) hs in absurd (omega (arith, over, less))) (cases_eq x y))
     (cases_lt x y)
 
-firsts_less : (n k : ℕ) (a b : List ℕ) → IsText a → IsText b → k ≤ n → number (firsts n k a) < number (firsts n k b) → text_less a b ≡ true
+firsts_less : (n k : ℕ) (a b : List ℕ) → IsOctets a → IsOctets b → k ≤ n → number (firsts n k a) < number (firsts n k b) → encoding_less a b ≡ true
 firsts_less n zero a b f g h less = absurd (omega (arith, less))
 firsts_less n (suc k) a [] f g h less = absurd (omega (arith, less, firsts_none n (suc k) h))
 firsts_less n (suc k) [] (y ∷ ys) f g h less = refl
@@ -65,7 +65,7 @@ firsts_less n (suc k) (x ∷ xs) (y ∷ ys) f g h less =
     (less_below x y xs ys)
     (λ e rest. less_same x y xs ys e ∙ firsts_less n k xs ys f.1 g.1 l rest)
 
-pub first_less : (a b : List ℕ) → IsText a → IsText b → first_number a < first_number b → text_less a b ≡ true
+pub first_less : (a b : List ℕ) → IsOctets a → IsOctets b → first_number a < first_number b → encoding_less a b ≡ true
 first_less a b f g less = firsts_less 8 8 a b f g (omega arith) less
 
 -- all of the octets are taken, and what they lack from the octets after them
@@ -102,20 +102,20 @@ less_first m n o h = rw (lt-ltb m n h) refl
 same_first : (m n : ℕ) (o : Ordering) → m ≡ n → ordering_then (nat_cmp m n) o ≡ o
 same_first m n o e = rw (le-ltb m n (omega arith), eq-eqb m n e) refl
 
-drop_text : (k : ℕ) (t : List ℕ) → IsText t → IsText (drop k t)
+drop_text : (k : ℕ) (t : List ℕ) → IsOctets t → IsOctets (drop k t)
 drop_text zero t is = is
 drop_text (suc k) [] is = tt
 drop_text (suc k) (x ∷ xs) is = drop_text k xs is.1
 
-either_text : (b : Bool) (t : List ℕ) → IsText t → IsText (if b then t else [])
+either_text : (b : Bool) (t : List ℕ) → IsOctets t → IsOctets (if b then t else [])
 either_text true t is = is
 either_text false t is = tt
 
-part_text : (octets : List ℕ) (s : Span) → IsText octets → IsText (part_of octets s)
+part_text : (octets : List ℕ) (s : Span) → IsOctets octets → IsOctets (part_of octets s)
 part_text octets s is = either_text (nat_le (s.from + s.len) (length octets)) _ (take_text s.len (drop s.from octets) (drop_text s.from octets is))
 
 -- spans that don't compare as less aren't before one another
-not_before : (octets : List ℕ) (a b : Span) → IsText octets → NotesFirst octets a → NotesFirst octets b → is_lt (span_cmp octets a b) ≡ false → IsBefore octets a b ≡ false
+not_before : (octets : List ℕ) (a b : Span) → IsOctets octets → NotesFirst octets a → NotesFirst octets b → is_lt (span_cmp octets a b) ≡ false → IsBefore octets a b ≡ false
 not_before octets a b is fa fb e =
     let ta = part_text octets a is in
     let tb = part_text octets b is in
@@ -129,6 +129,6 @@ not_before octets a b is fa fb e =
     (λ (n : a.first ≡ b.first → ⊥). less_once (part_of octets b) (part_of octets a) (first_less (part_of octets b) (part_of octets a) tb ta (omega (arith, na, nb)))) (cases_eq a.first b.first))
     (cases_lt a.first b.first)
 
-pub sorted_spans : (octets : List ℕ) (ss : List Span) → IsText octets → All (NotesFirst octets) ss → IsSortedBy (λ a b. is_lt (span_cmp octets a b)) ss → IsSortedBy (IsBefore octets) ss
+pub sorted_spans : (octets : List ℕ) (ss : List Span) → IsOctets octets → All (NotesFirst octets) ss → IsSortedBy (λ a b. is_lt (span_cmp octets a b)) ss → IsSortedBy (IsBefore octets) ss
 sorted_spans octets ss is each s k d low high =
     not_before octets (get_or ss (k + 1) d) (get_or ss k d) is (each (k + 1) d high) (each k d (omega arith)) (s k d low high)

@@ -11,9 +11,9 @@ use Rattle.std.proofs.lemmas.Nat.{pow-add, div-add-mod', mod-mul-add, mul-add-lt
 use Rattle.std.proofs.Math.Facts.{to_z-neg}
 use borrow.Rule.Slice.PartMut.{put_mid}
 use Rattle.std.proofs.Math.Nat.{pow-suc, pow-le-pow_right, mul-le-mul_right}
-use Rattle.asn1_core.specs.Text.{IsText, number, signed_number}
+use Rattle.asn1_core.specs.Base256.{IsOctets, number, signed_number}
 use Rattle.asn1_core.specs.declared.parser.ParseErrorKind.TheVariants.{InvalidValue, IntegerOverflow}
-use Rattle.asn1_core.specs.Fault.{Fault, fault}
+use Rattle.asn1_core.specs.ReadError.{ReadError, read_error}
 use Rattle.asn1_core.specs.Integer.{nine_bits, is_minimal, with_sign, turned, integer_content, below, within_range, read_sized}
 use Rattle.asn1_core.specs.Lemmas.Lengths.{number_lt, number_push as number_more}
 use Rattle.asn1_core.specs.Lemmas.Integers.{zero_front, signed_low, signed_high, turned_length, turned_text, turned_low, turned_number, turned_shortest, shortest_nine, fewer_same, content_only, content_text, content_shortest, content_value, range_ok, range_below, range_above, sized_ok, sized_refused}
@@ -40,7 +40,7 @@ long_low (x ∷ y ∷ ys) e l =
 pub long_above : (c : List ℕ) (high : ℤ) → is_minimal c ≡ true → 9 < length c → get_or c 0 0 < 128 → high <ℤ pos (2 ^ 71) → high <ℤ signed_number c
 long_above c high e l h most = rw (signed_low c h) (let n = long_low c e l in omega (arith, ints))
 
-pub long_below : (c : List ℕ) (low : ℤ) → IsText c → is_minimal c ≡ true → 9 < length c → 128 ≤ get_or c 0 0 → neg_ℤ (pos (2 ^ 71)) ≤ℤ low → signed_number c <ℤ low
+pub long_below : (c : List ℕ) (low : ℤ) → IsOctets c → is_minimal c ≡ true → 9 < length c → 128 ≤ get_or c 0 0 → neg_ℤ (pos (2 ^ 71)) ≤ℤ low → signed_number c <ℤ low
 long_below c low is e l h least =
     rw (signed_high c is h) (
     let n : 2 ^ 71 ≤ number (turned c) = long_low (turned c) (turned_shortest c is e) (omega (arith, turned_length c)) in
@@ -85,7 +85,7 @@ high_number (suc zero) n = omega arith
 high_number (suc (suc k)) n =
     rw (high_length (suc k) n, high_number (suc k) n, pow-suc 256 (suc k)) (split_at n (256 ^ suc k) (pow_some (suc k)))
 
-high_text : (k n : ℕ) → IsText (bytes_high_first k n)
+high_text : (k n : ℕ) → IsOctets (bytes_high_first k n)
 high_text zero n = tt
 high_text (suc zero) n = (omega arith, tt)
 high_text (suc (suc k)) n = (mod_below (n / 256 ^ suc k) 256 (lit< tt), high_text (suc k) n)
@@ -96,7 +96,7 @@ sixteen_low m small = signed_low (bytes_high_first 16 m) (omega arith) ∙ ap po
 sixteen_high : (m n : ℕ) → m < 2 ^ 127 → n ≡ 2 ^ 128 - suc m → signed_number (bytes_high_first 16 n) ≡ negsuc m
 sixteen_high m n small e =
     let b : List ℕ = bytes_high_first 16 n in
-    let is : IsText b = high_text 16 n in
+    let is : IsOctets b = high_text 16 n in
     let value : number b ≡ n % 256 ^ 16 = high_number 16 n in
     let same : number (turned b) ≡ m = omega (arith, turned_number b is, value) in
     signed_high b is (omega arith) ∙ ap negsuc same
@@ -111,7 +111,7 @@ eight_low m small = signed_low (bytes_high_first 8 m) (omega arith) ∙ ap pos (
 eight_high : (m n : ℕ) → m < 2 ^ 63 → n ≡ 2 ^ 64 - suc m → signed_number (bytes_high_first 8 n) ≡ negsuc m
 eight_high m n small e =
     let b : List ℕ = bytes_high_first 8 n in
-    let is : IsText b = high_text 8 n in
+    let is : IsOctets b = high_text 8 n in
     let value : number b ≡ n % 256 ^ 8 = high_number 8 n in
     let same : number (turned b) ≡ m = omega (arith, turned_number b is, value) in
     signed_high b is (omega arith) ∙ ap negsuc same
@@ -138,7 +138,7 @@ one_in_front x xs c behind =
     let more : length (x ∷ xs) - length c ≡ suc (length xs - length c) = omega (arith, behind.fewer) in
     record { fewer = omega (arith, behind.fewer); content = ap (λ (k : ℕ). drop k (x ∷ xs)) more ∙ behind.content }
 
-content_behind : (t : List ℕ) → IsText t → 0 < length t → EndsWithContent t (integer_content (signed_number t))
+content_behind : (t : List ℕ) → IsOctets t → 0 < length t → EndsWithContent t (integer_content (signed_number t))
 content_behind [] is l = absurd (omega arith)
 content_behind (x ∷ []) is l = none_in_front (x ∷ []) _ (content_only (x ∷ []) is refl)
 content_behind (x ∷ y ∷ ys) is l =
@@ -194,7 +194,7 @@ number_under : (x y r p q : ℕ) → x < 128 → y < 256 → r < p → q ≡ p *
 number_under x y r p q hx hy hr e =
     omega (arith, mul-le-mul_right {m = x} {n = 127} q (omega arith), mul-le-mul_right {m = y} {n = 255} p (omega arith))
 
-low_bits : (s : List ℕ) (k : ℕ) → IsText s → is_minimal s ≡ true → get_or s 0 0 < 128 → number s < 2 ^ k → 2 ^ k ≤ 2 * number s + 1 → k / 8 + 1 ≡ length s
+low_bits : (s : List ℕ) (k : ℕ) → IsOctets s → is_minimal s ≡ true → get_or s 0 0 < 128 → number s < 2 ^ k → 2 ^ k ≤ 2 * number s + 1 → k / 8 + 1 ≡ length s
 low_bits [] k is e h small most = absurd cc
 low_bits (x ∷ []) k is e h small most =
     let low : x < 128 = h in
@@ -217,7 +217,7 @@ pub length_by_bits : (z : ℤ) (k n : ℕ) → size_of z ≡ n → n < 2 ^ k →
 unfolding integer_content
 length_by_bits z k n same small most =
     let c : List ℕ = integer_content z in
-    let is : IsText c = content_text z in
+    let is : IsOctets c = content_text z in
     let e : is_minimal c ≡ true = content_shortest z in
     elim (cases_lt (get_or c 0 0) 128) [
       | inl h ↦
@@ -279,11 +279,11 @@ ones_high : (k : ℕ) (c : List ℕ) → 128 ≤ get_or c 0 0 → 128 ≤ get_or
 ones_high zero c h = h
 ones_high (suc k) c h = lit≤ tt
 
-sign_text : (k s : ℕ) (c : List ℕ) → s < 256 → IsText c → IsText (replicate k s ++ c)
+sign_text : (k s : ℕ) (c : List ℕ) → s < 256 → IsOctets c → IsOctets (replicate k s ++ c)
 sign_text zero s c small is = is
 sign_text (suc k) s c small is = (small, sign_text k s c small is)
 
-ones_same : (k : ℕ) (c : List ℕ) → IsText c → 128 ≤ get_or c 0 0 → signed_number (replicate k 255 ++ c) ≡ signed_number c
+ones_same : (k : ℕ) (c : List ℕ) → IsOctets c → 128 ≤ get_or c 0 0 → signed_number (replicate k 255 ++ c) ≡ signed_number c
 ones_same k c is h =
     let same : number (turned (replicate k 255 ++ c)) ≡ number (turned c) = ap number (ones_turned k c) ∙ zeros_number k (turned c) in
     signed_high (replicate k 255 ++ c) (sign_text k 255 c (lit< tt) is) (ones_high k c h) ∙ ap negsuc same ∙ sym (signed_high c is h)
@@ -323,7 +323,7 @@ from_sixteen t l =
 low_half : (x r p : ℕ) → x < 128 → r < p → x * p + r < 128 * p
 low_half x r p hx hr = omega (arith, mul-le-mul_right {m = x} {n = 127} p (omega arith))
 
-sixteen_small : (t : List ℕ) → IsText t → length t ≡ 16 → get_or t 0 0 < 128 → number t < 2 ^ 127
+sixteen_small : (t : List ℕ) → IsOctets t → length t ≡ 16 → get_or t 0 0 < 128 → number t < 2 ^ 127
 sixteen_small [] is l h = absurd (omega (arith, l))
 sixteen_small (x ∷ xs) is l h =
     let rest : length xs ≡ 15 = omega (arith, l) in
@@ -331,7 +331,7 @@ sixteen_small (x ∷ xs) is l h =
     let below : number (x ∷ xs) < 128 * 256 ^ length xs = low_half x (number xs) (256 ^ length xs) h (number_lt xs is.1) in
     omega (arith, below, power)
 
-signed_sixteen : (t : List ℕ) → IsText t → length t ≡ 16 → cast_signed w128 (from_be_bytes w128 t) ≡ signed_number t
+signed_sixteen : (t : List ℕ) → IsOctets t → length t ≡ 16 → cast_signed w128 (from_be_bytes w128 t) ≡ signed_number t
 signed_sixteen t is l =
     elim (cases_lt (get_or t 0 0) 128) [
       | inl h ↦ ap (cast_signed w128) (from_sixteen t l) ∙ to_z_pos w128 (number t) (sixteen_small t is l h) ∙ sym (signed_low t h)
@@ -348,7 +348,7 @@ put_at_end : (s n : ℕ) (ys : List ℕ) → n ≤ 16 → put_mid (16 - n) (16 -
 put_at_end s n ys h =
     rw (take-replicate {X = ℕ} (16 - n) 16 s (omega arith), drop-replicate {X = ℕ} (16 - n) 16 s, drop_all {X = ℕ} (16 - (16 - n)) (replicate (16 - (16 - n)) s) (omega (arith, length-replicate {A = ℕ} (16 - (16 - n)) s)), append-nil) refl
 
-sign_same : (k s : ℕ) (c : List ℕ) → IsText c → s ≡ (if leb 128 (get_or c 0 0) then 255 else 0) → (s < 256) × (signed_number (replicate k s ++ c) ≡ signed_number c)
+sign_same : (k s : ℕ) (c : List ℕ) → IsOctets c → s ≡ (if leb 128 (get_or c 0 0) then 255 else 0) → (s < 256) × (signed_number (replicate k s ++ c) ≡ signed_number c)
 sign_same k s c is e =
     let P : ℕ → Type 0 = λ x. (x < 256) × (signed_number (replicate k x ++ c) ≡ signed_number c) in
     elim (cases_lt (get_or c 0 0) 128) [
@@ -356,7 +356,7 @@ sign_same k s c is e =
       | inr h ↦ subst P (sym (e ∙ ap (λ (b : Bool). if b then 255 else 0) (le-leb 128 (get_or c 0 0) h))) (lit< tt, ones_same k c is h)
     ]
 
-pub extended : (s : ℕ) (c ys : List ℕ) (z : ℤ) → IsText c → length c ≤ 9 → s ≡ (if leb 128 (get_or c 0 0) then 255 else 0) → ys ≡ c →
+pub extended : (s : ℕ) (c ys : List ℕ) (z : ℤ) → IsOctets c → length c ≤ 9 → s ≡ (if leb 128 (get_or c 0 0) then 255 else 0) → ys ≡ c →
     z ≡ cast_signed w128 (from_be_bytes w128 (put_mid (16 - length c) (16 - (16 - length c)) (replicate 16 s) ys)) → z ≡ signed_number c
 extended s c ys z is few sign same value =
     let k : ℕ = 16 - length c in
@@ -368,10 +368,10 @@ extended s c ys z is few sign same value =
 
 -- ---- what reading rejects
 
-pub refused_content : (low high : ℤ) (c : List ℕ) (f : Fault) → is_minimal c ≡ false → f ≡ fault InvalidValue → read_sized low high c ≡ Err f
+pub refused_content : (low high : ℤ) (c : List ℕ) (f : ReadError) → is_minimal c ≡ false → f ≡ read_error InvalidValue → read_sized low high c ≡ Err f
 refused_content low high c f e same = sized_refused low high c e ∙ ap Err (sym same)
 
-pub refused_number : (low high : ℤ) (c : List ℕ) (f : Fault) (b : Bool) → is_minimal c ≡ true → f ≡ fault (if b then below low else IntegerOverflow) →
+pub refused_number : (low high : ℤ) (c : List ℕ) (f : ReadError) (b : Bool) → is_minimal c ≡ true → f ≡ read_error (if b then below low else IntegerOverflow) →
     (b ≡ true → signed_number c <ℤ low) → (b ≡ false → (low ≤ℤ signed_number c) × (high <ℤ signed_number c)) → read_sized low high c ≡ Err f
 refused_number low high c f true e same lower upper = sized_ok low high c (Err f) e (range_below low high (signed_number c) (lower refl) ∙ ap Err (sym same))
 refused_number low high c f false e same lower upper = sized_ok low high c (Err f) e (range_above low high (signed_number c) (upper refl).0 (upper refl).1 ∙ ap Err (sym same))
@@ -379,27 +379,27 @@ refused_number low high c f false e same lower upper = sized_ok low high c (Err 
 pub answered_number : (low high : ℤ) (c : List ℕ) (z : ℤ) → is_minimal c ≡ true → z ≡ signed_number c → low ≤ℤ z → z ≤ℤ high → read_sized low high c ≡ Ok z
 answered_number low high c z e same a b = sized_ok low high c (Ok z) e (ap (within_range low high) (sym same) ∙ range_ok low high z a b)
 
-pub long_refused : (low high : ℤ) (c : List ℕ) (f : Fault) → IsText c → is_minimal c ≡ true → 9 < length c → neg_ℤ (pos (2 ^ 71)) ≤ℤ low → high <ℤ pos (2 ^ 71) → low ≤ℤ high →
-    f ≡ fault (if leb 128 (get_or c 0 0) then below low else IntegerOverflow) → read_sized low high c ≡ Err f
+pub long_refused : (low high : ℤ) (c : List ℕ) (f : ReadError) → IsOctets c → is_minimal c ≡ true → 9 < length c → neg_ℤ (pos (2 ^ 71)) ≤ℤ low → high <ℤ pos (2 ^ 71) → low ≤ℤ high →
+    f ≡ read_error (if leb 128 (get_or c 0 0) then below low else IntegerOverflow) → read_sized low high c ≡ Err f
 long_refused low high c f is e long least greatest ordered same =
     refused_number low high c f (leb 128 (get_or c 0 0)) e same
     (λ t. long_below c low is e long (leb-true 128 (get_or c 0 0) t) least)
     (λ t. let over : high <ℤ signed_number c = long_above c high e long (leb-false 128 (get_or c 0 0) t) greatest in (omega (arith, ints), over))
 
-pub beyond_refused : (low high z : ℤ) (c : List ℕ) (f : Fault) → is_minimal c ≡ true → z ≡ signed_number c → f ≡ fault (if int_lt z low then below low else IntegerOverflow) →
+pub beyond_refused : (low high z : ℤ) (c : List ℕ) (f : ReadError) → is_minimal c ≡ true → z ≡ signed_number c → f ≡ read_error (if int_lt z low then below low else IntegerOverflow) →
     low ≤ℤ high → (z <ℤ low) ⊎ (high <ℤ z) → read_sized low high c ≡ Err f
 beyond_refused low high z c f e value same ordered (inl h) =
     let test : int_lt z low ≡ true = grind (arith, ints) in
-    refused_number low high c f true e (same ∙ ap (λ (b : Bool). fault (if b then below low else IntegerOverflow)) test) (λ t. subst (λ (x : ℤ). x <ℤ low) value h) (λ t. absurd cc)
+    refused_number low high c f true e (same ∙ ap (λ (b : Bool). read_error (if b then below low else IntegerOverflow)) test) (λ t. subst (λ (x : ℤ). x <ℤ low) value h) (λ t. absurd cc)
 beyond_refused low high z c f e value same ordered (inr h) =
     let test : int_lt z low ≡ false = grind (arith, ints) in
     let above : low ≤ℤ z = omega (arith, ints) in
-    refused_number low high c f false e (same ∙ ap (λ (b : Bool). fault (if b then below low else IntegerOverflow)) test) (λ t. absurd cc) (λ t. subst (λ (x : ℤ). (low ≤ℤ x) × (high <ℤ x)) value (above, h))
+    refused_number low high c f false e (same ∙ ap (λ (b : Bool). read_error (if b then below low else IntegerOverflow)) test) (λ t. absurd cc) (λ t. subst (λ (x : ℤ). (low ≤ℤ x) × (high <ℤ x)) value (above, h))
 
 pub passed_octets : (w : Width) (t : List ℕ) (z : ℤ) → FitsSigned w z → t ≡ to_be_bytes w (cast_unsigned w (cast_signed w (cast_unsigned w z))) → t ≡ to_be_bytes w (cast_unsigned w z)
 passed_octets w t z fits e = e ∙ ap (λ (x : ℤ). to_be_bytes w (cast_unsigned w x)) (to_z-of_z w z fits)
 
-octets_end : (t : List ℕ) (z : ℤ) → IsText t → 0 < length t → signed_number t ≡ z → EndsWithContent t (integer_content z)
+octets_end : (t : List ℕ) (z : ℤ) → IsOctets t → 0 < length t → signed_number t ≡ z → EndsWithContent t (integer_content z)
 octets_end t z is some e = subst (λ (x : ℤ). EndsWithContent t (integer_content x)) e (content_behind t is some)
 
 pub eight_end : (t : List ℕ) (z : ℤ) → FitsSigned w64 z → t ≡ to_be_bytes w64 (cast_unsigned w64 (cast_signed w64 (cast_unsigned w64 z))) → (length t ≡ 8) × EndsWithContent t (integer_content z)
@@ -407,14 +407,14 @@ eight_end t z fits passed =
     let e = passed_octets w64 t z fits passed in
     let n : ℕ = cast_unsigned w64 z in
     let size : length t ≡ 8 = ap length e ∙ high_length 8 n in
-    (size, octets_end t z (subst IsText (sym e) (high_text 8 n)) (omega (arith, size)) (ap signed_number e ∙ eight z fits))
+    (size, octets_end t z (subst IsOctets (sym e) (high_text 8 n)) (omega (arith, size)) (ap signed_number e ∙ eight z fits))
 
 pub sixteen_end : (t : List ℕ) (z : ℤ) → FitsSigned w128 z → t ≡ to_be_bytes w128 (cast_unsigned w128 (cast_signed w128 (cast_unsigned w128 z))) → (length t ≡ 16) × EndsWithContent t (integer_content z)
 sixteen_end t z fits passed =
     let e = passed_octets w128 t z fits passed in
     let n : ℕ = cast_unsigned w128 z in
     let size : length t ≡ 16 = ap length e ∙ high_length 16 n in
-    (size, octets_end t z (subst IsText (sym e) (high_text 16 n)) (omega (arith, size)) (ap signed_number e ∙ sixteen z fits))
+    (size, octets_end t z (subst IsOctets (sym e) (high_text 16 n)) (omega (arith, size)) (ap signed_number e ∙ sixteen z fits))
 
 content_end : (t c : List ℕ) (count start : ℕ) → EndsWithContent t c → count ≡ length c → start ≡ length t - count → drop start t ≡ c
 content_end t c count start is size at = ap (λ (k : ℕ). drop k t) (at ∙ ap (λ (k : ℕ). length t - k) size) ∙ is.content

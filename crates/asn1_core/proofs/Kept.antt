@@ -3,9 +3,9 @@ use Rattle.std.proofs.Common.{◌≡◌, List, ◌∷◌, [], length, sym, ap}
 use Rattle.std.proofs.lemmas.List.{take_at}
 use Rattle.asn1_core.specs.declared.parser.ParseErrorKind.{ParseErrorKind}
 use Rattle.asn1_core.specs.declared.parser.Place.{Place}
-use Rattle.asn1_core.specs.Fault.{Fault, within}
+use Rattle.asn1_core.specs.ReadError.{ReadError, within}
 
-abbrev at : ParseErrorKind → List Place → Fault
+abbrev at : ParseErrorKind → List Place → ReadError
 at kind places = record { kind = kind; places = places }
 
 -- if as many locations as possible are kept, one more is dropped

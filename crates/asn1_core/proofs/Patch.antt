@@ -4,7 +4,7 @@ use Rattle.std.specs.Int.Digits.{digits_of}
 use Rattle.std.proofs.lemmas.Grind.{common_steps, numeral_or}
 use Rattle.std.proofs.lemmas.List.Edits.{take-paste, length-paste}
 use Rattle.std.specs.List.{copy_within}
-use Rattle.asn1_core.specs.Length.{length_text}
+use Rattle.asn1_core.specs.Length.{length_octets}
 use Rattle.asn1_core.specs.Lemmas.Lengths.{length_text_high, few_digits}
 
 pub some_number : (n : ℕ) → 0 < length (digits_of 256 n) → 0 < n
@@ -12,7 +12,7 @@ some_number zero h = absurd (omega (arith, h))
 some_number (suc n) h = omega arith
 
 -- the first octet of a long length
-pub top_of : (n : ℕ) → 128 ≤ n → n < 2 ^ 64 → bit_or 128 (length (digits_of 256 n)) ∷ digits_of 256 n ≡ length_text n
+pub top_of : (n : ℕ) → 128 ≤ n → n < 2 ^ 64 → bit_or 128 (length (digits_of 256 n)) ∷ digits_of 256 n ≡ length_octets n
 top_of n l small =
     let few : length (digits_of 256 n) < 128 = omega (arith, few_digits n small) in
     rw (numeral_or 127 (length (digits_of 256 n)) refl few) (sym (length_text_high n l))

@@ -1,9 +1,9 @@
 -- The order of tags, and of the elements that have them.
 use Rattle.std.proofs.Common.{◌≡◌, ℕ, ◌<◌, ◌^◌, ◌⊎◌, Bool, true, false, ◌&&◌, ◌||◌, eqb, ltb, ◌++◌, length, Some, refl, inl, inr}
 use Rattle.std.proofs.lemmas.Bool.{and_parts, ltb-true, lt-ltb, eqb-true, eq-eqb, or_left, or_right, and_from}
-use Rattle.asn1_core.specs.Tag.{tag_class, tag_number, class_number, tag_before, TagOrderIsAnswered, tag_in_front, tag_less}
-use Rattle.asn1_core.specs.Length.{length_text}
-use Rattle.asn1_core.specs.Element.{Element, element_text}
+use Rattle.asn1_core.specs.Tag.{tag_class, tag_number, class_number, tag_before, TagOrderIsAnswered, tag_at_start, tag_less}
+use Rattle.asn1_core.specs.Length.{length_octets}
+use Rattle.asn1_core.specs.Element.{Element, element_encoding}
 use Rattle.asn1_core.specs.Lemmas.Tags.{tag_ok}
 
 either : (a b : Bool) → (a || b) ≡ true → (a ≡ true) ⊎ (b ≡ true)
@@ -26,10 +26,10 @@ pub tag_order_is_answered : TagOrderIsAnswered
 tag_order_is_answered a b = (before_is (class_number (tag_class a)) (class_number (tag_class b)) (tag_number a) (tag_number b), is_before (class_number (tag_class a)) (class_number (tag_class b)) (tag_number a) (tag_number b))
 
 -- the tag at the start of an element
-pub element_tag_in_front : (e : Element) → e.tag.value < 2 ^ 32 → tag_in_front (element_text e) ≡ Some e.tag
-unfolding element_text
-element_tag_in_front e small = rw (tag_ok e.tag (length_text (length e.content) ++ e.content) small) refl
+pub element_tag_in_front : (e : Element) → e.tag.value < 2 ^ 32 → tag_at_start (element_encoding e) ≡ Some e.tag
+unfolding element_encoding
+element_tag_in_front e small = rw (tag_ok e.tag (length_octets (length e.content) ++ e.content) small) refl
 
 -- the encodings of elements have the order of their tags
-pub element_tag_less : (e f : Element) → e.tag.value < 2 ^ 32 → f.tag.value < 2 ^ 32 → tag_less (element_text e) (element_text f) ≡ tag_before e.tag f.tag
+pub element_tag_less : (e f : Element) → e.tag.value < 2 ^ 32 → f.tag.value < 2 ^ 32 → tag_less (element_encoding e) (element_encoding f) ≡ tag_before e.tag f.tag
 element_tag_less e f small little = rw (element_tag_in_front e small, element_tag_in_front f little) refl

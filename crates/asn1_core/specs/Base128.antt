@@ -25,7 +25,7 @@ abbrev pub BeginsWithZero : List ℕ → Type 0
 BeginsWithZero octets = slice_index octets 0 ≡ 0x80
 
 -- The octets encode n in base 128: they are finished, don't begin with 0x80, and n is below 2^128. (8.1.2.4.2, 8.19.2)
-pub record IsNumberText (octets : List ℕ) (n : ℕ) : Type 0 where
+pub record AreNumberOctets (octets : List ℕ) (n : ℕ) : Type 0 where
   pub finished : IsFinished octets
   pub shortest : ¬ BeginsWithZero octets
   pub value : digits_number octets ≡ n
@@ -33,25 +33,25 @@ pub record IsNumberText (octets : List ℕ) (n : ℕ) : Type 0 where
 
 -- Whatever octets follow, these encode no number: they are open, and begin with 0x80 or are 19 or more; or they are
 -- finished, and begin with 0x80 or give 2^128 or more.
-abbrev pub IsFaulty : List ℕ → Type 0
-IsFaulty octets = IsOpen octets × (BeginsWithZero octets ⊎ 19 ≤ length octets)
+abbrev pub IsMalformed : List ℕ → Type 0
+IsMalformed octets = IsOpen octets × (BeginsWithZero octets ⊎ 19 ≤ length octets)
     ⊎ IsFinished octets × (BeginsWithZero octets ⊎ 2 ^ 128 ≤ digits_number octets)
 
 -- What octets begin with: a number in base 128 and the remaining octets; or `InvalidValue`, if a prefix is malformed;
 -- or `ShortData` with 1 needed, if all the octets are open and not malformed.
-abbrev pub IsNumberFront : List ℕ → Result (ℕ × List ℕ) ParseErrorKind → Type 0
-IsNumberFront text (Ok found) = (octets : List ℕ) × IsNumberText octets found.0 × (text ≡ octets ++ found.1)
-IsNumberFront text (Err InvalidValue) = (octets rest : List ℕ) × IsFaulty octets × (text ≡ octets ++ rest)
-IsNumberFront text (Err (ShortData needed)) = IsOpen text × ¬ IsFaulty text × (needed ≡ 1)
-IsNumberFront text (Err _) = ⊥
+abbrev pub IsLeadingNumber : List ℕ → Result (ℕ × List ℕ) ParseErrorKind → Type 0
+IsLeadingNumber text (Ok found) = (octets : List ℕ) × AreNumberOctets octets found.0 × (text ≡ octets ++ found.1)
+IsLeadingNumber text (Err InvalidValue) = (octets rest : List ℕ) × IsMalformed octets × (text ≡ octets ++ rest)
+IsLeadingNumber text (Err (ShortData needed)) = IsOpen text × ¬ IsMalformed text × (needed ≡ 1)
+IsLeadingNumber text (Err _) = ⊥
 
 -- The encoding of n, as a function: the digits of n in base 128, each except the last with its top bit set.
-unfoldable pub number_text : ℕ → List ℕ
-number_text n = map (λ digit. 128 + digit) (digits_of 128 (n / 128)) ++ n % 128 ∷ []
+unfoldable pub number_octets : ℕ → List ℕ
+number_octets n = map (λ digit. 128 + digit) (digits_of 128 (n / 128)) ++ n % 128 ∷ []
 
 -- What octets begin with, as a function.
-unfoldable pub number_front : List ℕ → Result (ℕ × List ℕ) ParseErrorKind
-number_front text =
+unfoldable pub leading_number : List ℕ → Result (ℕ × List ℕ) ParseErrorKind
+leading_number text =
     let open_octets = prefix_len (λ octet. nat_le 128 octet) text in
     let octets = take (open_octets + 1) text in
     if slice_index text 0 == 0x80 || nat_le 19 open_octets then Err InvalidValue

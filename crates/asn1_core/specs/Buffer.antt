@@ -7,11 +7,11 @@ pub record Buffer : Type 0 where
   pub room : ℕ
 
 -- Octets that `texts` allows were appended.
-pub record Appends (texts : List ℕ → Type 0) (old new : List ℕ) : Type 0 where
-  pub text : List ℕ
-  pub is_one : texts text
-  pub joined : new ≡ old ++ text
+pub record Appends (encodings : List ℕ → Type 0) (old new : List ℕ) : Type 0 where
+  pub encoding : List ℕ
+  pub is_one : encodings encoding
+  pub joined : new ≡ old ++ encoding
 
 -- The octets that were there are still a prefix.
-pub record KeepsFront (old new : List ℕ) : Type 0 where
+pub record KeepsPrefix (old new : List ℕ) : Type 0 where
   pub joined : new ≡ old ++ drop (length old) new

@@ -4,22 +4,22 @@ use Rattle.std.specs.Prelude.{ℕ, ◌⊎◌, List, Result, Bool, Option}
 use Rattle.asn1_core.specs.declared.tag.Tag.{Tag}
 use Rattle.asn1_core.specs.declared.parser.Place.{Place}
 use Rattle.asn1_core.specs.Element.{Element}
-use Rattle.asn1_core.specs.Fault.{Fault}
+use Rattle.asn1_core.specs.ReadError.{ReadError}
 use Rattle.asn1_core.specs.Options.{option_meaning}
 use Rattle.asn1_core.specs.Encoding.{Content, Encoding, simple_encoding, tlv_encoding, option_encoding}
 use Rattle.asn1_core.specs.EncodingLaws.{ContentLaws, EncodingLaws}
 use Rattle.asn1_core.specs.LawsOf.Encodings.{simple_laws, tlv_laws, option_laws}
 
 -- What a type means in DER, for reading and writing alike. An author states it for a type by the ghost member `der` of
--- `Asn1Type`. The data are those of `Encoding`. The laws are a field too, so that nobody states a type without a proof of
--- them.
+-- `Asn1Type`. The data are those of `Encoding`. The laws are a field too, so that nobody states a type without a proof
+-- of them.
 pub record Der (V : Type 0) : Type 1 where
   -- a value without its address in memory
   pub Meaning : Type 0
   pub meaning : V → Meaning
   -- the encodings of abstract values, as `Encoding` says of each field
-  pub text : Meaning → List ℕ
-  pub texts : Meaning → List ℕ → Type 0
+  pub encoding : Meaning → List ℕ
+  pub encodings : Meaning → List ℕ → Type 0
   pub closures : Meaning → Type 0
   pub valid : Meaning → Type 0
   pub allowed : Meaning → Type 0
@@ -31,18 +31,18 @@ pub record Der (V : Type 0) : Type 1 where
   pub is_read : Type 0
   pub runs_out : List ℕ → List Place → Type 0
   pub accepts : Tag → Bool
-  pub read : List ℕ → Result (Meaning × List ℕ) Fault
+  pub read : List ℕ → Result (Meaning × List ℕ) ReadError
   pub stops : List ℕ → List ℕ → Type 0
   pub is_simple : Type 0
   pub content : Content Meaning
   -- what holds of these
-  pub laws : EncodingLaws (record { text = text; texts = texts; closures = closures; valid = valid; allowed = allowed; bounded = bounded; plain = plain; lawful = lawful; is_element = is_element; takes_memory = takes_memory; is_read = is_read; runs_out = runs_out; accepts = accepts; read = read; stops = stops; is_simple = is_simple; content = content })
+  pub laws : EncodingLaws (record { encoding = encoding; encodings = encodings; closures = closures; valid = valid; allowed = allowed; bounded = bounded; plain = plain; lawful = lawful; is_element = is_element; takes_memory = takes_memory; is_read = is_read; runs_out = runs_out; accepts = accepts; read = read; stops = stops; is_simple = is_simple; content = content })
 
 -- The data alone.
 abbrev pub encoding_of : {V : Type 0} → (d : Der V) → Encoding d.Meaning
 encoding_of d = record {
-  text = d.text;
-  texts = d.texts;
+  encoding = d.encoding;
+  encodings = d.encodings;
   closures = d.closures;
   valid = d.valid;
   allowed = d.allowed;
@@ -65,8 +65,8 @@ abbrev pub der_of : {V M : Type 0} → (V → M) → (e : Encoding M) → Encodi
 der_of {M = M} meaning e laws = record {
   Meaning = M;
   meaning = meaning;
-  text = e.text;
-  texts = e.texts;
+  encoding = e.encoding;
+  encodings = e.encodings;
   closures = e.closures;
   valid = e.valid;
   allowed = e.allowed;
@@ -90,8 +90,8 @@ abbrev pub simple_der : {V M : Type 0} → (V → M) → (c : Content M) → Con
 simple_der meaning c laws = der_of meaning (simple_encoding c) (simple_laws laws)
 
 -- A type whose values are seen through something, for example a reference.
-abbrev pub seen : {V W : Type 0} → (W → V) → Der V → Der W
-seen view d = der_of (λ w. d.meaning (view w)) (encoding_of d) d.laws
+abbrev pub viewed : {V W : Type 0} → (W → V) → Der V → Der W
+viewed view d = der_of (λ w. d.meaning (view w)) (encoding_of d) d.laws
 
 -- any element, as its tag and contents octets
 abbrev pub tlv_der : {V : Type 0} → (V → Element) → Der V

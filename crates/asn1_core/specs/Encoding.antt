@@ -4,19 +4,19 @@ use Rattle.std.specs.Prelude.{ℕ, ◌<◌, ◌^◌, ◌≡◌, List, [], Result
 use Rattle.asn1_core.specs.declared.tag.Tag.{Tag}
 use Rattle.asn1_core.specs.declared.parser.Place.{Place}
 use Rattle.asn1_core.specs.Tag.{tag_eq, universal}
-use Rattle.asn1_core.specs.Element.{Element, element, element_text}
-use Rattle.asn1_core.specs.Fault.{Fault}
+use Rattle.asn1_core.specs.Element.{Element, element, element_encoding}
+use Rattle.asn1_core.specs.ReadError.{ReadError}
 use Rattle.asn1_core.specs.Writing.{IsElementOf}
-use Rattle.asn1_core.specs.Reading.{simple, simple_out, simple_stops, element_front, tlv_stops, refuses}
-use Rattle.asn1_core.specs.Options.{IfThere, option_text, option_texts, option_read, option_out}
+use Rattle.asn1_core.specs.Reading.{simple, simple_out, simple_stops, framed_element, tlv_stops, rejects_all}
+use Rattle.asn1_core.specs.Options.{IfThere, option_octets, option_encodings, option_read, option_out}
 
 -- the content of a simple type with abstract values of type M: its contents octets
 pub record Content (M : Type 0) : Type 1 where
   pub tag : Tag
   -- the contents octets of a value
-  pub text : M → List ℕ
+  pub encoding : M → List ℕ
   -- what a write may append: the contents octets, or what a closure may append
-  pub texts : M → List ℕ → Type 0
+  pub encodings : M → List ℕ → Type 0
   -- what a write requires of the closures in a value
   pub closures : M → Type 0
   -- the values of which the laws speak
@@ -33,14 +33,14 @@ pub record Content (M : Type 0) : Type 1 where
   pub is_read : Type 0
   -- locations at which memory may run out
   pub runs_out : List ℕ → List Place → Type 0
-  pub read : List ℕ → Result M Fault
+  pub read : List ℕ → Result M ReadError
 
 -- The encodings of a type with abstract values of type M, for reading and writing alike.
 pub record Encoding (M : Type 0) : Type 1 where
   -- the encoding of a value
-  pub text : M → List ℕ
+  pub encoding : M → List ℕ
   -- what a write may append: the encoding, or what a closure may append
-  pub texts : M → List ℕ → Type 0
+  pub encodings : M → List ℕ → Type 0
   -- what a write requires of the closures in a value
   pub closures : M → Type 0
   -- the values of which the laws speak: their numbers are in range, and they are well formed
@@ -63,7 +63,7 @@ pub record Encoding (M : Type 0) : Type 1 where
   -- the tags that an element of the type may have
   pub accepts : Tag → Bool
   -- the value at the start of the octets and the remaining octets, or the first error
-  pub read : List ℕ → Result (M × List ℕ) Fault
+  pub read : List ℕ → Result (M × List ℕ) ReadError
   -- what a read leaves at an error
   pub stops : List ℕ → List ℕ → Type 0
   -- a simple type is one element with its tag and its contents octets
@@ -73,8 +73,8 @@ pub record Encoding (M : Type 0) : Type 1 where
 -- The encodings of a simple type: elements with its tag and its contents octets.
 abbrev pub simple_encoding : {M : Type 0} → Content M → Encoding M
 simple_encoding c = record {
-  text = λ m. element_text (element c.tag (c.text m));
-  texts = λ m. IsElementOf c.tag (c.texts m);
+  encoding = λ m. element_encoding (element c.tag (c.encoding m));
+  encodings = λ m. IsElementOf c.tag (c.encodings m);
   closures = c.closures;
   valid = c.valid;
   allowed = c.allowed;
@@ -95,16 +95,16 @@ simple_encoding c = record {
 -- a content without parts
 pub record Basic (M : Type 0) : Type 1 where
   pub tag : Tag
-  pub text : M → List ℕ
+  pub encoding : M → List ℕ
   pub valid : M → Type 0
-  pub read : List ℕ → Result M Fault
+  pub read : List ℕ → Result M ReadError
 
 -- The content without parts: it doesn't allocate, has no closures and no bounds.
 abbrev pub basic : {M : Type 0} → Basic M → Content M
 basic b = record {
   tag = b.tag;
-  text = b.text;
-  texts = λ m t. t ≡ b.text m;
+  encoding = b.encoding;
+  encodings = λ m t. t ≡ b.encoding m;
   closures = λ m. Unit {0};
   valid = b.valid;
   allowed = λ m. Unit {0};
@@ -121,8 +121,8 @@ basic b = record {
 abbrev pub no_content : {M : Type 0} → Content M
 no_content = record {
   tag = universal 0;
-  text = λ m. [];
-  texts = λ m t. ⊥;
+  encoding = λ m. [];
+  encodings = λ m t. ⊥;
   closures = λ m. Unit {0};
   valid = λ m. Unit {0};
   allowed = λ m. Unit {0};
@@ -132,14 +132,14 @@ no_content = record {
   takes_memory = ⊥;
   is_read = ⊥;
   runs_out = λ c places. ⊥;
-  read = refuses;
+  read = rejects_all;
 }
 
 -- any element, as its tag and contents octets
 abbrev pub tlv_encoding : Encoding Element
 tlv_encoding = record {
-  text = element_text;
-  texts = λ m t. t ≡ element_text m;
+  encoding = element_encoding;
+  encodings = λ m t. t ≡ element_encoding m;
   closures = λ m. Unit {0};
   valid = λ m. m.tag.value < 2 ^ 32;
   allowed = λ m. Unit {0};
@@ -151,7 +151,7 @@ tlv_encoding = record {
   is_read = Unit {0};
   runs_out = λ t places. ⊥;
   accepts = λ t. true;
-  read = element_front;
+  read = framed_element;
   stops = tlv_stops;
   is_simple = ⊥;
   content = no_content;
@@ -160,8 +160,8 @@ tlv_encoding = record {
 -- a value of the type or nothing; the leading tag tells which
 abbrev pub option_encoding : {M : Type 0} → Encoding M → Encoding (Option M)
 option_encoding e = record {
-  text = option_text e.text;
-  texts = option_texts e.texts;
+  encoding = option_octets e.encoding;
+  encodings = option_encodings e.encodings;
   closures = IfThere e.closures;
   valid = IfThere e.valid;
   allowed = IfThere e.allowed;

@@ -3,16 +3,16 @@ use Rattle.std.specs.Prelude.{ℕ, zero, suc, ◌+◌, ◌-◌, ◌*◌, ◌/◌
 use Rattle.std.specs.Int.Digits.{digits_of}
 use Rattle.asn1_core.specs.declared.parser.ParseErrorKind.{ParseErrorKind}
 use Rattle.asn1_core.specs.declared.parser.ParseErrorKind.TheVariants.{InvalidValue, IntegerOverflow}
-use Rattle.asn1_core.specs.Text.{IsText, signed_number}
+use Rattle.asn1_core.specs.Base256.{IsOctets, signed_number}
 use Rattle.asn1_core.specs.Element.{◌>>=◌}
-use Rattle.asn1_core.specs.Fault.{Fault, fault}
+use Rattle.asn1_core.specs.ReadError.{ReadError, read_error}
 
 -- The contents octets of a number: the fewest octets, at least one, with this signed number. (8.3.1, 8.3.2, 8.3.3)
 pub record IsIntegerContent (c : List ℕ) (z : ℤ) : Type 0 where
-  pub octets : IsText c
+  pub octets : IsOctets c
   pub some : 0 < length c
   pub value : signed_number c ≡ z
-  pub shortest : (t : List ℕ) → IsText t → 0 < length t → length t < length c → signed_number t ≡ z → ⊥
+  pub shortest : (t : List ℕ) → IsOctets t → 0 < length t → length t < length c → signed_number t ≡ z → ⊥
 
 -- The bits of an octet and the top bit of the next, as a number.
 abbrev pub nine_bits : ℕ → ℕ → ℕ
@@ -40,8 +40,8 @@ integer_content (pos n) = with_sign (digits_of 256 n)
 integer_content (negsuc n) = turned (with_sign (digits_of 256 n))
 
 -- The number that contents octets encode, or the error if they encode none.
-unfoldable pub read_integer : List ℕ → Result ℤ Fault
-read_integer c = if is_minimal c then Ok (signed_number c) else Err (fault InvalidValue)
+unfoldable pub read_integer : List ℕ → Result ℤ ReadError
+read_integer c = if is_minimal c then Ok (signed_number c) else Err (read_error InvalidValue)
 
 -- The error of a number below the lowest of a type: an unsigned type, whose lowest is 0, has no sign.
 abbrev pub below : ℤ → ParseErrorKind
@@ -49,11 +49,11 @@ below (pos low) = InvalidValue
 below (negsuc low) = IntegerOverflow
 
 -- A number of a type with the numbers from low to high, or the error of a number beyond them.
-abbrev pub within_range : ℤ → ℤ → ℤ → Result ℤ Fault
-within_range low high z = if int_lt z low then Err (fault (below low)) else if int_lt high z then Err (fault IntegerOverflow) else Ok z
+abbrev pub within_range : ℤ → ℤ → ℤ → Result ℤ ReadError
+within_range low high z = if int_lt z low then Err (read_error (below low)) else if int_lt high z then Err (read_error IntegerOverflow) else Ok z
 
 -- The number that contents octets encode, for a type with the numbers from low to high.
-unfoldable pub read_sized : ℤ → ℤ → List ℕ → Result ℤ Fault
+unfoldable pub read_sized : ℤ → ℤ → List ℕ → Result ℤ ReadError
 read_sized low high c = read_integer c >>= within_range low high
 
 -- Each number has contents octets, those of the function, and no others.
@@ -63,16 +63,16 @@ NumbersHaveOneContent = ((z : ℤ) → IsIntegerContent (integer_content z) z)
 
 -- Reading returns the number of contents octets, and rejects all other octets.
 abbrev pub ReadsContentsAlone : Type 0
-ReadsContentsAlone = (c : List ℕ) (z : ℤ) → IsText c → (read_integer c ≡ Ok z) ↔ IsIntegerContent c z
+ReadsContentsAlone = (c : List ℕ) (z : ℤ) → IsOctets c → (read_integer c ≡ Ok z) ↔ IsIntegerContent c z
 
 -- Two or more octets have a superfluous first one exactly if their first nine bits are all zero or all one: then the
 -- octets after the first have the same signed number.
 abbrev pub NineBitsTell : Type 0
-NineBitsTell = (octet next : ℕ) (octets : List ℕ) → IsText (octet ∷ next ∷ octets)
+NineBitsTell = (octet next : ℕ) (octets : List ℕ) → IsOctets (octet ∷ next ∷ octets)
     → (is_minimal (octet ∷ next ∷ octets) ≡ false) ↔ (signed_number (octet ∷ next ∷ octets) ≡ signed_number (next ∷ octets))
 
 -- Rejects 0, for a type without it.
-abbrev pub unless_zero : ℤ → Result ℤ Fault
-unless_zero (pos zero) = Err (fault InvalidValue)
+abbrev pub unless_zero : ℤ → Result ℤ ReadError
+unless_zero (pos zero) = Err (read_error InvalidValue)
 unless_zero (pos (suc n)) = Ok (pos (suc n))
 unless_zero (negsuc n) = Ok (negsuc n)

@@ -3,8 +3,8 @@ use Rattle.std.specs.Prelude.{ℕ, ◌≡◌, ◌+◌, ◌≤◌, ◌++◌, List
 use Rattle.std.specs.declared.cmp.Ordering.{Ordering}
 use Rattle.std.specs.Ordering.{ordering_then, nat_cmp}
 use Rattle.std.specs.Cmp.Lexicographic.{slice_cmp}
-use Rattle.asn1_core.specs.Text.{number}
-use Rattle.asn1_core.specs.Listing.{text_less, EachText}
+use Rattle.asn1_core.specs.Base256.{number}
+use Rattle.asn1_core.specs.Listing.{encoding_less, EachEncoding}
 use Rattle.asn1_core.specs.declared.writer.sets.Span.{Span}
 
 -- The octets of a span, or none if the span passes the end.
@@ -16,7 +16,7 @@ abbrev pub first_number : List ℕ → ℕ
 first_number t = number (take 8 (t ++ replicate 8 0))
 
 abbrev pub IsBefore : List ℕ → Span → Span → Bool
-IsBefore octets a b = text_less (part_of octets a) (part_of octets b)
+IsBefore octets a b = encoding_less (part_of octets a) (part_of octets b)
 
 -- The span lies within n octets.
 pub record IsWithin (n : ℕ) (s : Span) : Type 0 where
@@ -31,7 +31,7 @@ pub record NotesFirst (octets : List ℕ) (s : Span) : Type 0 where
   pub first : s.first ≡ first_number (part_of octets s)
 
 -- The spans hold an encoding of each item.
-pub record NotesTexts {T : Type 0} (texts : T → List ℕ → Type 0) (items : List T) (octets : List ℕ) (spans : List Span) : Type 0 where
-  pub each : EachText texts items (map (part_of octets) spans)
+pub record NotesTexts {T : Type 0} (encodings : T → List ℕ → Type 0) (items : List T) (octets : List ℕ) (spans : List Span) : Type 0 where
+  pub each : EachEncoding encodings items (map (part_of octets) spans)
   pub within : All (IsWithin (length octets)) spans
   pub firsts : All (NotesFirst octets) spans

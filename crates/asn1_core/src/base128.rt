@@ -2,8 +2,8 @@
 //! bit set (X.690 8.1.2.4.2, 8.19.2). A number is below 2^128, so its encoding has 1 to 19 octets.
 
 ghost use Rattle.std.specs.Prelude.{◌≡◌, ◌+◌, ◌<◌, ◌≤◌, ◌++◌, length, drop, IfNone, IfSome};
-ghost use Rattle.asn1_core.specs.Fault.{AnswersError, AnswersKind};
-ghost use Rattle.asn1_core.specs.Base128.{number_text, number_front};
+ghost use Rattle.asn1_core.specs.ReadError.{ReturnsPlain, ReturnsKind};
+ghost use Rattle.asn1_core.specs.Base128.{number_octets, leading_number};
 
 use crate::parser::{ParseErrorKind, ParseResult, kind_as_error};
 
@@ -16,14 +16,14 @@ const MAX_NUMBER_OCTETS: usize = 19;
 /// 0x80, a leading group of zeros; or the number is 2^128 or more; or the first 19 octets all have their top bit set.
 /// `ShortData { needed: 1 }` if the octets end before the number does, also if there are none.
 pub fn read(octets: &[u8]) -> ParseResult<(u128, &[u8])>
-    ensures { AnswersError (λ x. (x.0, x.1.now)) result (number_front octets.now) }
+    ensures { ReturnsPlain (λ x. (x.0, x.1.now)) result (leading_number octets.now) }
 {
     kind_as_error(read_number(octets))
 }
 
 /// What [`read`] returns, with the kind of the error alone.
 pub(crate) fn read_number(octets: &[u8]) -> Result<(u128, &[u8]), ParseErrorKind>
-    ensures { AnswersKind (λ x. (x.0, x.1.now)) result (number_front octets.now) }
+    ensures { ReturnsKind (λ x. (x.0, x.1.now)) result (leading_number octets.now) }
 {
     let mut number = 0u128;
     for i in 0..MAX_NUMBER_OCTETS {
@@ -44,7 +44,7 @@ pub(crate) fn read_number(octets: &[u8]) -> Result<(u128, &[u8]), ParseErrorKind
 
 /// How many octets the encoding of the number has: 1 to 19.
 pub fn length(n: u128) -> usize
-    ensures text { result ≡ length (number_text n) }
+    ensures encoding { result ≡ length (number_octets n) }
     ensures some { 0 < result }
     ensures most { result ≤ 19 }
 {
@@ -60,11 +60,11 @@ pub fn length(n: u128) -> usize
 /// Writes the encoding of the number over the first of `octets`, leaves the octets after it as they were, and returns
 /// how many octets it has: 1 to 19. `None` if `octets` has fewer; then all of them are as they were.
 pub fn write(n: u128, octets: &mut [u8]) -> Option<usize>
-    ensures short { IfNone result ((length octets.old < length (number_text n))
+    ensures short { IfNone result ((length octets.old < length (number_octets n))
         × (octets.new ≡ octets.old)) }
-    ensures written { IfSome result (λ count. (count ≡ length (number_text n))
+    ensures written { IfSome result (λ count. (count ≡ length (number_octets n))
         × (count ≤ length octets.old)
-        × (octets.new ≡ number_text n ++ drop count octets.old)) }
+        × (octets.new ≡ number_octets n ++ drop count octets.old)) }
 {
     let count = length(n);
     if octets.len() < count {

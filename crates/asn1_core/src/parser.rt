@@ -5,20 +5,21 @@ ghost use Rattle.std.specs.Prelude.{ℕ, [], List, Result, length, IsTrue, IfOk,
 ghost use Rattle.std.specs.Fn.{FnOnceReturnsAtMut};
 ghost use Rattle.asn1_core.specs.declared.parser.ParseErrorKind.{ParseErrorKind};
 ghost use Rattle.asn1_core.specs.declared.parser.ParseErrorKind.TheVariants.{ShortData};
-ghost use Rattle.asn1_core.specs.Text.{IsText, number};
-ghost use Rattle.asn1_core.specs.Tag.{tag_front, found_tag, explicit_tag_of, implicit_tag_of};
-ghost use Rattle.asn1_core.specs.Length.{length_front};
-ghost use Rattle.asn1_core.specs.Element.{Element, IsFront, content_front, front, element_text};
+ghost use Rattle.asn1_core.specs.Base256.{IsOctets, number};
+ghost use Rattle.asn1_core.specs.Tag.{leading_tag, found_tag, explicit_tag_of, implicit_tag_of};
+ghost use Rattle.asn1_core.specs.Length.{leading_length};
+ghost use Rattle.asn1_core.specs.Element.{Element, IsLeadingElement, leading_content, leading_element};
+ghost use Rattle.asn1_core.specs.Element.{element_encoding};
 ghost use Rattle.asn1_core.specs.Tlv.{element_of, full_octets, stripped};
-ghost use Rattle.asn1_core.specs.Fault.{fault, within, framed, AnswersError, AnswersKind, IsOfText, place_of};
-ghost use Rattle.asn1_core.specs.Fault.{error_text, kind_eq, place_eq, fault_eq};
-ghost use Rattle.asn1_core.specs.Reading.{Answers, EndsWith, IsHandedOn, Fits, rest_refused, expected_front};
-ghost use Rattle.asn1_core.specs.Reading.{simple_out, simple_stops, stands};
+ghost use Rattle.asn1_core.specs.ReadError.{read_error, within, framed, ReturnsPlain, ReturnsKind, IsOfInput, place_of};
+ghost use Rattle.asn1_core.specs.ReadError.{error_text, kind_eq, place_eq, read_error_eq};
+ghost use Rattle.asn1_core.specs.Reading.{Returns, EndsWith, PassesOn, Fits, rest_rejected, expected_contents};
+ghost use Rattle.asn1_core.specs.Reading.{simple_out, simple_stops, begins_accepted};
 ghost use Rattle.asn1_core.specs.Reads.{BeginsWithElement, BeginsWithEncodingOf, IsEncodingOf, ReadsExplicit};
 ghost use Rattle.asn1_core.specs.Reads.{ReadsImplicit, ReadsPrefix, ReadsWhole, ReturnsValue};
 ghost use Rattle.asn1_core.specs.Laws.{IsShort, with_more};
 ghost use Rattle.std.specs.Cmp.{decided, partial_equiv_from_equiv};
-ghost use Rattle.asn1_core.specs.Lemmas.Same.{place_eq-decides, fault_eq-decides};
+ghost use Rattle.asn1_core.specs.Lemmas.Same.{place_eq-decides, read_error_eq-decides};
 
 mod name;
 
@@ -142,9 +143,9 @@ pub struct ParseError {
 impl Model for ParseError {
     ghost use Rattle.std.specs.Prelude.{◌≡◌, ◌≤◌, length, take};
     ghost use Rattle.asn1_core.specs.declared.parser.TheConstants.{MAX_PLACES};
-    ghost use Rattle.asn1_core.specs.Fault.{Fault};
+    ghost use Rattle.asn1_core.specs.ReadError.{ReadError};
 
-    ghost Value = { Fault };
+    ghost Value = { ReadError };
 
     ghost view = { λ e. record { kind = e.kind; places = take e.depth e.places } };
 
@@ -158,7 +159,7 @@ impl ParseError {
     /// An error of this kind, without a location.
     #[inline(always)]
     pub fn new(kind: ParseErrorKind) -> ParseError
-        ensures { result ≡ fault kind }
+        ensures { result ≡ read_error kind }
     {
         ParseError {
             kind,
@@ -269,12 +270,12 @@ impl fmt::Debug for ParseError {
 
 /// Two errors are equal exactly if their kinds are, and the locations that they keep.
 impl PartialEq for ParseError {
-    ghost eq = { fault_eq };
+    ghost eq = { read_error_eq };
 
-    ghost laws = { partial_equiv_from_equiv (decided fault_eq fault_eq-decides) };
+    ghost laws = { partial_equiv_from_equiv (decided read_error_eq read_error_eq-decides) };
 
     fn eq(&self, other: &ParseError) -> bool
-        ensures value { result ≡ fault_eq self.now other.now }
+        ensures value { result ≡ read_error_eq self.now other.now }
         ensures same { IsTrue result ↔ (self.now ≡ other.now) }
     {
         same_kind(self.kind, other.kind) && self.places[..self.depth] == other.places[..other.depth]
@@ -282,7 +283,7 @@ impl PartialEq for ParseError {
 }
 
 impl Eq for ParseError {
-    ghost laws = { decided fault_eq fault_eq-decides };
+    ghost laws = { decided read_error_eq read_error_eq-decides };
 }
 
 /// Whether two kinds are equal: the derived `==`, under a clause that names the definition.
@@ -329,7 +330,7 @@ impl<'a> Parser<'a> {
     #[inline]
     pub fn rest(&self) -> &'a [u8]
         ensures same { result.now ≡ self.now }
-        ensures octets { IsText self.now }
+        ensures octets { IsOctets self.now }
     {
         self.are_octets();
         self.data
@@ -346,10 +347,10 @@ impl<'a> Parser<'a> {
     /// The tag at the start of the remaining octets, which stay unread. `None` if the identifier octets there are
     /// incomplete, or are rejected with `InvalidTag`.
     pub fn peek_tag(&mut self) -> Option<Tag>
-        ensures tag { result ≡ found_tag (tag_front self.old) }
+        ensures tag { result ≡ found_tag (leading_tag self.old) }
         ensures unmoved { self.new ≡ self.old }
     {
-        match Tag::in_front(self.data) {
+        match Tag::read(self.data) {
             Ok((tag, _rest)) => Some(tag),
             Err(_) => None,
         }
@@ -358,7 +359,7 @@ impl<'a> Parser<'a> {
     /// States that the remaining octets are octets.
     #[inline(always)]
     pub(crate) fn are_octets(&self)
-        ensures { IsText self.now }
+        ensures { IsOctets self.now }
     {
         self.data.known()
     }
@@ -366,7 +367,7 @@ impl<'a> Parser<'a> {
     /// Rejects remaining octets with `ExtraData`.
     #[inline]
     fn finish(self) -> ParseResult<()>
-        ensures { result ≡ rest_refused self.entry }
+        ensures { result ≡ rest_rejected self.entry }
     {
         if !self.is_empty() {
             return Err(ParseError::new(ParseErrorKind::ExtraData));
@@ -377,11 +378,12 @@ impl<'a> Parser<'a> {
     /// Reads the next element. On an error the parser stays where it was.
     #[inline]
     pub(crate) fn read_tlv(&mut self) -> Result<Tlv<'a>, ParseErrorKind>
-        ensures answers { AnswersKind (λ t. (element_of t, self.new)) result (front self.old) }
+        ensures answers { ReturnsKind (λ t. (element_of t, self.new)) result
+            (leading_element self.old) }
         ensures rest { EndsWith self.old self.new }
         ensures unmoved { OnErr result (self.new ≡ self.old) }
     {
-        if let Some((tlv, rest)) = short_tlv_in(self.data) {
+        if let Some((tlv, rest)) = read_short_tlv(self.data) {
             self.data = rest;
             return Ok(tlv);
         }
@@ -391,11 +393,12 @@ impl<'a> Parser<'a> {
     /// What [`Self::read_tlv`] returns, for an element of any form.
     #[inline(never)]
     fn read_any_tlv(&mut self) -> Result<Tlv<'a>, ParseErrorKind>
-        ensures answers { AnswersKind (λ t. (element_of t, self.new)) result (front self.old) }
+        ensures answers { ReturnsKind (λ t. (element_of t, self.new)) result
+            (leading_element self.old) }
         ensures rest { EndsWith self.old self.new }
         ensures unmoved { OnErr result (self.new ≡ self.old) }
     {
-        let (tlv, rest) = tlv_in(self.data)?;
+        let (tlv, rest) = read_any_tlv(self.data)?;
         self.data = rest;
         Ok(tlv)
     }
@@ -405,8 +408,8 @@ impl<'a> Parser<'a> {
     /// An error of framing leaves the parser where it was; `UnexpectedTag` leaves it after the element.
     #[inline]
     pub(crate) fn read_expected(&mut self, tag: Tag) -> Result<&'a [u8], ParseErrorKind>
-        ensures answers { AnswersKind (λ content. (content.now, self.new)) result
-            (expected_front tag self.old) }
+        ensures answers { ReturnsKind (λ content. (content.now, self.new)) result
+            (expected_contents tag self.old) }
         ensures rest { EndsWith self.old self.new }
         ensures stops { simple_stops self.old self.new }
     {
@@ -431,9 +434,9 @@ impl<'a> Parser<'a> {
 
         // The encoding of a value is read as that value.
         ensures only { (m : T.der.Meaning) (rest : List ℕ) → T.der.lawful → T.der.valid m
-            → T.der.allowed m → Fits (T.der.text m)
-            → (T.der.text m ≡ [] → stands T.der.accepts rest ≡ false)
-            → self.old ≡ T.der.text m ++ rest
+            → T.der.allowed m → Fits (T.der.encoding m)
+            → (T.der.encoding m ≡ [] → begins_accepted T.der.accepts rest ≡ false)
+            → self.old ≡ T.der.encoding m ++ rest
             → ReturnsValue T.der (T.der.runs_out self.old) result self.new m rest }
 
         // A value that is one element is not empty, so fewer octets remain.
@@ -443,7 +446,7 @@ impl<'a> Parser<'a> {
         ensures stops { OnErr result (T.der.stops self.old self.new) }
 
         // A type that doesn't allocate is never out of memory.
-        ensures no_want { ¬ T.der.takes_memory → IfErr result IsOfText }
+        ensures no_memory_error { ¬ T.der.takes_memory → IfErr result IsOfInput }
     {
         T::parse(self)
     }
@@ -458,19 +461,19 @@ impl<'a> Parser<'a> {
 
         // The octets that were there are the element of the value's encoding and the octets that remain.
         ensures found { IfOk result (λ v. BeginsWithElement (explicit_tag_of tag)
-            (T.der.text (T.der.meaning v)) self.old self.new
+            (T.der.encoding (T.der.meaning v)) self.old self.new
             × (T.der.valid (T.der.meaning v) × T.der.allowed (T.der.meaning v))) }
 
         // Such an element is read as that value.
         ensures only { (m : T.der.Meaning) (rest : List ℕ) → T.der.lawful → T.der.valid m
-            → T.der.allowed m → length (T.der.text m) < 2 ^ 32
-            → BeginsWithElement (explicit_tag_of tag) (T.der.text m) self.old rest
+            → T.der.allowed m → length (T.der.encoding m) < 2 ^ 32
+            → BeginsWithElement (explicit_tag_of tag) (T.der.encoding m) self.old rest
             → ReturnsValue T.der (simple_out (explicit_tag_of tag) T.der.runs_out self.old) result
             self.new m rest }
         ensures progress { IfOk result (λ _. length self.new < length self.old) }
         ensures rest { EndsWith self.old self.new }
         ensures stops { OnErr result (simple_stops self.old self.new) }
-        ensures no_want { ¬ T.der.takes_memory → IfErr result IsOfText }
+        ensures no_memory_error { ¬ T.der.takes_memory → IfErr result IsOfInput }
     {
         self.are_octets();
         self.read_explicit(tag)
@@ -496,21 +499,21 @@ impl<'a> Parser<'a> {
 
         // The octets that were there are the element of the value's contents octets and the octets that remain.
         ensures found { IfOk result (λ v. BeginsWithElement
-            (implicit_tag_of tag T.der.content.tag) (T.der.content.text (T.der.meaning v))
+            (implicit_tag_of tag T.der.content.tag) (T.der.content.encoding (T.der.meaning v))
             self.old self.new × (T.der.content.valid (T.der.meaning v)
             × T.der.content.allowed (T.der.meaning v))) }
 
         // Such an element is read as that value.
         ensures only { (m : T.der.Meaning) (rest : List ℕ) → T.der.content.lawful
             → T.der.content.valid m → T.der.content.allowed m
-            → length (T.der.content.text m) < 2 ^ 32
-            → BeginsWithElement (implicit_tag_of tag T.der.content.tag) (T.der.content.text m)
+            → length (T.der.content.encoding m) < 2 ^ 32
+            → BeginsWithElement (implicit_tag_of tag T.der.content.tag) (T.der.content.encoding m)
             self.old rest → ReturnsValue T.der (simple_out (implicit_tag_of tag
             T.der.content.tag) T.der.content.runs_out self.old) result self.new m rest }
         ensures progress { IfOk result (λ _. length self.new < length self.old) }
         ensures rest { EndsWith self.old self.new }
         ensures stops { OnErr result (simple_stops self.old self.new) }
-        ensures no_want { ¬ T.der.takes_memory → IfErr result IsOfText }
+        ensures no_memory_error { ¬ T.der.takes_memory → IfErr result IsOfInput }
     {
         self.are_octets();
         self.read_implicit(tag)
@@ -557,7 +560,7 @@ pub(crate) fn number_in(octets: &[u8]) -> usize
 /// The length at the start of the octets, and the remaining octets.
 #[inline(always)]
 fn read_length(octets: &[u8]) -> Result<(usize, &[u8]), ParseErrorKind>
-    ensures { AnswersKind (λ x. (x.0, x.1.now)) result (length_front octets.now) }
+    ensures { ReturnsKind (λ x. (x.0, x.1.now)) result (leading_length octets.now) }
 {
     let [first, rest @ ..] = octets else {
         return Err(ParseErrorKind::ShortData { needed: 1 });
@@ -599,32 +602,35 @@ fn read_length(octets: &[u8]) -> Result<(usize, &[u8]), ParseErrorKind>
 #[inline]
 pub fn strip_tlv(data: &[u8]) -> ParseResult<(Tlv<'_>, &[u8])>
     // The result is the one that the definitions allow.
-    ensures grammar { IsFront «data».now (stripped result) }
-    ensures only { (answer : Result (Element × List ℕ) ParseErrorKind) → IsFront «data».now answer
+    ensures grammar { IsLeadingElement «data».now (stripped result) }
+    ensures only { (answer : Result (Element × List ℕ) ParseErrorKind) → IsLeadingElement «data».now
+        answer
         → stripped result ≡ answer }
 
     // The full data is the element's encoding, and an error has no location.
-    ensures full_data { IfOk result (λ x. full_octets x.0 ≡ element_text (element_of x.0)) }
+    ensures full_data { IfOk result (λ x. full_octets x.0 ≡ element_encoding (element_of x.0)) }
     ensures no_place { IfErr result (λ e. e.places ≡ []) }
 
     // The result stays the same for every longer input, unless octets are missing.
-    ensures stands { (more : List ℕ) → IsText more → ¬ IsShort (stripped result)
-        → front («data».now ++ more) ≡ with_more (stripped result) more }
-    ensures fewer { (more : List ℕ) (needed : ℕ) → IsText more
+    ensures stays { (more : List ℕ) → IsOctets more → ¬ IsShort (stripped result)
+        → leading_element («data».now ++ more) ≡ with_more (stripped result) more }
+    ensures fewer { (more : List ℕ) (needed : ℕ) → IsOctets more
         → stripped result ≡ Err (ShortData needed) → length more < needed
-        → IsShort (front («data».now ++ more)) }
-    ensures exact { AnswersError (λ x. (element_of x.0, x.1.now)) result (front «data».now) }
+        → IsShort (leading_element («data».now ++ more)) }
+    ensures exact { ReturnsPlain (λ x. (element_of x.0, x.1.now)) result
+        (leading_element «data».now) }
 {
-    kind_as_error(tlv_in(data))
+    kind_as_error(read_any_tlv(data))
 }
 
 /// The element at the start of the octets, and the remaining octets.
 #[inline(always)]
-fn tlv_in(octets: &[u8]) -> Result<(Tlv<'_>, &[u8]), ParseErrorKind>
-    ensures answer { AnswersKind (λ x. (element_of x.0, x.1.now)) result (front octets.now) }
+fn read_any_tlv(octets: &[u8]) -> Result<(Tlv<'_>, &[u8]), ParseErrorKind>
+    ensures answer { ReturnsKind (λ x. (element_of x.0, x.1.now)) result
+        (leading_element octets.now) }
     ensures parts { IfOk result (λ x. octets.now ≡ full_octets x.0 ++ x.1.now) }
 {
-    let (tag, rest) = Tag::in_front(octets)?;
+    let (tag, rest) = Tag::read(octets)?;
     let (n, rest) = read_length(rest)?;
     if rest.len() < n {
         let needed = n - rest.len();
@@ -633,10 +639,11 @@ fn tlv_in(octets: &[u8]) -> Result<(Tlv<'_>, &[u8]), ParseErrorKind>
     Ok(cut(octets, tag, n, rest))
 }
 
-/// What [`tlv_in`] returns, if the element has one identifier octet and one length octet, as most have.
+/// What [`read_any_tlv`] returns, if the element has one identifier octet and one length octet, as most have.
 #[inline(always)]
-fn short_tlv_in(octets: &[u8]) -> Option<(Tlv<'_>, &[u8])>
-    ensures answer { IfSome result (λ x. front octets.now ≡ Ok (element_of x.0, x.1.now)) }
+fn read_short_tlv(octets: &[u8]) -> Option<(Tlv<'_>, &[u8])>
+    ensures answer { IfSome result (λ x. leading_element octets.now ≡ Ok
+        (element_of x.0, x.1.now)) }
     ensures parts { IfSome result (λ x. octets.now ≡ full_octets x.0 ++ x.1.now) }
 {
     let [first, length, rest @ ..] = octets else {
@@ -654,9 +661,9 @@ fn short_tlv_in(octets: &[u8]) -> Option<(Tlv<'_>, &[u8])>
 /// The element with this tag and `n` contents octets, those at the start of `rest`; and the octets after it.
 #[inline(always)]
 fn cut<'a>(octets: &'a [u8], tag: Tag, n: usize, rest: &'a [u8]) -> (Tlv<'a>, &'a [u8])
-    requires header { front octets.now ≡ content_front tag n rest.now }
+    requires header { leading_element octets.now ≡ leading_content tag n rest.now }
     requires enough { n ≤ length rest.now }
-    ensures answer { front octets.now ≡ Ok (element_of result.0, result.1.now) }
+    ensures answer { leading_element octets.now ≡ Ok (element_of result.0, result.1.now) }
     ensures parts { octets.now ≡ full_octets result.0 ++ result.1.now }
 {
     let (data, rest) = rest.split_at(n);
@@ -690,7 +697,7 @@ pub fn parse<'a, T: Drop, E: From<ParseError> + Drop, F: FnOnce(&mut Parser<'a>)
     requires { F.IsAlwaysCallable f }
     ensures { (rest : List ℕ) × (answer : Result T E)
         × FnOnceReturnsAtMut F.FnOnce f «data».entry.now answer rest
-        × IsHandedOn E.from_gives answer rest result }
+        × PassesOn E.from_gives answer rest result }
 {
     let mut parser = Parser::new(alloc, data);
     let answer = f(&mut parser)?;
@@ -716,11 +723,11 @@ pub fn parse_single<'a, T: Asn1Readable<'a>>(alloc: Global, data: &'a [u8]) -> P
 
     // The encoding of a value is read as that value.
     ensures only { (m : T.der.Meaning) → T.der.lawful → T.der.valid m → T.der.allowed m
-        → Fits (T.der.text m) → «data».entry.now ≡ T.der.text m
-        → Answers T.der.meaning (T.der.runs_out «data».entry.now) result (Ok m) }
+        → Fits (T.der.encoding m) → «data».entry.now ≡ T.der.encoding m
+        → Returns T.der.meaning (T.der.runs_out «data».entry.now) result (Ok m) }
 
     // A type that doesn't allocate is never out of memory.
-    ensures no_want { ¬ T.der.takes_memory → IfErr result IsOfText }
+    ensures no_memory_error { ¬ T.der.takes_memory → IfErr result IsOfInput }
 {
     read_single(alloc, data)
 }

@@ -4,10 +4,10 @@
 ghost use Rattle.std.specs.Prelude.{◌≡◌, ◌+◌, ◌*◌, ◌/◌, ◌<◌, ◌≤◌, ◌++◌};
 ghost use Rattle.std.specs.Prelude.{length, SomeIff, OnOk, OnErr, IsOkUnless, true, false};
 ghost use Rattle.asn1_core.specs.declared.tag.TagClass.TheVariants.{Universal};
-ghost use Rattle.asn1_core.specs.Fault.{AnswersError, AnswersKind};
+ghost use Rattle.asn1_core.specs.ReadError.{ReturnsPlain, ReturnsKind};
 ghost use Rattle.asn1_core.specs.Tag.{tag_before, tag_class, tag_constructed, tag_number, tag_with, universal};
 ghost use Rattle.asn1_core.specs.Tag.{universal_constructed, implicit_tag_of, explicit_tag_of, class_number, class_of};
-ghost use Rattle.asn1_core.specs.Tag.{tag_of, tag_front, tag_text, first_octet, tag_eq};
+ghost use Rattle.asn1_core.specs.Tag.{tag_of, leading_tag, identifier_octets, first_octet, tag_eq};
 
 use crate::base128;
 use crate::parser::{ParseErrorKind, ParseResult, kind_as_error};
@@ -87,15 +87,15 @@ impl Tag {
     /// below 31, is 2^32 or more, or doesn't end within 19 octets. `ShortData { needed: 1 }` if the octets end before
     /// the tag does, also if there are none.
     pub fn from_bytes(octets: &[u8]) -> ParseResult<(Tag, &[u8])>
-        ensures { AnswersError (λ x. (x.0, x.1.now)) result (tag_front octets.now) }
+        ensures { ReturnsPlain (λ x. (x.0, x.1.now)) result (leading_tag octets.now) }
     {
-        kind_as_error(Tag::in_front(octets))
+        kind_as_error(Tag::read(octets))
     }
 
     /// What [`Tag::from_bytes`] returns, with the kind of the error alone.
     #[inline(always)]
-    pub(crate) fn in_front(octets: &[u8]) -> Result<(Tag, &[u8]), ParseErrorKind>
-        ensures { AnswersKind (λ x. (x.0, x.1.now)) result (tag_front octets.now) }
+    pub(crate) fn read(octets: &[u8]) -> Result<(Tag, &[u8]), ParseErrorKind>
+        ensures { ReturnsKind (λ x. (x.0, x.1.now)) result (leading_tag octets.now) }
     {
         let [first, rest @ ..] = octets else {
             return Err(ParseErrorKind::ShortData { needed: 1 });
@@ -177,7 +177,7 @@ impl Tag {
     /// Appends the identifier octets. `AllocationError` if out of memory; then nothing was appended.
     #[inline(always)]
     pub(crate) fn write_to(self, dest: &mut WriteBuf) -> WriteResult<()>
-        ensures ok { OnOk result (dest.new.bytes ≡ dest.old.bytes ++ tag_text self) }
+        ensures ok { OnOk result (dest.new.bytes ≡ dest.old.bytes ++ identifier_octets self) }
         ensures err { OnErr result (dest.new ≡ dest.old) }
         ensures error { IsOkUnless result WriteError.AllocationError }
     {
@@ -192,7 +192,7 @@ impl Tag {
     #[inline(never)]
     fn write_long(self, dest: &mut WriteBuf) -> WriteResult<()>
         requires { 31 ≤ tag_number self }
-        ensures ok { OnOk result (dest.new.bytes ≡ dest.old.bytes ++ tag_text self) }
+        ensures ok { OnOk result (dest.new.bytes ≡ dest.old.bytes ++ identifier_octets self) }
         ensures err { OnErr result (dest.new ≡ dest.old) }
         ensures error { IsOkUnless result WriteError.AllocationError }
     {
@@ -206,7 +206,7 @@ impl Tag {
 
     /// How many identifier octets the tag has: 1 to 6.
     pub(crate) fn encoded_length(self) -> usize
-        ensures value { result ≡ length (tag_text self) }
+        ensures value { result ≡ length (identifier_octets self) }
         ensures most { result ≤ MAX_TAG_OCTETS }
     {
         if self.value < u32::from(LONG_FORM) {

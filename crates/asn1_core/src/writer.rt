@@ -4,10 +4,11 @@ ghost use Rattle.std.specs.Prelude.{◌≡◌, ◌+◌, ◌-◌, ◌^◌, ◌<�
 ghost use Rattle.std.specs.Prelude.{[], length, replicate, take, drop, vec_capacity, vec_len, List, ℕ, Some};
 ghost use Rattle.std.specs.Prelude.{IfOk, SomeIff, IfErr, OnOk, OnErr, IsOk, IsOkUnless};
 ghost use Rattle.asn1_core.specs.Tag.{explicit_tag_of, implicit_tag_of};
-ghost use Rattle.asn1_core.specs.Length.{length_text};
-ghost use Rattle.asn1_core.specs.Fault.{write_error_text};
-ghost use Rattle.asn1_core.specs.Writing.{AlwaysAppends, IsWriter, WriterCall, MayAnswerAfter, buffer_name, buffer_of};
-ghost use Rattle.asn1_core.specs.Writing.{octets_of, Refuses, IsElementOf, full_count};
+ghost use Rattle.asn1_core.specs.Length.{length_octets};
+ghost use Rattle.asn1_core.specs.ReadError.{write_error_text};
+ghost use Rattle.asn1_core.specs.Writing.{AlwaysAppends, IsWriter, WriterCall, ClosureMayFailAfter, buffer_name};
+ghost use Rattle.asn1_core.specs.Writing.{buffer_of};
+ghost use Rattle.asn1_core.specs.Writing.{octets_of, NamesError, IsElementOf, full_count};
 ghost use Rattle.asn1_core.specs.Der.{IsWritable, IsWritableContent};
 ghost use Rattle.asn1_core.specs.declared.writer.WriteError.TheVariants.{AllocationError};
 
@@ -67,12 +68,12 @@ const FIRST_ROOM: usize = 64;
 
 /// Length octets (X.690 8.1.3), at the end of an array.
 #[derive(Drop)]
-struct LengthText {
+struct LengthOctets {
     octets: [u8; MAX_LENGTH_OCTETS],
     start: usize,
 }
 
-impl Model for LengthText {
+impl Model for LengthOctets {
     ghost use Rattle.std.specs.Prelude.{List, ℕ, drop, length, ◌≤◌, ◌≡◌};
     ghost use Rattle.asn1_core.specs.declared.writer.TheConstants.{MAX_LENGTH_OCTETS};
 
@@ -84,17 +85,17 @@ impl Model for LengthText {
         × (length text.octets ≡ MAX_LENGTH_OCTETS) };
 }
 
-impl LengthText {
+impl LengthOctets {
     /// The length octets of `n`, the fewest (10.1).
-    fn new(n: usize) -> LengthText
-        ensures text { result ≡ length_text n }
+    fn new(n: usize) -> LengthOctets
+        ensures encoding { result ≡ length_octets n }
         ensures some { 0 < length result }
         ensures most { length result ≤ MAX_LENGTH_OCTETS }
     {
         let mut octets = [0u8; MAX_LENGTH_OCTETS];
         if n < 0x80 {
             octets[LAST_LENGTH_OCTET] = n as u8;
-            return LengthText {
+            return LengthOctets {
                 octets,
                 start: LAST_LENGTH_OCTET,
             };
@@ -109,7 +110,7 @@ impl LengthText {
         let count = MAX_LENGTH_OCTETS - start;
         start -= 1;
         octets[start] = 0x80 | count as u8;
-        LengthText { octets, start }
+        LengthOctets { octets, start }
     }
 
     /// The length octets.
@@ -122,14 +123,14 @@ impl LengthText {
 
 /// How many length octets `n` has.
 #[inline]
-fn length_octets(n: usize) -> usize
-    ensures value { result ≡ length (length_text n) }
+fn count_length_octets(n: usize) -> usize
+    ensures value { result ≡ length (length_octets n) }
     ensures most { result ≤ MAX_LENGTH_OCTETS }
 {
     if n < 0x80 {
         return 1;
     }
-    LengthText::new(n).octets().len()
+    LengthOctets::new(n).octets().len()
 }
 
 /// How many octets an element with this tag and this many contents octets has in all. `None` if that is 2^64 or more,
@@ -140,7 +141,7 @@ pub fn full_length(tag: Tag, content_length: usize) -> Option<usize>
         (full_count tag content_length) }
     ensures fits { content_length < 2 ^ 63 → full_count tag content_length < 2 ^ 64 }
 {
-    let header = tag.encoded_length() + length_octets(content_length);
+    let header = tag.encoded_length() + count_length_octets(content_length);
     content_length.checked_add(header)
 }
 
@@ -253,7 +254,7 @@ impl WriteBuf {
     /// Appends the length octets of `n`. A single one, the usual case, needs no array.
     #[inline(always)]
     fn push_length(&mut self, n: usize) -> WriteResult<()>
-        ensures ok { OnOk result (self.new.bytes ≡ self.old.bytes ++ length_text n) }
+        ensures ok { OnOk result (self.new.bytes ≡ self.old.bytes ++ length_octets n) }
         ensures err { OnErr result (self.new ≡ self.old) }
         ensures error { IsOkUnless result WriteError.AllocationError }
     {
@@ -266,11 +267,11 @@ impl WriteBuf {
     /// The same for any number of length octets.
     #[inline(never)]
     fn push_long_length(&mut self, n: usize) -> WriteResult<()>
-        ensures ok { OnOk result (self.new.bytes ≡ self.old.bytes ++ length_text n) }
+        ensures ok { OnOk result (self.new.bytes ≡ self.old.bytes ++ length_octets n) }
         ensures err { OnErr result (self.new ≡ self.old) }
         ensures error { IsOkUnless result WriteError.AllocationError }
     {
-        self.push_slice(LengthText::new(n).octets())
+        self.push_slice(LengthOctets::new(n).octets())
     }
 
     /// Replaces the octet before `start` by the length octets of everything from `start` on. A single one, the usual
@@ -280,7 +281,7 @@ impl WriteBuf {
         requires from { 0 < start }
         requires within { start ≤ length self.old.bytes }
         ensures ok { OnOk result (self.new.bytes ≡ take (start - 1) self.old.bytes
-            ++ length_text (length self.old.bytes - start) ++ drop start self.old.bytes) }
+            ++ length_octets (length self.old.bytes - start) ++ drop start self.old.bytes) }
         ensures err { OnErr result (self.new.bytes ≡ self.old.bytes) }
         ensures error { IsOkUnless result WriteError.AllocationError }
     {
@@ -298,13 +299,13 @@ impl WriteBuf {
         requires from { 0 < start }
         requires long { start + 0x7f < length self.old.bytes }
         ensures ok { OnOk result (self.new.bytes ≡ take (start - 1) self.old.bytes
-            ++ length_text (length self.old.bytes - start) ++ drop start self.old.bytes) }
+            ++ length_octets (length self.old.bytes - start) ++ drop start self.old.bytes) }
         ensures err { OnErr result (self.new.bytes ≡ self.old.bytes) }
         ensures error { IsOkUnless result WriteError.AllocationError }
     {
         let len = self.octets.len();
         let mut rest = len - start;
-        let more = length_octets(rest) - 1;
+        let more = count_length_octets(rest) - 1;
         self.octets.try_reserve(more)?;
         push_zeros(&mut self.octets, more);
         self.octets.copy_within(start..len, start + more);
@@ -392,8 +393,8 @@ pub struct Writer<'a> {
 }
 
 impl<'a> Writer<'a> {
-    ghost use Rattle.asn1_core.specs.Writing.{Refuses, IsElementOf, LeavesFront, Announces, Appended, Refused};
-    ghost use Rattle.asn1_core.specs.Buffer.{Appends, KeepsFront};
+    ghost use Rattle.asn1_core.specs.Writing.{NamesError, IsElementOf, LeavesPrefix, Announces, Appended, FailsAs};
+    ghost use Rattle.asn1_core.specs.Buffer.{Appends, KeepsPrefix};
 
     /// A writer that appends to the buffer.
     #[inline]
@@ -419,13 +420,13 @@ impl<'a> Writer<'a> {
         body: F,
     ) -> Result<(), E>
         requires callable { F.IsAlwaysCallable body }
-        requires front { LeavesFront F.FnOnce body }
+        requires front { LeavesPrefix F.FnOnce body }
         requires announced { Announces F.FnOnce body content_length }
         ensures same_buffer { buffer_name self.new ≡ buffer_name self.old }
         ensures ok { OnOk result (Appended F.FnOnce body tag (octets_of self.old)
             (octets_of self.new)) }
         ensures err { OnErr result (octets_of self.new ≡ octets_of self.old) }
-        ensures error { IfErr result (Refused F.FnOnce body E.From.from_gives) }
+        ensures error { IfErr result (FailsAs F.FnOnce body E.From.from_gives) }
     {
         let before = self.buf.len();
         match self.write_tlv_or_part(tag, content_length, body) {
@@ -445,10 +446,10 @@ impl<'a> Writer<'a> {
     pub fn write_element<T: Asn1Writable>(&mut self, val: &T) -> Result<(), T::Error>
         requires { IsWritable T.der (T.der.meaning val.now) }
         ensures same_buffer { buffer_name self.new ≡ buffer_name self.old }
-        ensures ok { OnOk result (Appends (T.der.texts (T.der.meaning val.now))
+        ensures ok { OnOk result (Appends (T.der.encodings (T.der.meaning val.now))
             (octets_of self.old) (octets_of self.new)) }
         ensures err { OnErr result (octets_of self.new ≡ octets_of self.old) }
-        ensures error { IfErr result (Refuses T.Error.from_gives (T.write_errors val.now)) }
+        ensures error { IfErr result (NamesError T.Error.from_gives (T.write_errors val.now)) }
     {
         let before = self.buf.len();
         match self.write_element_or_part(val) {
@@ -471,9 +472,9 @@ impl<'a> Writer<'a> {
         requires { IsWritable T.der (T.der.meaning val.now) }
         ensures same_buffer { buffer_name self.new ≡ buffer_name self.old }
         ensures ok { OnOk result (Appends (IsElementOf (explicit_tag_of tag)
-            (T.der.texts (T.der.meaning val.now))) (octets_of self.old) (octets_of self.new)) }
+            (T.der.encodings (T.der.meaning val.now))) (octets_of self.old) (octets_of self.new)) }
         ensures err { OnErr result (octets_of self.new ≡ octets_of self.old) }
-        ensures error { IfErr result (Refuses T.Error.from_gives (T.write_errors val.now)) }
+        ensures error { IfErr result (NamesError T.Error.from_gives (T.write_errors val.now)) }
     {
         let tag = explicit_tag(tag);
         self.write_tlv(
@@ -496,10 +497,10 @@ impl<'a> Writer<'a> {
         ensures same_buffer { buffer_name self.new ≡ buffer_name self.old }
         ensures ok { OnOk result (Appends
             (IsElementOf (implicit_tag_of tag T.der.content.tag)
-            (T.der.content.texts (T.der.meaning val.now))) (octets_of self.old)
+            (T.der.content.encodings (T.der.meaning val.now))) (octets_of self.old)
             (octets_of self.new)) }
         ensures err { OnErr result (octets_of self.new ≡ octets_of self.old) }
-        ensures error { IfErr result (Refuses T.Error.from_gives (T.write_errors val.now)) }
+        ensures error { IfErr result (NamesError T.Error.from_gives (T.write_errors val.now)) }
     {
         let tag = implicit_tag(tag, T::tag());
         self.write_tlv(tag, length_ahead(val), |dest| val.write_data(dest))
@@ -509,10 +510,10 @@ impl<'a> Writer<'a> {
     fn write_element_or_part<T: Asn1Writable>(&mut self, val: &T) -> Result<(), T::Error>
         requires { T.der.closures (T.der.meaning val.now) }
         ensures same_buffer { buffer_name self.new ≡ buffer_name self.old }
-        ensures ok { OnOk result (Appends (T.der.texts (T.der.meaning val.now))
+        ensures ok { OnOk result (Appends (T.der.encodings (T.der.meaning val.now))
             (octets_of self.old) (octets_of self.new)) }
-        ensures err { OnErr result (KeepsFront (octets_of self.old) (octets_of self.new)) }
-        ensures error { IfErr result (Refuses T.Error.from_gives (T.write_errors val.now)) }
+        ensures err { OnErr result (KeepsPrefix (octets_of self.old) (octets_of self.new)) }
+        ensures error { IfErr result (NamesError T.Error.from_gives (T.write_errors val.now)) }
     {
         if let Some(len) = val.encoded_length() {
             self.buf.reserve_additional(len)?;
@@ -529,13 +530,13 @@ impl<'a> Writer<'a> {
         body: F,
     ) -> Result<(), E>
         requires callable { F.IsAlwaysCallable body }
-        requires front { LeavesFront F.FnOnce body }
+        requires front { LeavesPrefix F.FnOnce body }
         requires announced { Announces F.FnOnce body content_length }
         ensures same_buffer { buffer_name self.new ≡ buffer_name self.old }
         ensures ok { OnOk result (Appended F.FnOnce body tag (octets_of self.old)
             (octets_of self.new)) }
-        ensures err { OnErr result (KeepsFront (octets_of self.old) (octets_of self.new)) }
-        ensures error { IfErr result (Refused F.FnOnce body E.From.from_gives) }
+        ensures err { OnErr result (KeepsPrefix (octets_of self.old) (octets_of self.new)) }
+        ensures error { IfErr result (FailsAs F.FnOnce body E.From.from_gives) }
     {
         tag.write_to(self.buf)?;
         match content_length {
@@ -575,7 +576,7 @@ pub fn write<E: From<WriteError>, F: Fn(&mut Writer<'_>) -> Result<(), E> + Drop
     // What `f` appends whenever it returns `Ok` is returned.
     ensures appends { (text : List ℕ) → AlwaysAppends F.FnOnce f text
         → IfOk result (λ v. v.items ≡ text) }
-    ensures error { IfErr result (MayAnswerAfter F.FnOnce f []) }
+    ensures error { IfErr result (ClosureMayFailAfter F.FnOnce f []) }
 {
     let mut buf = WriteBuf::with_first_room(alloc);
     let mut writer = Writer::new(&mut buf);
@@ -594,9 +595,10 @@ pub fn write<E: From<WriteError>, F: Fn(&mut Writer<'_>) -> Result<(), E> + Drop
 #[inline(always)]
 pub fn write_single<T: Asn1Writable>(alloc: Global, value: &T) -> Result<Vec<u8>, T::Error>
     requires { IsWritable T.der (T.der.meaning value.now) }
-    ensures ok { IfOk result (λ v. T.der.texts (T.der.meaning value.now) v.items) }
-    ensures text { T.der.plain → IfOk result (λ v. v.items ≡ T.der.text (T.der.meaning value.now)) }
-    ensures error { IfErr result (Refuses T.Error.from_gives (T.write_errors value.now)) }
+    ensures ok { IfOk result (λ v. T.der.encodings (T.der.meaning value.now) v.items) }
+    ensures encoding { T.der.plain → IfOk result (λ v. v.items ≡ T.der.encoding
+        (T.der.meaning value.now)) }
+    ensures error { IfErr result (NamesError T.Error.from_gives (T.write_errors value.now)) }
 {
     let mut buf = WriteBuf::with_room(alloc, value.encoded_length().unwrap_or(0))?;
     value.write(&mut Writer::new(&mut buf))?;

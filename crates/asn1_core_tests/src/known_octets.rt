@@ -8,7 +8,7 @@ use asn1_core::{ParseResult, parse_single};
 use std::alloc::Global;
 
 /// These octets are the INTEGER 5.
-#[tactic(auto, unfolding(asn1_core::specs::Element::front, asn1_core::specs::Tag::tag_front, asn1_core::specs::Length::length_front, asn1_core::specs::Integer::read_sized, asn1_core::specs::Integer::read_integer))]
+#[tactic(auto, unfolding(asn1_core::specs::Element::leading_element, asn1_core::specs::Tag::leading_tag, asn1_core::specs::Length::leading_length, asn1_core::specs::Integer::read_sized, asn1_core::specs::Integer::read_integer))]
 pub fn five(alloc: Global) -> ParseResult<u8>
     ensures { result ≡ Ok 5 }
 {
@@ -16,7 +16,7 @@ pub fn five(alloc: Global) -> ParseResult<u8>
 }
 
 /// No BOOLEAN has the contents octet 0x01.
-#[tactic(auto, unfolding(asn1_core::specs::Element::front, asn1_core::specs::Tag::tag_front, asn1_core::specs::Length::length_front))]
+#[tactic(auto, unfolding(asn1_core::specs::Element::leading_element, asn1_core::specs::Tag::leading_tag, asn1_core::specs::Length::leading_length))]
 pub fn no_boolean(alloc: Global) -> ParseResult<bool>
     ensures { IsErrAnd result (λ e. e.kind ≡ InvalidValue) }
 {

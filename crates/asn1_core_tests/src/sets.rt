@@ -222,15 +222,15 @@ struct Digit(u8);
 impl Asn1Type for Digit {
     ghost der = { simple_der (λ v. v.0) (written (record {
       tag = universal 2;
-      text = λ m. m ∷ [];
-      texts = λ m t. t ≡ m ∷ [];
+      encoding = λ m. m ∷ [];
+      encodings = λ m t. t ≡ m ∷ [];
       closures = λ m. Unit {0};
       valid = λ m. Unit {0};
       plain = Unit {0};
       lawful = ⊥;
     })) (written_laws (record {
-      one_text = λ p m t e. e;
-      has_text = λ p m v. refl;
+      one_encoding = λ p m t e. e;
+      has_encoding = λ p m v. refl;
       no_closures = λ p m. tt;
     })) };
 

@@ -1,5 +1,5 @@
 ghost use Rattle.std.specs.Prelude.{◌≡◌, ◌++◌, OnOk, OnErr};
-ghost use Rattle.asn1_core.specs.Buffer.{KeepsFront};
+ghost use Rattle.asn1_core.specs.Buffer.{KeepsPrefix};
 
 use asn1_core::tag::Tag;
 use asn1_core::writer::{WriteBuf, WriteError, WriteResult, Writer, write};
@@ -25,7 +25,7 @@ fn truth_values_are_written(rt: HostRuntime) -> Result<(), Fail> {
 /// Pushes octets: one, and then the others.
 fn push_all(dest: &mut WriteBuf, octets: &[u8]) -> WriteResult<()>
     ensures ok { OnOk result (dest.new.bytes ≡ dest.old.bytes ++ octets.now) }
-    ensures err { OnErr result (KeepsFront dest.old.bytes dest.new.bytes) }
+    ensures err { OnErr result (KeepsPrefix dest.old.bytes dest.new.bytes) }
 {
     dest.reserve_additional(octets.len())?;
     match octets {

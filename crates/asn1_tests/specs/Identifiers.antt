@@ -2,12 +2,12 @@
 use Rattle.std.proofs.Common.{◌≡◌, true, [], ◌∷◌, replicate, refl, lit<, lit≤}
 use Rattle.std.specs.Prelude.{is_some}
 use Rattle.asn1.specs.declared.ObjectIdentifier.{ObjectIdentifier}
-use Rattle.asn1.specs.Base128.{number_front}
+use Rattle.asn1.specs.Base128.{leading_number}
 use Rattle.asn1.specs.Identifier.{numbers_in}
 use Rattle.asn1.specs.LawsOf.Values.{known_form}
 
 pub are_numbers : is_some (numbers_in (42 ∷ 3 ∷ [])) ≡ true
-unfolding numbers_in number_front
+unfolding numbers_in leading_number
 are_numbers = refl
 
 -- 1.2.3

@@ -1,9 +1,9 @@
 //! What a caller can prove from the contracts alone: each function is proved with no proof by hand.
 
 ghost use Rattle.std.specs.Prelude.{◌≡◌, ◌<◌, ◌++◌, IfErr, IfOk, IsTrue, OnOk, length};
-ghost use Rattle.asn1.specs.Buffer.{KeepsFront};
+ghost use Rattle.asn1.specs.Buffer.{KeepsPrefix};
 ghost use Rattle.asn1.specs.Der.{IsWritable};
-ghost use Rattle.asn1.specs.Fault.{IsOfText};
+ghost use Rattle.asn1.specs.ReadError.{IsOfInput};
 ghost use Rattle.asn1.specs.Reading.{Fits};
 ghost use Rattle.asn1.specs.SetWriting.{IsElementWritten, KeepsElements};
 ghost use Rattle.asn1.specs.Writing.{buffer_name, octets_of};
@@ -21,14 +21,14 @@ use std::alloc::{AllocError, Global};
 
 /// The octets that were there are the value's encoding and the octets that remain.
 pub fn what_was_read<'a, T: Asn1Readable<'a>>(parser: &mut Parser<'a>) -> ParseResult<T>
-    ensures { IfOk result (λ v. parser.old ≡ T.der.text (T.der.meaning v) ++ parser.new) }
+    ensures { IfOk result (λ v. parser.old ≡ T.der.encoding (T.der.meaning v) ++ parser.new) }
 {
     parser.read_element::<T>()
 }
 
 /// The same by the trait's own call.
 pub fn what_a_type_read<'a, T: Asn1Readable<'a>>(parser: &mut Parser<'a>) -> ParseResult<T>
-    ensures { IfOk result (λ v. parser.old ≡ T.der.text (T.der.meaning v) ++ parser.new) }
+    ensures { IfOk result (λ v. parser.old ≡ T.der.encoding (T.der.meaning v) ++ parser.new) }
 {
     T::parse(parser)
 }
@@ -48,7 +48,7 @@ pub fn contents_want_no_memory<'a, T: SimpleAsn1Readable<'a>>(
     data: &'a [u8],
 ) -> ParseResult<T>
     requires { T.der.takes_memory → ⊥ }
-    ensures { IfErr result IsOfText }
+    ensures { IfErr result IsOfInput }
 {
     T::parse_data(alloc, data)
 }
@@ -58,7 +58,7 @@ pub fn implicit_tags_want_no_memory<'a, T: SimpleAsn1Readable<'a>>(
     parser: &mut Parser<'a>,
 ) -> ParseResult<T>
     requires { T.der.takes_memory → ⊥ }
-    ensures { IfErr result IsOfText }
+    ensures { IfErr result IsOfInput }
 {
     parser.read_implicit_element::<T>(3)
 }
@@ -71,7 +71,7 @@ pub fn same_octets_mean_the_same<'a, T: Asn1Readable<'a> + Asn1Writable>(
 ) -> Result<bool, T::Error>
     requires lawful { T.der.lawful }
     requires free { T.der.bounded → ⊥ }
-    requires fits { Fits (T.der.text (T.der.meaning a.now)) }
+    requires fits { Fits (T.der.encoding (T.der.meaning a.now)) }
     ensures { IfOk result (λ same. IsTrue same → T.der.meaning a.now ≡ T.der.meaning b.now) }
 {
     a.known();
@@ -86,7 +86,7 @@ pub fn same_octets_mean_the_same<'a, T: Asn1Readable<'a> + Asn1Writable>(
 pub fn short_lengths_fit<T: Asn1Writable>(value: &T) -> bool
     requires lawful { T.der.lawful }
     requires plain { T.der.plain }
-    ensures { IsTrue result → Fits (T.der.text (T.der.meaning value.now)) }
+    ensures { IsTrue result → Fits (T.der.encoding (T.der.meaning value.now)) }
 {
     value.known();
     match value.encoded_length() {
@@ -130,7 +130,7 @@ pub fn two_values(alloc: Global, a: bool, b: u8) -> WriteResult<Vec<u8>>
         alloc,
         |writer: &mut Writer<'_>| -> WriteResult<()>
             ensures same_buffer { buffer_name writer.new ≡ buffer_name writer.old }
-            ensures front { KeepsFront (octets_of writer.old) (octets_of writer.new) }
+            ensures front { KeepsPrefix (octets_of writer.old) (octets_of writer.new) }
             ensures ok { OnOk result (octets_of writer.new
                 ≡ octets_of writer.old ++ (of_bool a ++ of_number b)) }
         {

@@ -1,7 +1,7 @@
 //! Fields with a default, of several types.
 
 ghost use Rattle.std.specs.Prelude.{◌≡◌, ◌∷◌, [], negsuc, pos};
-ghost use Rattle.asn1.specs.Der.{seen};
+ghost use Rattle.asn1.specs.Der.{viewed};
 ghost use Rattle.asn1.specs.Lemmas.Equalities.{naturals_tell, number_text, seen_tells};
 ghost use Rattle.asn1.specs.IdentifierValues.{identifier_of};
 ghost use Rattle.asn1.specs.Tag.{universal};
@@ -24,7 +24,7 @@ struct Port {
 }
 
 impl Asn1Type for Port {
-    ghost der = { seen (λ port. port.number) ⟦<u16 as Asn1Type>⟧.der };
+    ghost der = { viewed (λ port. port.number) ⟦<u16 as Asn1Type>⟧.der };
 
     fn known(&self) {
         self.number.known()

@@ -1,7 +1,7 @@
 //! The worked examples of X.690 that are DER, in both directions.
 
 ghost use Rattle.std.specs.Prelude.{◌≡◌};
-ghost use Rattle.asn1.specs.Buffer.{KeepsFront};
+ghost use Rattle.asn1.specs.Buffer.{KeepsPrefix};
 ghost use Rattle.asn1.specs.Writing.{buffer_name, octets_of};
 
 use asn1::{
@@ -39,7 +39,7 @@ fn a_sequence_is_written(rt: HostRuntime) -> Result<(), Fail> {
     let name = IA5String::new("Smith").ok_or("no text")?;
     let fields = |writer: &mut Writer<'_>| -> WriteResult<()>
         ensures same_buffer { buffer_name writer.new ≡ buffer_name writer.old }
-        ensures front { KeepsFront (octets_of writer.old) (octets_of writer.new) }
+        ensures front { KeepsPrefix (octets_of writer.old) (octets_of writer.new) }
     {
         writer.write_element(&name)?;
         writer.write_element(&true)

@@ -1,7 +1,7 @@
 //! The headline of a type six deep, and of a structure that holds a set of structures.
 
 ghost use Rattle.std.specs.Prelude.{◌≡◌, ◌↔◌, ◌∷◌, [], IsOk, IfOk, map};
-ghost use Rattle.asn1.specs.Listing.{SameTexts};
+ghost use Rattle.asn1.specs.Listing.{SameEncodings};
 ghost use Rattle.asn1.specs.Reads.{HasOneEncoding, ReadsContents};
 ghost use Rattle.asn1.specs.Structures.{field_names, structure, fields2};
 ghost use Rattle.asn1.specs.Headline.{AllFit, Encodes};
@@ -41,7 +41,7 @@ fn read_six_deep<'a>(alloc: Global, data: &'a [u8]) -> ParseResult<SixDeep<'a>>
 
 /// A value of the type is written as its one encoding.
 fn write_six_deep(alloc: Global, value: &SixDeep<'_>) -> Result<Vec<u8>, WriteError>
-    ensures { IfOk result (λ octets. octets.items ≡ ⟦<SixDeep<'static> as Asn1Type>⟧.der.text
+    ensures { IfOk result (λ octets. octets.items ≡ ⟦<SixDeep<'static> as Asn1Type>⟧.der.encoding
         (⟦<SixDeep<'static> as Asn1Type>⟧.der.meaning value.now)) }
 {
     writes_the_one_encoding(alloc, value)
@@ -150,9 +150,9 @@ fn sets_of_pairs<'a>(
     requires others { AllFit ⟦<Pair as Asn1Type>⟧.der
         (map ⟦<Pair as Asn1Type>⟧.der.meaning others.now) }
     ensures { IfOk result (λ both. (both.0.items ≡ both.1.items)
-        ↔ SameTexts (map ⟦<Pair as Asn1Type>⟧.der.text
+        ↔ SameEncodings (map ⟦<Pair as Asn1Type>⟧.der.encoding
         (map ⟦<Pair as Asn1Type>⟧.der.meaning items.entry.now))
-        (map ⟦<Pair as Asn1Type>⟧.der.text
+        (map ⟦<Pair as Asn1Type>⟧.der.encoding
         (map ⟦<Pair as Asn1Type>⟧.der.meaning others.entry.now))) }
 {
     sets_tell_multisets(alloc, items, others)

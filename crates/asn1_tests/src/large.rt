@@ -1,7 +1,7 @@
 //! Large values, and options under tags of large numbers: no contract says that there is memory to write these.
 
 ghost use Rattle.std.specs.Prelude.{◌∷◌, []};
-ghost use Rattle.asn1.specs.Der.{seen};
+ghost use Rattle.asn1.specs.Der.{viewed};
 ghost use Rattle.asn1.specs.Options.{option_meaning};
 ghost use Rattle.asn1.specs.Structures.{explicit, field_names, fields2, implicit, structure};
 
@@ -112,7 +112,7 @@ fn options_under_high_tags(rt: HostRuntime) -> Result<(), Fail> {
 pub struct Untold([u8; 1100]);
 
 impl Asn1Type for Untold {
-    ghost der = { seen (λ v. v.0) ⟦<[u8; 1100] as Asn1Type>⟧.der };
+    ghost der = { viewed (λ v. v.0) ⟦<[u8; 1100] as Asn1Type>⟧.der };
 
     fn known(&self) {
         self.0.known()

@@ -1,12 +1,12 @@
 //! What a user gets from the laws: each function calls some of them, and its contract follows with no proof by hand.
 
 ghost use Rattle.std.specs.Prelude.{◌≡◌, ◌↔◌, ◌<◌, ◌^◌, List, ℕ, length, IsTrue};
-ghost use Rattle.asn1.specs.Text.{IsText};
+ghost use Rattle.asn1.specs.Base256.{IsOctets};
 ghost use Rattle.asn1.specs.Tlv.{element_of};
-ghost use Rattle.asn1.specs.Fault.{place_of};
+ghost use Rattle.asn1.specs.ReadError.{place_of};
 ghost use Rattle.asn1.specs.Reading.{Fits};
 ghost use Rattle.asn1.specs.Reads.{HasOneEncoding};
-ghost use Rattle.asn1.specs.Listing.{IsElementText, text_less};
+ghost use Rattle.asn1.specs.Listing.{IsElementEncoding, encoding_less};
 ghost use Rattle.asn1.specs.Comparisons.{ClonesAreEqual, HashesAlike, IsEqualityOf};
 ghost use Rattle.asn1.specs.Alternatives.{Disjoint};
 ghost use Rattle.asn1.specs.Sets.{set_read};
@@ -157,7 +157,7 @@ pub fn plain_fields<
     const TAG: u32,
 >()
     ensures { (v : T) (octets : List ℕ) → ⟦<Plain as FieldWritable<T>>⟧.encodings v octets
-        ↔ T.der.texts (T.der.meaning v) octets }
+        ↔ T.der.encodings (T.der.meaning v) octets }
 {
     fields_are_encoded::<T, D, E, I, TAG>();
 }
@@ -168,7 +168,7 @@ pub fn items_that_are_written<
     C: DefinedField<T> + Asn1DefinedByWritable<T>,
 >()
     ensures { (v : C) (octets : List ℕ) → ⟦<ItemOf<T> as FieldWritable<C>>⟧.encodings v octets
-        → C.both.item.texts (C.both.value.item (C.both.value.meaning v)) octets }
+        → C.both.item.encodings (C.both.value.item (C.both.value.meaning v)) octets }
 {
     items_are_encoded::<T, C>();
 }
@@ -201,7 +201,7 @@ pub fn values_behind_items_are_read<
 
 /// A row of two plain fields is written as the encoding of the one and then that of the other.
 pub fn rows_of_two_are_written<'a, A: Asn1Writable + 'a, B: Asn1Writable<Error = A::Error> + 'a>()
-    ensures { IsWrittenAs ⟦<Fields2<A, B> as Row>⟧.list.fields.texts
+    ensures { IsWrittenAs ⟦<Fields2<A, B> as Row>⟧.list.fields.encodings
         ⟦<Fields2<A, B> as Row>⟧.list.fields.closures
         (λ row. (A.der.meaning row.value.now, B.der.meaning row.rest.value.now))
         ⟦<Field<&'a A, Last<&'a B>> as RowWritable<Field<Plain, Last<Plain>>>>⟧.encodings
@@ -216,7 +216,7 @@ pub fn values_behind_items_are_written<
     T: Asn1Writable,
     C: DefinedField<T> + Asn1DefinedByWritable<T> + 'a,
 >()
-    ensures { IsWrittenAs ⟦<LastValue<C> as RowBehind<T>>⟧.behind.fields.texts
+    ensures { IsWrittenAs ⟦<LastValue<C> as RowBehind<T>>⟧.behind.fields.encodings
         ⟦<LastValue<C> as RowBehind<T>>⟧.behind.fields.closures
         (λ row. C.both.value.meaning row.value.now)
         ⟦<Last<&'a C> as RowWritable<Last<ValueOf<T>>>>⟧.encodings
@@ -242,8 +242,8 @@ pub fn values_behind_items_are_written<
 pub fn what_sets_read<T: Asn1Type>()
     requires lawful { T.der.lawful }
     requires element { T.der.is_element }
-    ensures { (c : List ℕ) (ms : List T.der.Meaning) → IsText c → length c < 2 ^ 32
-        → set_read text_less T.der.read c ≡ Ok ms → IsListingOf T.der c }
+    ensures { (c : List ℕ) (ms : List T.der.Meaning) → IsOctets c → length c < 2 ^ 32
+        → set_read encoding_less T.der.read c ≡ Ok ms → IsListingOf T.der c }
 {
     sets_read_listings::<T>();
 }
@@ -252,8 +252,8 @@ pub fn what_sets_read<T: Asn1Type>()
 pub fn encodings_are_elements<'a, T: Asn1Type + 'a>()
     requires lawful { T.der.lawful }
     requires element { T.der.is_element }
-    ensures { (m : T.der.Meaning) → T.der.valid m → Fits (T.der.text m)
-        → IsElementText (T.der.text m) }
+    ensures { (m : T.der.Meaning) → T.der.valid m → Fits (T.der.encoding m)
+        → IsElementEncoding (T.der.encoding m) }
 {
     equal_multisets::<'a, T>();
 }

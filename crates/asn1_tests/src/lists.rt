@@ -2,7 +2,7 @@
 
 ghost use Rattle.std.specs.Prelude.{◌≡◌, []};
 ghost use Rattle.asn1.specs.Tag.{universal};
-ghost use Rattle.asn1.specs.Buffer.{KeepsFront};
+ghost use Rattle.asn1.specs.Buffer.{KeepsPrefix};
 ghost use Rattle.asn1.specs.Writing.{IsWriter, buffer_name, octets_of};
 ghost use Rattle.asn1.specs.Der.{simple_der};
 ghost use Rattle.asn1.specs.SetWriting.{written};
@@ -411,15 +411,15 @@ struct Unwritable(Option<usize>);
 impl Asn1Type for Unwritable {
     ghost der = { simple_der (λ v. tt {0}) (written (record {
       tag = universal 2;
-      text = λ m. [];
-      texts = λ m t. ⊥;
+      encoding = λ m. [];
+      encodings = λ m t. ⊥;
       closures = λ m. Unit {0};
       valid = λ m. Unit {0};
       plain = ⊥;
       lawful = ⊥;
     })) (written_laws (record {
-      one_text = λ p m t e. absurd e;
-      has_text = λ p. absurd p;
+      one_encoding = λ p m t e. absurd e;
+      has_encoding = λ p. absurd p;
       no_closures = λ p m. tt;
     })) };
 
@@ -456,7 +456,7 @@ fn refused_items(rt: HostRuntime) -> Result<(), Fail> {
     // A closure that goes on after an error: what the item appended is gone.
     let goes_on = |writer: &mut Writer<'_>| -> WriteResult<()>
         ensures same_buffer { buffer_name writer.new ≡ buffer_name writer.old }
-        ensures front { KeepsFront (octets_of writer.old) (octets_of writer.new) }
+        ensures front { KeepsPrefix (octets_of writer.old) (octets_of writer.new) }
     {
         if writer.write_element(&Unwritable(None)).is_ok() {
             return Ok(());

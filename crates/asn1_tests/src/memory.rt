@@ -4,7 +4,7 @@
 //! memory if each result was right; a wrong one fails an assertion.
 
 ghost use Rattle.std.specs.Prelude.{◌≡◌};
-ghost use Rattle.asn1.specs.Buffer.{KeepsFront};
+ghost use Rattle.asn1.specs.Buffer.{KeepsPrefix};
 ghost use Rattle.asn1.specs.Writing.{buffer_name, octets_of};
 
 use crate::lists::{List, at, invalid, is_refused};
@@ -196,7 +196,7 @@ fn second_succeeds<A: Abort>(
 fn an_element_without_memory_is_left_out(rt: HostRuntime) -> Result<(), Fail> {
     let goes_on = |writer: &mut Writer<'_>| -> WriteResult<()>
         ensures same_buffer { buffer_name writer.new ≡ buffer_name writer.old }
-        ensures front { KeepsFront (octets_of writer.old) (octets_of writer.new) }
+        ensures front { KeepsPrefix (octets_of writer.old) (octets_of writer.new) }
     {
         let first = writer.write_element(&5u8);
         let second = writer.write_element(&true);

@@ -1,9 +1,9 @@
 //! Lists in one another: the locations of an error, of which the innermost eight are kept.
 
 ghost use Rattle.std.specs.Prelude.{◌≡◌};
-ghost use Rattle.asn1.specs.Der.{seen};
+ghost use Rattle.asn1.specs.Der.{viewed};
 ghost use Rattle.asn1.specs.Listing.{sequence_tag};
-ghost use Rattle.asn1.specs.Reading.{Answers};
+ghost use Rattle.asn1.specs.Reading.{Returns};
 
 use crate::lists::{List, is_refused};
 use asn1::{
@@ -19,7 +19,7 @@ type Four<'a> = List<'a, List<'a, List<'a, List<'a, bool>>>>;
 struct Inner<'a>(Four<'a>);
 
 impl<'a> Asn1Type for Inner<'a> {
-    ghost der = { seen (λ v. v.0) ⟦<Four<'a> as Asn1Type>⟧.der };
+    ghost der = { viewed (λ v. v.0) ⟦<Four<'a> as Asn1Type>⟧.der };
 
     fn known(&self) {
         self.0.known()
@@ -36,7 +36,7 @@ impl<'a> SimpleAsn1Readable<'a> for Inner<'a> {
     }
 
     fn parse_data(alloc: Global, data: &'a [u8]) -> ParseResult<Inner<'a>>
-        ensures { Answers (λ v. ⟦<Four<'a> as Asn1Type>⟧.der.meaning v.0)
+        ensures { Returns (λ v. ⟦<Four<'a> as Asn1Type>⟧.der.meaning v.0)
             (⟦<Four<'a> as Asn1Type>⟧.der.content.runs_out «data».entry.now) result
             (⟦<Four<'a> as Asn1Type>⟧.der.content.read «data».entry.now) }
     {

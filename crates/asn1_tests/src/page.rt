@@ -1,7 +1,7 @@
 //! The example of the crate's page.
 
 ghost use Rattle.std.specs.Prelude.{◌≡◌, ◌++◌, true, false, OnOk, OnErr};
-ghost use Rattle.asn1.specs.Buffer.{KeepsFront};
+ghost use Rattle.asn1.specs.Buffer.{KeepsPrefix};
 ghost use Rattle.asn1.specs.Writing.{buffer_name, octets_of};
 ghost use Rattle.asn1.specs.Example.{bool_text};
 
@@ -37,7 +37,7 @@ fn several_values(rt: HostRuntime) -> Result<(), Fail> {
             ensures same_buffer { buffer_name writer.new ≡ buffer_name writer.old }
             ensures ok { OnOk result (octets_of writer.new
                 ≡ octets_of writer.old ++ (bool_text true ++ bool_text false)) }
-            ensures err { OnErr result (KeepsFront (octets_of writer.old) (octets_of writer.new)) }
+            ensures err { OnErr result (KeepsPrefix (octets_of writer.old) (octets_of writer.new)) }
         {
             writer.write_element(&true)?;
             writer.write_element(&false)

@@ -1,7 +1,7 @@
 //! Lists that were read, of items whose writes may fail: each item is written, so that its error is the list's.
 
 ghost use Rattle.std.specs.Prelude.{◌≡◌};
-ghost use Rattle.asn1.specs.Der.{seen};
+ghost use Rattle.asn1.specs.Der.{viewed};
 ghost use Rattle.asn1_tests.specs.declared.refused_items.Refusal.TheVariants.{Memory, Seven};
 
 use crate::lists::List;
@@ -33,7 +33,7 @@ impl From<WriteError> for Refusal {
 struct NotSeven(u64);
 
 impl Asn1Type for NotSeven {
-    ghost der = { seen (λ v. v.0) ⟦<u64 as Asn1Type>⟧.der };
+    ghost der = { viewed (λ v. v.0) ⟦<u64 as Asn1Type>⟧.der };
 
     fn known(&self) {
         self.0.known()

@@ -1,7 +1,7 @@
 -- Bit strings as lists of bits.
 use Rattle.std.proofs.lemmas.Bool.{and_parts, cases_Bool, lt-ltb, le-ltb, le-leb, ltb-true, ltb-false, leb-true, eqb-true, eqb-false, eq-eqb, ne_eqb}
 use Rattle.std.proofs.lemmas.List.{get_or_past}
-use Rattle.asn1_core.specs.Text.{IsText}
+use Rattle.asn1_core.specs.Base256.{IsOctets}
 use Rattle.asn1_values.specs.Bits.{Bits, is_padded, bits, has_bit, bit_at, octet_bits, all_bits, IsBitsOf, BitsAreAList, OneBitString, SetBits, FilledOctetsAreBits, EachListHasBits}
 use Rattle.std.proofs.Common.{◌≡◌, ◌∙◌, ℕ, zero, suc, ◌+◌, ◌-◌, ◌*◌, ◌/◌, ◌%◌, ◌^◌, ◌<◌, ◌≤◌, inl, inr, Bool, true, false, if◌then◌else◌, ◌&&◌, eqb, nat_eq, nat_lt, nat_le, List, [], ◌∷◌, ◌++◌, length, replicate, take, get_or, slice_index, refl, sym, ap, arith}
 use Rattle.asn1_values.specs.Lemmas.Texts.{below, below_at}
@@ -166,7 +166,7 @@ all_back : below (λ o. eqb (octet_back o) o) 256 ≡ true
 unfolding below
 all_back = refl
 
-octets_back : (octets : List ℕ) → IsText octets → octets_from (all_bits octets) ≡ octets
+octets_back : (octets : List ℕ) → IsOctets octets → octets_from (all_bits octets) ≡ octets
 unfolding octets_from
 octets_back [] is = refl
 octets_back (o ∷ octets) is =
@@ -292,7 +292,7 @@ octet_bits_of a b c d e f g h =
     all_alike_are _ _ at_h
 
 abbrev Listed : List Bool → Type 0
-Listed list = (b : Bits) × IsText b.octets × IsBitsOf list b
+Listed list = (b : Bits) × IsOctets b.octets × IsBitsOf list b
 
 one_more : (a b c d e f g h : Bool) (list : List Bool) → Listed list → Listed (a ∷ b ∷ c ∷ d ∷ e ∷ f ∷ g ∷ h ∷ list)
 one_more a b c d e f g h list rest = (

@@ -7,7 +7,7 @@ use Rattle.std.proofs.lemmas.Bool.{cases_lt, both_ways, lt-leb, le-leb, leb-true
 use Rattle.std.proofs.lemmas.Nat.{pow-add, div-mul-add, div-add-mod', mod_below}
 use Rattle.std.proofs.lemmas.List.{take_all}
 use Rattle.std.proofs.Math.Nat.{pow-suc, pow-le-pow_right, mul-le-mul_right, add-mul}
-use Rattle.asn1_core.specs.Text.{IsText, number, signed_number}
+use Rattle.asn1_core.specs.Base256.{IsOctets, number, signed_number}
 use Rattle.asn1_core.specs.Integer.{turned}
 use Rattle.asn1_core.specs.Lemmas.Lengths.{number_lt as text_lt}
 use Rattle.asn1_core.specs.Lemmas.Integers.{shortest_nine, signed_low, signed_high, turned_number}
@@ -49,7 +49,7 @@ count_more h r k p m weights e below j low high =
 sum_of : (a b p n : ℕ) → a + b ≡ n → a * p + b * p ≡ n * p
 sum_of a b p n e = sym (add-mul a b p) ∙ ap (λ (k : ℕ). k * p) e
 
-pub leading_low : (x : ℕ) (xs : List ℕ) → IsText xs → x ≡ magnitude false (x ∷ xs) / 256 ^ length xs
+pub leading_low : (x : ℕ) (xs : List ℕ) → IsOctets xs → x ≡ magnitude false (x ∷ xs) / 256 ^ length xs
 leading_low x xs is = sym (div-mul-add x (256 ^ length xs) (number xs) (text_lt xs is))
 
 leading_by : (h r m p : ℕ) → m ≡ h * p + r → r < p → h ≡ m / p
@@ -62,7 +62,7 @@ leading_zero x xs small none =
     let whole : 256 ^ suc (length xs) ≡ p * 256 = pow-suc 256 (length xs) in
     leading_by (256 - x) 0 (magnitude true (x ∷ xs)) p (omega (arith, sum, whole, none)) (pow_some (length xs))
 
-pub leading_high : (x : ℕ) (xs : List ℕ) → x < 256 → IsText xs → 0 < number xs → 255 - x ≡ magnitude true (x ∷ xs) / 256 ^ length xs
+pub leading_high : (x : ℕ) (xs : List ℕ) → x < 256 → IsOctets xs → 0 < number xs → 255 - x ≡ magnitude true (x ∷ xs) / 256 ^ length xs
 leading_high x xs small is some =
     let p : ℕ = 256 ^ length xs in
     let sum : (255 - x) * p + x * p ≡ 255 * p = sum_of (255 - x) x p 255 (omega arith) in
@@ -89,7 +89,7 @@ some_number b xs h f = ⊎_elim (λ (n : number xs < 1). absurd (both_ways b f (
 less : (t n p : ℕ) → t + n + 1 ≡ p → suc t ≡ p - n
 less t n p e = omega arith
 
-pub absolute_is : (c : List ℕ) (b : Bool) → IsText c → b ≡ int_lt (signed_number c) (pos 0) → unsigned_abs (signed_number c) ≡ magnitude b c
+pub absolute_is : (c : List ℕ) (b : Bool) → IsOctets c → b ≡ int_lt (signed_number c) (pos 0) → unsigned_abs (signed_number c) ≡ magnitude b c
 absolute_is c b is e =
     elim (cases_lt (get_or c 0 0) 128) [
       | inl h ↦
@@ -101,13 +101,13 @@ absolute_is c b is e =
     ]
 
 -- an octet that shows only the sign
-sign_apart : (b : Bool) (x : ℕ) (xs : List ℕ) → IsText (x ∷ xs) → b ≡ leb 128 x → (x ≡ 0) ⊎ (x ≡ 255) → magnitude b (x ∷ xs) ≡ magnitude b xs
+sign_apart : (b : Bool) (x : ℕ) (xs : List ℕ) → IsOctets (x ∷ xs) → b ≡ leb 128 x → (x ≡ 0) ⊎ (x ≡ 255) → magnitude b (x ∷ xs) ≡ magnitude b xs
 sign_apart true x xs is e (inl h) = absurd (omega (arith, leb-true 128 x (sym e)))
 sign_apart false x xs is e (inl h) = rw h (omega arith)
 sign_apart true x xs is e (inr h) = let whole : 256 ^ suc (length xs) ≡ 256 ^ length xs * 256 = pow-suc 256 (length xs) in rw h (omega (arith, whole))
 sign_apart false x xs is e (inr h) = absurd (omega (arith, leb-false 128 x (sym e)))
 
-pub counted : (b : Bool) (y : ℕ) (ys : List ℕ) → IsText (y ∷ ys) → ((b ≡ false) × (0 < y)) ⊎ ((b ≡ true) × (y < 255)) → 0 < magnitude b (y ∷ ys) / 256 ^ length ys
+pub counted : (b : Bool) (y : ℕ) (ys : List ℕ) → IsOctets (y ∷ ys) → ((b ≡ false) × (0 < y)) ⊎ ((b ≡ true) × (y < 255)) → 0 < magnitude b (y ∷ ys) / 256 ^ length ys
 counted true y ys is (inl h) = absurd cc
 counted false y ys is (inl h) = omega (arith, leading_low y ys is.1, h.1)
 counted false y ys is (inr h) = absurd cc
@@ -119,9 +119,9 @@ counted true y ys is (inr h) =
 
 pub whole_magnitude : (c : List ℕ) (b : Bool) → IsSigned c → b ≡ int_lt (signed_number c) (pos 0) → ¬ (get_or c 0 0 ≡ 0) → ¬ (get_or c 0 0 ≡ 255) → IsMagnitude c c b
 whole_magnitude c true is e low high =
-    record { value = absolute_is c true is.octets e; text = is.octets; counts = λ l. inr (refl, omega (arith, high, octet_at c is.octets 0)) }
+    record { value = absolute_is c true is.octets e; encoding = is.octets; counts = λ l. inr (refl, omega (arith, high, octet_at c is.octets 0)) }
 whole_magnitude c false is e low high =
-    record { value = absolute_is c false is.octets e; text = is.octets; counts = λ l. inl (refl, omega (arith, low)) }
+    record { value = absolute_is c false is.octets e; encoding = is.octets; counts = λ l. inl (refl, omega (arith, low)) }
 
 signless_counts : (x : ℕ) (xs : List ℕ) (b : Bool) → IsSigned (x ∷ xs) → b ≡ leb 128 x → (x ≡ 0) ⊎ (x ≡ 255) → 0 < length xs → ((b ≡ false) × (0 < get_or xs 0 0)) ⊎ ((b ≡ true) × (get_or xs 0 0 < 255))
 signless_counts x [] b is e way l = absurd (omega arith)
@@ -136,7 +136,7 @@ signless_magnitude (x ∷ xs) b is e way =
     let first : b ≡ leb 128 x = e ∙ sym (sign_test (x ∷ xs) is.octets) in
     record {
       value = absolute_is (x ∷ xs) b is.octets e ∙ sign_apart b x xs is.octets first way;
-      text = is.octets.1;
+      encoding = is.octets.1;
       counts = signless_counts x xs b is first way;
     }
 
@@ -147,7 +147,7 @@ counts_some c rest b h y ys e =
       | inl k ↦ inl (k.0, omega (arith, k.1, first))
       | inr k ↦ inr (k.0, omega (arith, k.1, first))
     ] in
-    counted b y ys (subst IsText e h.text) way
+    counted b y ys (subst IsOctets e h.encoding) way
 
 pub some_counted : (c rest : List ℕ) (b : Bool) → IsMagnitude c rest b → (y : ℕ) (ys : List ℕ) → rest ≡ y ∷ ys → (high j : ℕ) → high ≡ magnitude b (y ∷ ys) / 256 ^ length ys →
     2 ^ j ≤ high → high < 2 * 2 ^ j → 8 * length ys + j + 1 ≡ bit_count (signed_number c)

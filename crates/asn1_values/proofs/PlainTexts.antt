@@ -132,10 +132,10 @@ text_is : (t numbers : List ℕ) (is : IsIdentifierText t numbers) → dotted_te
 unfolding dotted_text
 text_is t numbers is = ap (λ (l : List ℕ). joined (arcs l)) (sym is.are) ∙ ap joined (arcs_are is.first is.second is.others is.high is.low)
 
-pub shown_again : (t numbers : List ℕ) → read_dotted t ≡ Some numbers → (dotted_text numbers ≡ t) ↔ IsPlainText t
-shown_again t numbers e =
+pub shown_read_back : (t numbers : List ℕ) → read_dotted t ≡ Some numbers → (dotted_text numbers ≡ t) ↔ IsPlainText t
+shown_read_back t numbers e =
     let is = text_found t numbers e in
-    let text = text_is t numbers is in (
-      (λ same. dotted_plain (is.first ∷ is.second ∷ is.others) t is.dotted (sym text ∙ same)),
-      λ plain. text ∙ dotted_shown (is.first ∷ is.second ∷ is.others) t is.dotted plain,
+    let octets = text_is t numbers is in (
+      (λ same. dotted_plain (is.first ∷ is.second ∷ is.others) t is.dotted (sym octets ∙ same)),
+      λ plain. octets ∙ dotted_shown (is.first ∷ is.second ∷ is.others) t is.dotted plain,
     )

@@ -3,7 +3,7 @@ use Rattle.std.proofs.Common.{◌≡◌, ◌↔◌, IsTrue, ℕ, List, nat_eq, s
 use Rattle.std.specs.Cmp.Lexicographic.{pointwise}
 use Rattle.std.proofs.lemmas.Bool.Decides.{Decides-like}
 use Rattle.std.proofs.lemmas.Slice.Eq.{bytes_eq-Decides}
-use Rattle.asn1_core.specs.Text.{signed_number}
+use Rattle.asn1_core.specs.Base256.{signed_number}
 use Rattle.asn1_core.specs.Integer.{integer_content}
 use Rattle.asn1_values.specs.Big.{IsSignedForm}
 use Rattle.asn1_values.specs.Lemmas.Big.{content_of_signed, signed_form}

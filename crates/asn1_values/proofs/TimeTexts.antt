@@ -1,10 +1,11 @@
--- The contents octets of times: those that the relations allow are those that the functions return, and they alone are read.
+-- The contents octets of times: those that the relations allow are those that the functions return, and they alone are
+-- read.
 use Rattle.std.proofs.Common.{◌≡◌, ℕ, List, [], ◌∷◌, ◌++◌, Option, None, Some, refl, sym, ap, ◌∙◌}
 use Rattle.asn1_values.specs.Times.{Instant, IsInstant, IsNanoseconds, IsUtcText, IsX509Text, IsFractionText, IsInstantText, fraction, fraction_text, general_text, instant_text}
 use Rattle.asn1_values.specs.TimeSteps.{read_utc, read_x509, read_instant}
 use Rattle.asn1_values.specs.TimeValues.{TimesAreRead, TimesAreWritten, utc_content, x509_content, instant_content}
-use Rattle.asn1_values.specs.Lemmas.Times.{none_rejected, utc_takes, utc_again, utc_rejected, x509_takes, x509_again, x509_rejected}
-use Rattle.asn1_values.specs.Lemmas.Fractions.{instant_takes, instant_again, instant_rejected, text_append}
+use Rattle.asn1_values.specs.Lemmas.Times.{none_rejected, utc_consumes, utc_read_back, utc_rejected, x509_consumes, x509_read_back, x509_rejected}
+use Rattle.asn1_values.specs.Lemmas.Fractions.{instant_consumes, instant_read_back, instant_rejected, text_append}
 use Rattle.asn1_values.proofs.FractionDigits.{fraction_of_digits, digits_of_fraction}
 
 -- ---- fractions
@@ -43,22 +44,22 @@ instants_written octets i =
 
 pub utc_read : TimesAreRead utc_content IsUtcText
 utc_read = record {
-  returns = λ octets m is. (λ e. let t = utc_takes octets m is e in (t.1, t.0), λ h. ap read_utc h.1 ∙ utc_again m h.0);
-  rejects = λ octets is none. none_rejected (read_utc octets) (utc_rejected octets) (λ m e. let t = utc_takes octets m is e in none m (t.1, t.0));
+  returns = λ octets m is. (λ e. let t = utc_consumes octets m is e in (t.1, t.0), λ h. ap read_utc h.1 ∙ utc_read_back m h.0);
+  rejects = λ octets is none. none_rejected (read_utc octets) (utc_rejected octets) (λ m e. let t = utc_consumes octets m is e in none m (t.1, t.0));
 }
 
 pub x509_read : TimesAreRead x509_content IsX509Text
 x509_read = record {
-  returns = λ octets m is. (λ e. let t = x509_takes octets m is e in (t.1, t.0), λ h. ap read_x509 h.1 ∙ x509_again m h.0);
-  rejects = λ octets is none. none_rejected (read_x509 octets) (x509_rejected octets) (λ m e. let t = x509_takes octets m is e in none m (t.1, t.0));
+  returns = λ octets m is. (λ e. let t = x509_consumes octets m is e in (t.1, t.0), λ h. ap read_x509 h.1 ∙ x509_read_back m h.0);
+  rejects = λ octets is none. none_rejected (read_x509 octets) (x509_rejected octets) (λ m e. let t = x509_consumes octets m is e in none m (t.1, t.0));
 }
 
 pub instants_read : TimesAreRead instant_content IsInstantText
 instants_read = record {
   returns = λ octets i is. (
-    λ e. let t = instant_takes octets i is e in (instants_written octets i).1 (t.1, t.0),
-    λ h. ap read_instant ((instants_written octets i).0 h).1 ∙ instant_again i h.0,
+    λ e. let t = instant_consumes octets i is e in (instants_written octets i).1 (t.1, t.0),
+    λ h. ap read_instant ((instants_written octets i).0 h).1 ∙ instant_read_back i h.0,
   );
   rejects = λ octets is none. none_rejected (read_instant octets) (instant_rejected octets) (λ i e.
-      let t = instant_takes octets i is e in none i ((instants_written octets i).1 (t.1, t.0)));
+      let t = instant_consumes octets i is e in none i ((instants_written octets i).1 (t.1, t.0)));
 }

@@ -5,7 +5,7 @@ use Rattle.std.proofs.lemmas.Bool.{and_left, and_right, and_from, lt-ltb, le-ltb
 use Rattle.std.proofs.Math.Seq.{drop-length}
 use Rattle.std.proofs.lemmas.List.{drop_more, length-drop}
 use Rattle.std.proofs.lemmas.Str.{utf16_chars-nil, utf16_chars_lone, utf16_chars_pair}
-use Rattle.asn1_core.specs.Text.{number}
+use Rattle.asn1_core.specs.Base256.{number}
 use Rattle.asn1_values.specs.Texts.{pairs, is_paired, is_utf16_text}
 use Rattle.std.proofs.Common.{◌≡◌, ◌∙◌, ℕ, ◌+◌, ◌-◌, ◌*◌, ◌%◌, ◌<◌, ◌≤◌, ◌⊎◌, inl, inr, Bool, true, false, not, if◌then◌else◌, nat_eq, nat_le, nat_lt, is_some, List, [], ◌∷◌, length, get_or, drop, Option, Some, None, refl, sym, ap, arith}
 

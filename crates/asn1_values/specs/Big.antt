@@ -2,9 +2,9 @@
 use Rattle.std.specs.Prelude.{ℕ, ◌<◌, ◌≡◌, true, ℤ, pos, ◌≤ℤ◌, int_lt, unsigned_abs, if◌then◌else◌, List, length, slice_index, Result, Ok, Err}
 use Rattle.std.specs.Int.Digits.{digits_of}
 use Rattle.asn1_core.specs.declared.parser.ParseErrorKind.TheVariants.{InvalidValue}
-use Rattle.asn1_core.specs.Text.{signed_number}
+use Rattle.asn1_core.specs.Base256.{signed_number}
 use Rattle.asn1_core.specs.Element.{◌>>=◌}
-use Rattle.asn1_core.specs.Fault.{Fault, fault}
+use Rattle.asn1_core.specs.ReadError.{ReadError, read_error}
 use Rattle.asn1_core.specs.Integer.{IsIntegerContent, is_minimal, read_integer}
 
 -- The octets are the contents octets of a number.
@@ -28,9 +28,9 @@ abbrev pub bit_count : ℤ → ℕ
 bit_count z = length (digits_of 2 (unsigned_abs z))
 
 -- The number, or `InvalidValue` if the number is negative.
-abbrev pub not_negative : ℤ → Result ℤ Fault
-not_negative z = if int_lt z (pos 0) then Err (fault InvalidValue) else Ok z
+abbrev pub not_negative : ℤ → Result ℤ ReadError
+not_negative z = if int_lt z (pos 0) then Err (read_error InvalidValue) else Ok z
 
 -- The number of contents octets; `InvalidValue` if it is negative, or if they are not minimal.
-unfoldable pub read_unsigned : List ℕ → Result ℤ Fault
+unfoldable pub read_unsigned : List ℕ → Result ℤ ReadError
 read_unsigned c = read_integer c >>= not_negative

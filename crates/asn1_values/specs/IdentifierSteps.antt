@@ -14,9 +14,9 @@ others_text numbers = flat_map (λ n. codes "." ++ decimal n) numbers
 -- The remaining numbers: those of the text after a dot, or none if there is no dot.
 abbrev pub left_numbers : Option (Bor (List ℕ)) → Option (List ℕ)
 left_numbers None = Some []
-left_numbers (Some text) = text_numbers text.now
+left_numbers (Some octets) = text_numbers octets.now
 
 -- The length of the remaining text, with its dot.
 abbrev pub left_size : Option (Bor (List ℕ)) → ℕ
 left_size None = 0
-left_size (Some text) = length text.now + 1
+left_size (Some octets) = length octets.now + 1

@@ -38,7 +38,7 @@ universal_octets s = s.octets.now
 abbrev pub text_content : ℕ → (List ℕ → Bool) → Content (List ℕ)
 text_content number rule = basic (record {
   tag = universal number;
-  text = λ octets. octets;
+  encoding = λ octets. octets;
   valid = IsTextOf rule;
   read = read_text rule;
 })

@@ -7,8 +7,8 @@ use Rattle.std.specs.Int.{is_in_range}
 use Rattle.std.specs.List.{list_any, list_all}
 use Rattle.std.specs.Str.{is_utf8, all_scalars}
 use Rattle.asn1_core.specs.declared.parser.ParseErrorKind.TheVariants.{InvalidValue}
-use Rattle.asn1_core.specs.Fault.{Fault, fault}
-use Rattle.asn1_core.specs.Text.{number}
+use Rattle.asn1_core.specs.ReadError.{ReadError, read_error}
+use Rattle.asn1_core.specs.Base256.{number}
 
 -- Letters, digits, space and ' ( ) + , - . / : = ? (X.680 41.4).
 abbrev pub is_printable : ℕ → Bool
@@ -57,5 +57,5 @@ abbrev pub IsTextOf : (List ℕ → Bool) → List ℕ → Type 0
 IsTextOf rule octets = rule octets ≡ true
 
 -- Contents octets that follow the rule are read unchanged.
-abbrev pub read_text : (List ℕ → Bool) → List ℕ → Result (List ℕ) Fault
-read_text rule octets = if rule octets then Ok octets else Err (fault InvalidValue)
+abbrev pub read_text : (List ℕ → Bool) → List ℕ → Result (List ℕ) ReadError
+read_text rule octets = if rule octets then Ok octets else Err (read_error InvalidValue)

@@ -1,6 +1,6 @@
 -- The octets and numbers of Rust's integers of any length and enumerated values, and the `Content` of these integers.
 use Rattle.std.specs.Prelude.{ℕ, ℤ, List, pos, ◌≤ℤ◌}
-use Rattle.asn1_core.specs.Text.{signed_number}
+use Rattle.asn1_core.specs.Base256.{signed_number}
 use Rattle.asn1_values.specs.declared.values.big.BigUint.{BigUint}
 use Rattle.asn1_values.specs.declared.values.big.BigInt.{BigInt}
 use Rattle.asn1_values.specs.declared.values.owned.OwnedBigUint.{OwnedBigUint}
@@ -47,7 +47,7 @@ owned_big_int_number n = signed_number (owned_big_int_octets n)
 abbrev pub signed_content : Content ℤ
 signed_content = basic (record {
   tag = universal 2;
-  text = integer_content;
+  encoding = integer_content;
   valid = λ z. Unit {0};
   read = read_integer;
 })
@@ -56,7 +56,7 @@ signed_content = basic (record {
 abbrev pub unsigned_content : Content ℤ
 unsigned_content = basic (record {
   tag = universal 2;
-  text = integer_content;
+  encoding = integer_content;
   valid = λ z. pos 0 ≤ℤ z;
   read = read_unsigned;
 })

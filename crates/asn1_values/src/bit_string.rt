@@ -171,7 +171,7 @@ impl SimpleAsn1Writable for BitString<'_> {
     }
 
     fn data_length(&self) -> Option<usize>
-        ensures known { GivesLength (Unit {0}) (bits_content.texts (bits_of self.now)) result }
+        ensures known { GivesLength (Unit {0}) (bits_content.encodings (bits_of self.now)) result }
         ensures exact { result ≡ Some (length (bits_text (bits_of self.now))) }
     {
         Some(1 + self.octets.len())

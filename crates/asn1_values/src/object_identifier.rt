@@ -4,8 +4,8 @@ ghost use Rattle.std.specs.Prelude.{⊤, ◌≡◌, ◌+◌, ◌<◌, ◌≤◌,
 ghost use Rattle.std.specs.Prelude.{IfSome, drop, option_map, length, true, Some, take, is_some};
 ghost use Rattle.std.specs.Prelude.{MatchOption};
 ghost use Rattle.asn1_core.specs.declared.parser.ParseErrorKind.{ParseErrorKind};
-ghost use Rattle.asn1_core.specs.Base128.{number_front, number_text};
-ghost use Rattle.asn1_core.specs.Reading.{Answers};
+ghost use Rattle.asn1_core.specs.Base128.{leading_number, number_octets};
+ghost use Rattle.asn1_core.specs.Reading.{Returns};
 ghost use Rattle.asn1_core.specs.Der.{simple_der};
 ghost use Rattle.asn1_values.specs.Identifier.{identifier_content, identifier_numbers, numbers_in, read_identifier};
 ghost use Rattle.asn1_values.specs.Identifier.{IsIdentifierForm, IsIdentifier, dotted_text, part_number, text_numbers};
@@ -25,8 +25,8 @@ const MAX_OCTETS: usize = 63;
 
 /// The number in base 128 at the start of the octets, and the remaining octets. `None` if there is no number.
 fn number_before(octets: &[u8]) -> Option<(u128, &[u8])>
-    ensures { MatchOption result ((kind : ParseErrorKind) × (number_front octets.now ≡ Err kind))
-        (λ x. number_front octets.now ≡ Ok (x.0, x.1.now)) }
+    ensures { MatchOption result ((kind : ParseErrorKind) × (leading_number octets.now ≡ Err kind))
+        (λ x. leading_number octets.now ≡ Ok (x.0, x.1.now)) }
 {
     base128::read(octets).ok()
 }
@@ -35,7 +35,7 @@ fn number_before(octets: &[u8]) -> Option<(u128, &[u8])>
 fn first_number(octets: &[u8]) -> (u128, &[u8])
     requires some { 0 < length octets.now }
     requires numbers { is_some (numbers_in octets.now) ≡ true }
-    ensures number { number_front octets.now ≡ Ok (result.0, result.1.now) }
+    ensures number { leading_number octets.now ≡ Ok (result.0, result.1.now) }
 {
     match number_before(octets) {
         Some(found) => found,
@@ -121,17 +121,17 @@ pub struct ObjectIdentifier {
 /// there is no room for the number.
 fn append_number(octets: &mut [u8; MAX_OCTETS], count: usize, number: u128) -> Option<usize>
     requires { count ≤ 63 }
-    ensures { MatchOption result (63 < count + length (number_text number))
-        (λ total. (total ≡ count + length (number_text number)) × (total ≤ 63)
-        × (octets.new ≡ take count octets.old ++ (number_text number
-        ++ drop (length (number_text number)) (drop count octets.old)))) }
+    ensures { MatchOption result (63 < count + length (number_octets number))
+        (λ total. (total ≡ count + length (number_octets number)) × (total ≤ 63)
+        × (octets.new ≡ take count octets.old ++ (number_octets number
+        ++ drop (length (number_octets number)) (drop count octets.old)))) }
 {
     let added = base128::write(number, &mut octets[count..])?;
     Some(count + added)
 }
 
 impl ObjectIdentifier {
-    ghost use Rattle.asn1_values.specs.IdentifierValues.{identifier_octets, identifier_of};
+    ghost use Rattle.asn1_values.specs.IdentifierValues.{oid_octets, identifier_of};
 
     /// The identifier with this first encoded number, and with those of the dotted form after it.
     fn with_others(first: u128, mut rest: Option<&str>) -> Option<ObjectIdentifier>
@@ -170,7 +170,7 @@ impl ObjectIdentifier {
     /// if there are none, or if they aren't numbers in base 128, each below 2^128 and in the fewest octets.
     #[inline(always)]
     pub fn from_der(octets: &[u8]) -> ParseResult<ObjectIdentifier>
-        ensures { Answers identifier_of (λ _. ⊥) result (read_identifier octets.now) }
+        ensures { Returns identifier_of (λ _. ⊥) result (read_identifier octets.now) }
     {
         if octets.len() > MAX_OCTETS {
             return Err(ParseError::new(ParseErrorKind::OidTooLong));
@@ -198,7 +198,7 @@ impl ObjectIdentifier {
 
     /// The contents octets: 1 to 63.
     pub fn as_der(&self) -> &[u8]
-        ensures octets { result.now ≡ identifier_octets self.now }
+        ensures octets { result.now ≡ oid_octets self.now }
         ensures content { result.now ≡ identifier_content (identifier_of self.now) }
         ensures value { IsIdentifier (identifier_of self.now) }
     {
@@ -208,9 +208,9 @@ impl ObjectIdentifier {
 
 /// Doesn't allocate, and never fails.
 impl Clone for ObjectIdentifier {
-    ghost use Rattle.asn1_values.specs.IdentifierValues.{identifier_octets};
+    ghost use Rattle.asn1_values.specs.IdentifierValues.{oid_octets};
 
-    ghost is_clone = { λ x y. identifier_octets y ≡ identifier_octets x };
+    ghost is_clone = { λ x y. oid_octets y ≡ oid_octets x };
 
     ghost is_infallible = { λ _. ⊤ };
 

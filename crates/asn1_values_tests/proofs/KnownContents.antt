@@ -1,16 +1,16 @@
 -- Contents octets in a test: they are numbers.
 use Rattle.std.proofs.Common.{◌≡◌, true, [], ◌∷◌, replicate, refl, arith}
 use Rattle.std.specs.Prelude.{is_some}
-use Rattle.asn1_core.specs.Base128.{number_front}
+use Rattle.asn1_core.specs.Base128.{leading_number}
 use Rattle.asn1_values.specs.Identifier.{numbers_in, IsIdentifierForm}
 use Rattle.asn1_values.specs.Lemmas.Identifier.{form_before}
 
 one_number : is_some (numbers_in (0x55 ∷ [])) ≡ true
-unfolding numbers_in number_front
+unfolding numbers_in leading_number
 one_number = refl
 
 two_numbers : is_some (numbers_in (0x81 ∷ 0x34 ∷ 0x03 ∷ [])) ≡ true
-unfolding numbers_in number_front
+unfolding numbers_in leading_number
 two_numbers = refl
 
 pub one_octet : IsIdentifierForm (0x55 ∷ replicate 62 0) 1

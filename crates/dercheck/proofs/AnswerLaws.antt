@@ -5,10 +5,10 @@ use Rattle.std.proofs.lemmas.Bool.{false≢true}
 use Rattle.std.proofs.lemmas.List.{append-nil}
 use Rattle.hex.specs.Hex.{decode_of, encode_lower}
 use Rattle.hex.proofs.HexLemmas.{decode_of-ok}
-use Rattle.asn1.specs.Text.{IsText}
-use Rattle.asn1.specs.Fault.{Fault}
-use Rattle.asn1.specs.Lemmas.Texts.{IsText-from_reads}
-use Rattle.asn1.specs.Lemmas.Wholes.{stands-nil, whole_is, whole_again}
+use Rattle.asn1.specs.Base256.{IsOctets}
+use Rattle.asn1.specs.ReadError.{ReadError}
+use Rattle.asn1.specs.Lemmas.Texts.{IsOctets-from_reads}
+use Rattle.asn1.specs.Lemmas.Wholes.{stands-nil, whole_is, whole_read_back}
 use Rattle.dercheck.specs.declared.words.Word.{Word}
 use Rattle.dercheck.specs.declared.words.Word.TheVariants as words
 use Rattle.dercheck.specs.Replies.{kind_text, is_ok_line, is_ok_to, answer, answer_to, answer_read, reading}
@@ -37,8 +37,8 @@ bad_lines_are_bad line none = bad line (request_of line) none refl
 answer-is : (line : List ℕ) (word : Word) (octets : List ℕ) → IsRequest line word octets → answer line ≡ answer_read octets (reading word octets)
 answer-is line word octets is = ap answer_to (request_of-is line word octets is)
 
-octets_are_text : (hex octets : List ℕ) → decode_of hex ≡ Ok octets → IsText octets
-octets_are_text hex octets e = IsText-from_reads octets (decode_of-ok hex octets e).3
+octets_are_text : (hex octets : List ℕ) → decode_of hex ≡ Ok octets → IsOctets octets
+octets_are_text hex octets e = IsOctets-from_reads octets (decode_of-ok hex octets e).3
 
 abbrev IsMeaning : Word → Type 0
 IsMeaning word = (type_of word).der.Meaning
@@ -46,25 +46,25 @@ IsMeaning word = (type_of word).der.Meaning
 reading-value : (word : Word) (octets : List ℕ) (v : IsValueText word octets) → reading word octets ≡ Ok v.value
 reading-value word octets v =
     let d = (type_of word).der in
-    whole_again d.text d.read v.value octets (d.laws.again v.value [] (lawful word) v.valid v.allowed v.fits (λ e. stands-nil d.accepts)) v.is
+    whole_read_back d.encoding d.read v.value octets (d.laws.read_back v.value [] (lawful word) v.valid v.allowed v.fits (λ e. stands-nil d.accepts)) v.is
 
-value-reading : (word : Word) (octets : List ℕ) (value : IsMeaning word) → IsText octets → reading word octets ≡ Ok value → IsValueText word octets
+value-reading : (word : Word) (octets : List ℕ) (value : IsMeaning word) → IsOctets octets → reading word octets ≡ Ok value → IsValueText word octets
 value-reading word octets value text e =
     let d = (type_of word).der in
-    let found = whole_is d.text (λ m. d.valid m × d.allowed m) d.read d.laws.takes octets value text e in
+    let found = whole_is d.encoding (λ m. d.valid m × d.allowed m) d.read d.laws.consumes octets value text e in
     record {
       value = value;
       valid = found.1.0;
       allowed = found.1.1;
       fits = found.0.one;
-      is = found.0.is ∙ append-nil (d.text value);
+      is = found.0.is ∙ append-nil (d.encoding value);
     }
 
 -- the first letters of `err` and `ok` differ
 not_ok : (kind octets : List ℕ) → codes "err " ++ kind ≡ codes "ok " ++ octets → ⊥
 not_ok kind octets e = let letters : ◌≡◌ {A = ℕ} 101 111 = ap (λ (xs : List ℕ). get_or xs 0 0) e in omega arith
 
-value-ok : (word : Word) (octets : List ℕ) (read : Result (IsMeaning word) Fault) → IsText octets → reading word octets ≡ read →
+value-ok : (word : Word) (octets : List ℕ) (read : Result (IsMeaning word) ReadError) → IsOctets octets → reading word octets ≡ read →
     answer_read octets read ≡ codes "ok " ++ encode_lower octets → IsValueText word octets
 value-ok word octets (Ok value) text same e = value-reading word octets value text same
 value-ok word octets (Err fault) text same e = absurd (not_ok (kind_text fault.kind) (encode_lower octets) e)
@@ -81,7 +81,7 @@ faults_are_err line word octets fault is e = answer-is line word octets is ∙ a
 
 -- ---- lines whose replies are `ok`
 
-read-ok : (line : List ℕ) (word : Word) (octets : List ℕ) (read : Result (IsMeaning word) Fault) → IsRequest line word octets →
+read-ok : (line : List ℕ) (word : Word) (octets : List ℕ) (read : Result (IsMeaning word) ReadError) → IsRequest line word octets →
     reading word octets ≡ read → is_ok read ≡ true → IsOkLine line
 read-ok line word octets (Ok value) is same e =
     record { word = word; octets = octets; request = is; value = value-reading word octets value (octets_are_text is.hex octets is.decoded) same }

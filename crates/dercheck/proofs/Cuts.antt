@@ -10,13 +10,13 @@ Parts = Option (List ℕ × List ℕ)
 
 -- ---- an input cut at an octet
 
-pub split_once-here : (octet next : ℕ) (text : List ℕ) → next ≡ octet → split_once octet (next ∷ text) ≡ Some ([], text)
+pub split_once-here : (octet next : ℕ) (octets : List ℕ) → next ≡ octet → split_once octet (next ∷ octets) ≡ Some ([], octets)
 unfolding split_once
-split_once-here octet next text e = rw (eq-eqb next octet e) refl
+split_once-here octet next octets e = rw (eq-eqb next octet e) refl
 
-pub split_once-later : (octet next : ℕ) (text : List ℕ) → next ≢ octet → split_once octet (next ∷ text) ≡ with_octet next (split_once octet text)
+pub split_once-later : (octet next : ℕ) (octets : List ℕ) → next ≢ octet → split_once octet (next ∷ octets) ≡ with_octet next (split_once octet octets)
 unfolding split_once
-split_once-later octet next text apart = rw (ne_eqb next octet apart) refl
+split_once-later octet next octets apart = rw (ne_eqb next octet apart) refl
 
 pub split_once-none : (octet : ℕ) → split_once octet [] ≡ None
 unfolding split_once
@@ -24,79 +24,79 @@ split_once-none octet = refl
 
 -- the index of the octet, or the length
 abbrev place : ℕ → List ℕ → ℕ
-place octet text = position_or_len (λ next. eqb next octet) text
+place octet octets = position_or_len (λ next. eqb next octet) octets
 
-place-here : (octet next : ℕ) (text : List ℕ) → next ≡ octet → place octet (next ∷ text) ≡ 0
-place-here octet next text e = rw (eq-eqb next octet e) refl
+place-here : (octet next : ℕ) (octets : List ℕ) → next ≡ octet → place octet (next ∷ octets) ≡ 0
+place-here octet next octets e = rw (eq-eqb next octet e) refl
 
-place-later : (octet next : ℕ) (text : List ℕ) → next ≢ octet → place octet (next ∷ text) ≡ suc (place octet text)
-place-later octet next text apart = rw (ne_eqb next octet apart) (omega arith)
+place-later : (octet next : ℕ) (octets : List ℕ) → next ≢ octet → place octet (next ∷ octets) ≡ suc (place octet octets)
+place-later octet next octets apart = rw (ne_eqb next octet apart) (omega arith)
 
 abbrev cut_at : ℕ → List ℕ → List ℕ × List ℕ
-cut_at at text = (take at text, drop (suc at) text)
+cut_at at octets = (take at octets, drop (suc at) octets)
 
-split_once-place : (octet : ℕ) (text : List ℕ) → place octet text < length text → split_once octet text ≡ Some (cut_at (place octet text) text)
+split_once-place : (octet : ℕ) (octets : List ℕ) → place octet octets < length octets → split_once octet octets ≡ Some (cut_at (place octet octets) octets)
 split_once-place octet [] less = absurd (omega arith)
-split_once-place octet (next ∷ text) less = ⊎_elim
-    (λ (here : next ≡ octet). split_once-here octet next text here ∙ ap (λ (at : ℕ). Some (cut_at at (next ∷ text))) (sym (place-here octet next text here)))
+split_once-place octet (next ∷ octets) less = ⊎_elim
+    (λ (here : next ≡ octet). split_once-here octet next octets here ∙ ap (λ (at : ℕ). Some (cut_at at (next ∷ octets))) (sym (place-here octet next octets here)))
     (λ (later : next ≢ octet).
-    let at : place octet (next ∷ text) ≡ suc (place octet text) = place-later octet next text later in
-    split_once-later octet next text later
-    ∙ ap (with_octet next) (split_once-place octet text (omega arith))
-    ∙ ap (λ (k : ℕ). Some (cut_at k (next ∷ text))) (sym at))
+    let at : place octet (next ∷ octets) ≡ suc (place octet octets) = place-later octet next octets later in
+    split_once-later octet next octets later
+    ∙ ap (with_octet next) (split_once-place octet octets (omega arith))
+    ∙ ap (λ (k : ℕ). Some (cut_at k (next ∷ octets))) (sym at))
     (cases_eq next octet)
 
-split_once-nowhere : (octet : ℕ) (text : List ℕ) → length text ≤ place octet text → split_once octet text ≡ None
+split_once-nowhere : (octet : ℕ) (octets : List ℕ) → length octets ≤ place octet octets → split_once octet octets ≡ None
 split_once-nowhere octet [] most = split_once-none octet
-split_once-nowhere octet (next ∷ text) most = ⊎_elim
+split_once-nowhere octet (next ∷ octets) most = ⊎_elim
     (λ (here : next ≡ octet).
-    let at : place octet (next ∷ text) ≡ 0 = place-here octet next text here in absurd (omega arith))
+    let at : place octet (next ∷ octets) ≡ 0 = place-here octet next octets here in absurd (omega arith))
     (λ (later : next ≢ octet).
-    let at : place octet (next ∷ text) ≡ suc (place octet text) = place-later octet next text later in
-    split_once-later octet next text later ∙ ap (with_octet next) (split_once-nowhere octet text (omega arith)))
+    let at : place octet (next ∷ octets) ≡ suc (place octet octets) = place-later octet next octets later in
+    split_once-later octet next octets later ∙ ap (with_octet next) (split_once-nowhere octet octets (omega arith)))
     (cases_eq next octet)
 
 abbrev found_at : ℕ → List ℕ → Option ℕ
-found_at octet text = position (λ next. eqb next octet) text
+found_at octet octets = position (λ next. eqb next octet) octets
 
 pub some_is : {A : Type 0} (x y : A) → ◌≡◌ {A = Option A} (Some x) (Some y) → x ≡ y
 some_is x y e = cc
 
 -- the input is cut at the index that `position` finds
-pub split_once-found : (octet : ℕ) (text : List ℕ) (at : ℕ) → found_at octet text ≡ Some at → split_once octet text ≡ Some (take at text, drop (at + 1) text)
-split_once-found octet text at found = ⊎_elim
-    (λ (less : place octet text < length text).
-    let same : place octet text ≡ at = some_is _ _ (rw (lt-ltb _ _ less) at found) in
-    split_once-place octet text less ∙ rw (same, add-one) refl)
-    (λ (most : length text ≤ place octet text). let no : None ≡ Some at = rw (le-ltb _ _ most) at found in absurd cc)
-    (cases_lt (place octet text) (length text))
+pub split_once-found : (octet : ℕ) (octets : List ℕ) (at : ℕ) → found_at octet octets ≡ Some at → split_once octet octets ≡ Some (take at octets, drop (at + 1) octets)
+split_once-found octet octets at found = ⊎_elim
+    (λ (less : place octet octets < length octets).
+    let same : place octet octets ≡ at = some_is _ _ (rw (lt-ltb _ _ less) at found) in
+    split_once-place octet octets less ∙ rw (same, add-one) refl)
+    (λ (most : length octets ≤ place octet octets). let no : None ≡ Some at = rw (le-ltb _ _ most) at found in absurd cc)
+    (cases_lt (place octet octets) (length octets))
 
-pub split_once-missing : (octet : ℕ) (text : List ℕ) → found_at octet text ≡ None → split_once octet text ≡ None
-split_once-missing octet text missing = ⊎_elim
-    (λ (less : place octet text < length text). let no : Some (place octet text) ≡ None = rw (lt-ltb _ _ less) at missing in absurd cc)
-    (λ (most : length text ≤ place octet text). split_once-nowhere octet text most)
-    (cases_lt (place octet text) (length text))
+pub split_once-missing : (octet : ℕ) (octets : List ℕ) → found_at octet octets ≡ None → split_once octet octets ≡ None
+split_once-missing octet octets missing = ⊎_elim
+    (λ (less : place octet octets < length octets). let no : Some (place octet octets) ≡ None = rw (lt-ltb _ _ less) at missing in absurd cc)
+    (λ (most : length octets ≤ place octet octets). split_once-nowhere octet octets most)
+    (cases_lt (place octet octets) (length octets))
 
 -- the input is its parts, with the octet between them
 abbrev IsJoined : ℕ → List ℕ → List ℕ × List ℕ → Type 0
-IsJoined octet text parts = text ≡ parts.0 ++ octet ∷ parts.1
+IsJoined octet octets parts = octets ≡ parts.0 ++ octet ∷ parts.1
 
-joined_later : (octet next : ℕ) (text : List ℕ) (parts : List ℕ × List ℕ) (rest : Parts) →
-    ((inner : List ℕ × List ℕ) → rest ≡ Some inner → IsJoined octet text inner) →
-    with_octet next rest ≡ Some parts → IsJoined octet (next ∷ text) parts
-joined_later octet next text parts None law e = let no : None ≡ Some parts = e in absurd cc
-joined_later octet next text parts (Some inner) law e =
+joined_later : (octet next : ℕ) (octets : List ℕ) (parts : List ℕ × List ℕ) (rest : Parts) →
+    ((inner : List ℕ × List ℕ) → rest ≡ Some inner → IsJoined octet octets inner) →
+    with_octet next rest ≡ Some parts → IsJoined octet (next ∷ octets) parts
+joined_later octet next octets parts None law e = let no : None ≡ Some parts = e in absurd cc
+joined_later octet next octets parts (Some inner) law e =
     let same : (next ∷ inner.0, inner.1) ≡ parts = some_is _ _ e in
     rw (← same) (ap (λ (xs : List ℕ). next ∷ xs) (law inner refl))
 
-pub split_once-is : (octet : ℕ) (text : List ℕ) (parts : List ℕ × List ℕ) → split_once octet text ≡ Some parts → IsJoined octet text parts
+pub split_once-is : (octet : ℕ) (octets : List ℕ) (parts : List ℕ × List ℕ) → split_once octet octets ≡ Some parts → IsJoined octet octets parts
 split_once-is octet [] parts e = let no : None ≡ Some parts = sym (split_once-none octet) ∙ e in absurd cc
-split_once-is octet (next ∷ text) parts e = ⊎_elim
+split_once-is octet (next ∷ octets) parts e = ⊎_elim
     (λ (here : next ≡ octet).
-    let same : ([], text) ≡ parts = some_is _ _ (sym (split_once-here octet next text here) ∙ e) in
+    let same : ([], octets) ≡ parts = some_is _ _ (sym (split_once-here octet next octets here) ∙ e) in
     rw (← same, here) refl)
     (λ (later : next ≢ octet).
-    joined_later octet next text parts (split_once octet text) (split_once-is octet text) (sym (split_once-later octet next text later) ∙ e))
+    joined_later octet next octets parts (split_once octet octets) (split_once-is octet octets) (sym (split_once-later octet next octets later) ∙ e))
     (cases_eq next octet)
 
 -- an input that is cut after a prefix without the octet
@@ -107,13 +107,13 @@ split_once-behind octet (next ∷ front) rest none =
 
 -- ---- an input cut into lines
 
-pub lines_of-feed : (text : List ℕ) → lines_of (10 ∷ text) ≡ [] ∷ lines_of text
+pub lines_of-feed : (octets : List ℕ) → lines_of (10 ∷ octets) ≡ [] ∷ lines_of octets
 unfolding lines_of
-lines_of-feed text = refl
+lines_of-feed octets = refl
 
-pub lines_of-more : (octet : ℕ) (text : List ℕ) → octet ≢ 10 → lines_of (octet ∷ text) ≡ in_first_line octet (lines_of text)
+pub lines_of-more : (octet : ℕ) (octets : List ℕ) → octet ≢ 10 → lines_of (octet ∷ octets) ≡ in_first_line octet (lines_of octets)
 unfolding lines_of
-lines_of-more octet text apart = rw (ne_eqb octet 10 apart) refl
+lines_of-more octet octets apart = rw (ne_eqb octet 10 apart) refl
 
 pub lines_of-none : lines_of [] ≡ []
 unfolding lines_of
@@ -132,25 +132,25 @@ lines_of-last octet (next ∷ line) none =
     lines_of-more octet (next ∷ line) none.0 ∙ ap (in_first_line octet) (lines_of-last next line none.1)
 
 abbrev IsFirst : List ℕ → List ℕ × List ℕ → Type 0
-IsFirst text parts = lines_of text ≡ parts.0 ∷ lines_of parts.1
+IsFirst octets parts = lines_of octets ≡ parts.0 ∷ lines_of parts.1
 
-first_later : (next : ℕ) (text : List ℕ) (parts : List ℕ × List ℕ) (rest : Parts) → next ≢ 10 →
-    ((inner : List ℕ × List ℕ) → rest ≡ Some inner → IsFirst text inner) →
-    with_octet next rest ≡ Some parts → IsFirst (next ∷ text) parts
-first_later next text parts None apart law e = let no : None ≡ Some parts = e in absurd cc
-first_later next text parts (Some inner) apart law e =
+first_later : (next : ℕ) (octets : List ℕ) (parts : List ℕ × List ℕ) (rest : Parts) → next ≢ 10 →
+    ((inner : List ℕ × List ℕ) → rest ≡ Some inner → IsFirst octets inner) →
+    with_octet next rest ≡ Some parts → IsFirst (next ∷ octets) parts
+first_later next octets parts None apart law e = let no : None ≡ Some parts = e in absurd cc
+first_later next octets parts (Some inner) apart law e =
     let same : (next ∷ inner.0, inner.1) ≡ parts = some_is _ _ e in
-    lines_of-more next text apart ∙ ap (in_first_line next) (law inner refl) ∙ rw (← same) refl
+    lines_of-more next octets apart ∙ ap (in_first_line next) (law inner refl) ∙ rw (← same) refl
 
 -- the first line is what is before the first line feed, and the other lines are those of what is after it
-pub lines_of-cut : (text : List ℕ) (parts : List ℕ × List ℕ) → split_once 10 text ≡ Some parts → lines_of text ≡ parts.0 ∷ lines_of parts.1
+pub lines_of-cut : (octets : List ℕ) (parts : List ℕ × List ℕ) → split_once 10 octets ≡ Some parts → lines_of octets ≡ parts.0 ∷ lines_of parts.1
 lines_of-cut [] parts e = let no : None ≡ Some parts = sym (split_once-none 10) ∙ e in absurd cc
-lines_of-cut (next ∷ text) parts e = ⊎_elim
+lines_of-cut (next ∷ octets) parts e = ⊎_elim
     (λ (here : next ≡ 10).
-    let same : ([], text) ≡ parts = some_is _ _ (sym (split_once-here 10 next text here) ∙ e) in
-    rw (here, ← same) (lines_of-feed text))
+    let same : ([], octets) ≡ parts = some_is _ _ (sym (split_once-here 10 next octets here) ∙ e) in
+    rw (here, ← same) (lines_of-feed octets))
     (λ (later : next ≢ 10).
-    first_later next text parts (split_once 10 text) later (lines_of-cut text) (sym (split_once-later 10 next text later) ∙ e))
+    first_later next octets parts (split_once 10 octets) later (lines_of-cut octets) (sym (split_once-later 10 next octets later) ∙ e))
     (cases_eq next 10)
 
 missing_later : (next : ℕ) (rest : Parts) → with_octet next rest ≡ None → rest ≡ None
@@ -158,20 +158,20 @@ missing_later next None e = refl
 missing_later next (Some inner) e = absurd cc
 
 -- an input that isn't cut doesn't have the octet
-pub HasNone-missing : (octet : ℕ) (text : List ℕ) → split_once octet text ≡ None → HasNone octet text
+pub HasNone-missing : (octet : ℕ) (octets : List ℕ) → split_once octet octets ≡ None → HasNone octet octets
 HasNone-missing octet [] e = tt
-HasNone-missing octet (next ∷ text) e = ⊎_elim
-    (λ (here : next ≡ octet). let no : Some ([], text) ≡ None = sym (split_once-here octet next text here) ∙ e in absurd cc)
+HasNone-missing octet (next ∷ octets) e = ⊎_elim
+    (λ (here : next ≡ octet). let no : Some ([], octets) ≡ None = sym (split_once-here octet next octets here) ∙ e in absurd cc)
     (λ (later : next ≢ octet).
-    (later, HasNone-missing octet text (missing_later next (split_once octet text) (sym (split_once-later octet next text later) ∙ e))))
+    (later, HasNone-missing octet octets (missing_later next (split_once octet octets) (sym (split_once-later octet next octets later) ∙ e))))
     (cases_eq next octet)
 
 -- an input with no line feed is one line, if it isn't empty
-pub lines_of-uncut : (text : List ℕ) → 0 < length text → split_once 10 text ≡ None → lines_of text ≡ text ∷ []
+pub lines_of-uncut : (octets : List ℕ) → 0 < length octets → split_once 10 octets ≡ None → lines_of octets ≡ octets ∷ []
 lines_of-uncut [] some e = absurd (omega arith)
 lines_of-uncut (octet ∷ line) some e = lines_of-last octet line (HasNone-missing 10 (octet ∷ line) e)
 
-pub length-cut : (text : List ℕ) (parts : List ℕ × List ℕ) → split_once 10 text ≡ Some parts → length parts.1 < length text
-length-cut text parts e =
-    let size = ap length (split_once-is 10 text parts e) in
+pub length-cut : (octets : List ℕ) (parts : List ℕ × List ℕ) → split_once 10 octets ≡ Some parts → length parts.1 < length octets
+length-cut octets parts e =
+    let size = ap length (split_once-is 10 octets parts e) in
     omega (arith, size, length-append parts.0 (10 ∷ parts.1))

@@ -5,25 +5,25 @@ use Rattle.std.proofs.lemmas.List.{length-append, take_at}
 use Rattle.asn1.specs.declared.ParseErrorKind.{ParseErrorKind}
 use Rattle.asn1.specs.declared.ParseErrorKind.TheVariants.{InvalidTag, InvalidLength, ShortData}
 use Rattle.asn1.specs.declared.Tag.{Tag}
-use Rattle.asn1.specs.Text.{IsText}
-use Rattle.asn1.specs.Tag.{tag_text, tag_number, tag_front, IsTagFront}
-use Rattle.asn1.specs.Length.{length_text, length_front, IsLengthFront}
-use Rattle.asn1.specs.Element.{Element, front}
+use Rattle.asn1.specs.Base256.{IsOctets}
+use Rattle.asn1.specs.Tag.{identifier_octets, tag_number, leading_tag, IsLeadingTag}
+use Rattle.asn1.specs.Length.{length_octets, leading_length, IsLeadingLength}
+use Rattle.asn1.specs.Element.{Element, leading_element}
 use Rattle.asn1.specs.Laws.{IsShort}
 use Rattle.asn1.specs.Lemmas.Numbers.{few_octets}
 use Rattle.asn1.specs.Lemmas.Tags.{TagFront, tag_is, short_text, long_text}
 use Rattle.asn1.specs.Lemmas.Lengths.{LengthFront, length_is, length_text_low, length_text_high}
-use Rattle.asn1.specs.Lemmas.Texts.{IsText-rest}
+use Rattle.asn1.specs.Lemmas.Texts.{IsOctets-rest}
 use Rattle.asn1.specs.Lemmas.Elements.{front_tag, front_length, front_short, front_found}
 use Rattle.dercheck.specs.Frames.{further, HoldsLength, IsSplit, Needs, IsOpen, IsWhole}
 
 -- the first length octet says how many there are
-pub further_of : (n : ℕ) (behind : List ℕ) → further (length_text n ++ behind) + 1 ≡ length (length_text n)
+pub further_of : (n : ℕ) (behind : List ℕ) → further (length_octets n ++ behind) + 1 ≡ length (length_octets n)
 further_of n behind = ⊎_elim
     (λ (l : n < 128). rw (length_text_low n l) (omega arith))
     (λ (l : 128 ≤ n). rw (length_text_high n l) (omega arith)) (cases_lt n 128)
 
-few_tag : (tag : Tag) → tag_number tag < 2 ^ 32 → length (tag_text tag) ≤ 6
+few_tag : (tag : Tag) → tag_number tag < 2 ^ 32 → length (identifier_octets tag) ≤ 6
 few_tag tag small = ⊎_elim
     (λ (l : tag_number tag < 31). rw (short_text tag (omega arith)) (omega arith))
     (λ (l : 31 ≤ tag_number tag). rw (long_text tag l) (omega (arith, few_octets (tag_number tag) small))) (cases_lt (tag_number tag) 31)
@@ -32,31 +32,31 @@ pub long_kind : (kind : ParseErrorKind) → ((x : ℕ) → kind ≡ ShortData x 
 long_kind (ShortData x) apart short = apart x refl
 long_kind _ apart short = short
 
-needs_kind : (octets : List ℕ) (needed : ℕ) (kind : ParseErrorKind) → Needs octets needed → front octets ≡ Err kind → kind ≡ ShortData needed
+needs_kind : (octets : List ℕ) (needed : ℕ) (kind : ParseErrorKind) → Needs octets needed → leading_element octets ≡ Err kind → kind ≡ ShortData needed
 needs_kind octets needed kind (inl e) f = cc
 needs_kind octets needed kind (inr (found, e, zero)) f = absurd cc
 
-needs_count : (octets : List ℕ) (needed k : ℕ) → Needs octets needed → front octets ≡ Err (ShortData k) → needed ≡ k
+needs_count : (octets : List ℕ) (needed k : ℕ) → Needs octets needed → leading_element octets ≡ Err (ShortData k) → needed ≡ k
 needs_count octets needed k needs f = let e = needs_kind octets needed (ShortData k) needs f in cc
 
-needs_none : (octets : List ℕ) (needed : ℕ) (found : Element × List ℕ) → Needs octets needed → front octets ≡ Ok found → needed ≡ 0
+needs_none : (octets : List ℕ) (needed : ℕ) (found : Element × List ℕ) → Needs octets needed → leading_element octets ≡ Ok found → needed ≡ 0
 needs_none octets needed found (inl e) f = absurd cc
 needs_none octets needed found (inr (x, e, zero)) f = zero
 
 -- the tag that octets begin with, and the octets after it
-pub tag_parts : (octets : List ℕ) (tag : Tag) (after : List ℕ) → IsText octets → tag_front octets ≡ Ok (tag, after) → (tag_number tag < 2 ^ 32) × (octets ≡ tag_text tag ++ after)
-tag_parts octets tag after is found = subst (λ (r : TagFront). IsTagFront octets r) found (tag_is octets is)
+pub tag_parts : (octets : List ℕ) (tag : Tag) (after : List ℕ) → IsOctets octets → leading_tag octets ≡ Ok (tag, after) → (tag_number tag < 2 ^ 32) × (octets ≡ identifier_octets tag ++ after)
+tag_parts octets tag after is found = subst (λ (r : TagFront). IsLeadingTag octets r) found (tag_is octets is)
 
-text_after : (octets : List ℕ) (tag : Tag) (after : List ℕ) → IsText octets → octets ≡ tag_text tag ++ after → IsText after
-text_after octets tag after is e = IsText-rest (tag_text tag) after (subst IsText e is)
+text_after : (octets : List ℕ) (tag : Tag) (after : List ℕ) → IsOctets octets → octets ≡ identifier_octets tag ++ after → IsOctets after
+text_after octets tag after is e = IsOctets-rest (identifier_octets tag) after (subst IsOctets e is)
 
 -- ---- an unfinished header
 
 open_length : (octets : List ℕ) (needed : ℕ) (tag : Tag) (after : List ℕ) (r : LengthFront) → Needs octets needed
-    → tag_front octets ≡ Ok (tag, after) → (tag_number tag < 2 ^ 32) × (octets ≡ tag_text tag ++ after) → ¬ HoldsLength after
-    → length_front after ≡ r → IsLengthFront after r → IsOpen octets needed
+    → leading_tag octets ≡ Ok (tag, after) → (tag_number tag < 2 ^ 32) × (octets ≡ identifier_octets tag ++ after) → ¬ HoldsLength after
+    → leading_length after ≡ r → IsLeadingLength after r → IsOpen octets needed
 open_length octets needed tag after (Ok (n, behind)) needs found parts none e is =
-    absurd (none (rw is.1 (omega (arith, further_of n behind, length-append (length_text n) behind))))
+    absurd (none (rw is.1 (omega (arith, further_of n behind, length-append (length_octets n) behind))))
 open_length octets needed tag after (Err InvalidLength) needs found parts none e is =
     let same = needs_kind octets needed InvalidLength needs (front_length octets tag after InvalidLength found e) in absurd cc
 open_length octets needed tag after (Err (ShortData k)) needs found parts none e (inl (nothing, one)) =
@@ -64,7 +64,7 @@ open_length octets needed tag after (Err (ShortData k)) needs found parts none e
     let same : needed ≡ k = needs_count octets needed k needs short in
     record {
       short = rw same short;
-      few = omega (arith, few_tag tag parts.0, ap length parts.1, length-append (tag_text tag) after, ap length nothing);
+      few = omega (arith, few_tag tag parts.0, ap length parts.1, length-append (identifier_octets tag) after, ap length nothing);
       some = omega arith;
     }
 open_length octets needed tag after (Err (ShortData k)) needs found parts none e (inr (some, one, few, text)) =
@@ -72,16 +72,16 @@ open_length octets needed tag after (Err (ShortData k)) needs found parts none e
     let same : needed ≡ k = needs_count octets needed k needs short in
     record {
       short = rw same short;
-      few = omega (arith, few_tag tag parts.0, ap length parts.1, length-append (tag_text tag) after, ap length text);
+      few = omega (arith, few_tag tag parts.0, ap length parts.1, length-append (identifier_octets tag) after, ap length text);
       some = omega arith;
     }
 open_length octets needed tag after (Err _) needs found parts none e is = absurd is
 
-open_tag : (octets : List ℕ) (needed : ℕ) (r : TagFront) → IsText octets → Needs octets needed
-    → ((tag : Tag) → (after : List ℕ) → tag_front octets ≡ Ok (tag, after) → ¬ HoldsLength after)
-    → tag_front octets ≡ r → IsTagFront octets r → IsOpen octets needed
+open_tag : (octets : List ℕ) (needed : ℕ) (r : TagFront) → IsOctets octets → Needs octets needed
+    → ((tag : Tag) → (after : List ℕ) → leading_tag octets ≡ Ok (tag, after) → ¬ HoldsLength after)
+    → leading_tag octets ≡ r → IsLeadingTag octets r → IsOpen octets needed
 open_tag octets needed (Ok (tag, after)) text needs none e is =
-    open_length octets needed tag after (length_front after) needs e is (none tag after e) refl (length_is after (text_after octets tag after text is.1))
+    open_length octets needed tag after (leading_length after) needs e is (none tag after e) refl (length_is after (text_after octets tag after text is.1))
 open_tag octets needed (Err InvalidTag) text needs none e is =
     let same = needs_kind octets needed InvalidTag needs (front_tag octets InvalidTag e) in absurd cc
 open_tag octets needed (Err (ShortData k)) text needs none e (inl (nothing, one)) =
@@ -95,33 +95,33 @@ open_tag octets needed (Err (ShortData k)) text needs none e (inr (after, (first
     record { short = rw same short; few = omega (arith, ap length whole); some = omega arith }
 open_tag octets needed (Err _) text needs none e is = absurd is
 
-pub header_open : (octets : List ℕ) (needed : ℕ) → IsText octets → Needs octets needed
-    → ((tag : Tag) → (after : List ℕ) → tag_front octets ≡ Ok (tag, after) → ¬ HoldsLength after) → IsOpen octets needed
-header_open octets needed text needs none = open_tag octets needed (tag_front octets) text needs none refl (tag_is octets text)
+pub header_open : (octets : List ℕ) (needed : ℕ) → IsOctets octets → Needs octets needed
+    → ((tag : Tag) → (after : List ℕ) → leading_tag octets ≡ Ok (tag, after) → ¬ HoldsLength after) → IsOpen octets needed
+header_open octets needed text needs none = open_tag octets needed (leading_tag octets) text needs none refl (tag_is octets text)
 
 -- ---- a whole header
 
 missing_of : (octets : List ℕ) (needed : ℕ) (tag : Tag) (after : List ℕ) (n : ℕ) (behind : List ℕ) → Needs octets needed
-    → tag_front octets ≡ Ok (tag, after) → length_front after ≡ Ok (n, behind) → needed ≡ n - length behind
+    → leading_tag octets ≡ Ok (tag, after) → leading_length after ≡ Ok (n, behind) → needed ≡ n - length behind
 missing_of octets needed tag after n behind needs found e = ⊎_elim
     (λ (l : length behind < n). needs_count octets needed (n - length behind) needs (front_short octets tag after n behind found e l))
     (λ (l : n ≤ length behind). omega (arith, needs_none octets needed _ needs (front_found octets tag after n behind found e l))) (cases_lt (length behind) n)
 
 whole_length : (octets : List ℕ) (needed tag_count count : ℕ) (s : IsSplit octets tag_count count) (r : LengthFront) → Needs octets needed
-    → (tag_number s.tag < 2 ^ 32) × (octets ≡ tag_text s.tag ++ s.after)
-    → length_front s.after ≡ r → IsLengthFront s.after r → IsWhole octets tag_count (needed + count) needed
+    → (tag_number s.tag < 2 ^ 32) × (octets ≡ identifier_octets s.tag ++ s.after)
+    → leading_length s.after ≡ r → IsLeadingLength s.after r → IsWhole octets tag_count (needed + count) needed
 whole_length octets needed tag_count count s (Ok (n, behind)) needs parts e is =
-    let sizes = length-append (length_text n) behind in
+    let sizes = length-append (length_octets n) behind in
     let after_count = ap length is.1 in
-    let tag_size : tag_count ≡ length (tag_text s.tag) = omega (arith, ap length parts.1, length-append (tag_text s.tag) s.after, s.tag_octets) in
-    let first : further s.after ≡ further (length_text n ++ behind) = ap further is.1 in
+    let tag_size : tag_count ≡ length (identifier_octets s.tag) = omega (arith, ap length parts.1, length-append (identifier_octets s.tag) s.after, s.tag_octets) in
+    let first : further s.after ≡ further (length_octets n ++ behind) = ap further is.1 in
     let size : count ≡ length behind = omega (arith, further_of n behind, s.content_octets, first) in
     record {
       tag = s.tag;
       n = n;
       content = behind;
-      begun = record { tag_small = parts.0; length_small = is.0; text = parts.1 ∙ ap (λ (l : List ℕ). tag_text s.tag ++ l) is.1 };
-      tag_octets = ap (take tag_count) parts.1 ∙ take_at (tag_text s.tag) s.after tag_count (sym tag_size);
+      begun = record { tag_small = parts.0; length_small = is.0; encoded = parts.1 ∙ ap (λ (l : List ℕ). identifier_octets s.tag ++ l) is.1 };
+      tag_octets = ap (take tag_count) parts.1 ∙ take_at (identifier_octets s.tag) s.after tag_count (sym tag_size);
       few = omega (arith, few_tag s.tag parts.0);
       within = omega (arith, s.tag_octets);
       missing = missing_of octets needed s.tag s.after n behind needs s.found e;
@@ -136,7 +136,7 @@ whole_length octets needed tag_count count s (Err (ShortData k)) needs parts e (
     absurd (omega (arith, s.holds, ap length text, first))
 whole_length octets needed tag_count count s (Err _) needs parts e is = absurd is
 
-pub header_whole : (octets : List ℕ) (needed tag_count count : ℕ) → IsText octets → Needs octets needed → IsSplit octets tag_count count → IsWhole octets tag_count (needed + count) needed
+pub header_whole : (octets : List ℕ) (needed tag_count count : ℕ) → IsOctets octets → Needs octets needed → IsSplit octets tag_count count → IsWhole octets tag_count (needed + count) needed
 header_whole octets needed tag_count count text needs s =
     let parts = tag_parts octets s.tag s.after text s.found in
-    whole_length octets needed tag_count count s (length_front s.after) needs parts refl (length_is s.after (text_after octets s.tag s.after text parts.1))
+    whole_length octets needed tag_count count s (leading_length s.after) needs parts refl (length_is s.after (text_after octets s.tag s.after text parts.1))

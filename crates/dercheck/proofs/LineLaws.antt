@@ -12,12 +12,12 @@ Lines = List (List ℕ)
 
 -- ---- the lines are lines
 
-behind_feed : (text : List ℕ) (lines : Lines) → AreLines text lines → AreLines (10 ∷ text) ([] ∷ lines)
-behind_feed text lines are = record {
+behind_feed : (octets : List ℕ) (lines : Lines) → AreLines octets lines → AreLines (10 ∷ octets) ([] ∷ lines)
+behind_feed octets lines are = record {
   apart = (tt, are.apart);
   whole = ⊎_elim
-      (λ (e : text ≡ ended lines). inl (ap (λ (xs : List ℕ). 10 ∷ xs) e))
-      (λ (l : LacksLast text lines). inr (record {
+      (λ (e : octets ≡ ended lines). inl (ap (λ (xs : List ℕ). 10 ∷ xs) e))
+      (λ (l : LacksLast octets lines). inr (record {
         front = [] ∷ l.front;
         last = l.last;
         are = ap (λ (ls : Lines). [] ∷ ls) l.are;
@@ -30,16 +30,16 @@ behind_feed text lines are = record {
 no_front : (front : Lines) (last : List ℕ) → [] ≡ front ++ last ∷ [] → ⊥
 no_front front last e = omega (arith, ap length e, length-append front (last ∷ []))
 
-lacks_more : (octet : ℕ) (text line : List ℕ) (lines front : Lines) (last : List ℕ) → line ∷ lines ≡ front ++ last ∷ [] → last ≢ [] →
-    text ≡ ended front ++ last → LacksLast (octet ∷ text) ((octet ∷ line) ∷ lines)
-lacks_more octet text line lines [] last are some is = record {
+lacks_more : (octet : ℕ) (octets line : List ℕ) (lines front : Lines) (last : List ℕ) → line ∷ lines ≡ front ++ last ∷ [] → last ≢ [] →
+    octets ≡ ended front ++ last → LacksLast (octet ∷ octets) ((octet ∷ line) ∷ lines)
+lacks_more octet octets line lines [] last are some is = record {
   front = [];
   last = octet ∷ last;
   are = cc;
   some = λ e. cc e;
   is = ap (λ (xs : List ℕ). octet ∷ xs) is;
 }
-lacks_more octet text line lines (first ∷ front) last are some is = record {
+lacks_more octet octets line lines (first ∷ front) last are some is = record {
   front = (octet ∷ first) ∷ front;
   last = last;
   are = cc;
@@ -47,27 +47,27 @@ lacks_more octet text line lines (first ∷ front) last are some is = record {
   is = ap (λ (xs : List ℕ). octet ∷ xs) is;
 }
 
-behind_octet : (octet : ℕ) (text : List ℕ) (lines : Lines) → octet ≢ 10 → AreLines text lines → AreLines (octet ∷ text) (in_first_line octet lines)
-behind_octet octet text [] other are = record {
+behind_octet : (octet : ℕ) (octets : List ℕ) (lines : Lines) → octet ≢ 10 → AreLines octets lines → AreLines (octet ∷ octets) (in_first_line octet lines)
+behind_octet octet octets [] other are = record {
   apart = ((other, tt), tt);
   whole = ⊎_elim
-      (λ (e : text ≡ ended []). inr (record { front = []; last = octet ∷ []; are = refl; some = λ no. cc no; is = ap (λ (xs : List ℕ). octet ∷ xs) e }))
-      (λ (l : LacksLast text []). absurd (no_front l.front l.last l.are))
+      (λ (e : octets ≡ ended []). inr (record { front = []; last = octet ∷ []; are = refl; some = λ no. cc no; is = ap (λ (xs : List ℕ). octet ∷ xs) e }))
+      (λ (l : LacksLast octets []). absurd (no_front l.front l.last l.are))
       are.whole;
 }
-behind_octet octet text (line ∷ lines) other are = record {
+behind_octet octet octets (line ∷ lines) other are = record {
   apart = ((other, are.apart.0), are.apart.1);
   whole = ⊎_elim
-      (λ (e : text ≡ ended (line ∷ lines)). inl (ap (λ (xs : List ℕ). octet ∷ xs) e))
-      (λ (l : LacksLast text (line ∷ lines)). inr (lacks_more octet text line lines l.front l.last l.are l.some l.is))
+      (λ (e : octets ≡ ended (line ∷ lines)). inl (ap (λ (xs : List ℕ). octet ∷ xs) e))
+      (λ (l : LacksLast octets (line ∷ lines)). inr (lacks_more octet octets line lines l.front l.last l.are l.some l.is))
       are.whole;
 }
 
-are_lines : (text : List ℕ) → AreLines text (lines_of text)
+are_lines : (octets : List ℕ) → AreLines octets (lines_of octets)
 are_lines [] = rw lines_of-none (record { apart = tt; whole = inl refl })
-are_lines (octet ∷ text) = ⊎_elim
-    (λ (here : octet ≡ 10). rw (here, lines_of-feed text) (behind_feed text (lines_of text) (are_lines text)))
-    (λ (later : octet ≢ 10). rw (lines_of-more octet text later) (behind_octet octet text (lines_of text) later (are_lines text)))
+are_lines (octet ∷ octets) = ⊎_elim
+    (λ (here : octet ≡ 10). rw (here, lines_of-feed octets) (behind_feed octets (lines_of octets) (are_lines octets)))
+    (λ (later : octet ≢ 10). rw (lines_of-more octet octets later) (behind_octet octet octets (lines_of octets) later (are_lines octets)))
     (cases_eq octet 10)
 
 -- ---- and no others
@@ -90,16 +90,16 @@ one_line : (line : List ℕ) → line ≢ [] → HasNone 10 line → lines_of li
 one_line [] some none = absurd (some refl)
 one_line (octet ∷ line) some none = lines_of-last octet line none
 
-lines_are : (text : List ℕ) (lines : Lines) → AreLines text lines → lines_of text ≡ lines
-lines_are text lines are = ⊎_elim
-    (λ (e : text ≡ ended lines).
+lines_are : (octets : List ℕ) (lines : Lines) → AreLines octets lines → lines_of octets ≡ lines
+lines_are octets lines are = ⊎_elim
+    (λ (e : octets ≡ ended lines).
     ap lines_of (e ∙ sym (append-nil (ended lines))) ∙ lines_of-ended lines [] are.apart
     ∙ ap (λ (ls : Lines). lines ++ ls) lines_of-none ∙ append-nil lines)
-    (λ (l : LacksLast text lines).
+    (λ (l : LacksLast octets lines).
     let parts = apart_parts l.front l.last (subst (AllByRecursion (HasNone 10)) l.are are.apart) in
     ap lines_of l.is ∙ lines_of-ended l.front l.last parts.0
     ∙ ap (λ (ls : Lines). l.front ++ ls) (one_line l.last l.some parts.1) ∙ sym l.are)
     are.whole
 
 pub lines_are_right : LinesAreRight
-lines_are_right text lines = (lines_are text lines, λ e. subst (AreLines text) e (are_lines text))
+lines_are_right octets lines = (lines_are octets lines, λ e. subst (AreLines octets) e (are_lines octets))

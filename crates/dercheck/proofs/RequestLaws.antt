@@ -33,9 +33,9 @@ find-Some {X} test (x ∷ xs) y e = ⊎_elim
     (λ (fails : test x ≡ false). find-Some test xs y (rw fails at e))
     (cases_Bool (test x))
 
-word_of-is : (text : List ℕ) (word : Word) → word_of text ≡ Some word → text ≡ word_text word
-word_of-is text word e =
-    sym ((bytes_eq-Decides (word_text word) text).0 (find-Some (λ w. bytes_eq (word_text w) text) ALL.now word e))
+word_of-is : (octets : List ℕ) (word : Word) → word_of octets ≡ Some word → octets ≡ word_text word
+word_of-is octets word e =
+    sym ((bytes_eq-Decides (word_text word) octets).0 (find-Some (λ w. bytes_eq (word_text w) octets) ALL.now word e))
 
 -- ---- requests
 

@@ -4,9 +4,9 @@ use Rattle.std.proofs.lemmas.Bool.{cases_lt}
 use Rattle.std.proofs.lemmas.List.{append-nil, length-take-le, length-drop, take-append-drop, same_from_push, take_more_set}
 use Rattle.asn1.specs.declared.ParseErrorKind.TheVariants.{ShortData}
 use Rattle.asn1.specs.declared.Tag.{Tag}
-use Rattle.asn1.specs.Tag.{tag_text}
-use Rattle.asn1.specs.Length.{length_text}
-use Rattle.asn1.specs.Element.{Element, element_text, IsReadable, front}
+use Rattle.asn1.specs.Tag.{identifier_octets}
+use Rattle.asn1.specs.Length.{length_octets}
+use Rattle.asn1.specs.Element.{Element, element_encoding, IsReadable, leading_element}
 use Rattle.asn1.specs.Lemmas.Tags.{tag_ok}
 use Rattle.asn1.specs.Lemmas.Lengths.{length_ok}
 use Rattle.asn1.specs.Lemmas.Elements.{element_ok, front_short, regroup}
@@ -14,52 +14,52 @@ use Rattle.dercheck.specs.Frames.{IsBegun}
 use Rattle.asn1.specs.Lemmas.Digits.{last_of}
 
 -- if octets are too short, one octet more leaves nothing after an element
-nothing_behind : (text : List ℕ) (octet needed : ℕ) (e : Element) (rest : List ℕ) → IsReadable e → front text ≡ Err (ShortData needed) → text ++ octet ∷ [] ≡ element_text e ++ rest → rest ≡ []
-nothing_behind text octet needed e [] readable short same = refl
-nothing_behind text octet needed e (x ∷ xs) readable short same =
+nothing_behind : (octets : List ℕ) (octet needed : ℕ) (e : Element) (rest : List ℕ) → IsReadable e → leading_element octets ≡ Err (ShortData needed) → octets ++ octet ∷ [] ≡ element_encoding e ++ rest → rest ≡ []
+nothing_behind octets octet needed e [] readable short same = refl
+nothing_behind octets octet needed e (x ∷ xs) readable short same =
     let parts = last_of x xs in
-    let joined : text ++ octet ∷ [] ≡ (element_text e ++ parts.0) ++ parts.1 ∷ [] = same ∙ ap (λ (l : List ℕ). element_text e ++ l) parts.2 ∙ sym (append_assoc (element_text e) parts.0 (parts.1 ∷ [])) in
-    let before = same_from_push text (element_text e ++ parts.0) octet parts.1 joined in
-    let found : front text ≡ Ok (e, parts.0) = ap front before.0 ∙ element_ok e parts.0 readable in
+    let joined : octets ++ octet ∷ [] ≡ (element_encoding e ++ parts.0) ++ parts.1 ∷ [] = same ∙ ap (λ (l : List ℕ). element_encoding e ++ l) parts.2 ∙ sym (append_assoc (element_encoding e) parts.0 (parts.1 ∷ [])) in
+    let before = same_from_push octets (element_encoding e ++ parts.0) octet parts.1 joined in
+    let found : leading_element octets ≡ Ok (e, parts.0) = ap leading_element before.0 ∙ element_ok e parts.0 readable in
     absurd cc
 
 abbrev pub element_with : Tag → List ℕ → Element
 element_with tag content = record { tag = tag; content = content }
 
 -- a whole header and contents octets, as an element and the octets after it
-begun_element : (text : List ℕ) (tag : Tag) (n : ℕ) (content : List ℕ) → IsBegun text tag n content → n ≤ length content
-    → IsReadable (element_with tag (take n content)) × (text ≡ element_text (element_with tag (take n content)) ++ drop n content)
-begun_element text tag n content begun all =
+begun_element : (octets : List ℕ) (tag : Tag) (n : ℕ) (content : List ℕ) → IsBegun octets tag n content → n ≤ length content
+    → IsReadable (element_with tag (take n content)) × (octets ≡ element_encoding (element_with tag (take n content)) ++ drop n content)
+begun_element octets tag n content begun all =
     let e : Element = element_with tag (take n content) in
     let size : length (take n content) ≡ n = length-take-le n content all in (
       record { tag = begun.tag_small; content = omega (arith, begun.length_small) },
-      begun.text
-          ∙ ap (λ (l : List ℕ). tag_text tag ++ (length_text n ++ l)) (sym (take-append-drop n content))
-          ∙ ap (λ (k : ℕ). tag_text tag ++ (length_text k ++ (take n content ++ drop n content))) (sym size)
+      begun.encoded
+          ∙ ap (λ (l : List ℕ). identifier_octets tag ++ (length_octets n ++ l)) (sym (take-append-drop n content))
+          ∙ ap (λ (k : ℕ). identifier_octets tag ++ (length_octets k ++ (take n content ++ drop n content))) (sym size)
           ∙ sym (regroup e (drop n content)),
     )
 
 -- if no contents octets are missing, the octets are an element
-pub begun_whole : (text : List ℕ) (tag : Tag) (n : ℕ) (content : List ℕ) → IsBegun text tag n content → n ≡ length content
-    → IsReadable (element_with tag content) × (text ≡ element_text (element_with tag content))
-begun_whole text tag n content begun all =
+pub begun_whole : (octets : List ℕ) (tag : Tag) (n : ℕ) (content : List ℕ) → IsBegun octets tag n content → n ≡ length content
+    → IsReadable (element_with tag content) × (octets ≡ element_encoding (element_with tag content))
+begun_whole octets tag n content begun all =
     let e : Element = element_with tag content in (
       record { tag = begun.tag_small; content = omega (arith, begun.length_small) },
-      begun.text
-          ∙ ap (λ (k : ℕ). tag_text tag ++ (length_text k ++ content)) all
-          ∙ ap (λ (l : List ℕ). tag_text tag ++ (length_text (length content) ++ l)) (sym (append-nil content))
+      begun.encoded
+          ∙ ap (λ (k : ℕ). identifier_octets tag ++ (length_octets k ++ content)) all
+          ∙ ap (λ (l : List ℕ). identifier_octets tag ++ (length_octets (length content) ++ l)) (sym (append-nil content))
           ∙ sym (regroup e [])
-          ∙ append-nil (element_text e),
+          ∙ append-nil (element_encoding e),
     )
 
 -- if contents octets are missing, the octets are too short
-pub begun_short : (text : List ℕ) (tag : Tag) (n : ℕ) (content : List ℕ) (needed : ℕ) → IsBegun text tag n content → length content + needed ≡ n → 0 < needed
-    → front text ≡ Err (ShortData needed)
-begun_short text tag n content needed begun missing some =
+pub begun_short : (octets : List ℕ) (tag : Tag) (n : ℕ) (content : List ℕ) (needed : ℕ) → IsBegun octets tag n content → length content + needed ≡ n → 0 < needed
+    → leading_element octets ≡ Err (ShortData needed)
+begun_short octets tag n content needed begun missing some =
     let k : n - length content ≡ needed = omega arith in
-    ap front begun.text
-    ∙ front_short (tag_text tag ++ (length_text n ++ content)) tag (length_text n ++ content) n content
-    (tag_ok tag (length_text n ++ content) begun.tag_small) (length_ok n content begun.length_small) (omega arith)
+    ap leading_element begun.encoded
+    ∙ front_short (identifier_octets tag ++ (length_octets n ++ content)) tag (length_octets n ++ content) n content
+    (tag_ok tag (length_octets n ++ content) begun.tag_small) (length_ok n content begun.length_small) (omega arith)
     ∙ ap (λ (m : ℕ). Err (ShortData m)) k
 
 -- more octets are more contents octets
@@ -67,19 +67,19 @@ pub begun_more : (text : List ℕ) (tag : Tag) (n : ℕ) (content octets : List 
 begun_more text tag n content octets begun = record {
   tag_small = begun.tag_small;
   length_small = begun.length_small;
-  text =
-      ap (λ (l : List ℕ). l ++ octets) begun.text
-      ∙ append_assoc (tag_text tag) (length_text n ++ content) octets
-      ∙ ap (λ (l : List ℕ). tag_text tag ++ l) (append_assoc (length_text n) content octets);
+  encoded =
+      ap (λ (l : List ℕ). l ++ octets) begun.encoded
+      ∙ append_assoc (identifier_octets tag) (length_octets n ++ content) octets
+      ∙ ap (λ (l : List ℕ). identifier_octets tag ++ l) (append_assoc (length_octets n) content octets);
 }
 
 -- as an octet makes the header whole, there are no more contents octets than were announced
-pub whole_within : (text : List ℕ) (octet short : ℕ) (tag : Tag) (n : ℕ) (content : List ℕ) → front text ≡ Err (ShortData short)
-    → IsBegun (text ++ octet ∷ []) tag n content → length content ≤ n
-whole_within text octet short tag n content is_short begun = ⊎_elim
+pub whole_within : (octets : List ℕ) (octet short : ℕ) (tag : Tag) (n : ℕ) (content : List ℕ) → leading_element octets ≡ Err (ShortData short)
+    → IsBegun (octets ++ octet ∷ []) tag n content → length content ≤ n
+whole_within octets octet short tag n content is_short begun = ⊎_elim
     (λ (l : n < length content).
-    let parts = begun_element (text ++ octet ∷ []) tag n content begun (omega arith) in
-    let none = nothing_behind text octet short (element_with tag (take n content)) (drop n content) parts.0 is_short parts.1 in
+    let parts = begun_element (octets ++ octet ∷ []) tag n content begun (omega arith) in
+    let none = nothing_behind octets octet short (element_with tag (take n content)) (drop n content) parts.0 is_short parts.1 in
     omega (arith, ap length none, length-drop n content))
     (λ (l : length content ≤ n). l) (cases_lt n (length content))
 

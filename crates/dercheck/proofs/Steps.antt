@@ -8,12 +8,12 @@ use Rattle.std.proofs.lemmas.List.{append-nil, length-append, length-take, take-
 use Rattle.std.proofs.lemmas.List.Concat.{flat_map-append}
 use Rattle.asn1.specs.declared.ParseErrorKind.{ParseErrorKind}
 use Rattle.asn1.specs.declared.ParseErrorKind.TheVariants.{ShortData}
-use Rattle.asn1.specs.Text.{IsText}
-use Rattle.asn1.specs.Tag.{tag_text}
-use Rattle.asn1.specs.Length.{length_text}
+use Rattle.asn1.specs.Base256.{IsOctets}
+use Rattle.asn1.specs.Tag.{identifier_octets}
+use Rattle.asn1.specs.Length.{length_octets}
 use Rattle.asn1.specs.Lemmas.Tags.{tag_has_octets}
-use Rattle.asn1.specs.Lemmas.Texts.{IsText-rest}
-use Rattle.asn1.specs.Element.{Element, element_text, front}
+use Rattle.asn1.specs.Lemmas.Texts.{IsOctets-rest}
+use Rattle.asn1.specs.Element.{Element, element_encoding, leading_element}
 use Rattle.asn1.specs.Laws.{IsShort}
 use Rattle.asn1.specs.Lemmas.Elements.{ElementFront}
 use Rattle.dercheck.specs.Streams.{AppendsInPart}
@@ -26,32 +26,32 @@ use Rattle.dercheck.proofs.Framings.{err_at, framing_short, framing_one, framing
 use Rattle.dercheck.proofs.States.{begun_short}
 
 -- what is pending is too short, by `needed`
-pub stands_short : (p : Pending) (text : List ℕ) → Stands p text → front text ≡ Err (ShortData p.needed)
-stands_short p text (inl h) = h.short
-stands_short p text (inr h) = begun_short text h.tag p.content_length h.content p.needed h.begun h.missing h.some
+pub stands_short : (p : Pending) (octets : List ℕ) → Stands p octets → leading_element octets ≡ Err (ShortData p.needed)
+stands_short p octets (inl h) = h.short
+stands_short p octets (inr h) = begun_short octets h.tag p.content_length h.content p.needed h.begun h.missing h.some
 
 short_at : (a : ElementFront) (needed : ℕ) → a ≡ Err (ShortData needed) → IsShort a
 short_at a needed e = rw e tt
 
-pub stands_unfinished : (p : Pending) (text : List ℕ) → Stands p text → IsUnfinished text
-stands_unfinished p text stands = short_at (front text) p.needed (stands_short p text stands)
+pub stands_unfinished : (p : Pending) (octets : List ℕ) → Stands p octets → IsUnfinished octets
+stands_unfinished p octets stands = short_at (leading_element octets) p.needed (stands_short p octets stands)
 
 -- ---- one step
 
-pub taken_none : (p : Pending) (text before : List ℕ) → Stands p text → Taken p (text ++ []) before before
-taken_none p text before stands = record {
+pub taken_none : (p : Pending) (octets before : List ℕ) → Stands p octets → Taken p (octets ++ []) before before
+taken_none p octets before stands = record {
   elements = [];
-  rest = text;
-  framing = rw (append-nil text) (framing_short text (stands_unfinished p text stands));
+  rest = octets;
+  framing = rw (append-nil octets) (framing_short octets (stands_unfinished p octets stands));
   stands = stands;
   made_lines = sym (append-nil before);
 }
 
 -- remaining octets with more after them, which are no element yet
-framing_more : (a b : List ℕ) (es : List Element) (p : List ℕ) → IsFraming a es p → IsErr (front (p ++ b)) → IsFraming (a ++ b) es (p ++ b)
+framing_more : (a b : List ℕ) (es : List Element) (p : List ℕ) → IsFraming a es p → IsErr (leading_element (p ++ b)) → IsFraming (a ++ b) es (p ++ b)
 framing_more a b es p framing stops = record {
   readable = framing.readable;
-  whole = ap (λ (l : List ℕ). l ++ b) framing.whole ∙ append_assoc (flat_map element_text es) p b;
+  whole = ap (λ (l : List ℕ). l ++ b) framing.whole ∙ append_assoc (flat_map element_encoding es) p b;
   stops = stops;
 }
 
@@ -62,13 +62,13 @@ goes_on p q a octets before made taken step =
     record {
       elements = taken.elements;
       rest = rest;
-      framing = framing_more a octets taken.elements taken.rest taken.framing (err_at (front rest) (ShortData q.needed) (stands_short q rest stands));
+      framing = framing_more a octets taken.elements taken.rest taken.framing (err_at (leading_element rest) (ShortData q.needed) (stands_short q rest stands));
       stands = stands;
       made_lines = taken.made_lines;
     }
 
-complete_line : (q : Pending) (text : List ℕ) (is : IsComplete q text) → line_of (take q.count q.octets) q.content_length ≡ element_line is.element
-complete_line q text is = ap (λ (l : List ℕ). line_of l q.content_length) is.kept ∙ ap (line_of (tag_text is.element.tag)) is.count
+complete_line : (q : Pending) (octets : List ℕ) (is : IsComplete q octets) → line_of (take q.count q.octets) q.content_length ≡ element_line is.element
+complete_line q octets is = ap (λ (l : List ℕ). line_of l q.content_length) is.kept ∙ ap (line_of (identifier_octets is.element.tag)) is.count
 
 -- the lines of one element more
 lines_push : (es : List Element) (e : Element) → flat_map element_line (es ++ e ∷ []) ≡ flat_map element_line es ++ element_line e
@@ -96,15 +96,15 @@ answer_fault (ShortData needed) long = absurd (long tt)
 answer_fault _ long = refl
 
 -- the line of remaining octets that hold an error
-fault_end : (text : List ℕ) (kind : ParseErrorKind) → front text ≡ Err kind → ¬ IsShort (front text) → end_line text ≡ fault_line kind
-fault_end [] kind e long = absurd (long (short_at (front []) 1 front_nothing))
+fault_end : (octets : List ℕ) (kind : ParseErrorKind) → leading_element octets ≡ Err kind → ¬ IsShort (leading_element octets) → end_line octets ≡ fault_line kind
+fault_end [] kind e long = absurd (long (short_at (leading_element []) 1 front_nothing))
 fault_end (x ∷ xs) kind e long = ap answer_line e ∙ answer_fault kind (subst (λ (a : ElementFront). ¬ IsShort a) e long)
 
 -- remaining octets that hold an error, whatever follows them
-fault_more : (text more : List ℕ) (kind : ParseErrorKind) → IsFault text kind → IsText more → ¬ IsUnfinished (text ++ more)
-fault_more text more kind fault is short = fault.long (subst (λ (a : ElementFront). IsShort a) (fault.stands more is ∙ sym fault.here) short)
+fault_more : (octets more : List ℕ) (kind : ParseErrorKind) → IsFault octets kind → IsOctets more → ¬ IsUnfinished (octets ++ more)
+fault_more octets more kind fault is short = fault.long (subst (λ (a : ElementFront). IsShort a) (fault.stands more is ∙ sym fault.here) short)
 
-pub fails : (p q : Pending) (a octets more before made made' : List ℕ) (kind : ParseErrorKind) → Taken p a before made → Advances p q (Fails kind) octets → IsText more
+pub fails : (p q : Pending) (a octets more before made made' : List ℕ) (kind : ParseErrorKind) → Taken p a before made → Advances p q (Fails kind) octets → IsOctets more
     → made' ≡ made ++ fault_line kind → TakenToFault ((a ++ octets) ++ more) before made'
 fails p q a octets more before made made' kind taken step is line =
     let rest = taken.rest ++ octets in
@@ -114,7 +114,7 @@ fails p q a octets more before made made' kind taken step is line =
       elements = taken.elements;
       rest = rest ++ more;
       framing = framing_more (a ++ octets) more taken.elements rest
-          (framing_more a octets taken.elements taken.rest taken.framing (err_at (front rest) kind fault.here)) (err_at (front (rest ++ more)) kind (fault.stands more is));
+          (framing_more a octets taken.elements taken.rest taken.framing (err_at (leading_element rest) kind fault.here)) (err_at (leading_element (rest ++ more)) kind (fault.stands more is));
       long = long;
       made_lines = line
           ∙ ap (λ (l : List ℕ). l ++ fault_line kind) taken.made_lines
@@ -124,30 +124,30 @@ fails p q a octets more before made made' kind taken step is line =
 
 -- ---- where the octets are
 
-pub around : (text all done rest : List ℕ) (n : ℕ) → done ++ rest ≡ all → ((text ++ done) ++ take n rest) ++ drop n rest ≡ text ++ all
-around text all done rest n e =
-    append_assoc (text ++ done) (take n rest) (drop n rest) ∙ ap (λ l. (text ++ done) ++ l) (take-append-drop n rest) ∙ append_assoc text done rest ∙ ap (λ l. text ++ l) e
+pub around : (octets all done rest : List ℕ) (n : ℕ) → done ++ rest ≡ all → ((octets ++ done) ++ take n rest) ++ drop n rest ≡ octets ++ all
+around octets all done rest n e =
+    append_assoc (octets ++ done) (take n rest) (drop n rest) ∙ ap (λ l. (octets ++ done) ++ l) (take-append-drop n rest) ∙ append_assoc octets done rest ∙ ap (λ l. octets ++ l) e
 
-pub text_left : (all done rest : List ℕ) (n : ℕ) → done ++ rest ≡ all → IsText all → IsText (drop n rest)
+pub text_left : (all done rest : List ℕ) (n : ℕ) → done ++ rest ≡ all → IsOctets all → IsOctets (drop n rest)
 text_left all done rest n e is =
-    IsText-rest (take n rest) (drop n rest) (subst IsText (sym (take-append-drop n rest)) (IsText-rest done rest (subst IsText (sym e) is)))
+    IsOctets-rest (take n rest) (drop n rest) (subst IsOctets (sym (take-append-drop n rest)) (IsOctets-rest done rest (subst IsOctets (sym e) is)))
 
 -- ---- the line at the end
 
-pub end_of : (text : List ℕ) (needed : ℕ) → 0 < length text → front text ≡ Err (ShortData needed) → end_line text ≡ codes "short " ++ decimal needed ++ codes "\n"
+pub end_of : (octets : List ℕ) (needed : ℕ) → 0 < length octets → leading_element octets ≡ Err (ShortData needed) → end_line octets ≡ codes "short " ++ decimal needed ++ codes "\n"
 end_of [] needed some e = absurd (omega arith)
 end_of (x ∷ xs) needed some e = ap answer_line e
 
 -- something is pending if an octet is kept, and else nothing
-pub stands_some : (p : Pending) (text : List ℕ) → Stands p text → ¬ (p.count ≡ 0) → 0 < length text
-stands_some p text (inl h) some = omega (arith, ap length h.kept, length-take p.count p.octets, p.size, p.few)
-stands_some p text (inr h) some = omega (arith, ap length h.begun.text, length-append (tag_text h.tag) (length_text p.content_length ++ h.content), tag_has_octets h.tag)
+pub stands_some : (p : Pending) (octets : List ℕ) → Stands p octets → ¬ (p.count ≡ 0) → 0 < length octets
+stands_some p octets (inl h) some = omega (arith, ap length h.kept, length-take p.count p.octets, p.size, p.few)
+stands_some p octets (inr h) some = omega (arith, ap length h.begun.encoded, length-append (identifier_octets h.tag) (length_octets p.content_length ++ h.content), tag_has_octets h.tag)
 
 -- ---- the whole stream
 
 pub framed_none : (p : Pending) (left held : Option (List ℕ)) → Stands p [] → FramedTo p left left held held []
 framed_none p left held stands = record {
-  text = [];
+  octets = [];
   elements = [];
   rest = [];
   read = Consumes-nil left;
@@ -172,11 +172,11 @@ pub framed_more : (p q : Pending) (l0 l1 l2 h0 h1 : Option (List ℕ)) (octets k
 framed_more p q l0 l1 l2 h0 h1 octets kept made framed read takes =
     let taken = takes framed.rest framed.stands in
     record {
-      text = framed.text ++ octets;
+      octets = framed.octets ++ octets;
       elements = framed.elements ++ taken.elements;
       rest = taken.rest;
-      read = Consumes-trans l0 l1 l2 framed.text octets framed.read read;
-      framing = framing_join framed.text octets framed.elements taken.elements framed.rest taken.rest framed.framing taken.framing;
+      read = Consumes-trans l0 l1 l2 framed.octets octets framed.read read;
+      framing = framing_join framed.octets octets framed.elements taken.elements framed.rest taken.rest framed.framing taken.framing;
       stands = taken.stands;
       sent = framed.sent;
       written = framed.written;
@@ -189,7 +189,7 @@ framed_more p q l0 l1 l2 h0 h1 octets kept made framed read takes =
 -- the lines that were kept are written
 pub framed_put : (p : Pending) (l0 l1 h0 h1 h2 : Option (List ℕ)) (kept : List ℕ) → FramedTo p l0 l1 h0 h1 kept → Appends h1 h2 kept → FramedTo p l0 l1 h0 h2 []
 framed_put p l0 l1 h0 h1 h2 kept framed put = record {
-  text = framed.text;
+  octets = framed.octets;
   elements = framed.elements;
   rest = framed.rest;
   read = framed.read;
@@ -206,10 +206,10 @@ all_written p l0 l1 h0 h1 framed = subst (Appends h0 h1) (sym (append-nil framed
 
 pub framed_so_far : (p : Pending) (l0 l1 l2 h0 h1 : Option (List ℕ)) → FramedTo p l0 l1 h0 h1 [] → Keeps l1 l2 → FramedSoFar l0 l2 h0 h1
 framed_so_far p l0 l1 l2 h0 h1 framed kept = record {
-  text = framed.text;
+  octets = framed.octets;
   elements = framed.elements;
   rest = framed.rest;
-  read = Consumes-kept l0 l1 l2 framed.text framed.read kept;
+  read = Consumes-kept l0 l1 l2 framed.octets framed.read kept;
   framing = framed.framing;
   unfinished = stands_unfinished p framed.rest framed.stands;
   written = all_written p l0 l1 h0 h1 framed;
@@ -220,15 +220,15 @@ pub framed_fault : (p : Pending) (l0 l1 l2 h0 h1 h2 : Option (List ℕ)) (octets
 framed_fault p l0 l1 l2 h0 h1 h2 octets kept made framed read few takes put =
     let taken = takes framed.rest framed.stands in
     record {
-      text = framed.text ++ octets;
+      octets = framed.octets ++ octets;
       elements = framed.elements ++ taken.elements;
       rest = taken.rest;
-      read = Consumes-trans l0 l1 l2 framed.text octets framed.read read;
-      framing = framing_join framed.text octets framed.elements taken.elements framed.rest taken.rest framed.framing taken.framing;
-      ends = inr (taken.long, (framed.text, octets, refl, few, (framed.elements, framed.rest, framed.framing, stands_unfinished p framed.rest framed.stands)));
+      read = Consumes-trans l0 l1 l2 framed.octets octets framed.read read;
+      framing = framing_join framed.octets octets framed.elements taken.elements framed.rest taken.rest framed.framing taken.framing;
+      ends = inr (taken.long, (framed.octets, octets, refl, few, (framed.elements, framed.rest, framed.framing, stands_unfinished p framed.rest framed.stands)));
       written = subst (Appends h0 h2) (lines_more framed.sent kept made framed.elements taken.elements taken.rest framed.made_lines taken.made_lines)
           (Appends-trans h0 h1 h2 framed.sent made framed.written put);
-      answer = (λ (w : IsTrue false). absurd cc, λ (none : taken.rest ≡ []). absurd (taken.long (short_at (front taken.rest) 1 (ap front none ∙ front_nothing))));
+      answer = (λ (w : IsTrue false). absurd cc, λ (none : taken.rest ≡ []). absurd (taken.long (short_at (leading_element taken.rest) 1 (ap leading_element none ∙ front_nothing))));
     }
 
 -- the lines that were made, which were written in part
@@ -239,7 +239,7 @@ pub framed_in_part : (p q : Pending) (l0 l1 l2 h0 h1 h2 : Option (List ℕ)) (oc
 framed_in_part p q l0 l1 l2 h0 h1 h2 octets kept made true framed read takes faults put =
     let more = framed_more p q l0 l1 l2 h0 h1 octets kept made framed read (takes refl) in
     record {
-      text = more.text;
+      octets = more.octets;
       elements = more.elements;
       rest = more.rest;
       read = more.read;
@@ -250,11 +250,11 @@ framed_in_part p q l0 l1 l2 h0 h1 h2 octets kept made true framed read takes fau
 framed_in_part p q l0 l1 l2 h0 h1 h2 octets kept made false framed read takes faults put =
     let taken = faults refl framed.rest framed.stands in
     record {
-      text = framed.text ++ octets;
+      octets = framed.octets ++ octets;
       elements = framed.elements ++ taken.elements;
       rest = taken.rest;
-      read = Consumes-trans l0 l1 l2 framed.text octets framed.read read;
-      framing = framing_join framed.text octets framed.elements taken.elements framed.rest taken.rest framed.framing taken.framing;
+      read = Consumes-trans l0 l1 l2 framed.octets octets framed.read read;
+      framing = framing_join framed.octets octets framed.elements taken.elements framed.rest taken.rest framed.framing taken.framing;
       written = subst (AppendsInPart h0 h2) (lines_more framed.sent kept made framed.elements taken.elements taken.rest framed.made_lines taken.made_lines)
           (in_part_behind h0 h1 h2 framed.sent made framed.written put);
     }
@@ -267,10 +267,10 @@ read_none a b c text octets first next none =
 framed_end : (p : Pending) (l0 l1 l2 h0 h1 h2 : Option (List ℕ)) (octets : List ℕ) (whole : Bool) → FramedTo p l0 l1 h0 h1 [] → Consumes l1 l2 octets → length octets ≡ 0 → IsAtEnd l2
     → ((text : List ℕ) → Stands p text → (IsTrue whole ↔ (text ≡ []))) → ((text : List ℕ) → Stands p text → Appends h1 h2 (end_line text)) → Framed l0 l2 h0 h2 whole
 framed_end p l0 l1 l2 h0 h1 h2 octets whole framed read none end answer line = record {
-  text = framed.text;
+  octets = framed.octets;
   elements = framed.elements;
   rest = framed.rest;
-  read = read_none l0 l1 l2 framed.text octets framed.read read none;
+  read = read_none l0 l1 l2 framed.octets octets framed.read read none;
   framing = framed.framing;
   ends = inl (end, stands_unfinished p framed.rest framed.stands);
   written = Appends-trans h0 h1 h2 (flat_map element_line framed.elements) (end_line framed.rest) (all_written p l0 l1 h0 h1 framed) (line framed.rest framed.stands);
@@ -287,10 +287,10 @@ pub finish_cut : (p : Pending) (l0 l1 l2 h0 h1 h2 : Option (List ℕ)) (octets :
     → OnErr r ((text : List ℕ) → Stands p text → AppendsInPart h1 h2 (end_line text)) → r ≡ Err e → FramedInPart l0 l2 h0 h2
 finish_cut p l0 l1 l2 h0 h1 h2 octets (Ok whole) e framed read none cut is = absurd cc
 finish_cut p l0 l1 l2 h0 h1 h2 octets (Err x) e framed read none cut is = record {
-  text = framed.text;
+  octets = framed.octets;
   elements = framed.elements;
   rest = framed.rest;
-  read = read_none l0 l1 l2 framed.text octets framed.read read none;
+  read = read_none l0 l1 l2 framed.octets octets framed.read read none;
   framing = framed.framing;
   written = in_part_behind h0 h1 h2 (flat_map element_line framed.elements) (end_line framed.rest) (all_written p l0 l1 h0 h1 framed) (cut framed.rest framed.stands);
 }

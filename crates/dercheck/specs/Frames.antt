@@ -5,12 +5,12 @@ use Rattle.std.specs.Io.KnownBytes.{Appends, Consumes, IsAtEnd}
 use Rattle.hex.specs.Hex.{encode_lower}
 use Rattle.asn1.specs.declared.ParseErrorKind.{ParseErrorKind}
 use Rattle.asn1.specs.declared.ParseErrorKind.TheVariants.{InvalidTag, InvalidLength, ShortData}
-use Rattle.asn1.specs.Text.{IsText}
-use Rattle.asn1.specs.Tag.{tag_text, tag_number, tag_front}
-use Rattle.asn1.specs.Element.{Element, element_text, IsReadable, front}
+use Rattle.asn1.specs.Base256.{IsOctets}
+use Rattle.asn1.specs.Tag.{identifier_octets, tag_number, leading_tag}
+use Rattle.asn1.specs.Element.{Element, element_encoding, IsReadable, leading_element}
 use Rattle.asn1.specs.Laws.{IsShort}
 use Rattle.asn1.specs.declared.Tag.{Tag}
-use Rattle.asn1.specs.Length.{length_text}
+use Rattle.asn1.specs.Length.{length_octets}
 use Rattle.dercheck.specs.Streams.{AppendsInPart}
 use Rattle.dercheck.specs.declared.frame_lines.Lines.{Lines}
 use Rattle.dercheck.specs.declared.pending.Pending.{Pending}
@@ -20,25 +20,25 @@ use Rattle.dercheck.specs.declared.header.Header.{Header}
 use Rattle.dercheck.specs.declared.header.Header.TheVariants.{Open, Whole, Faulty}
 
 -- The octets are readable elements one after another, and then the remaining octets, which begin with none.
-pub record IsFraming (text : List ℕ) (elements : List Element) (rest : List ℕ) : Type 0 where
+pub record IsFraming (octets : List ℕ) (elements : List Element) (rest : List ℕ) : Type 0 where
   pub readable : AllByRecursion IsReadable elements
-  pub whole : text ≡ flat_map element_text elements ++ rest
-  pub stops : IsErr (front rest)
+  pub whole : octets ≡ flat_map element_encoding elements ++ rest
+  pub stops : IsErr (leading_element rest)
 
 -- The remaining octets are only too short, or there are none.
 abbrev pub IsUnfinished : List ℕ → Type 0
-IsUnfinished rest = IsShort (front rest)
+IsUnfinished rest = IsShort (leading_element rest)
 
 -- Octets whose framing meets no error.
 abbrev pub HasNoFault : List ℕ → Type 0
-HasNoFault text = (elements : List Element) × (rest : List ℕ) × IsFraming text elements rest × IsUnfinished rest
+HasNoFault octets = (elements : List Element) × (rest : List ℕ) × IsFraming octets elements rest × IsUnfinished rest
 
 -- The line of an element: its identifier octets in hex, a space, and the number of its contents octets in decimal.
 abbrev pub line_of : List ℕ → ℕ → List ℕ
 line_of tag n = encode_lower tag ++ codes " " ++ decimal n ++ codes "\n"
 
 abbrev pub element_line : Element → List ℕ
-element_line e = line_of (tag_text e.tag) (length e.content)
+element_line e = line_of (identifier_octets e.tag) (length e.content)
 
 -- The line of an error. Framing returns no other kinds, except `ShortData`.
 abbrev pub fault_line : ParseErrorKind → List ℕ
@@ -56,7 +56,7 @@ answer_line (Err kind) = fault_line kind
 -- remain, there is no line.
 abbrev pub end_line : List ℕ → List ℕ
 end_line [] = []
-end_line (octet ∷ octets) = answer_line (front (octet ∷ octets))
+end_line (octet ∷ octets) = answer_line (leading_element (octet ∷ octets))
 
 -- The lines of a framing.
 abbrev pub lines : List Element → List ℕ → List ℕ
@@ -64,47 +64,47 @@ lines elements rest = flat_map element_line elements ++ end_line rest
 
 -- Any octets have a framing.
 abbrev pub EachTextHasAFraming : Type 0
-EachTextHasAFraming = (text : List ℕ) → IsText text → (elements : List Element) × (rest : List ℕ) × IsFraming text elements rest
+EachTextHasAFraming = (octets : List ℕ) → IsOctets octets → (elements : List Element) × (rest : List ℕ) × IsFraming octets elements rest
 
 -- No octets have two framings.
 abbrev pub TextsHaveOneFraming : Type 0
-TextsHaveOneFraming = (text : List ℕ) (es fs : List Element) (rest other : List ℕ)
-    → IsFraming text es rest → IsFraming text fs other → (es ≡ fs) × (rest ≡ other)
+TextsHaveOneFraming = (octets : List ℕ) (es fs : List Element) (rest other : List ℕ)
+    → IsFraming octets es rest → IsFraming octets fs other → (es ≡ fs) × (rest ≡ other)
 
 -- The octets hold an error, and all but at most the last 256 of them hold none.
 abbrev pub IsLateFault : List ℕ → List ℕ → Type 0
-IsLateFault text rest = ¬ IsUnfinished rest
-    × ((before : List ℕ) × (last : List ℕ) × (text ≡ before ++ last) × (length last ≤ 256) × HasNoFault before)
+IsLateFault octets rest = ¬ IsUnfinished rest
+    × ((before : List ℕ) × (last : List ℕ) × (octets ≡ before ++ last) × (length last ≤ 256) × HasNoFault before)
 
 -- Octets were read, to the end or up to an error, and the lines of their framing were written. `whole` says that no
 -- octets remained.
 pub record Framed (left left' held held' : Option (List ℕ)) (whole : Bool) : Type 0 where
-  pub text : List ℕ
+  pub octets : List ℕ
   pub elements : List Element
   pub rest : List ℕ
-  pub read : Consumes left left' text
-  pub framing : IsFraming text elements rest
-  pub ends : (IsAtEnd left' × IsUnfinished rest) ⊎ IsLateFault text rest
+  pub read : Consumes left left' octets
+  pub framing : IsFraming octets elements rest
+  pub ends : (IsAtEnd left' × IsUnfinished rest) ⊎ IsLateFault octets rest
   pub written : Appends held held' (lines elements rest)
   pub answer : IsTrue whole ↔ (rest ≡ [])
 
 -- Octets without an error were read, and the lines of their elements were written, and no more.
 pub record FramedSoFar (left left' held held' : Option (List ℕ)) : Type 0 where
-  pub text : List ℕ
+  pub octets : List ℕ
   pub elements : List Element
   pub rest : List ℕ
-  pub read : Consumes left left' text
-  pub framing : IsFraming text elements rest
+  pub read : Consumes left left' octets
+  pub framing : IsFraming octets elements rest
   pub unfinished : IsUnfinished rest
   pub written : Appends held held' (flat_map element_line elements)
 
 -- Octets were read, and a prefix of the lines of their framing was written.
 pub record FramedInPart (left left' held held' : Option (List ℕ)) : Type 0 where
-  pub text : List ℕ
+  pub octets : List ℕ
   pub elements : List Element
   pub rest : List ℕ
-  pub read : Consumes left left' text
-  pub framing : IsFraming text elements rest
+  pub read : Consumes left left' octets
+  pub framing : IsFraming octets elements rest
   pub written : AppendsInPart held held' (lines elements rest)
 
 -- ---- lines that are being made
@@ -126,32 +126,32 @@ HoldsLength octets = further octets < length octets
 pub record IsSplit (octets : List ℕ) (tag_count content_count : ℕ) : Type 0 where
   pub tag : Tag
   pub after : List ℕ
-  pub found : tag_front octets ≡ Ok (tag, after)
+  pub found : leading_tag octets ≡ Ok (tag, after)
   pub holds : HoldsLength after
   pub tag_octets : tag_count + length after ≡ length octets
   pub content_octets : content_count + further after + 1 ≡ length after
 
 -- Framing returns an element and needs no more octets, or it needs this many.
 abbrev pub Needs : List ℕ → ℕ → Type 0
-Needs octets needed = (front octets ≡ Err (ShortData needed))
-    ⊎ ((found : Element × List ℕ) × (front octets ≡ Ok found) × (needed ≡ 0))
+Needs octets needed = (leading_element octets ≡ Err (ShortData needed))
+    ⊎ ((found : Element × List ℕ) × (leading_element octets ≡ Ok found) × (needed ≡ 0))
 
 -- An error, which stays the same for every longer input.
 pub record IsFault (octets : List ℕ) (kind : ParseErrorKind) : Type 0 where
-  pub text : IsText octets
-  pub long : ¬ IsShort (front octets)
-  pub here : front octets ≡ Err kind
-  pub stands : (more : List ℕ) → IsText more → front (octets ++ more) ≡ Err kind
+  pub are_octets : IsOctets octets
+  pub long : ¬ IsShort (leading_element octets)
+  pub here : leading_element octets ≡ Err kind
+  pub stands : (more : List ℕ) → IsOctets more → leading_element (octets ++ more) ≡ Err kind
 
 -- Identifier octets, length octets, and contents octets.
 pub record IsBegun (octets : List ℕ) (tag : Tag) (n : ℕ) (content : List ℕ) : Type 0 where
   pub tag_small : tag_number tag < 2 ^ 32
   pub length_small : n < 2 ^ 32
-  pub text : octets ≡ tag_text tag ++ (length_text n ++ content)
+  pub encoded : octets ≡ identifier_octets tag ++ (length_octets n ++ content)
 
 -- What a header says.
 pub record IsOpen (octets : List ℕ) (needed : ℕ) : Type 0 where
-  pub short : front octets ≡ Err (ShortData needed)
+  pub short : leading_element octets ≡ Err (ShortData needed)
   pub few : length octets ≤ 19
   pub some : 0 < needed
 
@@ -160,7 +160,7 @@ pub record IsWhole (octets : List ℕ) (tag_count count needed : ℕ) : Type 0 w
   pub n : ℕ
   pub content : List ℕ
   pub begun : IsBegun octets tag n content
-  pub tag_octets : take tag_count octets ≡ tag_text tag
+  pub tag_octets : take tag_count octets ≡ identifier_octets tag
   pub few : tag_count ≤ 19
   pub within : tag_count ≤ length octets
   pub missing : needed ≡ n - length content
@@ -172,63 +172,63 @@ Says (Whole tag_count count needed) octets = IsWhole octets tag_count count need
 Says (Faulty kind) octets = IsFault octets kind
 
 -- The octets that are pending, in the header and in the contents octets.
-pub record StandsInHeader (p : Pending) (text : List ℕ) : Type 0 where
+pub record StandsInHeader (p : Pending) (octets : List ℕ) : Type 0 where
   pub stage : p.in_content ≡ false
-  pub kept : text ≡ take p.count p.octets
-  pub short : front text ≡ Err (ShortData p.needed)
+  pub kept : octets ≡ take p.count p.octets
+  pub short : leading_element octets ≡ Err (ShortData p.needed)
 
-pub record StandsInContent (p : Pending) (text : List ℕ) : Type 0 where
+pub record StandsInContent (p : Pending) (octets : List ℕ) : Type 0 where
   pub stage : p.in_content ≡ true
   pub tag : Tag
   pub content : List ℕ
-  pub begun : IsBegun text tag p.content_length content
-  pub kept : take p.count p.octets ≡ tag_text tag
+  pub begun : IsBegun octets tag p.content_length content
+  pub kept : take p.count p.octets ≡ identifier_octets tag
   pub some : 0 < p.needed
   pub missing : length content + p.needed ≡ p.content_length
 
 abbrev pub Stands : Pending → List ℕ → Type 0
-Stands p text = StandsInHeader p text ⊎ StandsInContent p text
+Stands p octets = StandsInHeader p octets ⊎ StandsInContent p octets
 
 -- The octets are the encoding of an element, whose identifier octets and length are kept.
-pub record IsComplete (p : Pending) (text : List ℕ) : Type 0 where
+pub record IsComplete (p : Pending) (octets : List ℕ) : Type 0 where
   pub element : Element
   pub readable : IsReadable element
-  pub whole : text ≡ element_text element
-  pub kept : take p.count p.octets ≡ tag_text element.tag
+  pub whole : octets ≡ element_encoding element
+  pub kept : take p.count p.octets ≡ identifier_octets element.tag
   pub count : p.content_length ≡ length element.content
 
 -- What more octets made of those that were pending.
 abbrev pub Reaches : Pending → Progress → List ℕ → Type 0
-Reaches p GoesOn text = Stands p text
-Reaches p Completes text = IsComplete p text
-Reaches p (Fails kind) text = IsFault text kind
+Reaches p GoesOn octets = Stands p octets
+Reaches p Completes octets = IsComplete p octets
+Reaches p (Fails kind) octets = IsFault octets kind
 
 abbrev pub Advances : Pending → Pending → Progress → List ℕ → Type 0
 Advances old new progress octets = (text : List ℕ) → Stands old text → Reaches new progress (text ++ octets)
 
 -- Octets after those that were pending were taken, and the lines of their elements were made behind `before`.
-pub record Taken (p : Pending) (text before made : List ℕ) : Type 0 where
+pub record Taken (p : Pending) (octets before made : List ℕ) : Type 0 where
   pub elements : List Element
   pub rest : List ℕ
-  pub framing : IsFraming text elements rest
+  pub framing : IsFraming octets elements rest
   pub stands : Stands p rest
   pub made_lines : made ≡ before ++ flat_map element_line elements
 
 -- The octets held an error, and all the lines were made behind `before`.
-pub record TakenToFault (text before made : List ℕ) : Type 0 where
+pub record TakenToFault (octets before made : List ℕ) : Type 0 where
   pub elements : List Element
   pub rest : List ℕ
-  pub framing : IsFraming text elements rest
+  pub framing : IsFraming octets elements rest
   pub long : ¬ IsUnfinished rest
   pub made_lines : made ≡ before ++ lines elements rest
 
 -- Octets were read, and all except those that are pending were taken. Of the lines, `kept` aren't yet written.
 pub record FramedTo (p : Pending) (left left' held held' : Option (List ℕ)) (kept : List ℕ) : Type 0 where
-  pub text : List ℕ
+  pub octets : List ℕ
   pub elements : List Element
   pub rest : List ℕ
-  pub read : Consumes left left' text
-  pub framing : IsFraming text elements rest
+  pub read : Consumes left left' octets
+  pub framing : IsFraming octets elements rest
   pub stands : Stands p rest
   pub sent : List ℕ
   pub written : Appends held held' sent

@@ -1,7 +1,7 @@
 -- What holds of the definitions.
 use Rattle.std.specs.Prelude.{IsTrue, ℕ, ◌≡◌, ◌↔◌, List, ◌++◌, codes, Some, Err}
 use Rattle.hex.specs.Hex.{encode_lower}
-use Rattle.asn1.specs.Fault.{Fault}
+use Rattle.asn1.specs.ReadError.{ReadError}
 use Rattle.asn1.specs.Reading.{Fits}
 use Rattle.dercheck.specs.declared.words.Word.{Word}
 use Rattle.dercheck.specs.Lines.{lines_of, AreLines}
@@ -10,7 +10,7 @@ use Rattle.dercheck.specs.Requests.{type_of, IsRequest, request_of}
 
 -- An input has its lines, and no others.
 abbrev pub LinesAreRight : Type 0
-LinesAreRight = (text : List ℕ) (lines : List (List ℕ)) → AreLines text lines ↔ (lines_of text ≡ lines)
+LinesAreRight = (octets : List ℕ) (lines : List (List ℕ)) → AreLines octets lines ↔ (lines_of octets ≡ lines)
 
 -- A line is at most one request, which the function returns.
 abbrev pub RequestsAreRight : Type 0
@@ -25,8 +25,8 @@ pub record IsValueText (word : Word) (octets : List ℕ) : Type 0 where
   pub value : (type_of word).der.Meaning
   pub valid : (type_of word).der.valid value
   pub allowed : (type_of word).der.allowed value
-  pub fits : Fits ((type_of word).der.text value)
-  pub is : octets ≡ (type_of word).der.text value
+  pub fits : Fits ((type_of word).der.encoding value)
+  pub is : octets ≡ (type_of word).der.encoding value
 
 -- The reply to a request is `ok` and its octets, exactly if these are the encoding of a value.
 abbrev pub ValuesAreOk : Type 0
@@ -46,5 +46,5 @@ OkLinesAreOk = (line : List ℕ) → IsTrue (is_ok_line line) ↔ IsOkLine line
 
 -- The reply to a request whose octets are rejected is `err` and the error's kind.
 abbrev pub FaultsAreErr : Type 0
-FaultsAreErr = (line : List ℕ) (word : Word) (octets : List ℕ) (fault : Fault) → IsRequest line word octets →
+FaultsAreErr = (line : List ℕ) (word : Word) (octets : List ℕ) (fault : ReadError) → IsRequest line word octets →
     reading word octets ≡ Err fault → answer line ≡ codes "err " ++ kind_text fault.kind

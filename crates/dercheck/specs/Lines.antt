@@ -11,7 +11,7 @@ with_octet octet (Some parts) = Some (octet ∷ parts.0, parts.1)
 -- what is before and after the first octet of that value
 unfoldable pub split_once : ℕ → List ℕ → Option (List ℕ × List ℕ)
 split_once octet [] = None
-split_once octet (next ∷ text) = if next == octet then Some ([], text) else with_octet next (split_once octet text)
+split_once octet (next ∷ octets) = if next == octet then Some ([], octets) else with_octet next (split_once octet octets)
 
 -- two slices as lists of octets
 abbrev pub option_split : Option (Bor (List ℕ) × Bor (List ℕ)) → Option (List ℕ × List ℕ)
@@ -26,26 +26,26 @@ in_first_line octet (line ∷ lines) = (octet ∷ line) ∷ lines
 -- The lines of an input: a line feed ends one, and the octets after the last line feed are one unless there are none.
 unfoldable pub lines_of : List ℕ → List (List ℕ)
 lines_of [] = []
-lines_of (octet ∷ text) = if octet == 10 then [] ∷ lines_of text else in_first_line octet (lines_of text)
+lines_of (octet ∷ octets) = if octet == 10 then [] ∷ lines_of octets else in_first_line octet (lines_of octets)
 
 -- ---- what lines are
 
 abbrev pub HasNone : ℕ → List ℕ → Type 0
-HasNone octet text = AllByRecursion (λ next. next ≢ octet) text
+HasNone octet octets = AllByRecursion (λ next. next ≢ octet) octets
 
 -- each line with a line feed after it
 abbrev pub ended : List (List ℕ) → List ℕ
 ended lines = flat_map (λ line. line ++ 10 ∷ []) lines
 
 -- the last line has no line feed after it, and isn't empty
-pub record LacksLast (text : List ℕ) (lines : List (List ℕ)) : Type 0 where
+pub record LacksLast (octets : List ℕ) (lines : List (List ℕ)) : Type 0 where
   pub front : List (List ℕ)
   pub last : List ℕ
   pub are : lines ≡ front ++ last ∷ []
   pub some : last ≢ []
-  pub is : text ≡ ended front ++ last
+  pub is : octets ≡ ended front ++ last
 
 -- The lines hold no line feed, and with a line feed after each they are the input, which may lack the last one.
-pub record AreLines (text : List ℕ) (lines : List (List ℕ)) : Type 0 where
+pub record AreLines (octets : List ℕ) (lines : List (List ℕ)) : Type 0 where
   pub apart : AllByRecursion (HasNone 10) lines
-  pub whole : (text ≡ ended lines) ⊎ LacksLast text lines
+  pub whole : (octets ≡ ended lines) ⊎ LacksLast octets lines

@@ -2,7 +2,7 @@
 use Rattle.std.specs.Prelude.{ℕ, ℤ, List, [], ◌∷◌, nat_eq, if◌then◌else◌, Result, Ok, Err}
 use Rattle.asn1.specs.declared.ParseErrorKind.TheVariants.{InvalidValue}
 use Rattle.asn1.specs.Tag.{universal}
-use Rattle.asn1.specs.Fault.{Fault, fault}
+use Rattle.asn1.specs.ReadError.{ReadError, read_error}
 use Rattle.asn1.specs.Encoding.{Content, basic}
 use Rattle.asn1.specs.Der.{simple_der}
 use Rattle.asn1.specs.declared.ObjectIdentifier.{ObjectIdentifier}
@@ -25,16 +25,16 @@ reason_text Unspecified = 0 ∷ []
 reason_text Superseded = 4 ∷ []
 
 -- What reading contents octets returns.
-abbrev pub read_reason : List ℕ → Result Reason Fault
-read_reason [] = Err (fault InvalidValue)
-read_reason (octet ∷ []) = if nat_eq octet 0 then Ok Unspecified else if nat_eq octet 4 then Ok Superseded else Err (fault InvalidValue)
-read_reason (octet ∷ next ∷ octets) = Err (fault InvalidValue)
+abbrev pub read_reason : List ℕ → Result Reason ReadError
+read_reason [] = Err (read_error InvalidValue)
+read_reason (octet ∷ []) = if nat_eq octet 0 then Ok Unspecified else if nat_eq octet 4 then Ok Superseded else Err (read_error InvalidValue)
+read_reason (octet ∷ next ∷ octets) = Err (read_error InvalidValue)
 
 -- The contents octets of a `Reason`.
 abbrev pub reason_content : Content Reason
 reason_content = basic (record {
   tag = universal 10;
-  text = reason_text;
+  encoding = reason_text;
   valid = λ m. Unit {0};
   read = read_reason;
 })

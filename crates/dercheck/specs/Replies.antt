@@ -7,7 +7,7 @@ use Rattle.asn1.specs.declared.ParseErrorKind.{ParseErrorKind}
 use Rattle.asn1.specs.declared.ParseErrorKind.TheVariants.{InvalidValue, InvalidTag, InvalidLength, InvalidSize, UnexpectedTag, ShortData, IntegerOverflow, ExtraData, InvalidSetOrdering, EncodedDefault, OidTooLong, UnknownDefinedBy, AllocationError}
 use Rattle.asn1.specs.declared.TagClass.{TagClass}
 use Rattle.asn1.specs.declared.TagClass.TheVariants.{Universal, Application, ContextSpecific, Private}
-use Rattle.asn1.specs.Fault.{Fault}
+use Rattle.asn1.specs.ReadError.{ReadError}
 use Rattle.asn1.specs.Reading.{whole}
 use Rattle.dercheck.specs.declared.replies.Reply.{Reply}
 use Rattle.dercheck.specs.declared.replies.Reply.TheVariants.{BadLine, Refused, Written}
@@ -73,7 +73,7 @@ is_written (Refused kind) = false
 is_written (Written octets) = true
 
 -- the reply to octets, by the result of reading them
-abbrev pub IsReply : {M : Type 0} → List ℕ → Result M Fault → Reply → Type 0
+abbrev pub IsReply : {M : Type 0} → List ℕ → Result M ReadError → Reply → Type 0
 IsReply octets (Ok value) (Written written) = written.items ≡ octets
 IsReply octets (Err fault) (Refused kind) = kind ≡ fault.kind
 IsReply octets (Ok value) (Refused kind) = ⊥
@@ -83,11 +83,11 @@ IsReply octets read BadLine = ⊥
 -- ---- the replies to lines
 
 -- what reading octets to their end returns, at the type of a word
-abbrev pub reading : (word : Word) → List ℕ → Result (type_of word).der.Meaning Fault
+abbrev pub reading : (word : Word) → List ℕ → Result (type_of word).der.Meaning ReadError
 reading word octets = whole ((type_of word).der.read octets)
 
 -- the reply to octets, by the result of reading them
-abbrev pub answer_read : {M : Type 0} → List ℕ → Result M Fault → List ℕ
+abbrev pub answer_read : {M : Type 0} → List ℕ → Result M ReadError → List ℕ
 answer_read octets (Ok value) = codes "ok " ++ encode_lower octets
 answer_read octets (Err fault) = codes "err " ++ kind_text fault.kind
 
@@ -110,4 +110,4 @@ is_ok_line line = is_ok_to (request_of line)
 
 -- The replies to the lines of an input, each with a line feed.
 abbrev pub answers : List ℕ → List ℕ
-answers text = flat_map (λ line. answer line ++ 10 ∷ []) (lines_of text)
+answers octets = flat_map (λ line. answer line ++ 10 ∷ []) (lines_of octets)

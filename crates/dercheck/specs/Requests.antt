@@ -68,7 +68,7 @@ word_text words.SetOfInt = codes "setof-int"
 
 -- the word with that spelling
 abbrev pub word_of : List ℕ → Option Word
-word_of text = find (λ word. bytes_eq (word_text word) text) ALL.now
+word_of octets = find (λ word. bytes_eq (word_text word) octets) ALL.now
 
 -- a type, by what its values mean
 pub record Asn1 : Type 1 where

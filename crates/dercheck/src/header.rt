@@ -2,7 +2,7 @@
 
 ghost use Rattle.std.specs.Prelude.{◌≡◌, ◌≤◌, List, ℕ, length, MatchOption, MatchResult};
 ghost use Rattle.asn1.specs.declared.Tag.{Tag};
-ghost use Rattle.asn1.specs.Tag.{tag_front};
+ghost use Rattle.asn1.specs.Tag.{leading_tag};
 ghost use Rattle.dercheck.specs.Frames.{HoldsLength, IsSplit, Needs, IsFault, Says};
 
 use asn1::{ParseErrorKind, Tag, strip_tlv};
@@ -34,7 +34,7 @@ pub enum Header {
 /// How many identifier octets there are, and how many octets follow the length octets, if these are all there.
 fn header_parts(octets: &[u8]) -> Option<(usize, usize)>
     ensures { MatchOption result
-        ((tag : Tag) → (after : List ℕ) → tag_front octets.now ≡ Ok (tag, after)
+        ((tag : Tag) → (after : List ℕ) → leading_tag octets.now ≡ Ok (tag, after)
         → ¬ HoldsLength after)
         (λ counts. IsSplit octets.now counts.0 counts.1) }
 {

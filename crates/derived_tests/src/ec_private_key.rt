@@ -1,5 +1,5 @@
 //! Private keys of elliptic curves (RFC 5915, 3).
-// Printed by scripts/derive from declarations/ec_private_key.rs, with the sum d5cc7102.
+// Printed by tools/derive from declarations/ec_private_key.rs, with the sum d5cc7102.
 
 ghost use Rattle.std.specs.Prelude.{◌≡◌, ◌∷◌, [], IsTrue};
 ghost use Rattle.asn1.specs.Options.{option_meaning};

@@ -1,5 +1,5 @@
 //! Kerberos messages (RFC 4120, 5): a ticket, and the requests and replies of AS and TGS.
-// Printed by scripts/derive from declarations/kerberos.rs, with the sum 5e19b358.
+// Printed by tools/derive from declarations/kerberos.rs, with the sum 5e19b358.
 
 ghost use Rattle.std.specs.Prelude.{◌≡◌, ◌∷◌, [], IsTrue};
 ghost use Rattle.asn1.specs.Options.{option_meaning};

@@ -1,4 +1,4 @@
-//! Types that `scripts/derive` printed from the declarations in `declarations`, as it printed them, and their tests.
+//! Types that `tools/derive` printed from the declarations in `declarations`, as it printed them, and their tests.
 #![tactic(auto)]
 
 #[cfg(test)]

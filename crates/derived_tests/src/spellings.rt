@@ -1,5 +1,5 @@
 //! Spellings of Rust that the script reads: numbers, comments, attributes, lifetimes and visibility.
-// Printed by scripts/derive from declarations/spellings.rs, with the sum a12b6ff3.
+// Printed by tools/derive from declarations/spellings.rs, with the sum a12b6ff3.
 
 ghost use Rattle.std.specs.Prelude.{◌≡◌, ◌∷◌, [], negsuc, IsTrue};
 ghost use Rattle.asn1.specs.Options.{option_meaning};

@@ -4,7 +4,7 @@ use Rattle.std.specs.List.{find}
 use Rattle.std.specs.Str.{bytes_eq}
 use Rattle.asn1.specs.declared.Tlv.{Tlv}
 use Rattle.asn1.specs.Der.{Der, simple_der, option_der}
-use Rattle.asn1.specs.Fault.{Fault}
+use Rattle.asn1.specs.ReadError.{ReadError}
 use Rattle.asn1.specs.IdentifierValues.{identifier_basic, identifier_of}
 use Rattle.asn1.specs.Octets.{null_content}
 use Rattle.asn1.specs.LawsOf.Contents.{null_laws}
@@ -94,7 +94,7 @@ or_absent variant (Some value) = variant value
 or_absent variant None = parameters.Absent
 
 -- What reading all of these octets as parameters of that form returns, with what Dss-Parms and RSASSA-PSS-params mean.
-abbrev pub ReadsForm : Der DssParms → Der RsassaPssParams → ParametersForm → List ℕ → Result AlgorithmParameters Fault → Type 0
+abbrev pub ReadsForm : Der DssParms → Der RsassaPssParams → ParametersForm → List ℕ → Result AlgorithmParameters ReadError → Type 0
 ReadsForm dss pss form.Null octets result = ReadsTyped (typed (simple_der (λ m. m) null_content null_laws) (λ null. parameters.Null)) octets result
 ReadsForm dss pss form.NamedCurve octets result = ReadsTyped (typed (simple_der identifier_of identifier_basic identifier_laws) parameters.NamedCurve) octets result
 ReadsForm dss pss form.Absent octets result = result ≡ all_taken parameters.Absent octets
@@ -108,6 +108,6 @@ parameter_octets (Some element) = full_octets element
 parameter_octets None = []
 
 -- What reading the parameters of a known algorithm returns. The parameters of every other algorithm stay as they are.
-abbrev pub ReadsParameters : Der DssParms → Der RsassaPssParams → Option KnownAlgorithm → Option Tlv → Result AlgorithmParameters Fault → Type 0
+abbrev pub ReadsParameters : Der DssParms → Der RsassaPssParams → Option KnownAlgorithm → Option Tlv → Result AlgorithmParameters ReadError → Type 0
 ReadsParameters dss pss (Some algorithm) element result = ReadsForm dss pss (form_of algorithm) (parameter_octets element) result
 ReadsParameters dss pss None element result = result ≡ Ok (parameters.Other element)

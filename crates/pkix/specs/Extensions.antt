@@ -3,7 +3,7 @@ use Rattle.std.specs.Prelude.{ℕ, ◌≡◌, List, [], ◌∷◌, Option, Some,
 use Rattle.std.specs.List.{find}
 use Rattle.std.specs.Str.{bytes_eq}
 use Rattle.std.specs.Borrow.{Bor}
-use Rattle.asn1.specs.Fault.{Fault}
+use Rattle.asn1.specs.ReadError.{ReadError}
 use Rattle.pkix.specs.Identifiers.{of_arcs, ValueType, ReadsTyped}
 use Rattle.pkix.specs.declared.extension_values.KnownExtension.{KnownExtension}
 use Rattle.pkix.specs.declared.extension_values.KnownExtension.TheVariants as known
@@ -40,6 +40,6 @@ abbrev pub extension_with : List ℕ → Option KnownExtension
 extension_with numbers = find (λ extension. bytes_eq numbers (extension_numbers extension)) ALL.now
 
 -- What reading the octets as a value of the type of a known extension returns; for every other extension, the octets.
-abbrev pub ReadsExtension : {E : Type 0} → (KnownExtension → ValueType E) → (Bor (List ℕ) → E) → Option KnownExtension → Bor (List ℕ) → Result E Fault → Type 0
+abbrev pub ReadsExtension : {E : Type 0} → (KnownExtension → ValueType E) → (Bor (List ℕ) → E) → Option KnownExtension → Bor (List ℕ) → Result E ReadError → Type 0
 ReadsExtension types other (Some extension) octets result = ReadsTyped (types extension) octets.now result
 ReadsExtension types other None octets result = result ≡ Ok (other octets)

@@ -1,5 +1,5 @@
 //! Requests for certificates (RFC 2986).
-// Printed by scripts/derive from declarations/request.rs, with the sum 318c1b9e.
+// Printed by tools/derive from declarations/request.rs, with the sum 318c1b9e.
 
 ghost use Rattle.std.specs.Prelude.{◌≡◌, ◌∷◌, [], IsTrue};
 ghost use Rattle.asn1.specs.Reads.{HasOneEncoding, ReadsContents};

@@ -18,7 +18,7 @@ use pkix::common::{
     NamedBits, SubjectPublicKeyInfo, Time,
 };
 use pkix::identifiers::{attributes, curves};
-use pkix::keys::{EcPrivateKey, OneAsymmetricKey, OtherPrimeInfo, RsaPrivateKey};
+use pkix::keys::{EcPrivateKey, OneAsymmetricKey, OtherPrimeInfo, OtherPrimeInfos, RsaPrivateKey};
 use pkix::request::CertificationRequestInfo;
 use pkix::revocation::extensions::CrlReason;
 use pkix::revocation::{RevokedCertificate, TbsCertList};
@@ -213,15 +213,20 @@ fn number(octets: &[u8], start: usize, length: usize) -> Result<BigUint<'_>, Fai
     Ok(BigUint::new(piece(octets, start, length)?).ok_or("no number")?)
 }
 
+/// The prime after the first two.
+fn third_prime<'a>(alloc: Global, octets: &'a [u8]) -> Result<OtherPrimeInfos<'a>, Fail> {
+    let third = [OtherPrimeInfo {
+        prime: number(octets, 509, 43)?,
+        exponent: number(octets, 554, 43)?,
+        coefficient: number(octets, 599, 43)?,
+    }];
+    Ok(SequenceOf::of(alloc, &third, store(alloc)?)??)
+}
+
 #[test]
 fn a_key_of_three_primes_is_built(rt: HostRuntime) -> Result<(), Fail> {
     let alloc = rt.alloc();
     let octets = object(alloc, RSA_KEY)?;
-    let third = OtherPrimeInfo {
-        prime: number(octets, 509, 43)?,
-        exponent: number(octets, 554, 43)?,
-        coefficient: number(octets, 599, 43)?,
-    };
     let key = RsaPrivateKey {
         version: 1,
         modulus: number(octets, 10, 129)?,
@@ -232,7 +237,7 @@ fn a_key_of_three_primes_is_built(rt: HostRuntime) -> Result<(), Fail> {
         exponent1: number(octets, 368, 43)?,
         exponent2: number(octets, 413, 43)?,
         coefficient: number(octets, 458, 43)?,
-        other_prime_infos: Some(SequenceOf::of(alloc, &[third], store(alloc)?)??),
+        other_prime_infos: Some(third_prime(alloc, octets)?),
     };
     let built = write_readable(alloc, &key)?;
     same(built.as_slice(), octets)

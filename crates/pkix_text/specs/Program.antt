@@ -63,13 +63,13 @@ IsRead der octets = IsOk (whole (der.read octets))
 
 -- The last line is `same`.
 abbrev pub EndsInSame : List ℕ → Type 0
-EndsInSame text = (front : List ℕ) × (text ≡ front ++ codes "same\n")
+EndsInSame octets = (front : List ℕ) × (octets ≡ front ++ codes "same\n")
 
 -- What is read or shown has the form, and the last line that is shown is `same`. What has the form may be rejected: an
 -- encrypted key may have the form of another object.
 abbrev pub IsShownOnlyIf : Type 0 → Answer → Type 0
 IsShownOnlyIf Form Read = Form
-IsShownOnlyIf Form (Shown text) = Form × EndsInSame (string_bytes text)
+IsShownOnlyIf Form (Shown octets) = Form × EndsInSame (string_bytes octets)
 IsShownOnlyIf Form (Rejected refusal) = ⊤
 
 -- ---- why there is no result

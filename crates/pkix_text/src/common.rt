@@ -5,6 +5,7 @@ use crate::show::{Lines, Numbered, Show, fields};
 use asn1::{ObjectIdentifier, SetOf, parse_single};
 use pkix::algorithm_parameters::AlgorithmParameters;
 use pkix::algorithm_parameters::KnownAlgorithm::{self, RsaEncryption, RsassaPss};
+use pkix::certificate::extensions::SubjectDirectoryAttributes;
 use pkix::common::{
     AlgorithmIdentifier, Attribute, AttributeTypeAndValue, Attributes, Extensions,
     SubjectPublicKeyInfo,
@@ -100,22 +101,57 @@ impl<'a> Show for SetOf<'a, AttributeTypeAndValue<'a>> {
     }
 }
 
-/// Each value, with the attribute's type as its location. Extensions that are asked for are read.
-impl Show for Attribute<'_> {
+/// An attribute whose values are shown as elements, with the attribute's type as their location.
+#[derive(Drop)]
+struct Elements<'s, 'a>(&'s Attribute<'a>);
+
+impl Show for Elements<'_, '_> {
     fn show(&self, lines: &mut Lines) {
-        let name = lines.short_name(&self.type_id);
+        let name = lines.short_name(&self.0.type_id);
         let mut is_empty = true;
-        for item in self.values.clone().unwrap() {
+        for item in self.0.values.clone().unwrap() {
             let Some(item) = lines.item(item) else { return };
-            if name.as_str() == "extensionRequest" {
-                lines.inner::<Extensions<'_>>(name.as_str(), item.full_data());
-            } else {
-                lines.part(name.as_str(), &item);
-            }
+            lines.part(name.as_str(), &item);
             is_empty = false;
         }
         if is_empty {
-            lines.part(name.as_str(), &Numbered(Some(&self.values)));
+            lines.part(name.as_str(), &Numbered(Some(&self.0.values)));
+        }
+    }
+}
+
+/// Extensions that are asked for are read, and other values are shown as elements.
+impl Show for Attribute<'_> {
+    fn show(&self, lines: &mut Lines) {
+        let name = lines.short_name(&self.type_id);
+        let mut is_shown = false;
+        if name.as_str() == "extensionRequest" {
+            for item in self.values.clone().unwrap() {
+                let Some(item) = lines.item(item) else { return };
+                lines.inner::<Extensions<'_>>(name.as_str(), item.full_data());
+                is_shown = true;
+            }
+        }
+        if !is_shown {
+            Elements(self).show(lines);
+        }
+    }
+}
+
+/// The attributes of a subject in an extension, in which no extensions are asked for.
+#[derive(Drop)]
+pub(crate) struct OfSubject<'s, 'a>(pub(crate) &'s SubjectDirectoryAttributes<'a>);
+
+impl Show for OfSubject<'_, '_> {
+    fn show(&self, lines: &mut Lines) {
+        let mut count = 0usize;
+        for item in self.0.clone().unwrap() {
+            let Some(attribute) = lines.item(item) else {
+                return
+            };
+            let place = lines.kept(format!(in lines.alloc; "{count}"));
+            lines.part(place.as_str(), &Elements(&attribute));
+            count = count.saturating_add(1);
         }
     }
 }

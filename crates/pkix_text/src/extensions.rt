@@ -1,5 +1,6 @@
 //! Extensions (RFC 5280, 4.2 and 5.2), the known ones with their values.
 
+use crate::common::OfSubject;
 use crate::show::{Lines, Show, bmp_characters, characters, fields, with_name};
 use crate::transparency::Timestamps;
 use asn1::{SequenceOf, parse_single};
@@ -123,7 +124,7 @@ impl Show for ExtensionValue<'_> {
             ExtensionValue::PolicyConstraints(value) => value.show(lines),
             ExtensionValue::PolicyMappings(value) => value.show(lines),
             ExtensionValue::SubjectAltName(value) => value.show(lines),
-            ExtensionValue::SubjectDirectoryAttributes(value) => value.show(lines),
+            ExtensionValue::SubjectDirectoryAttributes(value) => OfSubject(value).show(lines),
             ExtensionValue::SubjectInfoAccess(value) => value.show(lines),
             ExtensionValue::SubjectKeyIdentifier(value) => value.show(lines),
             ExtensionValue::Other(value) => value.show(lines),

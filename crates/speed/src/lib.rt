@@ -4,7 +4,7 @@
 mod answers;
 
 ghost use Rattle.std.specs.Prelude.{◌≡◌};
-ghost use Rattle.asn1.specs.Buffer.{KeepsFront};
+ghost use Rattle.asn1.specs.Buffer.{KeepsPrefix};
 ghost use Rattle.asn1.specs.Der.{IsWritable};
 ghost use Rattle.asn1.specs.Writing.{buffer_name, octets_of};
 
@@ -119,28 +119,28 @@ fn numbers(alloc: Global, octets: &[u8]) -> Option<Vec<u64>> {
 
 /// A number, which is within four sequences.
 fn write_one(dest: &mut WriteBuf) -> WriteResult<()>
-    ensures { KeepsFront dest.old.bytes dest.new.bytes }
+    ensures { KeepsPrefix dest.old.bytes dest.new.bytes }
 {
     Writer::new(dest).write_element(&1u64)
 }
 
 /// One sequence around it.
 fn write_1_deep(dest: &mut WriteBuf) -> WriteResult<()>
-    ensures { KeepsFront dest.old.bytes dest.new.bytes }
+    ensures { KeepsPrefix dest.old.bytes dest.new.bytes }
 {
     Writer::new(dest).write_tlv(Tag::constructed(0x10), None, write_one)
 }
 
 /// Two around it.
 fn write_2_deep(dest: &mut WriteBuf) -> WriteResult<()>
-    ensures { KeepsFront dest.old.bytes dest.new.bytes }
+    ensures { KeepsPrefix dest.old.bytes dest.new.bytes }
 {
     Writer::new(dest).write_tlv(Tag::constructed(0x10), None, write_1_deep)
 }
 
 /// Three around it.
 fn write_3_deep(dest: &mut WriteBuf) -> WriteResult<()>
-    ensures { KeepsFront dest.old.bytes dest.new.bytes }
+    ensures { KeepsPrefix dest.old.bytes dest.new.bytes }
 {
     Writer::new(dest).write_tlv(Tag::constructed(0x10), None, write_2_deep)
 }
@@ -150,7 +150,7 @@ fn write_3_deep(dest: &mut WriteBuf) -> WriteResult<()>
 fn write_by_closures(alloc: Global, times: u64) -> u64 {
     let sequences = |writer: &mut Writer<'_>| -> WriteResult<()>
         ensures same_buffer { buffer_name writer.new ≡ buffer_name writer.old }
-        ensures front { KeepsFront (octets_of writer.old) (octets_of writer.new) }
+        ensures front { KeepsPrefix (octets_of writer.old) (octets_of writer.new) }
     { writer.write_tlv(Tag::constructed(0x10), None, write_3_deep) };
     let mut sum = 0u64;
     for _ in 0..times {

@@ -2,103 +2,103 @@
 use Rattle.std.specs.Prelude.{ℕ, ◌≡◌, List, [], ◌++◌, Ok, false}
 use Rattle.std.proofs.Common.{inl, inr, sym, ◌∙◌}
 use Rattle.asn1_core.specs.declared.parser.ParseErrorKind.TheVariants.{UnexpectedTag}
-use Rattle.asn1_core.specs.Element.{Element, element_text}
-use Rattle.asn1_core.specs.Fault.{fault, IsOfText}
-use Rattle.asn1_core.specs.Reading.{Fits, stands}
+use Rattle.asn1_core.specs.Element.{Element, element_encoding}
+use Rattle.asn1_core.specs.ReadError.{read_error, IsOfInput}
+use Rattle.asn1_core.specs.Reading.{Fits, begins_accepted}
 use Rattle.asn1_core.specs.Encoding.{Encoding}
 use Rattle.asn1_core.specs.EncodingLaws.{EncodingLaws}
-use Rattle.asn1_core.specs.LawsOf.Encodings.{no_content_laws, no_content_faults}
+use Rattle.asn1_core.specs.LawsOf.Encodings.{no_content_laws, no_content_errors}
 use Rattle.asn1_core.specs.Lemmas.Elements.{element_some}
 use Rattle.asn1_core.specs.Lemmas.Options.{element_in}
 use Rattle.asn1_core.specs.Lemmas.Wholes.{fits_inside, one_value}
 use Rattle.asn1.specs.Alternatives.{choice_read}
 use Rattle.asn1.specs.Choices.{Alternatives, AlternativesLaws, only, or, none, choice_encoding}
-use Rattle.asn1.specs.Lemmas.Choices.{only_takes, only_again, only_faults, or_takes, or_again, or_faults, or_shape, or_accepted, or_one, or_has, or_at_most_one, or_both, or_pair, or_weaker, or_all, or_memory, choice_takes, choice_again, choice_faults}
+use Rattle.asn1.specs.Lemmas.Choices.{only_consumes, only_read_back, only_errors, or_consumes, or_read_back, or_errors, or_nothing_or_element, or_accepted, or_one, or_has, or_at_most_one, or_both, or_pair, or_weaker, or_all, or_memory, choice_consumes, choice_read_back, choice_errors}
 
 pub only_laws : {A : Type 0} {d : Encoding A} → EncodingLaws d → AlternativesLaws (only d)
 only_laws {d = d} ld = record {
-  one_text = ld.one_text;
-  has_text = ld.has_text;
+  one_encoding = ld.one_encoding;
+  has_encoding = ld.has_encoding;
   at_most_one = ld.at_most_one;
   no_closures = ld.no_closures;
-  takes = only_takes d.accepts d.text (λ m. d.valid m × d.allowed m) d.read ld.takes;
-  shape = λ m l v. element_in (ld.shape m l.0 v) (ld.solid m l.0 l.1 v);
+  consumes = only_consumes d.accepts d.encoding (λ m. d.valid m × d.allowed m) d.read ld.consumes;
+  nothing_or_element = λ m l v. element_in (ld.nothing_or_element m l.0 v) (ld.not_empty m l.0 l.1 v);
   accepted = ld.accepted;
-  again = λ m e l v a readable same. only_again d.accepts d.text (λ x. d.valid x × d.allowed x) d.read m e same readable (ld.accepted m e v same) (ld.again m [] l.0 v a);
+  read_back = λ m e l v a readable same. only_read_back d.accepts d.encoding (λ x. d.valid x × d.allowed x) d.read m e same readable (ld.accepted m e v same) (ld.read_back m [] l.0 v a);
   unbounded = ld.unbounded;
-  memory = λ e places out. ld.memory (element_text e) places out.1;
-  faults = only_faults d.accepts d.text (λ x. d.valid x × d.allowed x) d.read ld.faults;
+  memory = λ e places out. ld.memory (element_encoding e) places out.1;
+  errors = only_errors d.accepts d.encoding (λ x. d.valid x × d.allowed x) d.read ld.errors;
 }
 
 pub or_laws : {A N : Type 0} {d : Encoding A} {c : Alternatives N} → EncodingLaws d → AlternativesLaws c → AlternativesLaws (or d c)
 or_laws {d = d} {c = c} ld lc = record {
-  one_text = λ p. or_one d.text d.valid c.text c.valid d.texts c.texts (ld.one_text p.0) (lc.one_text p.1);
-  has_text = λ p. or_has d.text d.valid c.text c.valid d.texts c.texts (ld.has_text p.0) (lc.has_text p.1);
-  at_most_one = or_at_most_one d.texts c.texts ld.at_most_one lc.at_most_one;
+  one_encoding = λ p. or_one d.encoding d.valid c.encoding c.valid d.encodings c.encodings (ld.one_encoding p.0) (lc.one_encoding p.1);
+  has_encoding = λ p. or_has d.encoding d.valid c.encoding c.valid d.encodings c.encodings (ld.has_encoding p.0) (lc.has_encoding p.1);
+  at_most_one = or_at_most_one d.encodings c.encodings ld.at_most_one lc.at_most_one;
   no_closures = λ p. or_all d.closures c.closures (ld.no_closures p.0) (lc.no_closures p.1);
-  takes = λ e m is h.
-      let got = or_takes d.accepts d.text (λ x. d.valid x × d.allowed x) d.read c.accepts c.text (λ x. c.valid x × c.allowed x) c.read ld.takes lc.takes e m is h in
+  consumes = λ e m is h.
+      let got = or_consumes d.accepts d.encoding (λ x. d.valid x × d.allowed x) d.read c.accepts c.encoding (λ x. c.valid x × c.allowed x) c.read ld.consumes lc.consumes e m is h in
       (got.0, or_both d.valid d.allowed c.valid c.allowed m got.1);
-  shape = λ m l v. or_shape d.text d.valid c.text c.valid (λ x w. element_in (ld.shape x l.0 w) (ld.solid x l.0 l.1 w)) (λ x w. lc.shape x l.2 w) m v;
-  accepted = or_accepted d.text d.valid c.text c.valid d.accepts c.accepts ld.accepted lc.accepted;
-  again = λ m e l v a readable same. or_again d.accepts d.text (λ x. d.valid x × d.allowed x) d.read c.accepts c.text (λ x. c.valid x × c.allowed x) c.read l.3 m e same readable (or_pair d.valid d.allowed c.valid c.allowed m v a)
-      (λ x w. ld.accepted x e w.0) (λ x w. ld.again x [] l.0 w.0 w.1) (λ x w. lc.accepted x e w.0) (λ x w. lc.again x e l.2 w.0 w.1 readable);
+  nothing_or_element = λ m l v. or_nothing_or_element d.encoding d.valid c.encoding c.valid (λ x w. element_in (ld.nothing_or_element x l.0 w) (ld.not_empty x l.0 l.1 w)) (λ x w. lc.nothing_or_element x l.2 w) m v;
+  accepted = or_accepted d.encoding d.valid c.encoding c.valid d.accepts c.accepts ld.accepted lc.accepted;
+  read_back = λ m e l v a readable same. or_read_back d.accepts d.encoding (λ x. d.valid x × d.allowed x) d.read c.accepts c.encoding (λ x. c.valid x × c.allowed x) c.read l.3 m e same readable (or_pair d.valid d.allowed c.valid c.allowed m v a)
+      (λ x w. ld.accepted x e w.0) (λ x w. ld.read_back x [] l.0 w.0 w.1) (λ x w. lc.accepted x e w.0) (λ x w. lc.read_back x e l.2 w.0 w.1 readable);
   unbounded = λ free. or_weaker d.valid d.allowed c.valid c.allowed (ld.unbounded (λ b. free (inl b))) (lc.unbounded (λ b. free (inr b)));
   memory = or_memory d.accepts d.runs_out d.takes_memory c.runs_out c.takes_memory ld.memory lc.memory;
-  faults = or_faults d.accepts d.text (λ x. d.valid x × d.allowed x) d.read c.read ld.faults lc.faults;
+  errors = or_errors d.accepts d.encoding (λ x. d.valid x × d.allowed x) d.read c.read ld.errors lc.errors;
 }
 
 -- The error of a tag that no alternative accepts is one of the input.
-none_faults : (e : Element) → IsOfText (fault (UnexpectedTag e.tag))
-none_faults e h = cc
+none_errors : (e : Element) → IsOfInput (read_error (UnexpectedTag e.tag))
+none_errors e h = cc
 
 pub none_laws : AlternativesLaws none
 none_laws = record {
-  one_text = λ p m. absurd m;
-  has_text = λ p m. absurd m;
+  one_encoding = λ p m. absurd m;
+  has_encoding = λ p m. absurd m;
   at_most_one = λ m. absurd m;
   no_closures = λ p m. tt;
-  takes = λ e m. absurd m;
-  shape = λ m. absurd m;
+  consumes = λ e m. absurd m;
+  nothing_or_element = λ m. absurd m;
   accepted = λ m. absurd m;
-  again = λ m. absurd m;
+  read_back = λ m. absurd m;
   unbounded = λ free m. absurd m;
   memory = λ e places out. out;
-  faults = none_faults;
+  errors = none_errors;
 }
 
 module _ {M : Type 0} (c : Alternatives M) (lc : AlternativesLaws c) where
-  choice_type_again : (m : M) (rest : List ℕ) → c.lawful → c.valid m → c.allowed m → Fits (c.text m) → (c.text m ≡ [] → stands c.accepts rest ≡ false) → choice_read c.read (c.text m ++ rest) ≡ Ok (m, rest)
-  choice_type_again m rest l v a fits apart = let one = lc.shape m l v in choice_again c.text c.read m rest one fits (λ readable. lc.again m one.element l v a readable one.is)
+  choice_type_read_back : (m : M) (rest : List ℕ) → c.lawful → c.valid m → c.allowed m → Fits (c.encoding m) → (c.encoding m ≡ [] → begins_accepted c.accepts rest ≡ false) → choice_read c.read (c.encoding m ++ rest) ≡ Ok (m, rest)
+  choice_type_read_back m rest l v a fits apart = let one = lc.nothing_or_element m l v in choice_read_back c.encoding c.read m rest one fits (λ readable. lc.read_back m one.element l v a readable one.is)
 
-  choice_type_one_value : (m n : M) → c.lawful → c.valid m → c.valid n → c.allowed m → c.allowed n → Fits (c.text m) → c.text m ≡ c.text n → m ≡ n
-  choice_type_one_value m n l v w a b = one_value c.accepts c.text (choice_read c.read) (λ x. c.valid x × c.allowed x) (λ x p. choice_type_again x [] l p.0 p.1) m n (v, a) (w, b)
+  choice_type_one_value : (m n : M) → c.lawful → c.valid m → c.valid n → c.allowed m → c.allowed n → Fits (c.encoding m) → c.encoding m ≡ c.encoding n → m ≡ n
+  choice_type_one_value m n l v w a b = one_value c.accepts c.encoding (choice_read c.read) (λ x. c.valid x × c.allowed x) (λ x p. choice_type_read_back x [] l p.0 p.1) m n (v, a) (w, b)
 
 pub choice_laws : {M : Type 0} {c : Alternatives M} → AlternativesLaws c → EncodingLaws (choice_encoding c)
 choice_laws {c = c} lc = record {
-  one_text = lc.one_text;
-  has_text = lc.has_text;
+  one_encoding = lc.one_encoding;
+  has_encoding = lc.has_encoding;
   at_most_one = lc.at_most_one;
   no_closures = lc.no_closures;
-  takes = choice_takes c.text (λ x. c.valid x × c.allowed x) c.read lc.takes;
-  shape = λ m l v. inr (lc.shape m l v);
+  consumes = choice_consumes c.encoding (λ x. c.valid x × c.allowed x) c.read lc.consumes;
+  nothing_or_element = λ m l v. inr (lc.nothing_or_element m l v);
   accepted = lc.accepted;
-  solid = λ m l i v e. let one = lc.shape m l v in element_some one.element (sym one.is ∙ e);
-  again = choice_type_again c lc;
+  not_empty = λ m l i v e. let one = lc.nothing_or_element m l v in element_some one.element (sym one.is ∙ e);
+  read_back = choice_type_read_back c lc;
   one_value = choice_type_one_value c lc;
-  short_fits = λ m l v. fits_inside (c.text m) (inr (lc.shape m l v));
+  short_fits = λ m l v. fits_inside (c.encoding m) (inr (lc.nothing_or_element m l v));
   unbounded = lc.unbounded;
   memory = λ t places out. lc.memory out.0.0 places out.2;
-  in_front = λ t places out. (out.0, out.1);
-  faults = choice_faults c.read lc.faults;
+  begins_with_element = λ t places out. (out.0, out.1);
+  errors = choice_errors c.read lc.errors;
   as_closures = λ m h. tt;
   as_valid = λ m v. tt;
   as_memory = λ some. absurd some;
   as_bounded = λ some. absurd some;
-  as_faults = λ meaning. no_content_faults meaning;
+  as_errors = λ meaning. no_content_errors meaning;
   as_plain = λ i. absurd i;
   as_lawful = λ i. absurd i;
-  as_texts = λ i. absurd i;
+  as_encodings = λ i. absurd i;
   as_accepts = λ i. absurd i;
   as_read = λ i. absurd i;
   as_out = λ i. absurd i;

@@ -13,4 +13,4 @@ pub sequence_content_laws : ContentLaws sequence_content
 sequence_content_laws = retagged_laws (λ own. sequence_tag) octets_laws
 
 pub closure_laws : {F E : Type 0} (calls : Once F (MutBor Writer × Unit {0}) (Result (Unit {0}) E × (MutBor Writer × Unit {0}))) → ContentLaws (closure_written calls)
-closure_laws calls = written_laws (record { one_text = λ p. absurd p; has_text = λ p. absurd p; no_closures = λ p. absurd p })
+closure_laws calls = written_laws (record { one_encoding = λ p. absurd p; has_encoding = λ p. absurd p; no_closures = λ p. absurd p })

@@ -4,32 +4,32 @@ use Rattle.asn1_core.specs.declared.tag.Tag.{Tag}
 use Rattle.asn1_core.specs.Encoding.{Content, Encoding, simple_encoding}
 use Rattle.asn1_core.specs.EncodingLaws.{ContentLaws, EncodingLaws}
 use Rattle.asn1_core.specs.LawsOf.Encodings.{simple_laws}
-use Rattle.asn1_core.specs.Lemmas.Faults.{whole_faults}
-use Rattle.asn1_core.specs.Lemmas.Inside.{inside_takes, inside_again}
+use Rattle.asn1_core.specs.Lemmas.Faults.{whole_errors}
+use Rattle.asn1_core.proofs.Inside.{inside_consumes, inside_read_back}
 use Rattle.asn1.specs.Tagged.{one_inside, retagged}
 
 pub one_inside_laws : {A : Type 0} (tag : Tag) {d : Encoding A} → EncodingLaws d → ContentLaws (one_inside tag d)
 one_inside_laws tag {d = d} ld = record {
-  one_text = ld.one_text;
-  has_text = ld.has_text;
+  one_encoding = ld.one_encoding;
+  has_encoding = ld.has_encoding;
   no_closures = ld.no_closures;
-  takes = inside_takes d.text (λ m. d.valid m × d.allowed m) d.read ld.takes;
-  again = λ m l v a s. inside_again d.accepts d.text d.read m (ld.shape m l v) (ld.again m [] l v a) s;
+  consumes = inside_consumes d.encoding (λ m. d.valid m × d.allowed m) d.read ld.consumes;
+  read_back = λ m l v a s. inside_read_back d.accepts d.encoding d.read m (ld.nothing_or_element m l v) (ld.read_back m [] l v a) s;
   unbounded = ld.unbounded;
   memory = ld.memory;
-  faults = λ c. whole_faults (d.read c) (ld.faults c);
+  errors = λ c. whole_errors (d.read c) (ld.errors c);
 }
 
 pub retagged_laws : {M : Type 0} (change : Tag → Tag) {c : Content M} → ContentLaws c → ContentLaws (retagged change c)
 retagged_laws change lc = record {
-  one_text = lc.one_text;
-  has_text = lc.has_text;
+  one_encoding = lc.one_encoding;
+  has_encoding = lc.has_encoding;
   no_closures = lc.no_closures;
-  takes = lc.takes;
-  again = lc.again;
+  consumes = lc.consumes;
+  read_back = lc.read_back;
   unbounded = lc.unbounded;
   memory = lc.memory;
-  faults = lc.faults;
+  errors = lc.errors;
 }
 
 -- a value in an element with this tag

@@ -5,12 +5,12 @@ use Rattle.std.specs.List.{list_all}
 use Rattle.std.proofs.lemmas.List.{nil_from_length}
 use Rattle.std.proofs.lemmas.Bool.{and_parts, and_from, le-leb, leb-true, eqb-true}
 use Rattle.asn1_core.specs.declared.parser.ParseErrorKind.TheVariants.{InvalidValue}
-use Rattle.asn1_core.specs.Text.{IsText}
-use Rattle.asn1_core.specs.Fault.{fault, IsOfText}
+use Rattle.asn1_core.specs.Base256.{IsOctets}
+use Rattle.asn1_core.specs.ReadError.{read_error, IsOfInput}
 use Rattle.asn1_core.specs.Lemmas.Results.{ok_is, bind_ok, passed}
 use Rattle.asn1_values.specs.Times.{IsDate as IsDateAndTime, Moment, IsMoment, days, is_leap, month_lengths, two}
 use Rattle.asn1_values.specs.TimeSteps.{is_digit, front_two}
-use Rattle.asn1_values.specs.Lemmas.Times.{moment_by_test, two_rejected, two_takes, two_again, IsRejected, bind_rejected, if_rejected, rejected_faults, none_rejected}
+use Rattle.asn1_values.specs.Lemmas.Times.{moment_by_test, two_rejected, two_consumes, two_read_back, IsRejected, bind_rejected, if_rejected, rejected_errors, none_rejected}
 use Rattle.asn1.specs.Dates.{Day, IsDay, IsDate, IsDayText, is_day, day_alone, day_text, read_day}
 
 -- ---- the test of a date
@@ -65,43 +65,43 @@ alone_ok d h = rw (test_by_day d h) refl
 
 -- ---- contents octets
 
-pub day_takes : (c : List ℕ) (d : Day) → IsText c → read_day c ≡ Ok d → (c ≡ day_text d) × IsDate d
-day_takes c d is e =
+pub day_consumes : (c : List ℕ) (d : Day) → IsOctets c → read_day c ≡ Ok d → (c ≡ day_text d) × IsDate d
+day_consumes c d is e =
     let p = bind_ok (front_two c) _ d e in
     let q = bind_ok (front_two p.0.1) _ d p.2 in
     let r = bind_ok (front_two q.0.1) _ d q.2 in
     let s = bind_ok (front_two r.0.1) _ d r.2 in
     let n : Day = record { year = p.0.0 * 100 + q.0.0; month = r.0.0; day = s.0.0 } in
     let a = alone_is n s.0.1 d s.2 in
-    let t = two_takes c p.0.1 p.0.0 p.1 in
-    let u = two_takes p.0.1 q.0.1 q.0.0 q.1 in
-    let v = two_takes q.0.1 r.0.1 r.0.0 r.1 in
-    let w = two_takes r.0.1 s.0.1 s.0.0 s.1 in
+    let t = two_consumes c p.0.1 p.0.0 p.1 in
+    let u = two_consumes p.0.1 q.0.1 q.0.0 q.1 in
+    let v = two_consumes q.0.1 r.0.1 r.0.0 r.1 in
+    let w = two_consumes r.0.1 s.0.1 s.0.0 s.1 in
     let high-to = t.0 in
     let low-to = u.0 in
     let high : p.0.0 ≡ (p.0.0 * 100 + q.0.0) / 100 = omega arith in
     let low : q.0.0 ≡ (p.0.0 * 100 + q.0.0) % 100 = omega arith in
     let rest : p.0.1 ≡ two q.0.0 (two n.month (two n.day [])) =
     u.1 ∙ ap (two q.0.0) (v.1 ∙ ap (two n.month) (w.1 ∙ ap (two n.day) a.1)) in
-    let text : c ≡ day_text n =
+    let octets : c ≡ day_text n =
     t.1 ∙ ap (two p.0.0) rest
     ∙ ap (λ (k : ℕ). two k (two q.0.0 (two n.month (two n.day [])))) high
     ∙ ap (λ (k : ℕ). two (n.year / 100) (two k (two n.month (two n.day [])))) low in
     let P : Day → Type 0 = λ x. (c ≡ day_text x) × IsDate x in
-    subst P a.2 (text, day_by_test n a.0)
+    subst P a.2 (octets, day_by_test n a.0)
 
-pub day_again : (d : Day) → IsDate d → read_day (day_text d) ≡ Ok d
-day_again d h =
+pub day_read_back : (d : Day) → IsDate d → read_day (day_text d) ≡ Ok d
+day_read_back d h =
     let to = h.year_to in
     let month = h.month_to in
     let day-to = h.day_to in
     let few = few_days d.year d.month in
     let whole : d.year / 100 * 100 + d.year % 100 ≡ d.year = omega arith in
     rw (
-      two_again (d.year / 100) (two (d.year % 100) (two d.month (two d.day []))) (omega arith),
-      two_again (d.year % 100) (two d.month (two d.day [])) (omega arith),
-      two_again d.month (two d.day []) (omega arith),
-      two_again d.day [] (omega arith),
+      two_read_back (d.year / 100) (two (d.year % 100) (two d.month (two d.day []))) (omega arith),
+      two_read_back (d.year % 100) (two d.month (two d.day [])) (omega arith),
+      two_read_back d.month (two d.day []) (omega arith),
+      two_read_back d.day [] (omega arith),
       whole,
       alone_ok d h,
     ) refl
@@ -119,23 +119,23 @@ day_rejected c =
     bind_rejected (front_two years.1) _ (two_rejected years.1) (λ month.
     bind_rejected (front_two month.1) _ (two_rejected month.1) (λ day. alone_rejected _ day.1))))
 
-pub day_faults : (c : List ℕ) → IfErr (read_day c) IsOfText
-day_faults c = rejected_faults (read_day c) (day_rejected c)
+pub day_errors : (c : List ℕ) → IfErr (read_day c) IsOfInput
+day_errors c = rejected_errors (read_day c) (day_rejected c)
 
 -- ---- what the code returns
 
 pub alone_read : (d : Day) (after : List ℕ) → IsDate d → length after ≡ 0 → day_alone d after ≡ Ok d
 alone_read d after h e = ap (day_alone d) (nil_from_length after e) ∙ alone_ok d h
 
-pub alone_refused : (d : Day) (after : List ℕ) → (IsDate d → length after ≡ 0 → ⊥) → day_alone d after ≡ Err (fault InvalidValue)
+pub alone_refused : (d : Day) (after : List ℕ) → (IsDate d → length after ≡ 0 → ⊥) → day_alone d after ≡ Err (read_error InvalidValue)
 alone_refused d after none = none_rejected (day_alone d after) (alone_rejected d after) (λ x e. let a = alone_is d after x e in none (day_by_test d a.0) (ap length a.1))
 
 -- the date that is made of the numbers, or none
-pub alone_answers : {T : Type 0} (view : T → Day) (r : Option T) (d : Day) (after : List ℕ) → ((x : T) → IsDate (view x)) → length after ≡ 0 → MatchOption r (IsDate d → ⊥) (λ x. view x ≡ d) → MatchOption r (day_alone d after ≡ Err (fault InvalidValue)) (λ x. day_alone d after ≡ Ok (view x))
+pub alone_answers : {T : Type 0} (view : T → Day) (r : Option T) (d : Day) (after : List ℕ) → ((x : T) → IsDate (view x)) → length after ≡ 0 → MatchOption r (IsDate d → ⊥) (λ x. view x ≡ d) → MatchOption r (day_alone d after ≡ Err (read_error InvalidValue)) (λ x. day_alone d after ≡ Ok (view x))
 alone_answers view None d after valid e none = alone_refused d after (λ h _. none h)
 alone_answers view (Some x) d after valid e same = alone_read d after (subst IsDate same (valid x)) e ∙ ap Ok (sym same)
 
 -- ---- the law
 
-pub dates_read : (octets : List ℕ) (d : Day) → IsText octets → (read_day octets ≡ Ok d) ↔ IsDayText octets d
-dates_read octets d is = (λ e. let t = day_takes octets d is e in (t.1, t.0), λ h. ap read_day h.1 ∙ day_again d h.0)
+pub dates_read : (octets : List ℕ) (d : Day) → IsOctets octets → (read_day octets ≡ Ok d) ↔ IsDayText octets d
+dates_read octets d is = (λ e. let t = day_consumes octets d is e in (t.1, t.0), λ h. ap read_day h.1 ∙ day_read_back d h.0)

@@ -13,13 +13,13 @@ use Rattle.std.proofs.lemmas.Slice.Eq.{bytes_eq-Decides}
 use Rattle.std.proofs.Math.Seq.{drop-append_seam}
 use Rattle.std.specs.Int.Digits.{digits_of}
 use Rattle.asn1_core.specs.declared.tag.Tag.{Tag}
-use Rattle.asn1_core.specs.Text.{signed_number}
-use Rattle.asn1_core.specs.Tag.{tag_text, universal}
-use Rattle.asn1_core.specs.Length.{length_text}
-use Rattle.asn1_core.specs.Element.{element, element_text}
+use Rattle.asn1_core.specs.Base256.{signed_number}
+use Rattle.asn1_core.specs.Tag.{identifier_octets, universal}
+use Rattle.asn1_core.specs.Length.{length_octets}
+use Rattle.asn1_core.specs.Element.{element, element_encoding}
 use Rattle.asn1_core.specs.Integer.{integer_content}
-use Rattle.asn1_core.specs.Boolean.{bool_content_text}
-use Rattle.asn1_core.specs.Fault.{Fault}
+use Rattle.asn1_core.specs.Boolean.{bool_octets}
+use Rattle.asn1_core.specs.ReadError.{ReadError}
 use Rattle.asn1_core.specs.Lemmas.Results.{ok_is}
 use Rattle.asn1_core.specs.Lemmas.Lengths.{length_text_low, length_text_high}
 use Rattle.asn1_core.specs.Lemmas.Integers.{content_value}
@@ -34,10 +34,10 @@ use Rattle.asn1_values.specs.IdentifierValues.{identifier_of}
 use Rattle.asn1_values.specs.Times.{Moment, Instant, instant, utc_text, x509_text, instant_text}
 use Rattle.asn1_values.specs.TimeSteps.{read_utc, read_x509, read_instant}
 use Rattle.asn1_values.specs.TimeValues.{utc_moment, x509_moment, instant_of}
-use Rattle.asn1_values.specs.Lemmas.Identifier.{identifier_again, form_in_hand}
+use Rattle.asn1_values.specs.Lemmas.Identifier.{identifier_read_back, form_in_hand}
 use Rattle.asn1_values.proofs.SameIdentifiers.{equal_identifiers}
-use Rattle.asn1_values.specs.Lemmas.Times.{utc_again, x509_again}
-use Rattle.asn1_values.specs.Lemmas.Fractions.{instant_again}
+use Rattle.asn1_values.specs.Lemmas.Times.{utc_read_back, x509_read_back}
+use Rattle.asn1_values.specs.Lemmas.Fractions.{instant_read_back}
 use Rattle.asn1_values.specs.Lemmas.Big.{content_of_signed, signed_form}
 use Rattle.asn1.specs.Defaulted.{EqualityTells, ContentTells}
 use Rattle.asn1_core.specs.Lemmas.Facts.{same_heads}
@@ -47,7 +47,7 @@ use Rattle.asn1_core.specs.Lemmas.Facts.{same_heads}
 behind_same : (a b c d : List ℕ) → length a ≡ length b → a ++ c ≡ b ++ d → c ≡ d
 behind_same a b c d same e = sym (drop-append_seam a c) ∙ (ap (λ (n : ℕ). drop n (a ++ c)) same ∙ (ap (λ (t : List ℕ). drop (length b) t) e ∙ drop-append_seam b d))
 
-lengths_apart : (c d : List ℕ) → length_text (length c) ++ c ≡ length_text (length d) ++ d → c ≡ d
+lengths_apart : (c d : List ℕ) → length_octets (length c) ++ c ≡ length_octets (length d) ++ d → c ≡ d
 lengths_apart c d e =
     elim (cases_lt (length c) 128) [
       | inl low ↦ elim (cases_lt (length d) 128) [
@@ -66,17 +66,17 @@ lengths_apart c d e =
       ]
     ]
 
-pub content_alone : (tag : Tag) (c d : List ℕ) → element_text (element tag c) ≡ element_text (element tag d) → c ≡ d
-unfolding element_text
-content_alone tag c d e = lengths_apart c d (append_cancel_left (tag_text tag) _ _ e)
+pub content_alone : (tag : Tag) (c d : List ℕ) → element_encoding (element tag c) ≡ element_encoding (element tag d) → c ≡ d
+unfolding element_encoding
+content_alone tag c d e = lengths_apart c d (append_cancel_left (identifier_octets tag) _ _ e)
 
 -- ---- the types
 
 -- a simple type, by its contents octets
-pub simple_tells : {V M : Type 0} (view : V → M) (tag : Tag) (text : M → List ℕ) (same : V → V → Bool) (a b : V) → (same a b ≡ true → view a ≡ view b) → (text (view a) ≡ text (view b) → same a b ≡ true) → EqualityTells view (λ m. element_text (element tag (text m))) same a b
-simple_tells view tag text same a b means equal = record { means = means; equal = λ e. equal (content_alone tag (text (view a)) (text (view b)) e) }
+pub simple_tells : {V M : Type 0} (view : V → M) (tag : Tag) (encoding : M → List ℕ) (same : V → V → Bool) (a b : V) → (same a b ≡ true → view a ≡ view b) → (encoding (view a) ≡ encoding (view b) → same a b ≡ true) → EqualityTells view (λ m. element_encoding (element tag (encoding m))) same a b
+simple_tells view tag encoding same a b means equal = record { means = means; equal = λ e. equal (content_alone tag (encoding (view a)) (encoding (view b)) e) }
 
-bools_alone : (a b : Bool) → bool_content_text a ≡ bool_content_text b → a ≡ b
+bools_alone : (a b : Bool) → bool_octets a ≡ bool_octets b → a ≡ b
 bools_alone true true e = refl
 bools_alone false false e = refl
 bools_alone true false e = absurd cc
@@ -92,8 +92,8 @@ bools_mean same first second false false e = refl
 bools_mean same first second true false e = absurd cc
 bools_mean same first second false true e = absurd cc
 
-pub bools_tell : (tag : Tag) (same : Bool → Bool → Bool) → same true true ≡ true → same false false ≡ true → same true false ≡ false → same false true ≡ false → (a b : Bool) → EqualityTells (λ x. x) (λ m. element_text (element tag (bool_content_text m))) same a b
-bools_tell tag same both none first second a b = simple_tells (λ x. x) tag bool_content_text same a b (bools_mean same first second a b) (λ e. bools_equal same both none a b (bools_alone a b e))
+pub bools_tell : (tag : Tag) (same : Bool → Bool → Bool) → same true true ≡ true → same false false ≡ true → same true false ≡ false → same false true ≡ false → (a b : Bool) → EqualityTells (λ x. x) (λ m. element_encoding (element tag (bool_octets m))) same a b
+bools_tell tag same both none first second a b = simple_tells (λ x. x) tag bool_octets same a b (bools_mean same first second a b) (λ e. bools_equal same both none a b (bools_alone a b e))
 
 numbers_alone : (y z : ℤ) → integer_content y ≡ integer_content z → y ≡ z
 numbers_alone y z e = sym (content_value y) ∙ (ap signed_number e ∙ content_value z)
@@ -102,7 +102,7 @@ natural_of : (a b : ℕ) → pos a ≡ pos b → a ≡ b
 natural_of a b e = cc
 
 abbrev pub number_text : Tag → ℤ → List ℕ
-number_text tag z = element_text (element tag (integer_content z))
+number_text tag z = element_encoding (element tag (integer_content z))
 
 -- integers, by the number that a value means
 pub integers_tell : (tag : Tag) (a b : ℤ) → EqualityTells (λ z. z) (number_text tag) int_eq a b
@@ -112,12 +112,12 @@ pub naturals_tell : (tag : Tag) (a b : ℕ) → EqualityTells (λ n. pos n) (num
 naturals_tell tag a b = simple_tells (λ n. pos n) tag integer_content nat_eq a b (λ e. ap (λ (n : ℕ). pos n) ((Decides-eqb a b).0 e)) (λ e. (Decides-eqb a b).1 (natural_of a b (numbers_alone (pos a) (pos b) e)))
 
 -- values whose octets are the contents octets
-pub octets_tell : {V : Type 0} (view : V → List ℕ) (tag : Tag) (same : V → V → Bool) (a b : V) → Decides (same a b) (view a ≡ view b) → EqualityTells view (λ m. element_text (element tag m)) same a b
+pub octets_tell : {V : Type 0} (view : V → List ℕ) (tag : Tag) (same : V → V → Bool) (a b : V) → Decides (same a b) (view a ≡ view b) → EqualityTells view (λ m. element_encoding (element tag m)) same a b
 octets_tell view tag same a b decides = simple_tells view tag (λ m. m) same a b decides.0 decides.1
 
 -- ---- the same of contents octets alone
 
-pub bools_content_tells : (same : Bool → Bool → Bool) → same true true ≡ true → same false false ≡ true → (a b : Bool) → ContentTells (λ x. x) bool_content_text same a b
+pub bools_content_tells : (same : Bool → Bool → Bool) → same true true ≡ true → same false false ≡ true → (a b : Bool) → ContentTells (λ x. x) bool_octets same a b
 bools_content_tells same both none a b e = bools_equal same both none a b (bools_alone a b e)
 
 pub integers_content_tells : (a b : ℤ) → ContentTells (λ z. z) integer_content int_eq a b
@@ -132,7 +132,7 @@ module _ {V : Type 0} (octets : V → List ℕ) (same : V → V → Bool) (a b :
   pub big_content_tells : ContentTells (λ v. signed_number (octets v)) integer_content same a b
   big_content_tells e = decides.1 (content_of_signed (octets a) (signed_form (octets a) f) ∙ (e ∙ sym (content_of_signed (octets b) (signed_form (octets b) g))))
 
-  pub big_tells : EqualityTells (λ v. signed_number (octets v)) (λ z. element_text (element (universal 2) (integer_content z))) same a b
+  pub big_tells : EqualityTells (λ v. signed_number (octets v)) (λ z. element_encoding (element (universal 2) (integer_content z))) same a b
   big_tells = simple_tells (λ v. signed_number (octets v)) (universal 2) integer_content same a b (λ e. ap signed_number (decides.0 e)) big_content_tells
 
 -- ---- bit strings, by octets and padding
@@ -148,21 +148,21 @@ module _ {V : Type 0} (octets : V → List ℕ) (padding : V → ℕ) (same : V 
       let h = same_heads (padding a) (padding b) (octets a) (octets b) e in
       decides.1 (ap (λ (o : List ℕ). bits o (padding a)) h.1 ∙ ap (λ (n : ℕ). bits (octets b) n) h.0)
 
-  pub bits_tell : EqualityTells (λ v. bits (octets v) (padding v)) (λ s. element_text (element (universal 3) (bits_text s))) same a b
+  pub bits_tell : EqualityTells (λ v. bits (octets v) (padding v)) (λ s. element_encoding (element (universal 3) (bits_text s))) same a b
   bits_tell = simple_tells (λ v. bits (octets v) (padding v)) (universal 3) bits_text same a b decides.0 bits_content_tells
 
 -- ---- types whose contents octets are read back
 
-module _ {V M : Type 0} (view : V → M) (text : M → List ℕ) (read : List ℕ → Result M Fault) (same : V → V → Bool) (back : (v : V) → read (text (view v)) ≡ Ok (view v)) (decides : (a b : V) → Decides (same a b) (view a ≡ view b)) where
-  pub read_back_content_tells : (a b : V) → ContentTells view text same a b
+module _ {V M : Type 0} (view : V → M) (encoding : M → List ℕ) (read : List ℕ → Result M ReadError) (same : V → V → Bool) (back : (v : V) → read (encoding (view v)) ≡ Ok (view v)) (decides : (a b : V) → Decides (same a b) (view a ≡ view b)) where
+  pub read_back_content_tells : (a b : V) → ContentTells view encoding same a b
   read_back_content_tells a b e = (decides a b).1 (ok_is (view a) (view b) (sym (back a) ∙ (ap read e ∙ back b)))
 
-  pub read_back_tells : (tag : Tag) (a b : V) → EqualityTells view (λ m. element_text (element tag (text m))) same a b
-  read_back_tells tag a b = simple_tells view tag text same a b (decides a b).0 (read_back_content_tells a b)
+  pub read_back_tells : (tag : Tag) (a b : V) → EqualityTells view (λ m. element_encoding (element tag (encoding m))) same a b
+  read_back_tells tag a b = simple_tells view tag encoding same a b (decides a b).0 (read_back_content_tells a b)
 
 -- object identifiers, by their numbers
 identifier_back : (o : ObjectIdentifier) → read_identifier (identifier_content (identifier_of o)) ≡ Ok (identifier_of o)
-identifier_back o = identifier_again (identifier_of o) (form_in_hand o.octets o.count o.is_content).value
+identifier_back o = identifier_read_back (identifier_of o) (form_in_hand o.octets o.count o.is_content).value
 
 abbrev same_identifiers : ObjectIdentifier → ObjectIdentifier → Bool
 same_identifiers a b = pointwise nat_eq a.octets b.octets && nat_eq a.count b.count
@@ -170,7 +170,7 @@ same_identifiers a b = pointwise nat_eq a.octets b.octets && nat_eq a.count b.co
 pub identifiers_content_tells : (a b : ObjectIdentifier) → ContentTells identifier_of identifier_content same_identifiers a b
 identifiers_content_tells = read_back_content_tells identifier_of identifier_content read_identifier same_identifiers identifier_back equal_identifiers
 
-pub identifiers_tell : (a b : ObjectIdentifier) → EqualityTells identifier_of (λ m. element_text (element (universal 6) (identifier_content m))) same_identifiers a b
+pub identifiers_tell : (a b : ObjectIdentifier) → EqualityTells identifier_of (λ m. element_encoding (element (universal 6) (identifier_content m))) same_identifiers a b
 identifiers_tell = read_back_tells identifier_of identifier_content read_identifier same_identifiers identifier_back equal_identifiers (universal 6)
 
 -- times, by their numbers
@@ -200,7 +200,7 @@ moments_decide m n =
     (numbers_decide m.year n.year (numbers_decide m.month n.month (numbers_decide m.day n.day (numbers_decide m.hour n.hour (numbers_decide m.minute n.minute (Decides-eqb m.second n.second))))))
 
 utc_back : (t : UtcTime) → read_utc (utc_text (utc_moment t)) ≡ Ok (utc_moment t)
-utc_back t = utc_again (utc_moment t) (t.datetime.is_date, t.in_range.0, t.in_range.1)
+utc_back t = utc_read_back (utc_moment t) (t.datetime.is_date, t.in_range.0, t.in_range.1)
 
 abbrev same_utc_times : UtcTime → UtcTime → Bool
 same_utc_times a b = same_moments (utc_moment a) (utc_moment b)
@@ -208,11 +208,11 @@ same_utc_times a b = same_moments (utc_moment a) (utc_moment b)
 pub utc_times_content_tells : (a b : UtcTime) → ContentTells utc_moment utc_text same_utc_times a b
 utc_times_content_tells = read_back_content_tells utc_moment utc_text read_utc same_utc_times utc_back (λ a b. moments_decide (utc_moment a) (utc_moment b))
 
-pub utc_times_tell : (a b : UtcTime) → EqualityTells utc_moment (λ m. element_text (element (universal 23) (utc_text m))) same_utc_times a b
+pub utc_times_tell : (a b : UtcTime) → EqualityTells utc_moment (λ m. element_encoding (element (universal 23) (utc_text m))) same_utc_times a b
 utc_times_tell = read_back_tells utc_moment utc_text read_utc same_utc_times utc_back (λ a b. moments_decide (utc_moment a) (utc_moment b)) (universal 23)
 
 x509_back : (t : X509GeneralizedTime) → read_x509 (x509_text (x509_moment t)) ≡ Ok (x509_moment t)
-x509_back t = x509_again (x509_moment t) (t.datetime.is_date, t.in_range)
+x509_back t = x509_read_back (x509_moment t) (t.datetime.is_date, t.in_range)
 
 abbrev same_x509_times : X509GeneralizedTime → X509GeneralizedTime → Bool
 same_x509_times a b = same_moments (x509_moment a) (x509_moment b)
@@ -220,7 +220,7 @@ same_x509_times a b = same_moments (x509_moment a) (x509_moment b)
 pub x509_times_content_tells : (a b : X509GeneralizedTime) → ContentTells x509_moment x509_text same_x509_times a b
 x509_times_content_tells = read_back_content_tells x509_moment x509_text read_x509 same_x509_times x509_back (λ a b. moments_decide (x509_moment a) (x509_moment b))
 
-pub x509_times_tell : (a b : X509GeneralizedTime) → EqualityTells x509_moment (λ m. element_text (element (universal 24) (x509_text m))) same_x509_times a b
+pub x509_times_tell : (a b : X509GeneralizedTime) → EqualityTells x509_moment (λ m. element_encoding (element (universal 24) (x509_text m))) same_x509_times a b
 x509_times_tell = read_back_tells x509_moment x509_text read_x509 same_x509_times x509_back (λ a b. moments_decide (x509_moment a) (x509_moment b)) (universal 24)
 
 abbrev same_instants : Instant → Instant → Bool
@@ -241,7 +241,7 @@ instants_decide i j =
     (Decides-and (same_moments i.moment j.moment) (option_eq nat_eq i.nanoseconds j.nanoseconds) (moments_decide i.moment j.moment) (nanoseconds_decide i.nanoseconds j.nanoseconds))
 
 instant_back : (t : GeneralizedTime) → read_instant (instant_text (instant_of t)) ≡ Ok (instant_of t)
-instant_back t = instant_again (instant_of t) ((t.datetime.is_date, t.in_range), t.in_second)
+instant_back t = instant_read_back (instant_of t) ((t.datetime.is_date, t.in_range), t.in_second)
 
 abbrev same_generalized_times : GeneralizedTime → GeneralizedTime → Bool
 same_generalized_times a b = same_instants (instant_of a) (instant_of b)
@@ -249,19 +249,19 @@ same_generalized_times a b = same_instants (instant_of a) (instant_of b)
 pub generalized_times_content_tells : (a b : GeneralizedTime) → ContentTells instant_of instant_text same_generalized_times a b
 generalized_times_content_tells = read_back_content_tells instant_of instant_text read_instant same_generalized_times instant_back (λ a b. instants_decide (instant_of a) (instant_of b))
 
-pub generalized_times_tell : (a b : GeneralizedTime) → EqualityTells instant_of (λ m. element_text (element (universal 24) (instant_text m))) same_generalized_times a b
+pub generalized_times_tell : (a b : GeneralizedTime) → EqualityTells instant_of (λ m. element_encoding (element (universal 24) (instant_text m))) same_generalized_times a b
 generalized_times_tell = read_back_tells instant_of instant_text read_instant same_generalized_times instant_back (λ a b. instants_decide (instant_of a) (instant_of b)) (universal 24)
 
 -- ---- wrappers
 
 -- values that are seen as others, for example a wrapper as its inner value
-pub seen_tells : {V W M : Type 0} (view : W → V) (meaning : V → M) (text : M → List ℕ) (same : V → V → Bool) (a b : W) → EqualityTells meaning text same (view a) (view b) → EqualityTells (λ w. meaning (view w)) text (λ x y. same (view x) (view y)) a b
-seen_tells view meaning text same a b tells = record { means = tells.means; equal = tells.equal }
+pub seen_tells : {V W M : Type 0} (view : W → V) (meaning : V → M) (encoding : M → List ℕ) (same : V → V → Bool) (a b : W) → EqualityTells meaning encoding same (view a) (view b) → EqualityTells (λ w. meaning (view w)) encoding (λ x y. same (view x) (view y)) a b
+seen_tells view meaning encoding same a b tells = record { means = tells.means; equal = tells.equal }
 
 -- the same, with the encoding as the contents octets of an element
-pub inside_tells : {V W M : Type 0} (view : W → V) (meaning : V → M) (tag : Tag) (text : M → List ℕ) (same : V → V → Bool) (a b : W) → EqualityTells meaning text same (view a) (view b) → EqualityTells (λ w. meaning (view w)) (λ m. element_text (element tag (text m))) (λ x y. same (view x) (view y)) a b
-inside_tells view meaning tag text same a b tells = record { means = tells.means; equal = λ e. tells.equal (content_alone tag (text (meaning (view a))) (text (meaning (view b))) e) }
+pub inside_tells : {V W M : Type 0} (view : W → V) (meaning : V → M) (tag : Tag) (encoding : M → List ℕ) (same : V → V → Bool) (a b : W) → EqualityTells meaning encoding same (view a) (view b) → EqualityTells (λ w. meaning (view w)) (λ m. element_encoding (element tag (encoding m))) (λ x y. same (view x) (view y)) a b
+inside_tells view meaning tag encoding same a b tells = record { means = tells.means; equal = λ e. tells.equal (content_alone tag (encoding (meaning (view a))) (encoding (meaning (view b))) e) }
 
 -- the same contents octets under another tag
-pub retagged_tells : {V W M : Type 0} (view : W → V) (meaning : V → M) (tag : Tag) (inner text : M → List ℕ) (same : V → V → Bool) (a b : W) → EqualityTells meaning inner same (view a) (view b) → ContentTells meaning text same (view a) (view b) → EqualityTells (λ w. meaning (view w)) (λ m. element_text (element tag (text m))) (λ x y. same (view x) (view y)) a b
-retagged_tells view meaning tag inner text same a b tells content = simple_tells (λ w. meaning (view w)) tag text (λ x y. same (view x) (view y)) a b tells.means content
+pub retagged_tells : {V W M : Type 0} (view : W → V) (meaning : V → M) (tag : Tag) (inner encoding : M → List ℕ) (same : V → V → Bool) (a b : W) → EqualityTells meaning inner same (view a) (view b) → ContentTells meaning encoding same (view a) (view b) → EqualityTells (λ w. meaning (view w)) (λ m. element_encoding (element tag (encoding m))) (λ x y. same (view x) (view y)) a b
+retagged_tells view meaning tag inner encoding same a b tells content = simple_tells (λ w. meaning (view w)) tag encoding (λ x y. same (view x) (view y)) a b tells.means content

@@ -3,7 +3,7 @@ use Rattle.std.proofs.Common.{◌≡◌, ℕ, ◌^◌, ◌-◌, true, List, [], 
 use Rattle.std.specs.Prelude.{is_some, replicate}
 use Rattle.std.specs.List.{list_all}
 use Rattle.std.proofs.lemmas.Bool.{and_parts, and_from, ltb-true, lt-ltb, leb-true, le-leb}
-use Rattle.asn1_core.specs.Base128.{number_text}
+use Rattle.asn1_core.specs.Base128.{number_octets}
 use Rattle.asn1_values.specs.Identifier.{AllSmall, IsIdentifier, IsIdentifierForm, identifier_content}
 use Rattle.asn1_values.specs.Lemmas.Identifier.{content_text, form_before, numbers_joined, some_content}
 use Rattle.asn1.specs.IdentifierTests.{is_identifier}
@@ -30,5 +30,5 @@ content_form numbers is = form_before (identifier_content numbers) (some_content
 
 -- the identifier 0.0
 pub zero_is : IsIdentifier (0 ∷ [])
-unfolding number_text
+unfolding number_octets
 zero_is = identifier_by_test (0 ∷ []) refl

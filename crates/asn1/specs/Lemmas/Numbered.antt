@@ -2,21 +2,21 @@
 use Rattle.std.proofs.Common.{refl, ap, subst, ◌∙◌}
 use Rattle.std.specs.Prelude.{ℕ, ℤ, pos, negsuc, ◌≤ℤ◌, ◌≡◌, List, Result, Ok, IfErr}
 use Rattle.asn1_core.specs.declared.parser.ParseErrorKind.TheVariants.{InvalidValue}
-use Rattle.asn1_core.specs.Text.{IsText}
-use Rattle.asn1_core.specs.Fault.{Fault, fault, IsOfText}
+use Rattle.asn1_core.specs.Base256.{IsOctets}
+use Rattle.asn1_core.specs.ReadError.{ReadError, read_error, IsOfInput}
 use Rattle.asn1_core.specs.Element.{◌>>=◌}
 use Rattle.asn1_core.specs.Integer.{integer_content, read_sized}
-use Rattle.asn1_core.specs.Lemmas.Integers.{sized_takes, sized_again, sized_faults}
+use Rattle.asn1_core.specs.Lemmas.Integers.{sized_consumes, sized_read_back, sized_errors}
 use Rattle.asn1_core.specs.Lemmas.Results.{bind_ok, ok_is, passed}
-use Rattle.asn1_core.specs.Lemmas.Faults.{bind_faults, passed_faults}
+use Rattle.asn1_core.specs.Lemmas.Faults.{bind_errors, passed_errors}
 use Rattle.asn1.specs.Listed.{largest, lists, IsListed, if_listed, read_listed}
 
-abbrev done : ℤ → Result ℤ Fault
+abbrev done : ℤ → Result ℤ ReadError
 done z = Ok z
 
 if_listed_is : (numbers : List ℕ) (z m : ℤ) → if_listed numbers z ≡ Ok m → (z ≡ m) × IsListed numbers m
 if_listed_is numbers (pos n) m e =
-    let p = passed (lists numbers n) (Ok (pos n)) (fault InvalidValue) m e in
+    let p = passed (lists numbers n) (Ok (pos n)) (read_error InvalidValue) m e in
     let same = ok_is _ _ p.1 in
     (same, subst (IsListed numbers) same p.0)
 if_listed_is numbers (negsuc n) m e = absurd cc
@@ -25,19 +25,19 @@ kept_if_listed : (numbers : List ℕ) (z : ℤ) → IsListed numbers z → if_li
 kept_if_listed numbers (pos n) listed = rw listed refl
 kept_if_listed numbers (negsuc n) listed = absurd listed
 
-not_listed_faults : (numbers : List ℕ) (z : ℤ) → IfErr (if_listed numbers z) IsOfText
-not_listed_faults numbers (pos n) = passed_faults (lists numbers n) (Ok (pos n)) InvalidValue tt (λ e. cc)
-not_listed_faults numbers (negsuc n) = λ e. cc
+not_listed_errors : (numbers : List ℕ) (z : ℤ) → IfErr (if_listed numbers z) IsOfInput
+not_listed_errors numbers (pos n) = passed_errors (lists numbers n) (Ok (pos n)) InvalidValue tt (λ e. cc)
+not_listed_errors numbers (negsuc n) = λ e. cc
 
-pub listed_takes : (numbers : List ℕ) (c : List ℕ) (m : ℤ) → IsText c → read_listed numbers c ≡ Ok m → (c ≡ integer_content m) × (((pos 0 ≤ℤ m) × (m ≤ℤ largest)) × IsListed numbers m)
-listed_takes numbers c m is e =
+pub listed_consumes : (numbers : List ℕ) (c : List ℕ) (m : ℤ) → IsOctets c → read_listed numbers c ≡ Ok m → (c ≡ integer_content m) × (((pos 0 ≤ℤ m) × (m ≤ℤ largest)) × IsListed numbers m)
+listed_consumes numbers c m is e =
     let p = bind_ok (read_sized (pos 0) largest c) (if_listed numbers) m e in
     let q = if_listed_is numbers p.0 m p.2 in
-    let got = sized_takes (pos 0) largest c m is (p.1 ∙ ap done q.0) in
+    let got = sized_consumes (pos 0) largest c m is (p.1 ∙ ap done q.0) in
     (got.0, (got.1, q.1))
 
-pub listed_again : (numbers : List ℕ) (m : ℤ) → (pos 0 ≤ℤ m) × (m ≤ℤ largest) → IsListed numbers m → read_listed numbers (integer_content m) ≡ Ok m
-listed_again numbers m range listed = ap (λ (r : Result ℤ Fault). r >>= if_listed numbers) (sized_again (pos 0) largest m range) ∙ kept_if_listed numbers m listed
+pub listed_read_back : (numbers : List ℕ) (m : ℤ) → (pos 0 ≤ℤ m) × (m ≤ℤ largest) → IsListed numbers m → read_listed numbers (integer_content m) ≡ Ok m
+listed_read_back numbers m range listed = ap (λ (r : Result ℤ ReadError). r >>= if_listed numbers) (sized_read_back (pos 0) largest m range) ∙ kept_if_listed numbers m listed
 
-pub listed_faults : (numbers : List ℕ) (c : List ℕ) → IfErr (read_listed numbers c) IsOfText
-listed_faults numbers c = bind_faults (read_sized (pos 0) largest c) (if_listed numbers) (sized_faults (pos 0) largest c) (not_listed_faults numbers)
+pub listed_errors : (numbers : List ℕ) (c : List ℕ) → IfErr (read_listed numbers c) IsOfInput
+listed_errors numbers c = bind_errors (read_sized (pos 0) largest c) (if_listed numbers) (sized_errors (pos 0) largest c) (not_listed_errors numbers)

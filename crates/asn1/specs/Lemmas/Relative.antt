@@ -3,21 +3,21 @@ use Rattle.std.proofs.Common.{◌≡◌, ℕ, zero, suc, ◌<◌, ◌≤◌, get
 use Rattle.std.specs.Prelude.{is_some, decimal}
 use Rattle.std.proofs.lemmas.Bool.{cases_lt, ne_eqb}
 use Rattle.asn1_core.specs.declared.parser.ParseErrorKind.TheVariants.{InvalidValue}
-use Rattle.asn1_core.specs.Text.{IsText}
-use Rattle.asn1_core.specs.Base128.{number_front}
-use Rattle.asn1_core.specs.Fault.{Fault, fault, IsOfText}
+use Rattle.asn1_core.specs.Base256.{IsOctets}
+use Rattle.asn1_core.specs.Base128.{leading_number}
+use Rattle.asn1_core.specs.ReadError.{ReadError, read_error, IsOfInput}
 use Rattle.asn1_core.specs.Lemmas.Facts.{octet_at}
-use Rattle.asn1_core.specs.Lemmas.Faults.{missed_faults}
-use Rattle.asn1_core.specs.Lemmas.Texts.{IsText-from_reads}
+use Rattle.asn1_core.specs.Lemmas.Faults.{missed_errors}
+use Rattle.asn1_core.specs.Lemmas.Texts.{IsOctets-from_reads}
 use Rattle.asn1_values.specs.Identifier.{identifier_content, numbers_in, or_invalid, or_none, identifier_numbers}
 use Rattle.asn1_values.specs.IdentifierSteps.{others_text}
-use Rattle.asn1_values.specs.Lemmas.Identifier.{content_some, has_front, none_of, numbers_is, numbers_nil, numbers_of, numbers_joined, or_invalid_faults, refuses_ok, some_content, valid_numbers}
-use Rattle.asn1_values.specs.Lemmas.Dotted.{front_numbers}
+use Rattle.asn1_values.specs.Lemmas.Identifier.{content_some, has_front, none_of, numbers_is, numbers_nil, numbers_of, numbers_joined, or_invalid_errors, refuses_ok, some_content, valid_numbers}
+use Rattle.asn1_values.proofs.Dotted.{front_numbers}
 use Rattle.asn1.specs.Relative.{IsRelative, IsRelativeContent, IsRelativeForm, RelativesAreRead, read_relative, arcs_text}
 
 -- ---- what reading returns
 
-pub relative_none : (t : List ℕ) → length t ≡ 0 → read_relative t ≡ Err (fault InvalidValue)
+pub relative_none : (t : List ℕ) → length t ≡ 0 → read_relative t ≡ Err (read_error InvalidValue)
 unfolding read_relative
 relative_none t none = rw none refl
 
@@ -25,8 +25,8 @@ pub relative_some : (t : List ℕ) → 0 < length t → read_relative t ≡ or_i
 unfolding read_relative
 relative_some t some = rw (ne_eqb (length t) 0 (λ (z : length t ≡ 0). absurd (omega arith))) refl
 
-pub relative_takes : (c arcs : List ℕ) → IsText c → read_relative c ≡ Ok arcs → (c ≡ identifier_content arcs) × IsRelative arcs
-relative_takes c arcs is e = ⊎_elim
+pub relative_consumes : (c arcs : List ℕ) → IsOctets c → read_relative c ≡ Ok arcs → (c ≡ identifier_content arcs) × IsRelative arcs
+relative_consumes c arcs is e = ⊎_elim
     (λ (none : length c < 1). absurd (refuses_ok _ arcs _ (relative_none c (omega arith)) e))
     (λ (some : 1 ≤ length c).
     let cut = numbers_is c arcs is (valid_numbers (numbers_in c) arcs (sym (relative_some c (omega arith)) ∙ e)) in
@@ -35,20 +35,20 @@ relative_takes c arcs is e = ⊎_elim
       record { some = content_some arcs (omega arith); small = cut.small },
     )) (cases_lt (length c) 1)
 
-pub relative_again : (arcs : List ℕ) → IsRelative arcs → read_relative (identifier_content arcs) ≡ Ok arcs
-relative_again arcs is = relative_some (identifier_content arcs) (some_content arcs is.some) ∙ ap or_invalid (numbers_joined arcs is.small)
+pub relative_read_back : (arcs : List ℕ) → IsRelative arcs → read_relative (identifier_content arcs) ≡ Ok arcs
+relative_read_back arcs is = relative_some (identifier_content arcs) (some_content arcs is.some) ∙ ap or_invalid (numbers_joined arcs is.small)
 
 pub relatives_are_read : RelativesAreRead
 relatives_are_read octets arcs is = (
-  λ e. let taken = relative_takes octets arcs is e in record { identifier = taken.1; content = taken.0 },
-  λ h. ap read_relative h.content ∙ relative_again arcs h.identifier,
+  λ e. let taken = relative_consumes octets arcs is e in record { identifier = taken.1; content = taken.0 },
+  λ h. ap read_relative h.content ∙ relative_read_back arcs h.identifier,
 )
 
-pub relative_faults : (c : List ℕ) → IfErr (read_relative c) IsOfText
+pub relative_errors : (c : List ℕ) → IfErr (read_relative c) IsOfInput
 unfolding read_relative
-relative_faults c = missed_faults (eqb (length c) 0) InvalidValue _ (λ e. cc) (or_invalid_faults (numbers_in c))
+relative_errors c = missed_errors (eqb (length c) 0) InvalidValue _ (λ e. cc) (or_invalid_errors (numbers_in c))
 
-pub relative_refused : (t : List ℕ) (f : Fault) → is_some (numbers_in t) ≡ false → 0 < length t → f ≡ fault InvalidValue → read_relative t ≡ Err f
+pub relative_refused : (t : List ℕ) (f : ReadError) → is_some (numbers_in t) ≡ false → 0 < length t → f ≡ read_error InvalidValue → read_relative t ≡ Err f
 relative_refused t f cuts some e = relative_some t some ∙ none_of (numbers_in t) cuts ∙ ap Err (sym e)
 
 pub relative_read : (t : List ℕ) → 0 < length t → is_some (numbers_in t) ≡ true → read_relative t ≡ Ok (identifier_numbers t)
@@ -56,36 +56,36 @@ relative_read t some cuts = relative_some t some ∙ ap or_invalid (numbers_of t
 
 -- ---- the form in memory
 
-pub form_text : (t : List ℕ) → IsRelativeForm t → IsText t
-form_text t form = IsText-from_reads t form.each
+pub form_text : (t : List ℕ) → IsRelativeForm t → IsOctets t
+form_text t form = IsOctets-from_reads t form.each
 
 pub form_content : (t : List ℕ) → IsRelativeForm t → IsRelativeContent t (identifier_numbers t)
 form_content t form =
-    let taken = relative_takes t (identifier_numbers t) (form_text t form) (relative_read t form.some form.cuts) in
+    let taken = relative_consumes t (identifier_numbers t) (form_text t form) (relative_read t form.some form.cuts) in
     record { identifier = taken.1; content = taken.0 }
 
 -- the first arc, and the octets after it
 pub record IsSplit (t : List ℕ) (n : ℕ) (rest : List ℕ) : Type 0 where
   pub arcs : identifier_numbers t ≡ n ∷ identifier_numbers rest
-  pub octets : IsText rest
+  pub octets : IsOctets rest
   pub cuts : is_some (numbers_in rest) ≡ true
   pub shorter : length rest < length t
 
-pub split : (t : List ℕ) (n : ℕ) (rest : List ℕ) → IsRelativeForm t → number_front t ≡ Ok (n, rest) → IsSplit t n rest
+pub split : (t : List ℕ) (n : ℕ) (rest : List ℕ) → IsRelativeForm t → leading_number t ≡ Ok (n, rest) → IsSplit t n rest
 split t n rest form e =
     let numbers = front_numbers t n rest (form_text t form) form.some e form.cuts in
     let front = has_front t n rest (form_text t form) e in
     record { arcs = numbers.1; octets = front.octets; cuts = numbers.0; shorter = front.shorter }
 
-pub form_rest : (t : List ℕ) (n : ℕ) (rest : List ℕ) → IsRelativeForm t → number_front t ≡ Ok (n, rest) → 0 < length rest → IsRelativeForm rest
+pub form_rest : (t : List ℕ) (n : ℕ) (rest : List ℕ) → IsRelativeForm t → leading_number t ≡ Ok (n, rest) → 0 < length rest → IsRelativeForm rest
 form_rest t n rest form e some =
     let found = split t n rest form e in
     record { some = some; cuts = found.cuts; each = octet_at rest found.octets }
 
-pub split_last : (t : List ℕ) (n : ℕ) (rest : List ℕ) → IsRelativeForm t → number_front t ≡ Ok (n, rest) → length rest ≡ 0 → identifier_numbers t ≡ n ∷ []
+pub split_last : (t : List ℕ) (n : ℕ) (rest : List ℕ) → IsRelativeForm t → leading_number t ≡ Ok (n, rest) → length rest ≡ 0 → identifier_numbers t ≡ n ∷ []
 split_last t n rest form e none = (split t n rest form e).arcs ∙ ap (λ (o : Option (List ℕ)). n ∷ or_none o) (numbers_nil rest none)
 
 -- ---- the dotted form
 
-pub arcs_first : (t : List ℕ) (n : ℕ) (rest : List ℕ) → IsRelativeForm t → number_front t ≡ Ok (n, rest) → decimal n ++ others_text (identifier_numbers rest) ≡ arcs_text (identifier_numbers t)
+pub arcs_first : (t : List ℕ) (n : ℕ) (rest : List ℕ) → IsRelativeForm t → leading_number t ≡ Ok (n, rest) → decimal n ++ others_text (identifier_numbers rest) ≡ arcs_text (identifier_numbers t)
 arcs_first t n rest form e = sym (ap arcs_text (split t n rest form e).arcs)

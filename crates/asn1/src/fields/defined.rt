@@ -2,7 +2,7 @@
 
 ghost use Rattle.std.specs.Prelude.{◌≡◌, IsOk};
 ghost use Rattle.std.specs.Str.{bytes_eq};
-ghost use Rattle.asn1_core.specs.Reading.{Answers};
+ghost use Rattle.asn1_core.specs.Reading.{Returns};
 ghost use Rattle.asn1_values.specs.Identifier.{read_identifier};
 ghost use Rattle.asn1_values.specs.IdentifierValues.{identifier_of};
 ghost use Rattle.asn1.specs.Structures.{BehindItem, ItemErrors, before_behind, item_list, value_behind};
@@ -45,7 +45,7 @@ pub trait RowBehindReadable<'a, T: Asn1Readable<'a>>: Sized + Drop {
 
     /// Reads the fields after this item. Errors are those of [`RowReadable::read`].
     fn read<S: NameSource>(item: T, parser: Parser<'a>, names: S) -> ParseResult<Self>
-        ensures { Answers behind.meaning (behind.fields.runs_out (S.texts names)
+        ensures { Returns behind.meaning (behind.fields.runs_out (S.texts names)
             (behind.item.meaning item) parser.entry) result
             (behind.fields.read (S.texts names) (behind.item.meaning item) parser.entry) };
 
@@ -90,7 +90,7 @@ pub struct LastValue<C> {
 fn read_item<'a, T: Asn1Readable<'a>, B: RowBehindReadable<'a, T>>(
     parser: &mut Parser<'a>,
 ) -> ParseResult<T>
-    ensures { Answers (λ v. (B.behind.item.meaning v, parser.new))
+    ensures { Returns (λ v. (B.behind.item.meaning v, parser.new))
         (B.behind.item.runs_out parser.old) result (B.behind.item.read parser.old) }
 {
     parser.read_element::<T>()
@@ -101,7 +101,7 @@ fn read_value<'a, T: Asn1Readable<'a>, C: DefinedField<T> + Asn1DefinedByReadabl
     item: T,
     parser: &mut Parser<'a>,
 ) -> ParseResult<C>
-    ensures { Answers (λ v. (C.both.value.meaning v, parser.new))
+    ensures { Returns (λ v. (C.both.value.meaning v, parser.new))
         (C.both.value.runs_out (C.both.item.meaning item) parser.old) result
         (C.both.value.read (C.both.item.meaning item) parser.old) }
 {
@@ -237,7 +237,7 @@ impl<T: Asn1Writable + Drop, C: DefinedField<T> + Asn1DefinedByWritable<T>> Fiel
     for ItemOf<T> {
     type Error = T::Error;
 
-    ghost encodings = { λ v. C.both.item.texts (C.both.value.item (C.both.value.meaning v)) };
+    ghost encodings = { λ v. C.both.item.encodings (C.both.value.item (C.both.value.meaning v)) };
 
     ghost owes = { λ v. C.both.item.closures (C.both.value.item (C.both.value.meaning v)) };
 
@@ -266,7 +266,7 @@ impl<T: Asn1Writable, C: DefinedField<T> + Asn1DefinedByWritable<T>> FieldWritab
     for ValueOf<T> {
     type Error = C::Error;
 
-    ghost encodings = { λ v. C.both.value.texts (C.both.value.meaning v) };
+    ghost encodings = { λ v. C.both.value.encodings (C.both.value.meaning v) };
 
     ghost owes = { λ v. C.both.value.closures (C.both.value.meaning v) };
 

@@ -2,8 +2,8 @@
 //! written ([`FieldWritable`]).
 
 ghost use Rattle.std.specs.Prelude.{◌≡◌, List, ℕ, OnOk, OnErr, IfErr};
-ghost use Rattle.asn1_core.specs.Buffer.{Appends, KeepsFront};
-ghost use Rattle.asn1_core.specs.Writing.{buffer_name, octets_of, GivesLength, Refuses};
+ghost use Rattle.asn1_core.specs.Buffer.{Appends, KeepsPrefix};
+ghost use Rattle.asn1_core.specs.Writing.{buffer_name, octets_of, GivesLength, NamesError};
 ghost use Rattle.asn1.specs.Structures.{defaulted, encoded, owed};
 
 use crate::wrappers::{DefaultValue, Defaulted, MeaningEq, is_default};
@@ -54,8 +54,8 @@ pub trait FieldWritable<P>: Sized {
         ensures same_buffer { buffer_name dest.new ≡ buffer_name dest.old }
         ensures ok { OnOk result (Appends (encodings value.now) (octets_of dest.old)
             (octets_of dest.new)) }
-        ensures err { OnErr result (KeepsFront (octets_of dest.old) (octets_of dest.new)) }
-        ensures error { IfErr result (Refuses Self.Error.from_gives (write_errors value.now)) };
+        ensures err { OnErr result (KeepsPrefix (octets_of dest.old) (octets_of dest.new)) }
+        ensures error { IfErr result (NamesError Self.Error.from_gives (write_errors value.now)) };
 
     /// How many octets the encoding of the value has, if that is known without writing the value.
     fn plain_length(value: &P) -> Option<usize>
@@ -106,8 +106,8 @@ pub fn write_plain<W: FieldWritable<P>, P>(value: &P, dest: &mut Writer<'_>) -> 
     ensures same_buffer { buffer_name dest.new ≡ buffer_name dest.old }
     ensures ok { OnOk result (Appends (W.encodings value.now) (octets_of dest.old)
         (octets_of dest.new)) }
-    ensures err { OnErr result (KeepsFront (octets_of dest.old) (octets_of dest.new)) }
-    ensures error { IfErr result (Refuses W.Error.from_gives (W.write_errors value.now)) }
+    ensures err { OnErr result (KeepsPrefix (octets_of dest.old) (octets_of dest.new)) }
+    ensures error { IfErr result (NamesError W.Error.from_gives (W.write_errors value.now)) }
 {
     W::write_plain(value, dest)
 }

@@ -1,8 +1,8 @@
 //! Fields that are written: a row of references to a struct's fields, four at a time, and how each is written.
 
 ghost use Rattle.std.specs.Prelude.{◌⊎◌, List, ℕ, OnOk, OnErr, IfErr};
-ghost use Rattle.asn1_core.specs.Buffer.{Appends, KeepsFront};
-ghost use Rattle.asn1_core.specs.Writing.{GivesLength, Refuses};
+ghost use Rattle.asn1_core.specs.Buffer.{Appends, KeepsPrefix};
+ghost use Rattle.asn1_core.specs.Writing.{GivesLength, NamesError};
 ghost use Rattle.asn1.specs.FieldReads.{Both};
 
 use super::{Field, FieldWritable, Last, sum};
@@ -63,8 +63,8 @@ pub trait RowWritable<K>: Sized {
     fn write(&self, dest: &mut WriteBuf) -> Result<(), Self::Error>
         requires { owes self.now }
         ensures ok { OnOk result (Appends (encodings self.now) dest.old.bytes dest.new.bytes) }
-        ensures err { OnErr result (KeepsFront dest.old.bytes dest.new.bytes) }
-        ensures error { IfErr result (Refuses Self.Error.from_gives (write_errors self.now)) };
+        ensures err { OnErr result (KeepsPrefix dest.old.bytes dest.new.bytes) }
+        ensures error { IfErr result (NamesError Self.Error.from_gives (write_errors self.now)) };
 
     /// How many octets the encodings of the fields have together, if that is known without writing them. `None` also
     /// if that number is 2^64 or more.

@@ -2,7 +2,7 @@
 
 ghost use Rattle.std.specs.Prelude.{◌≡◌, IsTrue, List, ℕ, length, Result};
 ghost use Rattle.std.specs.Fn.{FnOnceReturnsAtMut};
-ghost use Rattle.asn1_core.specs.Reading.{IsHandedOn};
+ghost use Rattle.asn1_core.specs.Reading.{PassesOn};
 ghost use Rattle.asn1_core.specs.Reads.{ReadsContents};
 ghost use Rattle.asn1_core.specs.Der.{simple_der};
 ghost use Rattle.asn1_core.specs.Listing.{sequence_tag};
@@ -46,7 +46,7 @@ impl<'a> Sequence<'a> {
         requires { F.IsAlwaysCallable f }
         ensures { (rest : List ℕ) × (answer : Result T E)
             × FnOnceReturnsAtMut F.FnOnce f (sequence_octets self.entry) answer rest
-            × IsHandedOn E.from_gives answer rest result }
+            × PassesOn E.from_gives answer rest result }
     {
         parse(alloc, self.data, f)
     }

@@ -8,12 +8,13 @@ ghost use Rattle.std.specs.Cmp.{partial_equiv_from_equiv, on_per, on_equiv};
 ghost use Rattle.std.specs.Cmp.Lexicographic.{pointwise, nat_list_eq_equiv};
 ghost use Rattle.std.specs.Cmp.Rules.{hashing};
 ghost use Rattle.std.proofs.Common.{rules};
-ghost use Rattle.asn1_core.specs.Buffer.{Appends, KeepsFront};
-ghost use Rattle.asn1_core.specs.Element.{Element, front};
-ghost use Rattle.asn1_core.specs.Reading.{Answers, EndsWith, Fits};
+ghost use Rattle.asn1_core.specs.Buffer.{Appends, KeepsPrefix};
+ghost use Rattle.asn1_core.specs.Element.{Element, leading_element};
+ghost use Rattle.asn1_core.specs.Reading.{Returns, EndsWith, Fits};
 ghost use Rattle.asn1_core.specs.Reads.{ReadsContents};
-ghost use Rattle.asn1_core.specs.Listing.{AnyNames, Each, Joins, OneNames, joined, sequence_tag};
-ghost use Rattle.asn1_core.specs.Writing.{buffer_name, octets_of, GivesLength, Refuses};
+ghost use Rattle.std.specs.List.{flat_map, AllByRecursion};
+ghost use Rattle.asn1_core.specs.Listing.{AnyNames, Joins, OneNames, sequence_tag};
+ghost use Rattle.asn1_core.specs.Writing.{buffer_name, octets_of, GivesLength, NamesError};
 ghost use Rattle.asn1.specs.Lists.{AreItems, AreOctets, left, item, counted, item_out, items_out, NextItem};
 ghost use Rattle.asn1.specs.Types.{list_der};
 
@@ -95,7 +96,7 @@ impl<'a, T: Asn1Readable<'a>, const MINIMUM_LEN: usize, const MAXIMUM_LEN: usize
     /// States that each item that remains may be read back: it was read, so it is within its bounds. The call does
     /// nothing at run time.
     pub fn known_items(&self)
-        ensures { Each T.der.allowed
+        ensures { AllByRecursion T.der.allowed
             (⟦<SequenceOf<'a, T, MINIMUM_LEN, MAXIMUM_LEN> as Asn1Type>⟧.der.meaning self.now) }
     {}
 }
@@ -125,14 +126,16 @@ impl<
         store: &'a mut Vec<u8>,
     ) -> Result<ParseResult<Self>, T::Error>
         // The list is what reading the items' encodings returns, if they are short enough to be read.
-        ensures read { Fits (⟦<SequenceOf<'a, T, MINIMUM_LEN, MAXIMUM_LEN> as Asn1Type>⟧.der.text
+        ensures read { Fits
+            (⟦<SequenceOf<'a, T, MINIMUM_LEN, MAXIMUM_LEN> as Asn1Type>⟧.der.encoding
             (map T.der.meaning items.now)) → IfOk result (ReadsContents
             ⟦<SequenceOf<'a, T, MINIMUM_LEN, MAXIMUM_LEN> as Asn1Type>⟧.der
-            (joined T.der.text (map T.der.meaning items.now))) }
+            (flat_map T.der.encoding (map T.der.meaning items.now))) }
 
         // The list means the items, in their order.
         ensures items { T.der.lawful → T.der.is_element
-            → Each T.der.allowed (map T.der.meaning items.now) → IfOk result (λ read. IfOk read
+            → AllByRecursion T.der.allowed (map T.der.meaning items.now) → IfOk result
+            (λ read. IfOk read
             (λ list. ⟦<SequenceOf<'a, T, MINIMUM_LEN, MAXIMUM_LEN> as Asn1Type>⟧.der.meaning list
             ≡ map T.der.meaning items.now)) }
 
@@ -140,13 +143,13 @@ impl<
         ensures made { T.der.lawful → T.der.is_element
             → ⟦<SequenceOf<'a, T, MINIMUM_LEN, MAXIMUM_LEN> as Asn1Type>⟧.der.allowed
             (map T.der.meaning items.now)
-            → Fits (⟦<SequenceOf<'a, T, MINIMUM_LEN, MAXIMUM_LEN> as Asn1Type>⟧.der.text
-            (map T.der.meaning items.now)) → IfOk result (λ read. Answers
+            → Fits (⟦<SequenceOf<'a, T, MINIMUM_LEN, MAXIMUM_LEN> as Asn1Type>⟧.der.encoding
+            (map T.der.meaning items.now)) → IfOk result (λ read. Returns
             ⟦<SequenceOf<'a, T, MINIMUM_LEN, MAXIMUM_LEN> as Asn1Type>⟧.der.meaning
             (⟦<SequenceOf<'a, T, MINIMUM_LEN, MAXIMUM_LEN> as Asn1Type>⟧.der.content.runs_out
-            (joined T.der.text (map T.der.meaning items.now))) read
+            (flat_map T.der.encoding (map T.der.meaning items.now))) read
             (Ok (map T.der.meaning items.now))) }
-        ensures error { IfErr result (Refuses T.Error.from_gives
+        ensures error { IfErr result (NamesError T.Error.from_gives
             (AnyNames T.write_errors items.now)) }
     {
         // By this call's contract each item has one encoding.
@@ -276,7 +279,7 @@ impl<
 /// Reads the item at an index. An item without octets is rejected.
 #[inline]
 fn read_item<'a, T: Asn1Readable<'a>>(parser: &mut Parser<'a>, index: usize) -> ParseResult<T>
-    ensures answers { Answers (λ v. (T.der.meaning v, parser.new))
+    ensures answers { Returns (λ v. (T.der.meaning v, parser.new))
         (item_out T.der.runs_out index parser.old) result (item T.der.read index parser.old) }
     ensures rest { EndsWith parser.old parser.new }
 {
@@ -294,7 +297,7 @@ fn read_item<'a, T: Asn1Readable<'a>>(parser: &mut Parser<'a>, index: usize) -> 
 
 /// Counts the items of contents octets. It reads each item.
 fn count_items<'a, T: Asn1Readable<'a>>(alloc: Global, content: &'a [u8]) -> ParseResult<usize>
-    ensures { Answers (λ n. n) (items_out T.der.read T.der.runs_out (length content.entry.now) 0
+    ensures { Returns (λ n. n) (items_out T.der.read T.der.runs_out (length content.entry.now) 0
         content.entry.now) result (counted T.der.read 0 content.entry.now) }
 {
     let mut parser = Parser::new(alloc, content);
@@ -309,7 +312,7 @@ fn count_items<'a, T: Asn1Readable<'a>>(alloc: Global, content: &'a [u8]) -> Par
 /// The octets after the element at the start, if there is one.
 #[cold]
 fn behind_element<'a>(alloc: Global, content: &'a [u8]) -> &'a [u8]
-    ensures { (f : Element × List ℕ) → front content.entry.now ≡ Ok f → result.now ≡ f.1 }
+    ensures { (f : Element × List ℕ) → leading_element content.entry.now ≡ Ok f → result.now ≡ f.1 }
 {
     let mut parser = Parser::new(alloc, content);
     let _tlv = parser.read_element::<Tlv<'a>>();
@@ -374,13 +377,13 @@ fn write_items<'a, T: Asn1Readable<'a> + Asn1Writable>(
     writer: &mut Writer<'_>,
 ) -> Result<(), T::Error>
     requires are_items { AreItems T.der.read items.now number }
-    requires closures { Each T.der.closures (left T.der.read items.now) }
+    requires closures { AllByRecursion T.der.closures (left T.der.read items.now) }
     ensures same_buffer { buffer_name writer.new ≡ buffer_name writer.old }
     ensures ok { OnOk result (Appends
-        (Joins T.der.texts (left T.der.read items.entry.now)) (octets_of writer.old)
+        (Joins T.der.encodings (left T.der.read items.entry.now)) (octets_of writer.old)
         (octets_of writer.new)) }
-    ensures err { OnErr result (KeepsFront (octets_of writer.old) (octets_of writer.new)) }
-    ensures error { IfErr result (Refuses T.Error.from_gives (OneNames T.write_errors)) }
+    ensures err { OnErr result (KeepsPrefix (octets_of writer.old) (octets_of writer.new)) }
+    ensures error { IfErr result (NamesError T.Error.from_gives (OneNames T.write_errors)) }
 {
     let mut parser = Parser::new(alloc, items);
     let mut count = number;
@@ -425,7 +428,7 @@ impl<
 
     fn data_length(&self) -> Option<usize>
         ensures length { GivesLength (Unit {0})
-            (Joins T.der.texts (left T.der.read self.now.content.now)) result }
+            (Joins T.der.encodings (left T.der.read self.now.content.now)) result }
         ensures known { IsSome result }
     {
         // By this call's contract each item has one encoding, which is the octets that it was read from.

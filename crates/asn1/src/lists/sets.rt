@@ -10,14 +10,15 @@ ghost use Rattle.std.specs.Cmp.{partial_equiv_from_equiv, on_per, on_equiv};
 ghost use Rattle.std.specs.Cmp.Lexicographic.{pointwise, nat_list_eq_equiv};
 ghost use Rattle.std.specs.Cmp.Rules.{hashing};
 ghost use Rattle.std.proofs.Common.{rules};
-ghost use Rattle.asn1_core.specs.Buffer.{Appends, KeepsFront};
-ghost use Rattle.asn1_core.specs.Listing.{text_less, AnyNames, Each, Joins, OneNames, joined, set_tag};
+ghost use Rattle.asn1_core.specs.Buffer.{Appends, KeepsPrefix};
+ghost use Rattle.std.specs.List.{flat_map, AllByRecursion};
+ghost use Rattle.asn1_core.specs.Listing.{encoding_less, AnyNames, Joins, OneNames, set_tag};
 ghost use Rattle.asn1_core.specs.Tag.{tag_less};
 ghost use Rattle.asn1_core.specs.Tlv.{element_of};
-ghost use Rattle.asn1_core.specs.Reading.{Answers, EndsWith, Fits, IsHandedOn, element_front};
+ghost use Rattle.asn1_core.specs.Reading.{Returns, EndsWith, Fits, PassesOn, framed_element};
 ghost use Rattle.asn1_core.specs.Reads.{ReadsContents};
 ghost use Rattle.asn1_core.specs.Der.{simple_der};
-ghost use Rattle.asn1_core.specs.Writing.{buffer_name, octets_of, GivesLength, Refuses};
+ghost use Rattle.asn1_core.specs.Writing.{buffer_name, octets_of, GivesLength, NamesError};
 ghost use Rattle.asn1.specs.Lists.{AreOctets, NextItem};
 ghost use Rattle.asn1.specs.Sets.{AreOrdered, set_left, set_item, checked, set_item_out, set_out, first_out};
 ghost use Rattle.asn1.specs.Sets.{element_behind};
@@ -45,9 +46,9 @@ fn read_in_order<'a, T: Asn1Readable<'a>>(
     before: &'a [u8],
     index: usize,
 ) -> ParseResult<(T, &'a [u8])>
-    ensures answers { Answers (λ x. (T.der.meaning x.0, x.1.now, parser.new))
-        (set_item_out text_less T.der.runs_out before.now index parser.old) result
-        (set_item text_less T.der.read before.now index parser.old) }
+    ensures answers { Returns (λ x. (T.der.meaning x.0, x.1.now, parser.new))
+        (set_item_out encoding_less T.der.runs_out before.now index parser.old) result
+        (set_item encoding_less T.der.read before.now index parser.old) }
     ensures rest { EndsWith parser.old parser.new }
 {
     let tlv = match parser.read_element::<Tlv<'a>>() {
@@ -66,9 +67,9 @@ fn read_in_order<'a, T: Asn1Readable<'a>>(
 
 /// Reads the items of contents octets, and rejects them if they aren't in order.
 fn check_items<'a, T: Asn1Readable<'a>>(alloc: Global, content: &'a [u8]) -> ParseResult<()>
-    ensures { Answers (λ x. x) (set_out text_less T.der.read T.der.runs_out []
+    ensures { Returns (λ x. x) (set_out encoding_less T.der.read T.der.runs_out []
         (length content.entry.now) 0 content.entry.now) result
-        (checked text_less T.der.read [] 0 content.entry.now) }
+        (checked encoding_less T.der.read [] 0 content.entry.now) }
 {
     let mut parser = Parser::new(alloc, content);
     let mut before = &content[..0];
@@ -83,7 +84,7 @@ fn check_items<'a, T: Asn1Readable<'a>>(alloc: Global, content: &'a [u8]) -> Par
 
 /// Reads the element at an index, after one with the tag `last`: frames the element, and checks the order of tags.
 fn read_behind<'a>(parser: &mut Parser<'a>, last: Option<Tag>, index: usize) -> ParseResult<Tlv<'a>>
-    ensures answers { Answers (λ t. (element_of t, parser.new)) (λ places. ⊥) result
+    ensures answers { Returns (λ t. (element_of t, parser.new)) (λ places. ⊥) result
         (element_behind last index parser.old) }
     ensures rest { EndsWith parser.old parser.new }
 {
@@ -102,8 +103,8 @@ fn read_behind<'a>(parser: &mut Parser<'a>, last: Option<Tag>, index: usize) -> 
 
 /// Reads the elements of contents octets, and rejects them if their tags aren't in order.
 fn check_elements(alloc: Global, content: &[u8]) -> ParseResult<()>
-    ensures { Answers (λ x. x) (λ places. ⊥) result
-        (checked tag_less element_front [] 0 content.entry.now) }
+    ensures { Returns (λ x. x) (λ places. ⊥) result
+        (checked tag_less framed_element [] 0 content.entry.now) }
 {
     let mut parser = Parser::new(alloc, content);
     let mut last = None;
@@ -134,7 +135,7 @@ fn check_elements(alloc: Global, content: &[u8]) -> ParseResult<()>
 #[derive(Debug, PartialEq, Eq, Hash, Drop)]
 pub struct Set<'a> {
     data: &'a [u8],
-    pub ghost is_ordered: { AreOrdered tag_less element_front «data».now },
+    pub ghost is_ordered: { AreOrdered tag_less framed_element «data».now },
 }
 
 impl<'a> Set<'a> {
@@ -152,7 +153,7 @@ impl<'a> Set<'a> {
         requires { F.IsAlwaysCallable f }
         ensures { (rest : List ℕ) × (answer : Result T E)
             × FnOnceReturnsAtMut F.FnOnce f (octets_of_set self.entry) answer rest
-            × IsHandedOn E.from_gives answer rest result }
+            × PassesOn E.from_gives answer rest result }
     {
         parse(alloc, self.data, f)
     }
@@ -257,14 +258,14 @@ pub struct SetOf<'a, T: Asn1Type> {
     alloc: Global,
     of: PhantomData<T>,
     pub ghost are_octets: { AreOctets content.now },
-    pub ghost are_ordered: { AreOrdered text_less T.der.read content.now },
+    pub ghost are_ordered: { AreOrdered encoding_less T.der.read content.now },
 }
 
 impl<'a, T: Asn1Readable<'a>> SetOf<'a, T> {
     /// States that each item that remains may be read back: it was read, so it is within its bounds. The call does
     /// nothing at run time.
     pub fn known_items(&self)
-        ensures { Each T.der.allowed (⟦<SetOf<'a, T> as Asn1Type>⟧.der.meaning self.now) }
+        ensures { AllByRecursion T.der.allowed (⟦<SetOf<'a, T> as Asn1Type>⟧.der.meaning self.now) }
     {}
 }
 
@@ -286,27 +287,28 @@ impl<'a, T: Asn1Readable<'a> + Asn1Writable> SetOf<'a, T> {
         store: &'a mut Vec<u8>,
     ) -> Result<ParseResult<Self>, T::Error>
         // The set is what reading the items' encodings in order returns, if they are short enough to be read.
-        ensures read { Fits (⟦<SetOf<'a, T> as Asn1Type>⟧.der.text
-            (in_order T.der.text (map T.der.meaning items.now)))
+        ensures read { Fits (⟦<SetOf<'a, T> as Asn1Type>⟧.der.encoding
+            (in_order T.der.encoding (map T.der.meaning items.now)))
             → IfOk result (ReadsContents ⟦<SetOf<'a, T> as Asn1Type>⟧.der
-            (joined T.der.text (in_order T.der.text (map T.der.meaning items.now)))) }
+            (flat_map T.der.encoding (in_order T.der.encoding (map T.der.meaning items.now)))) }
 
         // The set means the items, in ascending order of their encodings.
         ensures items { T.der.lawful → T.der.is_element
-            → Each T.der.allowed (map T.der.meaning items.now) → IfOk result (λ read. IfOk read
+            → AllByRecursion T.der.allowed (map T.der.meaning items.now) → IfOk result
+            (λ read. IfOk read
             (λ set. ⟦<SetOf<'a, T> as Asn1Type>⟧.der.meaning set
-            ≡ in_order T.der.text (map T.der.meaning items.now))) }
+            ≡ in_order T.der.encoding (map T.der.meaning items.now))) }
 
         // There is such a set if the items' encodings are short enough to be read.
         ensures made { T.der.lawful → T.der.is_element
-            → Each T.der.allowed (map T.der.meaning items.now)
-            → Fits (⟦<SetOf<'a, T> as Asn1Type>⟧.der.text
-            (in_order T.der.text (map T.der.meaning items.now))) → IfOk result (λ read. Answers
+            → AllByRecursion T.der.allowed (map T.der.meaning items.now)
+            → Fits (⟦<SetOf<'a, T> as Asn1Type>⟧.der.encoding
+            (in_order T.der.encoding (map T.der.meaning items.now))) → IfOk result (λ read. Returns
             ⟦<SetOf<'a, T> as Asn1Type>⟧.der.meaning
             (⟦<SetOf<'a, T> as Asn1Type>⟧.der.content.runs_out
-            (joined T.der.text (in_order T.der.text (map T.der.meaning items.now)))) read
-            (Ok (in_order T.der.text (map T.der.meaning items.now)))) }
-        ensures error { IfErr result (Refuses T.Error.from_gives
+            (flat_map T.der.encoding (in_order T.der.encoding (map T.der.meaning items.now)))) read
+            (Ok (in_order T.der.encoding (map T.der.meaning items.now)))) }
+        ensures error { IfErr result (NamesError T.Error.from_gives
             (AnyNames T.write_errors items.now)) }
     {
         // By this call's contract each item has one encoding.
@@ -356,8 +358,8 @@ impl<'a, T: Asn1Type> PartialEq for SetOf<'a, T> {
 
     fn eq(&self, other: &Self) -> bool
         ensures value { result ≡ pointwise nat_eq self.now.content.now other.now.content.now }
-        ensures items { IsTrue result ↔ (set_left text_less T.der.read self.now.content.now
-            ≡ set_left text_less T.der.read other.now.content.now) }
+        ensures items { IsTrue result ↔ (set_left encoding_less T.der.read self.now.content.now
+            ≡ set_left encoding_less T.der.read other.now.content.now) }
     {
         self.content == other.content
     }
@@ -379,7 +381,7 @@ impl<'a, T: Asn1Type> Hash for SetOf<'a, T> {
 
 impl<'a, T: Asn1Type> Asn1Type for SetOf<'a, T> {
     ghost der = { set_der T.der
-        (λ s. set_left text_less T.der.read s.content.now) };
+        (λ s. set_left encoding_less T.der.read s.content.now) };
 
     fn known(&self) {}
 }
@@ -412,11 +414,11 @@ impl<'a, T: Asn1Readable<'a>> SimpleAsn1Readable<'a> for SetOf<'a, T> {
 #[inline(always)]
 fn read_first<'a, T: Asn1Readable<'a>>(parser: &mut Parser<'a>) -> ParseResult<T>
     requires some { 0 < length parser.now }
-    requires are_ordered { AreOrdered text_less T.der.read parser.now }
+    requires are_ordered { AreOrdered encoding_less T.der.read parser.now }
     ensures item { NextItem (first_out T.der.runs_out parser.old) T.der.meaning
-        (set_left text_less T.der.read parser.old) (Some result)
-        (set_left text_less T.der.read parser.new) }
-    ensures after { AreOrdered text_less T.der.read parser.new }
+        (set_left encoding_less T.der.read parser.old) (Some result)
+        (set_left encoding_less T.der.read parser.new) }
+    ensures after { AreOrdered encoding_less T.der.read parser.new }
     ensures shorter { length parser.new < length parser.old }
 {
     parser.rest().known();
@@ -430,8 +432,8 @@ impl<'a, T: Asn1Readable<'a>> Iterator for SetOf<'a, T> {
     type Item = ParseResult<T>;
 
     ghost next_gives = { λ s r t. NextItem (first_out T.der.runs_out s.content.now) T.der.meaning
-        (set_left text_less T.der.read s.content.now) r
-        (set_left text_less T.der.read t.content.now) };
+        (set_left encoding_less T.der.read s.content.now) r
+        (set_left encoding_less T.der.read t.content.now) };
 
     ghost remaining = { λ s. at_most (length s.content.now) };
 
@@ -459,14 +461,15 @@ fn write_set_items<'a, T: Asn1Readable<'a> + Asn1Writable>(
     items: &'a [u8],
     writer: &mut Writer<'_>,
 ) -> Result<(), T::Error>
-    requires are_ordered { AreOrdered text_less T.der.read items.now }
-    requires closures { Each T.der.closures (set_left text_less T.der.read items.now) }
+    requires are_ordered { AreOrdered encoding_less T.der.read items.now }
+    requires closures { AllByRecursion T.der.closures (set_left encoding_less T.der.read
+        items.now) }
     ensures same_buffer { buffer_name writer.new ≡ buffer_name writer.old }
     ensures ok { OnOk result (Appends
-        (Joins T.der.texts (set_left text_less T.der.read items.entry.now))
+        (Joins T.der.encodings (set_left encoding_less T.der.read items.entry.now))
         (octets_of writer.old) (octets_of writer.new)) }
-    ensures err { OnErr result (KeepsFront (octets_of writer.old) (octets_of writer.new)) }
-    ensures error { IfErr result (Refuses T.Error.from_gives (OneNames T.write_errors)) }
+    ensures err { OnErr result (KeepsPrefix (octets_of writer.old) (octets_of writer.new)) }
+    ensures error { IfErr result (NamesError T.Error.from_gives (OneNames T.write_errors)) }
 {
     let mut parser = Parser::new(alloc, items);
     'items: while !parser.is_empty() {
@@ -504,7 +507,8 @@ impl<'a, T: Asn1Readable<'a> + Asn1Writable> SimpleAsn1Writable for SetOf<'a, T>
 
     fn data_length(&self) -> Option<usize>
         ensures length { GivesLength (Unit {0})
-            (Joins T.der.texts (set_left text_less T.der.read self.now.content.now)) result }
+            (Joins T.der.encodings (set_left encoding_less T.der.read self.now.content.now))
+            result }
         ensures known { IsSome result }
     {
         // By this call's contract each item has one encoding, which is the octets that it was read from.

@@ -1,10 +1,11 @@
 //! SEQUENCE and SEQUENCE OF that are only written (X.690 8.9, 8.10).
 
 ghost use Rattle.std.specs.Prelude.{◌≡◌, map};
-ghost use Rattle.asn1_core.specs.Writing.{MayAnswer};
+ghost use Rattle.asn1_core.specs.Writing.{ClosureMayFail};
 ghost use Rattle.asn1_core.specs.Der.{encoding_of, simple_der};
 ghost use Rattle.asn1_core.specs.LawsOf.Contents.{items_laws};
-ghost use Rattle.asn1_core.specs.Listing.{AnyNames, Each, sequence_tag};
+ghost use Rattle.std.specs.List.{AllByRecursion};
+ghost use Rattle.asn1_core.specs.Listing.{AnyNames, sequence_tag};
 ghost use Rattle.asn1_core.specs.SetWriting.{items_written};
 ghost use Rattle.asn1.specs.InHand.{closure_written, sequence_closure, sequence_items};
 
@@ -20,7 +21,7 @@ use std::marker::PhantomData;
 /// ```text
 /// let fields = |writer: &mut Writer<'_>| -> WriteResult<()>
 ///     ensures same_buffer { buffer_name writer.new ≡ buffer_name writer.old }
-///     ensures front { KeepsFront (octets_of writer.old) (octets_of writer.new) }
+///     ensures front { KeepsPrefix (octets_of writer.old) (octets_of writer.new) }
 /// {
 ///     writer.write_element(&name)?;
 ///     writer.write_element(&true)
@@ -59,7 +60,7 @@ impl<F: Fn(&mut Writer<'_>) -> Result<(), E>, E: From<WriteError>> SimpleAsn1Wri
     for SequenceWriter<'_, F, E> {
     type Error = E;
 
-    ghost write_errors = { λ v. MayAnswer F.FnOnce (sequence_closure v) };
+    ghost write_errors = { λ v. ClosureMayFail F.FnOnce (sequence_closure v) };
 
     fn tag() -> Tag
         ensures value { result ≡ sequence_tag }
@@ -118,7 +119,7 @@ impl<T: Asn1Writable> SimpleAsn1Writable for SequenceOfWriter<'_, T> {
 
     ghost write_errors = { λ v. AnyNames T.write_errors (sequence_items v) };
 
-    ghost length_known = { λ v. Each T.length_known (sequence_items v) };
+    ghost length_known = { λ v. AllByRecursion T.length_known (sequence_items v) };
 
     fn tag() -> Tag
         ensures value { result ≡ sequence_tag }

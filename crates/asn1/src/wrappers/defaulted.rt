@@ -2,7 +2,7 @@
 
 ghost use Rattle.std.specs.Prelude.{◌≡◌};
 ghost use Rattle.asn1.specs.InHand.{defaulted_inner};
-ghost use Rattle.asn1.specs.Defaults.{or_read_default, same_text, seen_ok, UnlessDefault};
+ghost use Rattle.asn1.specs.Defaults.{or_read_default, same_encoding, seen_ok, UnlessDefault};
 ghost use Rattle.asn1.specs.Defaulted.{ContentTells, EqualityTells};
 ghost use Rattle.asn1.specs.Types.{default_der};
 
@@ -16,13 +16,13 @@ use std::marker::PhantomData;
 /// ([`Defaulted`]).
 pub trait MeaningEq: Asn1Type + PartialEq {
     // Values that are equal mean the same, and values with the same encoding are equal.
-    ghost tells: { (a b : Self) → EqualityTells Self.der.meaning Self.der.text Self.eq a b };
+    ghost tells: { (a b : Self) → EqualityTells Self.der.meaning Self.der.encoding Self.eq a b };
 }
 
 /// The same of a type with a tag of its own, by contents octets. The type may have another tag ([`crate::Implicit`]).
 pub trait SimpleMeaningEq: MeaningEq + Asn1Type + PartialEq {
     // Values with the same contents octets are equal.
-    ghost content_tells: { (a b : Self) → ContentTells Self.der.meaning Self.der.content.text
+    ghost content_tells: { (a b : Self) → ContentTells Self.der.meaning Self.der.content.encoding
         Self.eq a b };
 }
 
@@ -115,7 +115,8 @@ fn or_default<T: MeaningEq + Drop, D>(
 
 /// Whether the value equals the default, and so isn't encoded.
 pub(crate) fn is_default<T: MeaningEq + Drop, D: DefaultValue<T>>(inner: &T) -> bool
-    ensures { result ≡ same_text T.der.text (T.der.meaning inner.now) (T.der.meaning D.default) }
+    ensures { result ≡ same_encoding T.der.encoding (T.der.meaning inner.now)
+        (T.der.meaning D.default) }
 {
     let default = D::value();
     *inner == default
@@ -139,7 +140,7 @@ impl<T: Asn1Writable + MeaningEq + Drop, D: DefaultValue<T>> Asn1Writable for De
 
     ghost write_errors = { λ x. T.write_errors (defaulted_inner x) };
 
-    ghost length_known = { λ x. UnlessDefault T.der.text (T.der.meaning D.default)
+    ghost length_known = { λ x. UnlessDefault T.der.encoding (T.der.meaning D.default)
         (T.der.meaning (defaulted_inner x)) (T.length_known (defaulted_inner x)) };
 
     fn write(&self, dest: &mut Writer<'_>) -> Result<(), T::Error> {

@@ -327,7 +327,7 @@ impl SimpleMeaningEq for OwnedBitString {
 
 impl<T: MeaningEq, const TAG: u32> MeaningEq for Explicit<T, TAG> {
     ghost tells = { λ a b. inside_tells explicit_inner T.der.meaning (explicit_tag_of TAG)
-        T.der.text T.eq a b (T.tells (explicit_inner a) (explicit_inner b)) };
+        T.der.encoding T.eq a b (T.tells (explicit_inner a) (explicit_inner b)) };
 }
 
 impl<T: MeaningEq, const TAG: u32> SimpleMeaningEq for Explicit<T, TAG> {
@@ -335,7 +335,8 @@ impl<T: MeaningEq, const TAG: u32> SimpleMeaningEq for Explicit<T, TAG> {
 }
 
 impl<T: MeaningEq> MeaningEq for OctetStringEncoded<T> {
-    ghost tells = { λ a b. inside_tells octet_string_inner T.der.meaning (universal 4) T.der.text
+    ghost tells = { λ a b. inside_tells octet_string_inner T.der.meaning (universal 4)
+        T.der.encoding
         T.eq a b (T.tells (octet_string_inner a) (octet_string_inner b)) };
 }
 
@@ -345,7 +346,8 @@ impl<T: MeaningEq> SimpleMeaningEq for OctetStringEncoded<T> {
 
 impl<T: SimpleMeaningEq, const TAG: u32> MeaningEq for Implicit<T, TAG> {
     ghost tells = { λ a b. retagged_tells implicit_inner T.der.meaning (implicit_tag_of TAG
-        T.der.content.tag) T.der.text T.der.content.text T.eq a b (T.tells (implicit_inner a)
+        T.der.content.tag) T.der.encoding T.der.content.encoding T.eq a b
+        (T.tells (implicit_inner a)
         (implicit_inner b)) (T.content_tells (implicit_inner a) (implicit_inner b)) };
 }
 
@@ -356,7 +358,8 @@ impl<T: SimpleMeaningEq, const TAG: u32> SimpleMeaningEq for Implicit<T, TAG> {
 impl<T: MeaningEq, const CLASS: u8, const NUMBER: u32> MeaningEq
     for TaggedExplicit<T, CLASS, NUMBER> {
     ghost tells = { λ a b. inside_tells tagged_explicit_inner T.der.meaning (explicit_tag_in CLASS
-        NUMBER) T.der.text T.eq a b (T.tells (tagged_explicit_inner a) (tagged_explicit_inner b)) };
+        NUMBER) T.der.encoding T.eq a b (T.tells (tagged_explicit_inner a)
+        (tagged_explicit_inner b)) };
 }
 
 impl<T: MeaningEq, const CLASS: u8, const NUMBER: u32> SimpleMeaningEq
@@ -368,7 +371,7 @@ impl<T: MeaningEq, const CLASS: u8, const NUMBER: u32> SimpleMeaningEq
 impl<T: SimpleMeaningEq, const CLASS: u8, const NUMBER: u32> MeaningEq
     for TaggedImplicit<T, CLASS, NUMBER> {
     ghost tells = { λ a b. retagged_tells tagged_implicit_inner T.der.meaning (implicit_tag_in CLASS
-        NUMBER T.der.content.tag) T.der.text T.der.content.text T.eq a b
+        NUMBER T.der.content.tag) T.der.encoding T.der.content.encoding T.eq a b
         (T.tells (tagged_implicit_inner a) (tagged_implicit_inner b))
         (T.content_tells (tagged_implicit_inner a) (tagged_implicit_inner b)) };
 }
@@ -380,7 +383,7 @@ impl<T: SimpleMeaningEq, const CLASS: u8, const NUMBER: u32> SimpleMeaningEq
 }
 
 impl<T: MeaningEq> MeaningEq for Box<T> {
-    ghost tells = { λ a b. seen_tells (λ x. x.value) T.der.meaning T.der.text T.eq a b (T.tells
+    ghost tells = { λ a b. seen_tells (λ x. x.value) T.der.meaning T.der.encoding T.eq a b (T.tells
         a.value b.value) };
 }
 

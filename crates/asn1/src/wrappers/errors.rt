@@ -1,8 +1,8 @@
 //! Values whose writes fail with another error, so that one row may have fields of several errors.
 
 ghost use Rattle.std.specs.Prelude.{◌≡◌};
-ghost use Rattle.asn1_core.specs.Der.{seen};
-ghost use Rattle.asn1_core.specs.Writing.{Refuses};
+ghost use Rattle.asn1_core.specs.Der.{viewed};
+ghost use Rattle.asn1_core.specs.Writing.{NamesError};
 ghost use Rattle.asn1.specs.InHand.{MadeFrom, error_into_inner};
 
 use asn1_core::{
@@ -56,7 +56,7 @@ impl<A, E> From<A> for ErrorInto<A, E> {
 }
 
 impl<A: Asn1Type, E> Asn1Type for ErrorInto<A, E> {
-    ghost der = { seen error_into_inner A.der };
+    ghost der = { viewed error_into_inner A.der };
 
     fn known(&self) {
         self.inner.known()
@@ -77,7 +77,7 @@ impl<A: Asn1Writable, E: From<WriteError> + From<A::Error>> Asn1Writable for Err
     type Error = E;
 
     ghost write_errors = { λ x. MadeFrom ⟦<E as From<A::Error>>⟧.from_gives
-        (Refuses A.Error.from_gives (A.write_errors (error_into_inner x))) };
+        (NamesError A.Error.from_gives (A.write_errors (error_into_inner x))) };
 
     ghost length_known = { λ x. A.length_known (error_into_inner x) };
 

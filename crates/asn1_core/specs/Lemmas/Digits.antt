@@ -6,7 +6,7 @@ use Rattle.std.proofs.lemmas.Int.Digits.{number_push, number_after_ge, digits_of
 use Rattle.std.proofs.lemmas.Nat.{div-mul-add, mod-mul-add}
 use Rattle.std.proofs.lemmas.List.{nil_from_length, length_push, get_or_append_left}
 use Rattle.std.proofs.Math.Nat.{pow-succ'}
-use Rattle.asn1_core.specs.Text.{number}
+use Rattle.asn1_core.specs.Base256.{number}
 use Rattle.asn1_core.specs.Base128.{digits_number}
 
 -- the last item of a list

@@ -1,6 +1,6 @@
 -- Facts of Booleans, options and lists of octets that std has no lemma of.
 use Rattle.std.proofs.Common.{◌≡◌, ◌<◌, ℕ, zero, suc, Bool, true, false, Some, List, [], ◌∷◌, length, take, get_or, replicate, refl, ap, lit<, arith}
-use Rattle.asn1_core.specs.Text.{IsText}
+use Rattle.asn1_core.specs.Base256.{IsOctets}
 
 -- a test isn't both true and false
 pub not_both : {P : Type 0} (b : Bool) → b ≡ true → b ≡ false → P
@@ -23,11 +23,11 @@ pub take_all : (t : List ℕ) → take (length t) t ≡ t
 take_all [] = refl
 take_all (x ∷ xs) = ap (λ ys. x ∷ ys) (take_all xs)
 
-pub octet_at : (t : List ℕ) → IsText t → (k : ℕ) → get_or t k 0 < 256
+pub octet_at : (t : List ℕ) → IsOctets t → (k : ℕ) → get_or t k 0 < 256
 octet_at [] is k = lit< tt
 octet_at (x ∷ xs) is zero = is.0
 octet_at (x ∷ xs) is (suc k) = octet_at xs is.1 k
 
-pub zeros_are_octets : (n : ℕ) → IsText (replicate n 0)
+pub zeros_are_octets : (n : ℕ) → IsOctets (replicate n 0)
 zeros_are_octets zero = tt
 zeros_are_octets (suc n) = (lit< tt, zeros_are_octets n)

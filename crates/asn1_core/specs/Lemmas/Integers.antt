@@ -7,13 +7,13 @@ use Rattle.std.proofs.lemmas.Int.Digits.{number_digits_of, all_below_base_digits
 use Rattle.std.proofs.lemmas.Bool.{le-leb, lt-leb, ne_eqb, eqb-true, eqb-false, cases_lt, cases_Bool, or_parts, or_cases, not-true, not-false}
 use Rattle.std.proofs.lemmas.List.{length-map}
 use Rattle.std.proofs.Math.Nat.{pow-suc, add-mul}
-use Rattle.asn1_core.specs.Text.{IsText, number, signed_number}
+use Rattle.asn1_core.specs.Base256.{IsOctets, number, signed_number}
 use Rattle.asn1_core.specs.Integer.{IsIntegerContent, nine_bits, is_minimal, with_sign, turned, integer_content, read_integer, below, within_range, read_sized, unless_zero}
 use Rattle.asn1_core.specs.Element.{◌>>=◌}
-use Rattle.asn1_core.specs.Fault.{Fault, fault, IsOfText}
+use Rattle.asn1_core.specs.ReadError.{ReadError, read_error, IsOfInput}
 use Rattle.asn1_core.specs.Lemmas.Digits.{digits_back, number_by_digits, Leads}
 use Rattle.asn1_core.specs.Lemmas.Results.{done, ok_is, passed, bind_ok}
-use Rattle.asn1_core.specs.Lemmas.Faults.{bind_faults, passed_faults, missed_faults}
+use Rattle.asn1_core.specs.Lemmas.Faults.{bind_errors, passed_errors, missed_errors}
 use Rattle.asn1_core.specs.declared.parser.ParseErrorKind.TheVariants.{AllocationError, InvalidValue, IntegerOverflow}
 use Rattle.asn1_core.specs.Lemmas.Lengths.{leads_digits}
 
@@ -22,11 +22,11 @@ use Rattle.asn1_core.specs.Lemmas.Lengths.{leads_digits}
 pub turned_length : (c : List ℕ) → length (turned c) ≡ length c
 turned_length c = length-map c (λ x. 255 - x)
 
-pub turned_text : (c : List ℕ) → IsText (turned c)
+pub turned_text : (c : List ℕ) → IsOctets (turned c)
 turned_text [] = tt
 turned_text (x ∷ xs) = (omega arith, turned_text xs)
 
-pub turned_twice : (c : List ℕ) → IsText c → turned (turned c) ≡ c
+pub turned_twice : (c : List ℕ) → IsOctets c → turned (turned c) ≡ c
 turned_twice [] is = refl
 turned_twice (x ∷ xs) is =
     let head : 255 - (255 - x) ≡ x = omega (arith, is.0) in
@@ -35,14 +35,14 @@ turned_twice (x ∷ xs) is =
 parts_of : (a b p : ℕ) → a + b ≡ 255 → a * p + b * p ≡ 255 * p
 parts_of a b p e = sym (add-mul a b p) ∙ ap (λ (k : ℕ). k * p) e
 
-pub turned_number : (c : List ℕ) → IsText c → number (turned c) + number c + 1 ≡ 256 ^ length c
+pub turned_number : (c : List ℕ) → IsOctets c → number (turned c) + number c + 1 ≡ 256 ^ length c
 turned_number [] is = refl
 turned_number (x ∷ xs) is =
     let rest : number (turned xs) + number xs + 1 ≡ 256 ^ length xs = turned_number xs is.1 in
     let sum : (255 - x) * 256 ^ length xs + x * 256 ^ length xs ≡ 255 * 256 ^ length xs = parts_of (255 - x) x (256 ^ length xs) (omega (arith, is.0)) in
     rw (pow-suc 256 (length xs), turned_length xs) (omega (arith, rest, sum))
 
-pub turned_low : (c : List ℕ) → IsText c → 128 ≤ get_or c 0 0 → get_or (turned c) 0 0 < 128
+pub turned_low : (c : List ℕ) → IsOctets c → 128 ≤ get_or c 0 0 → get_or (turned c) 0 0 < 128
 turned_low [] is h = absurd (omega arith)
 turned_low (x ∷ xs) is h = omega arith
 
@@ -58,7 +58,7 @@ signed_low c h = rw (lt-leb 128 (get_or c 0 0) h) refl
 less : (a b p : ℕ) → b + a + 1 ≡ p → pos a -ℤ pos p ≡ negsuc b
 less a b p e = omega (arith, ints)
 
-pub signed_high : (c : List ℕ) → IsText c → 128 ≤ get_or c 0 0 → signed_number c ≡ negsuc (number (turned c))
+pub signed_high : (c : List ℕ) → IsOctets c → 128 ≤ get_or c 0 0 → signed_number c ≡ negsuc (number (turned c))
 signed_high c is h = rw (le-leb 128 (get_or c 0 0) h) (less (number c) (number (turned c)) (256 ^ length c) (turned_number c is))
 
 -- ---- the first nine bits
@@ -78,7 +78,7 @@ longer_nine x y ys e =
       | inr h ↦ inr (eqb-true _ _ h)
     ]
 
-pub turned_shortest : (c : List ℕ) → IsText c → is_minimal c ≡ true → is_minimal (turned c) ≡ true
+pub turned_shortest : (c : List ℕ) → IsOctets c → is_minimal c ≡ true → is_minimal (turned c) ≡ true
 turned_shortest [] is e = e
 turned_shortest (x ∷ []) is e = refl
 turned_shortest (x ∷ y ∷ ys) is e =
@@ -93,7 +93,7 @@ same_low x y ys e h =
     let first : x < 128 = omega arith in
     rw (lt-leb 128 x first, lt-leb 128 y h, e) (ap pos (zero_front (y ∷ ys)))
 
-pub fewer_same : (x y : ℕ) (ys : List ℕ) → IsText (x ∷ y ∷ ys) → is_minimal (x ∷ y ∷ ys) ≡ false → signed_number (x ∷ y ∷ ys) ≡ signed_number (y ∷ ys)
+pub fewer_same : (x y : ℕ) (ys : List ℕ) → IsOctets (x ∷ y ∷ ys) → is_minimal (x ∷ y ∷ ys) ≡ false → signed_number (x ∷ y ∷ ys) ≡ signed_number (y ∷ ys)
 fewer_same x y ys is e =
     elim (longer_nine x y ys e) [
       | inl h ↦ same_low x y ys (omega arith) (omega arith)
@@ -105,7 +105,7 @@ fewer_same x y ys is e =
 
 -- ---- numbers that aren't negative
 
-digits_same : (c : List ℕ) → IsText c → Leads c → digits_of 256 (number c) ≡ c
+digits_same : (c : List ℕ) → IsOctets c → Leads c → digits_of 256 (number c) ≡ c
 digits_same c is leads = ap (digits_of 256) (sym (number_by_digits c)) ∙ digits_back 256 c (lit≤ tt) is leads
 
 with_sign_low : (x : ℕ) (xs : List ℕ) → x < 128 → with_sign (x ∷ xs) ≡ x ∷ xs
@@ -114,7 +114,7 @@ with_sign_low x xs h = rw (lt-leb 128 x h) refl
 with_sign_high : (x : ℕ) (xs : List ℕ) → 128 ≤ x → with_sign (x ∷ xs) ≡ 0 ∷ x ∷ xs
 with_sign_high x xs h = rw (le-leb 128 x h) refl
 
-sign_only : (c : List ℕ) → IsText c → is_minimal c ≡ true → get_or c 0 0 < 128 → c ≡ with_sign (digits_of 256 (number c))
+sign_only : (c : List ℕ) → IsOctets c → is_minimal c ≡ true → get_or c 0 0 < 128 → c ≡ with_sign (digits_of 256 (number c))
 sign_only [] is e h = absurd cc
 sign_only (zero ∷ []) is e h = refl
 sign_only (zero ∷ y ∷ ys) is e h =
@@ -126,16 +126,16 @@ sign_only (suc x ∷ xs) is e h =
 
 -- digits after a sign
 record IsSigned (s : List ℕ) (n : ℕ) : Type 0 where
-  octets : IsText s
+  octets : IsOctets s
   value : number s ≡ n
   low : get_or s 0 0 < 128
   shortest : is_minimal s ≡ true
 
-low_shortest : (x : ℕ) (xs : List ℕ) → IsText (x ∷ xs) → 0 < x → x < 128 → is_minimal (x ∷ xs) ≡ true
+low_shortest : (x : ℕ) (xs : List ℕ) → IsOctets (x ∷ xs) → 0 < x → x < 128 → is_minimal (x ∷ xs) ≡ true
 low_shortest x [] is a b = refl
 low_shortest x (y ∷ ys) is a b = nine_shortest x y ys (omega arith) (omega (arith, is.1.0))
 
-signed_is : (ds : List ℕ) (n : ℕ) → IsText ds → Leads ds → number ds ≡ n → IsSigned (with_sign ds) n
+signed_is : (ds : List ℕ) (n : ℕ) → IsOctets ds → Leads ds → number ds ≡ n → IsSigned (with_sign ds) n
 signed_is [] n is leads e = record { octets = (lit< tt, tt); value = e; low = lit< tt; shortest = refl }
 signed_is (x ∷ xs) n is leads e =
     let first : 0 < x = leads (omega arith) in
@@ -151,7 +151,7 @@ signed_digits n = signed_is (digits_of 256 n) n (all_below_base_digits_of 256 n 
 -- ---- every number
 
 -- octets of which none is superfluous are the contents octets of their number
-pub content_only : (c : List ℕ) → IsText c → is_minimal c ≡ true → c ≡ integer_content (signed_number c)
+pub content_only : (c : List ℕ) → IsOctets c → is_minimal c ≡ true → c ≡ integer_content (signed_number c)
 unfolding integer_content
 content_only c is e =
     elim (cases_lt (get_or c 0 0) 128) [
@@ -160,7 +160,7 @@ content_only c is e =
           sym (turned_twice c is) ∙ ap turned (sign_only (turned c) (turned_text c) (turned_shortest c is e) (turned_low c is h)) ∙ ap integer_content (sym (signed_high c is h))
     ]
 
-pub content_text : (z : ℤ) → IsText (integer_content z)
+pub content_text : (z : ℤ) → IsOctets (integer_content z)
 unfolding integer_content
 content_text (pos n) = (signed_digits n).octets
 content_text (negsuc n) = turned_text (with_sign (digits_of 256 n))
@@ -190,31 +190,31 @@ content_value (negsuc n) =
 
 -- octets without the superfluous ones
 record Shortened (t : List ℕ) : Type 0 where
-  text : List ℕ
-  octets : IsText text
-  shortest : is_minimal text ≡ true
-  same : signed_number text ≡ signed_number t
-  fewer : length text ≤ length t
+  encoding : List ℕ
+  octets : IsOctets encoding
+  shortest : is_minimal encoding ≡ true
+  same : signed_number encoding ≡ signed_number t
+  fewer : length encoding ≤ length t
 
-shortened : (t : List ℕ) → IsText t → 0 < length t → Shortened t
+shortened : (t : List ℕ) → IsOctets t → 0 < length t → Shortened t
 shortened [] is l = absurd (omega arith)
-shortened (x ∷ []) is l = record { text = x ∷ []; octets = is; shortest = refl; same = refl; fewer = omega arith }
+shortened (x ∷ []) is l = record { encoding = x ∷ []; octets = is; shortest = refl; same = refl; fewer = omega arith }
 shortened (x ∷ y ∷ ys) is l =
     elim (cases_Bool (is_minimal (x ∷ y ∷ ys))) [
-      | inl e ↦ record { text = x ∷ y ∷ ys; octets = is; shortest = e; same = refl; fewer = omega arith }
+      | inl e ↦ record { encoding = x ∷ y ∷ ys; octets = is; shortest = e; same = refl; fewer = omega arith }
       | inr e ↦
           let s = shortened (y ∷ ys) is.1 (omega arith) in
-          record { text = s.text; octets = s.octets; shortest = s.shortest; same = s.same ∙ sym (fewer_same x y ys is e); fewer = omega (arith, s.fewer) }
+          record { encoding = s.encoding; octets = s.octets; shortest = s.shortest; same = s.same ∙ sym (fewer_same x y ys is e); fewer = omega (arith, s.fewer) }
     ]
 
-pub is_content : (c : List ℕ) → IsText c → is_minimal c ≡ true → IsIntegerContent c (signed_number c)
+pub is_content : (c : List ℕ) → IsOctets c → is_minimal c ≡ true → IsIntegerContent c (signed_number c)
 is_content c is e = record {
   octets = is;
   some = shortest_some c e;
   value = refl;
   shortest = λ t octets some fewer same.
       let s = shortened t octets some in
-      let one : s.text ≡ c = content_only s.text s.octets s.shortest ∙ ap integer_content (s.same ∙ same) ∙ sym (content_only c is e) in
+      let one : s.encoding ≡ c = content_only s.encoding s.octets s.shortest ∙ ap integer_content (s.same ∙ same) ∙ sym (content_only c is e) in
       omega (arith, s.fewer, fewer, ap length one);
 }
 
@@ -233,7 +233,7 @@ is_content_shortest (x ∷ y ∷ ys) z is =
 pub is_content_only : (c : List ℕ) (z : ℤ) → IsIntegerContent c z → c ≡ integer_content z
 is_content_only c z is = content_only c is.octets (is_content_shortest c z is) ∙ ap integer_content is.value
 
-pub nine_bits_tell : (x y : ℕ) (ys : List ℕ) → IsText (x ∷ y ∷ ys) → (is_minimal (x ∷ y ∷ ys) ≡ false) ↔ (signed_number (x ∷ y ∷ ys) ≡ signed_number (y ∷ ys))
+pub nine_bits_tell : (x y : ℕ) (ys : List ℕ) → IsOctets (x ∷ y ∷ ys) → (is_minimal (x ∷ y ∷ ys) ≡ false) ↔ (signed_number (x ∷ y ∷ ys) ≡ signed_number (y ∷ ys))
 nine_bits_tell x y ys is = (
   fewer_same x y ys is,
   λ same. elim (cases_Bool (is_minimal (x ∷ y ∷ ys))) [
@@ -254,7 +254,7 @@ read_integer_is c z e =
     let p = passed (is_minimal c) (Ok (signed_number c)) _ z e in
     (p.0, ok_is (signed_number c) z p.1)
 
-pub reads_contents_alone : (c : List ℕ) (z : ℤ) → IsText c → (read_integer c ≡ Ok z) ↔ IsIntegerContent c z
+pub reads_contents_alone : (c : List ℕ) (z : ℤ) → IsOctets c → (read_integer c ≡ Ok z) ↔ IsIntegerContent c z
 reads_contents_alone c z is = (
   (λ e. let p = read_integer_is c z e in subst (λ (x : ℤ). IsIntegerContent c x) p.1 (is_content c is p.0)),
   λ h. read_integer_ok c (is_content_shortest c z h) ∙ ap Ok h.value,
@@ -263,7 +263,7 @@ reads_contents_alone c z is = (
 -- ---- numbers of a range
 
 -- a test with an error in its first branch
-pub refused : {A : Type 0} (b : Bool) (d : Fault) (x : Result A Fault) (y : A) → (if b then Err d else x) ≡ Ok y → (b ≡ false) × (x ≡ Ok y)
+pub refused : {A : Type 0} (b : Bool) (d : ReadError) (x : Result A ReadError) (y : A) → (if b then Err d else x) ≡ Ok y → (b ≡ false) × (x ≡ Ok y)
 refused true d x y e = absurd cc
 refused false d x y e = (refl, e)
 
@@ -273,58 +273,58 @@ range_ok low high z a b =
     let below_high : int_lt high z ≡ false = grind (arith, ints) in
     rw (above, below_high) refl
 
-pub range_below : (low high z : ℤ) → z <ℤ low → within_range low high z ≡ Err (fault (below low))
+pub range_below : (low high z : ℤ) → z <ℤ low → within_range low high z ≡ Err (read_error (below low))
 range_below low high z a =
     let test : int_lt z low ≡ true = grind (arith, ints) in
     rw test refl
 
-pub range_above : (low high z : ℤ) → low ≤ℤ z → high <ℤ z → within_range low high z ≡ Err (fault IntegerOverflow)
+pub range_above : (low high z : ℤ) → low ≤ℤ z → high <ℤ z → within_range low high z ≡ Err (read_error IntegerOverflow)
 range_above low high z a b =
     let above : int_lt z low ≡ false = grind (arith, ints) in
     let over : int_lt high z ≡ true = grind (arith, ints) in
     rw (above, over) refl
 
-range_takes : (low high z m : ℤ) → within_range low high z ≡ Ok m → (z ≡ m) × ((low ≤ℤ m) × (m ≤ℤ high))
-range_takes low high z m e =
-    let first = refused (int_lt z low) (fault (below low)) _ m e in
-    let second = refused (int_lt high z) (fault IntegerOverflow) (Ok z) m first.1 in
+range_consumes : (low high z m : ℤ) → within_range low high z ≡ Ok m → (z ≡ m) × ((low ≤ℤ m) × (m ≤ℤ high))
+range_consumes low high z m e =
+    let first = refused (int_lt z low) (read_error (below low)) _ m e in
+    let second = refused (int_lt high z) (read_error IntegerOverflow) (Ok z) m first.1 in
     let same : z ≡ m = ok_is z m second.1 in
     let above : low ≤ℤ z = let h = first.0 in omega (arith, ints) in
     let under : z ≤ℤ high = let h = second.0 in omega (arith, ints) in
     (same, subst (λ (x : ℤ). (low ≤ℤ x) × (x ≤ℤ high)) same (above, under))
 
-pub sized_ok : (low high : ℤ) (c : List ℕ) (r : Result ℤ Fault) → is_minimal c ≡ true → within_range low high (signed_number c) ≡ r → read_sized low high c ≡ r
+pub sized_ok : (low high : ℤ) (c : List ℕ) (r : Result ℤ ReadError) → is_minimal c ≡ true → within_range low high (signed_number c) ≡ r → read_sized low high c ≡ r
 unfolding read_sized
 sized_ok low high c r e f = rw (read_integer_ok c e) f
 
-pub sized_refused : (low high : ℤ) (c : List ℕ) → is_minimal c ≡ false → read_sized low high c ≡ Err (fault InvalidValue)
+pub sized_refused : (low high : ℤ) (c : List ℕ) → is_minimal c ≡ false → read_sized low high c ≡ Err (read_error InvalidValue)
 unfolding read_sized read_integer
 sized_refused low high c e = rw e refl
 
-pub sized_takes : (low high : ℤ) (c : List ℕ) (m : ℤ) → IsText c → read_sized low high c ≡ Ok m → (c ≡ integer_content m) × ((low ≤ℤ m) × (m ≤ℤ high))
+pub sized_consumes : (low high : ℤ) (c : List ℕ) (m : ℤ) → IsOctets c → read_sized low high c ≡ Ok m → (c ≡ integer_content m) × ((low ≤ℤ m) × (m ≤ℤ high))
 unfolding read_sized
-sized_takes low high c m is e =
+sized_consumes low high c m is e =
     let p = bind_ok (read_integer c) (within_range low high) m e in
     let q = read_integer_is c p.0 p.1 in
-    let r = range_takes low high p.0 m p.2 in
+    let r = range_consumes low high p.0 m p.2 in
     (content_only c is q.0 ∙ ap integer_content (q.1 ∙ r.0), r.1)
 
-pub sized_again : (low high : ℤ) (m : ℤ) → (low ≤ℤ m) × (m ≤ℤ high) → read_sized low high (integer_content m) ≡ Ok m
-sized_again low high m range = sized_ok low high (integer_content m) (Ok m) (content_shortest m) (ap (within_range low high) (content_value m) ∙ range_ok low high m range.0 range.1)
+pub sized_read_back : (low high : ℤ) (m : ℤ) → (low ≤ℤ m) × (m ≤ℤ high) → read_sized low high (integer_content m) ≡ Ok m
+sized_read_back low high m range = sized_ok low high (integer_content m) (Ok m) (content_shortest m) (ap (within_range low high) (content_value m) ∙ range_ok low high m range.0 range.1)
 
 -- ---- no error is `AllocationError`
 
-pub integer_faults : (c : List ℕ) → IfErr (read_integer c) IsOfText
+pub integer_errors : (c : List ℕ) → IfErr (read_integer c) IsOfInput
 unfolding read_integer
-integer_faults c = passed_faults (is_minimal c) (Ok (signed_number c)) InvalidValue tt (λ e. cc)
+integer_errors c = passed_errors (is_minimal c) (Ok (signed_number c)) InvalidValue tt (λ e. cc)
 
 below_kind : (low : ℤ) → below low ≡ AllocationError → ⊥
 below_kind (pos n) = λ e. cc
 below_kind (negsuc n) = λ e. cc
 
-pub sized_faults : (low high : ℤ) (c : List ℕ) → IfErr (read_sized low high c) IsOfText
+pub sized_errors : (low high : ℤ) (c : List ℕ) → IfErr (read_sized low high c) IsOfInput
 unfolding read_sized
-sized_faults low high c = bind_faults (read_integer c) (within_range low high) (integer_faults c) (λ z. missed_faults (int_lt z low) (below low) _ (below_kind low) (missed_faults (int_lt high z) IntegerOverflow (Ok z) (λ e. cc) tt))
+sized_errors low high c = bind_errors (read_integer c) (within_range low high) (integer_errors c) (λ z. missed_errors (int_lt z low) (below low) _ (below_kind low) (missed_errors (int_lt high z) IntegerOverflow (Ok z) (λ e. cc) tt))
 
 -- ---- the same without 0
 
@@ -344,20 +344,20 @@ kept_unless_zero (pos zero) some = absurd (some refl)
 kept_unless_zero (pos (suc n)) some = refl
 kept_unless_zero (negsuc n) some = refl
 
-zero_faults : (z : ℤ) → IfErr (unless_zero z) IsOfText
-zero_faults (pos zero) = λ e. cc
-zero_faults (pos (suc n)) = tt
-zero_faults (negsuc n) = tt
+zero_errors : (z : ℤ) → IfErr (unless_zero z) IsOfInput
+zero_errors (pos zero) = λ e. cc
+zero_errors (pos (suc n)) = tt
+zero_errors (negsuc n) = tt
 
-pub non_zero_takes : (low high : ℤ) (c : List ℕ) (m : ℤ) → IsText c → (read_sized low high c >>= unless_zero) ≡ Ok m → (c ≡ integer_content m) × (((low ≤ℤ m) × (m ≤ℤ high)) × (m ≢ pos 0))
-non_zero_takes low high c m is e =
+pub non_zero_consumes : (low high : ℤ) (c : List ℕ) (m : ℤ) → IsOctets c → (read_sized low high c >>= unless_zero) ≡ Ok m → (c ≡ integer_content m) × (((low ≤ℤ m) × (m ≤ℤ high)) × (m ≢ pos 0))
+non_zero_consumes low high c m is e =
     let p = bind_ok (read_sized low high c) unless_zero m e in
     let q = unless_zero_is p.0 m p.2 in
-    let got = sized_takes low high c m is (p.1 ∙ ap done q.0) in
+    let got = sized_consumes low high c m is (p.1 ∙ ap done q.0) in
     (got.0, (got.1, q.1))
 
-pub non_zero_again : (low high : ℤ) (m : ℤ) → (low ≤ℤ m) × (m ≤ℤ high) → m ≢ pos 0 → (read_sized low high (integer_content m) >>= unless_zero) ≡ Ok m
-non_zero_again low high m within some = ap (λ (r : Result ℤ Fault). r >>= unless_zero) (sized_again low high m within) ∙ kept_unless_zero m some
+pub non_zero_read_back : (low high : ℤ) (m : ℤ) → (low ≤ℤ m) × (m ≤ℤ high) → m ≢ pos 0 → (read_sized low high (integer_content m) >>= unless_zero) ≡ Ok m
+non_zero_read_back low high m within some = ap (λ (r : Result ℤ ReadError). r >>= unless_zero) (sized_read_back low high m within) ∙ kept_unless_zero m some
 
-pub non_zero_faults : (low high : ℤ) (c : List ℕ) → IfErr (read_sized low high c >>= unless_zero) IsOfText
-non_zero_faults low high c = bind_faults (read_sized low high c) unless_zero (sized_faults low high c) zero_faults
+pub non_zero_errors : (low high : ℤ) (c : List ℕ) → IfErr (read_sized low high c >>= unless_zero) IsOfInput
+non_zero_errors low high c = bind_errors (read_sized low high c) unless_zero (sized_errors low high c) zero_errors

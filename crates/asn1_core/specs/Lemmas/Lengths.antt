@@ -8,14 +8,14 @@ use Rattle.std.proofs.lemmas.Grind.{pow_more, or_after_shift, numeral_or}
 use Rattle.std.proofs.Math.Nat.{pow-suc, pow-le-pow_right}
 use Rattle.asn1_core.specs.declared.parser.ParseErrorKind.{ParseErrorKind}
 use Rattle.asn1_core.specs.declared.parser.ParseErrorKind.TheVariants.{InvalidLength, ShortData}
-use Rattle.asn1_core.specs.Text.{IsText, number}
-use Rattle.asn1_core.specs.Length.{length_text, long_length, length_front, IsShortest, IsLengthText, IsLengthFront}
+use Rattle.asn1_core.specs.Base256.{IsOctets, number}
+use Rattle.asn1_core.specs.Length.{length_octets, long_length, leading_length, IsShortest, AreLengthOctets, IsLeadingLength}
 use Rattle.std.specs.Int.Digits.{digits_of}
 use Rattle.std.proofs.lemmas.Int.Digits.{number_digits_of, all_below_base_digits_of, first_digits_of, digits_of_step, length-digits_of-le}
-use Rattle.asn1_core.specs.Lemmas.Texts.{IsText-front}
+use Rattle.asn1_core.specs.Lemmas.Texts.{IsOctets-front}
 use Rattle.asn1_core.specs.Lemmas.Digits.{digits_back, number_by_digits, Leads}
 
-pub number_lt : (t : List ℕ) → IsText t → number t < 256 ^ length t
+pub number_lt : (t : List ℕ) → IsOctets t → number t < 256 ^ length t
 number_lt [] is = lit< tt
 number_lt (x ∷ xs) is = rw (pow-suc 256 (length xs)) (mul-add-lt x (256 ^ length xs) (number xs) 256 is.0 (number_lt xs is.1))
 
@@ -49,24 +49,24 @@ octet_of a bit low k (inr e) small =
     rw (e, whole, first, half) (or_shifted (a * 2) 5 low small)
 
 -- ---- what is at the start
-pub length_none : (text : List ℕ) → length text ≡ 0 → length_front text ≡ Err (ShortData 1)
-unfolding length_front
+pub length_none : (octets : List ℕ) → length octets ≡ 0 → leading_length octets ≡ Err (ShortData 1)
+unfolding leading_length
 length_none [] e = refl
 length_none (x ∷ xs) e = absurd (omega arith)
 
-pub length_low : (text : List ℕ) → 0 < length text → get_or text 0 0 < 128 → length_front text ≡ Ok (get_or text 0 0, drop 1 text)
-unfolding length_front
+pub length_low : (octets : List ℕ) → 0 < length octets → get_or octets 0 0 < 128 → leading_length octets ≡ Ok (get_or octets 0 0, drop 1 octets)
+unfolding leading_length
 length_low [] some low = absurd (omega arith)
 length_low (x ∷ xs) some low = rw (lt-ltb x 128 low) refl
 
-pub length_first : (text : List ℕ) → 0 < length text → (get_or text 0 0 ≡ 128) ⊎ (133 ≤ get_or text 0 0) → length_front text ≡ Err InvalidLength
-unfolding length_front
+pub length_first : (octets : List ℕ) → 0 < length octets → (get_or octets 0 0 ≡ 128) ⊎ (133 ≤ get_or octets 0 0) → leading_length octets ≡ Err InvalidLength
+unfolding leading_length
 length_first [] some bad = absurd (omega arith)
 length_first (x ∷ xs) some (inl e) = rw (le-ltb x 128 (omega arith), eq-eqb x 128 e) refl
 length_first (x ∷ xs) some (inr h) = rw (le-ltb x 128 (omega arith), le-leb 133 x h, or_right (eqb x 128) true refl) refl
 
-pub length_long : (text : List ℕ) → 0 < length text → 129 ≤ get_or text 0 0 → get_or text 0 0 ≤ 132 → length_front text ≡ long_length (get_or text 0 0 - 128) (drop 1 text)
-unfolding length_front
+pub length_long : (octets : List ℕ) → 0 < length octets → 129 ≤ get_or octets 0 0 → get_or octets 0 0 ≤ 132 → leading_length octets ≡ long_length (get_or octets 0 0 - 128) (drop 1 octets)
+unfolding leading_length
 length_long [] some low high = absurd (omega arith)
 length_long (x ∷ xs) some low high = rw (le-ltb x 128 (omega arith), ne_eqb x 128 (λ (e : x ≡ 128). omega arith), lt-leb 133 x (omega arith)) refl
 
@@ -91,7 +91,7 @@ number_of_digits n = sym (number_by_digits (digits_of 256 n)) ∙ number_digits_
 
 pub digits_shortest : (n : ℕ) → IsShortest (digits_of 256 n) n
 digits_shortest n = record {
-  text = all_below_base_digits_of 256 n (lit≤ tt);
+  encoding = all_below_base_digits_of 256 n (lit≤ tt);
   value = number_of_digits n;
   shortest = λ other is e. length-digits_of-le 256 (length other) n (lit≤ tt) (rw (sym e) (number_lt other is));
 }
@@ -103,29 +103,29 @@ zero_first x xs e = rw e (omega arith)
 shortest_leads : (octets : List ℕ) (n : ℕ) → IsShortest octets n → Leads octets
 shortest_leads [] n is l = absurd (omega arith)
 shortest_leads (x ∷ xs) n is l = ⊎_elim
-    (λ (e : x ≡ 0). absurd (omega (arith, is.shortest xs is.text.1 (sym (zero_first x xs e) ∙ is.value))))
+    (λ (e : x ≡ 0). absurd (omega (arith, is.shortest xs is.encoding.1 (sym (zero_first x xs e) ∙ is.value))))
     (λ (some : x ≡ 0 → ⊥). omega arith) (cases_eq x 0)
 
 pub shortest_only : (octets : List ℕ) (n : ℕ) → IsShortest octets n → octets ≡ digits_of 256 n
 shortest_only octets n is =
-    sym (digits_back 256 octets (lit≤ tt) is.text (shortest_leads octets n is)) ∙ ap (digits_of 256) (number_by_digits octets ∙ is.value)
+    sym (digits_back 256 octets (lit≤ tt) is.encoding (shortest_leads octets n is)) ∙ ap (digits_of 256) (number_by_digits octets ∙ is.value)
 
-pub length_text_low : (n : ℕ) → n < 128 → length_text n ≡ n ∷ []
-unfolding length_text
+pub length_text_low : (n : ℕ) → n < 128 → length_octets n ≡ n ∷ []
+unfolding length_octets
 length_text_low n l = rw (lt-ltb n 128 l) refl
 
-pub length_text_high : (n : ℕ) → 128 ≤ n → length_text n ≡ (128 + length (digits_of 256 n)) ∷ digits_of 256 n
-unfolding length_text
+pub length_text_high : (n : ℕ) → 128 ≤ n → length_octets n ≡ (128 + length (digits_of 256 n)) ∷ digits_of 256 n
+unfolding length_octets
 length_text_high n l = rw (le-ltb n 128 l) refl
 
-pub length_text_is : (n : ℕ) → IsLengthText (length_text n) n
+pub length_text_is : (n : ℕ) → AreLengthOctets (length_octets n) n
 length_text_is n = ⊎_elim
     (λ (l : n < 128). inl (l, length_text_low n l))
     (λ (l : 128 ≤ n). inr (digits_of 256 n, l, digits_shortest n, length_text_high n l)) (cases_lt n 128)
 
-pub length_text_only : (text : List ℕ) (n : ℕ) → IsLengthText text n → text ≡ length_text n
-length_text_only text n (inl is) = is.1 ∙ sym (length_text_low n is.0)
-length_text_only text n (inr is) =
+pub length_text_only : (octets : List ℕ) (n : ℕ) → AreLengthOctets octets n → octets ≡ length_octets n
+length_text_only octets n (inl is) = is.1 ∙ sym (length_text_low n is.0)
+length_text_only octets n (inr is) =
     let same = shortest_only is.0 n is.2 in
     is.3 ∙ ap (λ (l : List ℕ). (128 + length l) ∷ l) same ∙ sym (length_text_high n is.1)
 
@@ -138,12 +138,12 @@ pub few_octets : (n : ℕ) → n < 2 ^ 32 → length (digits_of 256 n) ≤ 4
 few_octets n small = length-digits_of-le 256 4 n (lit≤ tt) small
 
 -- a count of octets and the octets, if all are there
-whole_form : (t rest : List ℕ) → 1 ≤ length t → length t ≤ 4 → length_front ((128 + length t) ∷ (t ++ rest)) ≡ long_length (length t) (t ++ rest)
+whole_form : (t rest : List ℕ) → 1 ≤ length t → length t ≤ 4 → leading_length ((128 + length t) ∷ (t ++ rest)) ≡ long_length (length t) (t ++ rest)
 whole_form t rest some few =
     let count : 128 + length t - 128 ≡ length t = omega arith in
     length_long ((128 + length t) ∷ (t ++ rest)) (omega arith) (omega arith) (omega arith) ∙ rw count refl
 
-length_ok_high : (n : ℕ) (rest : List ℕ) → 128 ≤ n → n < 2 ^ 32 → length_front (length_text n ++ rest) ≡ Ok (n, rest)
+length_ok_high : (n : ℕ) (rest : List ℕ) → 128 ≤ n → n < 2 ^ 32 → leading_length (length_octets n ++ rest) ≡ Ok (n, rest)
 length_ok_high n rest l small =
     let t = digits_of 256 n in
     let some : 0 < length t = some_digits n l in
@@ -155,13 +155,13 @@ length_ok_high n rest l small =
     ∙ length_found (length t) (t ++ rest) (omega (arith, length-append t rest)) (λ (e : get_or (t ++ rest) 0 0 ≡ 0). omega (arith, leads_digits n some, first)) (rw value l)
     ∙ rw (value, left) refl)
 
-pub length_ok : (n : ℕ) (rest : List ℕ) → n < 2 ^ 32 → length_front (length_text n ++ rest) ≡ Ok (n, rest)
+pub length_ok : (n : ℕ) (rest : List ℕ) → n < 2 ^ 32 → leading_length (length_octets n ++ rest) ≡ Ok (n, rest)
 length_ok n rest small = ⊎_elim
     (λ (l : n < 128). rw (length_text_low n l) (length_low (n ∷ rest) (omega arith) l))
     (λ (l : 128 ≤ n). length_ok_high n rest l small) (cases_lt n 128)
 
 -- octets that aren't the fewest of a number of 128 or more
-waste : (t : List ℕ) → IsText t → 0 < length t → ((n : ℕ) → (128 + length t) ∷ t ≡ length_text n → ⊥) → (get_or t 0 0 ≡ 0) ⊎ (number t < 128)
+waste : (t : List ℕ) → IsOctets t → 0 < length t → ((n : ℕ) → (128 + length t) ∷ t ≡ length_octets n → ⊥) → (get_or t 0 0 ≡ 0) ⊎ (number t < 128)
 waste t is some apart = ⊎_elim
     (λ (e : get_or t 0 0 ≡ 0). inl e)
     (λ (lead : get_or t 0 0 ≡ 0 → ⊥). ⊎_elim
@@ -170,14 +170,14 @@ waste t is some apart = ⊎_elim
     let back : digits_of 256 (number t) ≡ t = ap (digits_of 256) (sym (number_by_digits t)) ∙ digits_back 256 t (lit≤ tt) is (λ (w : 0 < length t). omega arith) in
     absurd (apart (number t) (ap (λ (s : List ℕ). (128 + length s) ∷ s) (sym back) ∙ sym (length_text_high (number t) l)))) (cases_lt (number t) 128)) (cases_eq (get_or t 0 0) 0)
 
-bad_form : (t rest : List ℕ) → IsText t → 1 ≤ length t → length t ≤ 4 → ((n : ℕ) → (128 + length t) ∷ t ≡ length_text n → ⊥) → length_front ((128 + length t) ∷ (t ++ rest)) ≡ Err InvalidLength
+bad_form : (t rest : List ℕ) → IsOctets t → 1 ≤ length t → length t ≤ 4 → ((n : ℕ) → (128 + length t) ∷ t ≡ length_octets n → ⊥) → leading_length ((128 + length t) ∷ (t ++ rest)) ≡ Err InvalidLength
 bad_form t rest is some few apart =
     let same : take (length t) (t ++ rest) ≡ t = take_at t rest (length t) refl in
     let first : get_or (t ++ rest) 0 0 ≡ get_or t 0 0 = get_or_append_left t rest 0 0 some in
     whole_form t rest some few ∙ length_waste (length t) (t ++ rest) (omega (arith, length-append t rest))
     (⊎_elim (λ (e : get_or t 0 0 ≡ 0). inl (first ∙ e)) (λ (l : number t < 128). inr (rw same l)) (waste t is some apart))
 
-open_form : (t : List ℕ) (needed : ℕ) → 1 ≤ needed → length t + needed ≤ 4 → length_front ((128 + (length t + needed)) ∷ t) ≡ Err (ShortData needed)
+open_form : (t : List ℕ) (needed : ℕ) → 1 ≤ needed → length t + needed ≤ 4 → leading_length ((128 + (length t + needed)) ∷ t) ≡ Err (ShortData needed)
 open_form t needed some few =
     let count : 128 + (length t + needed) - 128 ≡ length t + needed = omega arith in
     let left : length t + needed - length t ≡ needed = omega arith in
@@ -187,25 +187,25 @@ abbrev pub LengthFront : Type 0
 LengthFront = Result (ℕ × List ℕ) ParseErrorKind
 
 -- octets have only one result
-pub length_only : (text : List ℕ) (answer : LengthFront) → IsText text → IsLengthFront text answer → length_front text ≡ answer
-length_only text (Ok found) is a = rw a.1 (length_ok found.0 found.1 a.0)
-length_only text (Err InvalidLength) is (inl (first, rest, bad, e)) = rw e (length_first (first ∷ rest) (omega arith) bad)
-length_only text (Err InvalidLength) is (inr (t, rest, some, few, apart, e)) =
-    rw e (bad_form t rest (IsText-front t rest (subst IsText e is).1) some few apart)
-length_only text (Err (ShortData needed)) is (inl (e, one)) = rw (e, one) (length_none [] refl)
-length_only text (Err (ShortData needed)) is (inr (t, some, few, e)) = rw e (open_form t needed some few)
-length_only text (Err _) is a = absurd a
+pub length_only : (octets : List ℕ) (answer : LengthFront) → IsOctets octets → IsLeadingLength octets answer → leading_length octets ≡ answer
+length_only octets (Ok found) is a = rw a.1 (length_ok found.0 found.1 a.0)
+length_only octets (Err InvalidLength) is (inl (first, rest, bad, e)) = rw e (length_first (first ∷ rest) (omega arith) bad)
+length_only octets (Err InvalidLength) is (inr (t, rest, some, few, apart, e)) =
+    rw e (bad_form t rest (IsOctets-front t rest (subst IsOctets e is).1) some few apart)
+length_only octets (Err (ShortData needed)) is (inl (e, one)) = rw (e, one) (length_none [] refl)
+length_only octets (Err (ShortData needed)) is (inr (t, some, few, e)) = rw e (open_form t needed some few)
+length_only octets (Err _) is a = absurd a
 
 -- a length that is too large to be read
 many_digits : (n : ℕ) → 2 ^ 32 ≤ n → 5 ≤ length (digits_of 256 n)
 many_digits n big = ⊎_elim
     (λ (few : length (digits_of 256 n) < 5).
-    let below : number (digits_of 256 n) < 256 ^ length (digits_of 256 n) = number_lt (digits_of 256 n) (digits_shortest n).text in
+    let below : number (digits_of 256 n) < 256 ^ length (digits_of 256 n) = number_lt (digits_of 256 n) (digits_shortest n).encoding in
     let most : 256 ^ length (digits_of 256 n) ≤ 256 ^ 4 = pow-le-pow_right {n = 256} (lit< tt) {i = length (digits_of 256 n)} {j = 4} (omega arith) in
     absurd (omega (arith, number_of_digits n)))
     (λ (many : 5 ≤ length (digits_of 256 n)). many) (cases_lt (length (digits_of 256 n)) 5)
 
-pub length_big : (n : ℕ) (rest : List ℕ) → 2 ^ 32 ≤ n → length_front (length_text n ++ rest) ≡ Err InvalidLength
+pub length_big : (n : ℕ) (rest : List ℕ) → 2 ^ 32 ≤ n → leading_length (length_octets n ++ rest) ≡ Err InvalidLength
 length_big n rest big =
     rw (length_text_high n (omega arith)) (length_first ((128 + length (digits_of 256 n)) ∷ (digits_of 256 n ++ rest)) (omega arith) (inr (omega (arith, many_digits n big))))
 
@@ -217,7 +217,7 @@ no_digits : (t : List ℕ) (n : ℕ) → 0 < length t → 128 ≤ n → (get_or 
 no_digits t n some l (inl e) same = omega (arith, leads_digits n (rw (sym same) some), ap (λ s. get_or s 0 0) same)
 no_digits t n some l (inr e) same = omega (arith, ap number same, number_of_digits n)
 
-no_text : (t : List ℕ) → 0 < length t → (get_or t 0 0 ≡ 0) ⊎ (number t < 128) → (n : ℕ) → (128 + length t) ∷ t ≡ length_text n → ⊥
+no_text : (t : List ℕ) → 0 < length t → (get_or t 0 0 ≡ 0) ⊎ (number t < 128) → (n : ℕ) → (128 + length t) ∷ t ≡ length_octets n → ⊥
 no_text t some bad n e = ⊎_elim
     (λ (l : n < 128). omega (arith, ap length (e ∙ length_text_low n l)))
     (λ (l : 128 ≤ n). no_digits t n some l bad (tail_same (e ∙ length_text_high n l))) (cases_lt n 128)
@@ -225,7 +225,7 @@ no_text t some bad n e = ⊎_elim
 whole_count : (k n : ℕ) → n < k → n + (k - n) ≡ k
 whole_count k n l = omega arith
 
-found_is : (k : ℕ) (t after : List ℕ) → IsText t → 1 ≤ k → k ≤ 4 → length t ≡ k → (get_or t 0 0 ≡ 0 → ⊥) → 128 ≤ number t → IsLengthFront ((128 + k) ∷ (t ++ after)) (Ok (number t, after))
+found_is : (k : ℕ) (t after : List ℕ) → IsOctets t → 1 ≤ k → k ≤ 4 → length t ≡ k → (get_or t 0 0 ≡ 0 → ⊥) → 128 ≤ number t → IsLeadingLength ((128 + k) ∷ (t ++ after)) (Ok (number t, after))
 found_is k t after is some few e lead l =
     let back : digits_of 256 (number t) ≡ t = ap (digits_of 256) (sym (number_by_digits t)) ∙ digits_back 256 t (lit≤ tt) is (λ (w : 0 < length t). omega arith) in
     let below : number t < 256 ^ length t = number_lt t is in
@@ -237,7 +237,7 @@ good_or_bad a b = ⊎_elim
     (λ (e : a ≡ 0). inl (inl e))
     (λ (n : a ≡ 0 → ⊥). ⊎_elim (λ (l : b < 128). inl (inr l)) (λ (l : 128 ≤ b). inr (n, l)) (cases_lt b 128)) (cases_eq a 0)
 
-long_is_all : (k : ℕ) (t rest after : List ℕ) → IsText t → 1 ≤ k → k ≤ 4 → t ≡ take k rest → k ≤ length rest → length t ≡ k → rest ≡ t ++ after → after ≡ drop k rest → IsLengthFront ((128 + k) ∷ rest) (long_length k rest)
+long_is_all : (k : ℕ) (t rest after : List ℕ) → IsOctets t → 1 ≤ k → k ≤ 4 → t ≡ take k rest → k ≤ length rest → length t ≡ k → rest ≡ t ++ after → after ≡ drop k rest → IsLeadingLength ((128 + k) ∷ rest) (long_length k rest)
 long_is_all k t rest after is some few front l e whole back =
     let first : get_or rest 0 0 ≡ get_or t 0 0 = ap (λ s. get_or s 0 0) whole ∙ get_or_append_left t after 0 0 (omega arith) in
     let value : number (take k rest) ≡ number t = ap number (sym front) in
@@ -250,16 +250,16 @@ long_is_all k t rest after is some few front l e whole back =
     rw (answer, whole) (found_is k t after is some few e good.0 good.1))
     (good_or_bad (get_or t 0 0) (number t))
 
-long_is : (k : ℕ) (rest : List ℕ) → IsText rest → 1 ≤ k → k ≤ 4 → IsLengthFront ((128 + k) ∷ rest) (long_length k rest)
+long_is : (k : ℕ) (rest : List ℕ) → IsOctets rest → 1 ≤ k → k ≤ 4 → IsLeadingLength ((128 + k) ∷ rest) (long_length k rest)
 long_is k rest is some few = ⊎_elim
     (λ (l : length rest < k). rw (lt-ltb (length rest) k l) (inr (rest, omega arith, omega arith, rw (whole_count k (length rest) (omega arith)) refl)))
-    (λ (l : k ≤ length rest). long_is_all k (take k rest) rest (drop k rest) (IsText-front (take k rest) (drop k rest) (rw (take-append-drop k rest) is)) some few refl l (length-take-le k rest l) (sym (take-append-drop k rest)) refl) (cases_lt (length rest) k)
+    (λ (l : k ≤ length rest). long_is_all k (take k rest) rest (drop k rest) (IsOctets-front (take k rest) (drop k rest) (rw (take-append-drop k rest) is)) some few refl l (length-take-le k rest l) (sym (take-append-drop k rest)) refl) (cases_lt (length rest) k)
 
-long_at : (first k : ℕ) (after : List ℕ) → 128 + k ≡ first → IsLengthFront ((128 + k) ∷ after) (long_length k after) → IsLengthFront (first ∷ after) (long_length k after)
-long_at first k after e is = subst (λ (x : ℕ). IsLengthFront (x ∷ after) (long_length k after)) e is
+long_at : (first k : ℕ) (after : List ℕ) → 128 + k ≡ first → IsLeadingLength ((128 + k) ∷ after) (long_length k after) → IsLeadingLength (first ∷ after) (long_length k after)
+long_at first k after e is = subst (λ (x : ℕ). IsLeadingLength (x ∷ after) (long_length k after)) e is
 
-length_is_of : (first : ℕ) (after : List ℕ) → first < 256 → IsText after → IsLengthFront (first ∷ after) (length_front (first ∷ after))
-unfolding length_front
+length_is_of : (first : ℕ) (after : List ℕ) → first < 256 → IsOctets after → IsLeadingLength (first ∷ after) (leading_length (first ∷ after))
+unfolding leading_length
 length_is_of first after small is = ⊎_elim
     (λ (l : first < 128). rw (lt-ltb first 128 l) (omega arith, rw (length_text_low first l) refl))
     (λ (l : 128 ≤ first). ⊎_elim
@@ -270,8 +270,8 @@ length_is_of first after small is = ⊎_elim
     (cases_eq first 128))
     (cases_lt first 128)
 
-pub length_is : (text : List ℕ) → IsText text → IsLengthFront text (length_front text)
-length_is [] is = subst (λ (a : LengthFront). IsLengthFront [] a) (sym (length_none [] refl)) (inl (refl, refl))
+pub length_is : (octets : List ℕ) → IsOctets octets → IsLeadingLength octets (leading_length octets)
+length_is [] is = subst (λ (a : LengthFront). IsLeadingLength [] a) (sym (length_none [] refl)) (inl (refl, refl))
 length_is (first ∷ after) is = length_is_of first after is.0 is.1
 
 -- ---- writing
@@ -287,7 +287,7 @@ write_step rest i octets more some l =
 pub low_eight : (x : ℕ) → bit_and x 255 ≡ x % 256
 low_eight x = and_mask x 8
 
-pub write_end : (n i : ℕ) (octets : List ℕ) → 128 ≤ n → n < 2 ^ 64 → 0 < i → i ≤ length octets → i + length (digits_of 256 n) ≡ 9 → drop i octets ≡ digits_of 256 n → drop (i - 1) (set octets (i - 1) (bit_or 128 (9 - i))) ≡ length_text n
+pub write_end : (n i : ℕ) (octets : List ℕ) → 128 ≤ n → n < 2 ^ 64 → 0 < i → i ≤ length octets → i + length (digits_of 256 n) ≡ 9 → drop i octets ≡ digits_of 256 n → drop (i - 1) (set octets (i - 1) (bit_or 128 (9 - i))) ≡ length_octets n
 write_end n i octets l small some in_octets place whole =
     let same : i - 1 + 1 ≡ i = omega arith in
     let in_it : i - 1 < length octets = omega arith in

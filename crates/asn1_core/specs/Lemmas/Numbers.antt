@@ -10,8 +10,8 @@ use Rattle.std.proofs.lemmas.Grind.{pow_more, or_after_shift, numeral_or}
 use Rattle.std.proofs.Math.Nat.{pow-le-pow_right, pow-suc, mul-le-mul_right}
 use Rattle.asn1_core.specs.declared.parser.ParseErrorKind.{ParseErrorKind}
 use Rattle.asn1_core.specs.declared.parser.ParseErrorKind.TheVariants.{InvalidValue, ShortData}
-use Rattle.asn1_core.specs.Text.{IsText}
-use Rattle.asn1_core.specs.Base128.{digits_number, IsOpen, IsFinished, BeginsWithZero, IsNumberText, IsFaulty, IsNumberFront, number_text, number_front}
+use Rattle.asn1_core.specs.Base256.{IsOctets}
+use Rattle.asn1_core.specs.Base128.{digits_number, IsOpen, IsFinished, BeginsWithZero, AreNumberOctets, IsMalformed, IsLeadingNumber, number_octets, leading_number}
 
 abbrev passes : ℕ → Bool
 passes octet = leb 128 octet
@@ -88,25 +88,25 @@ if_same : (b : Bool) (x : Front) → (if b then x else x) ≡ x
 if_same true x = refl
 if_same false x = refl
 
-front_zero : (text : List ℕ) → get_or text 0 0 ≡ 128 → number_front text ≡ Err InvalidValue
-unfolding number_front
-front_zero text z = rw (eq-eqb (get_or text 0 0) 128 z) refl
+front_zero : (octets : List ℕ) → get_or octets 0 0 ≡ 128 → leading_number octets ≡ Err InvalidValue
+unfolding leading_number
+front_zero octets z = rw (eq-eqb (get_or octets 0 0) 128 z) refl
 
-front_long : (text : List ℕ) → 19 ≤ prefix_len passes text → number_front text ≡ Err InvalidValue
-unfolding number_front
-front_long text h = rw (le-leb 19 (prefix_len passes text) h, or_right (eqb (get_or text 0 0) 128) true refl) refl
+front_long : (octets : List ℕ) → 19 ≤ prefix_len passes octets → leading_number octets ≡ Err InvalidValue
+unfolding leading_number
+front_long octets h = rw (le-leb 19 (prefix_len passes octets) h, or_right (eqb (get_or octets 0 0) 128) true refl) refl
 
-front_open : (text : List ℕ) → (get_or text 0 0 ≡ 128 → ⊥) → prefix_len passes text ≡ length text → length text < 19 → number_front text ≡ Err (ShortData 1)
-unfolding number_front
-front_open text z e h = rw (ne_eqb (get_or text 0 0) 128 z, e, lt-leb 19 (length text) h, eq-eqb (length text) (length text) refl) refl
+front_open : (octets : List ℕ) → (get_or octets 0 0 ≡ 128 → ⊥) → prefix_len passes octets ≡ length octets → length octets < 19 → leading_number octets ≡ Err (ShortData 1)
+unfolding leading_number
+front_open octets z e h = rw (ne_eqb (get_or octets 0 0) 128 z, e, lt-leb 19 (length octets) h, eq-eqb (length octets) (length octets) refl) refl
 
-front_done : (text : List ℕ) (k : ℕ) → (get_or text 0 0 ≡ 128 → ⊥) → prefix_len passes text ≡ k → k < length text → k < 19 → digits_number (take (k + 1) text) < 2 ^ 128 → number_front text ≡ Ok (digits_number (take (k + 1) text), drop (k + 1) text)
-unfolding number_front
-front_done text k z e l h small = rw (ne_eqb (get_or text 0 0) 128 z, e, lt-leb 19 k h, ne_eqb k (length text) (λ (w : k ≡ length text). absurd (omega arith)), lt-leb (2 ^ 128) (digits_number (take (k + 1) text)) small) refl
+front_done : (octets : List ℕ) (k : ℕ) → (get_or octets 0 0 ≡ 128 → ⊥) → prefix_len passes octets ≡ k → k < length octets → k < 19 → digits_number (take (k + 1) octets) < 2 ^ 128 → leading_number octets ≡ Ok (digits_number (take (k + 1) octets), drop (k + 1) octets)
+unfolding leading_number
+front_done octets k z e l h small = rw (ne_eqb (get_or octets 0 0) 128 z, e, lt-leb 19 k h, ne_eqb k (length octets) (λ (w : k ≡ length octets). absurd (omega arith)), lt-leb (2 ^ 128) (digits_number (take (k + 1) octets)) small) refl
 
-front_big : (text : List ℕ) (k : ℕ) → prefix_len passes text ≡ k → k < length text → 2 ^ 128 ≤ digits_number (take (k + 1) text) → number_front text ≡ Err InvalidValue
-unfolding number_front
-front_big text k e l big = rw (e, ne_eqb k (length text) (λ (w : k ≡ length text). absurd (omega arith)), le-leb (2 ^ 128) (digits_number (take (k + 1) text)) big) (if_same (eqb (get_or text 0 0) 128 || leb 19 k) (Err InvalidValue))
+front_big : (octets : List ℕ) (k : ℕ) → prefix_len passes octets ≡ k → k < length octets → 2 ^ 128 ≤ digits_number (take (k + 1) octets) → leading_number octets ≡ Err InvalidValue
+unfolding leading_number
+front_big octets k e l big = rw (e, ne_eqb k (length octets) (λ (w : k ≡ length octets). absurd (omega arith)), le-leb (2 ^ 128) (digits_number (take (k + 1) octets)) big) (if_same (eqb (get_or octets 0 0) 128 || leb 19 k) (Err InvalidValue))
 
 finished_some : (t : List ℕ) → IsFinished t → 0 < length t
 finished_some [] f = absurd f
@@ -117,7 +117,7 @@ open_not_finished [] o f = f
 open_not_finished (x ∷ []) o f = absurd (omega arith)
 open_not_finished (x ∷ y ∷ ys) o f = open_not_finished (y ∷ ys) o.1 f.2
 
-pub number_ok : (t rest : List ℕ) (n : ℕ) → IsNumberText t n → number_front (t ++ rest) ≡ Ok (n, rest)
+pub number_ok : (t rest : List ℕ) (n : ℕ) → AreNumberOctets t n → leading_number (t ++ rest) ≡ Ok (n, rest)
 number_ok t rest n is =
     let some : 0 < length t = finished_some t is.finished in
     let few : length t ≤ 19 = finished_short t is.finished is.shortest (rw is.value is.small) in
@@ -129,7 +129,7 @@ number_ok t rest n is =
     let done = front_done (t ++ rest) k (get_front_not t rest some is.shortest) refl (omega (arith, length-append t rest)) (omega arith) small in
     done ∙ rw (same, left, is.value) refl
 
-pub number_bad : (t rest : List ℕ) → IsFaulty t → number_front (t ++ rest) ≡ Err InvalidValue
+pub number_bad : (t rest : List ℕ) → IsMalformed t → leading_number (t ++ rest) ≡ Err InvalidValue
 number_bad t rest (inl (o, inl z)) = front_zero (t ++ rest) (get_front t rest z)
 number_bad t rest (inl (o, inr l)) = front_long (t ++ rest) (omega (arith, open_run t rest o))
 number_bad t rest (inr (f, inl z)) = front_zero (t ++ rest) (get_front t rest z)
@@ -140,38 +140,38 @@ number_bad t rest (inr (f, inr big)) =
     let same : take (k + 1) (t ++ rest) ≡ t = take_at t rest (k + 1) (omega arith) in
     front_big (t ++ rest) k refl (omega (arith, length-append t rest)) (rw same big)
 
-pub number_short : (t : List ℕ) → IsOpen t → ¬ IsFaulty t → number_front t ≡ Err (ShortData 1)
+pub number_short : (t : List ℕ) → IsOpen t → ¬ IsMalformed t → leading_number t ≡ Err (ShortData 1)
 number_short t o ok =
     front_open t (λ z. ok (inl (o, inl z))) (open_all t o) (⊎_elim (λ (h : length t < 19). h) (λ (h : 19 ≤ length t). absurd (ok (inl (o, inr h)))) (cases_lt (length t) 19))
 
 -- octets have only one result
-pub number_only : (text : List ℕ) (answer : Front) → IsNumberFront text answer → number_front text ≡ answer
-number_only text (Ok found) is = rw is.2 (number_ok is.0 found.1 found.0 is.1)
-number_only text (Err InvalidValue) is = rw is.3 (number_bad is.0 is.1 is.2)
-number_only text (Err (ShortData needed)) is = rw is.2 (number_short text is.0 is.1)
-number_only text (Err _) is = absurd is
+pub number_only : (octets : List ℕ) (answer : Front) → IsLeadingNumber octets answer → leading_number octets ≡ answer
+number_only octets (Ok found) is = rw is.2 (number_ok is.0 found.1 found.0 is.1)
+number_only octets (Err InvalidValue) is = rw is.3 (number_bad is.0 is.1 is.2)
+number_only octets (Err (ShortData needed)) is = rw is.2 (number_short octets is.0 is.1)
+number_only octets (Err _) is = absurd is
 
 -- octets are open as a whole, or begin with finished octets
 abbrev pub Split : List ℕ → Type 0
-Split text = IsOpen text ⊎ ((t rest : List ℕ) × IsFinished t × (text ≡ t ++ rest))
+Split octets = IsOpen octets ⊎ ((t rest : List ℕ) × IsFinished t × (octets ≡ t ++ rest))
 
 split_more : (x : ℕ) (xs : List ℕ) → 128 ≤ x → x < 256 → Split xs → Split (x ∷ xs)
 split_more x xs a b (inl o) = inl ((a, b), o)
 split_more x xs a b (inr ([], rest, f, e)) = absurd f
 split_more x xs a b (inr (y ∷ ys, rest, f, e)) = inr (x ∷ y ∷ ys, rest, (a, b, f), ap (λ (l : List ℕ). x ∷ l) e)
 
-pub split_text : (text : List ℕ) → IsText text → Split text
+pub split_text : (octets : List ℕ) → IsOctets octets → Split octets
 split_text [] is = inl tt
 split_text (x ∷ xs) is =
     ⊎_elim (λ (h : x < 128). inr (x ∷ [], xs, h, refl)) (λ (h : 128 ≤ x). split_more x xs h is.0 (split_text xs is.1)) (cases_lt x 128)
 
-open_fine : (t : List ℕ) → IsOpen t → ¬ BeginsWithZero t → length t < 19 → ¬ IsFaulty t
+open_fine : (t : List ℕ) → IsOpen t → ¬ BeginsWithZero t → length t < 19 → ¬ IsMalformed t
 open_fine t o z h (inl (p, inl q)) = z q
 open_fine t o z h (inl (p, inr q)) = omega arith
 open_fine t o z h (inr (f, q)) = open_not_finished t o f
 
 -- octets are malformed or not
-fault_of_open : (t : List ℕ) → IsOpen t → IsFaulty t ⊎ ¬ IsFaulty t
+fault_of_open : (t : List ℕ) → IsOpen t → IsMalformed t ⊎ ¬ IsMalformed t
 fault_of_open t o =
     ⊎_elim (λ (z : BeginsWithZero t). inl (inl (o, inl z)))
     (λ (z : ¬ BeginsWithZero t). ⊎_elim
@@ -179,7 +179,7 @@ fault_of_open t o =
     (λ (h : 19 ≤ length t). inl (inl (o, inr h))) (cases_lt (length t) 19))
     (cases_eq (get_or t 0 0) 128)
 
-fault_of_finished : (t : List ℕ) → IsFinished t → IsFaulty t ⊎ IsNumberText t (digits_number t)
+fault_of_finished : (t : List ℕ) → IsFinished t → IsMalformed t ⊎ AreNumberOctets t (digits_number t)
 fault_of_finished t f =
     ⊎_elim (λ (z : BeginsWithZero t). inl (inr (f, inl z)))
     (λ (z : ¬ BeginsWithZero t). ⊎_elim
@@ -187,27 +187,27 @@ fault_of_finished t f =
     (λ (h : 2 ^ 128 ≤ digits_number t). inl (inr (f, inr h))) (cases_lt (digits_number t) (2 ^ 128)))
     (cases_eq (get_or t 0 0) 128)
 
-at_open : (text : List ℕ) → IsOpen text → IsFaulty text ⊎ ¬ IsFaulty text → (answer : Front) × IsNumberFront text answer
-at_open text o (inl bad) = (Err InvalidValue, (text, [], bad, sym (append-nil text)))
-at_open text o (inr fine) = (Err (ShortData 1), (o, fine, refl))
+at_open : (octets : List ℕ) → IsOpen octets → IsMalformed octets ⊎ ¬ IsMalformed octets → (answer : Front) × IsLeadingNumber octets answer
+at_open octets o (inl bad) = (Err InvalidValue, (octets, [], bad, sym (append-nil octets)))
+at_open octets o (inr fine) = (Err (ShortData 1), (o, fine, refl))
 
-at_finished : (text t rest : List ℕ) → text ≡ t ++ rest → IsFaulty t ⊎ IsNumberText t (digits_number t) → (answer : Front) × IsNumberFront text answer
-at_finished text t rest e (inl bad) = (Err InvalidValue, (t, rest, bad, e))
-at_finished text t rest e (inr fine) = (Ok (digits_number t, rest), (t, fine, e))
+at_finished : (octets t rest : List ℕ) → octets ≡ t ++ rest → IsMalformed t ⊎ AreNumberOctets t (digits_number t) → (answer : Front) × IsLeadingNumber octets answer
+at_finished octets t rest e (inl bad) = (Err InvalidValue, (t, rest, bad, e))
+at_finished octets t rest e (inr fine) = (Ok (digits_number t, rest), (t, fine, e))
 
-number_some_of : (text : List ℕ) → Split text → (answer : Front) × IsNumberFront text answer
-number_some_of text (inl o) = at_open text o (fault_of_open text o)
-number_some_of text (inr (t, rest, f, e)) = at_finished text t rest e (fault_of_finished t f)
+number_some_of : (octets : List ℕ) → Split octets → (answer : Front) × IsLeadingNumber octets answer
+number_some_of octets (inl o) = at_open octets o (fault_of_open octets o)
+number_some_of octets (inr (t, rest, f, e)) = at_finished octets t rest e (fault_of_finished t f)
 
 -- all octets have a result
-pub number_some : (text : List ℕ) → IsText text → (answer : Front) × IsNumberFront text answer
-number_some text is = number_some_of text (split_text text is)
+pub number_some : (octets : List ℕ) → IsOctets octets → (answer : Front) × IsLeadingNumber octets answer
+number_some octets is = number_some_of octets (split_text octets is)
 
 -- and the function returns it
-pub number_is : (text : List ℕ) → IsText text → IsNumberFront text (number_front text)
-number_is text is =
-    let found = number_some text is in
-    subst (λ (answer : Front). IsNumberFront text answer) (sym (number_only text found.0 found.1)) found.1
+pub number_is : (octets : List ℕ) → IsOctets octets → IsLeadingNumber octets (leading_number octets)
+number_is octets is =
+    let found = number_some octets is in
+    subst (λ (answer : Front). IsLeadingNumber octets answer) (sym (number_only octets found.0 found.1)) found.1
 
 -- ---- the exits of the loop that reads a number
 
@@ -228,74 +228,74 @@ few_small t h big =
 big_many : (t : List ℕ) → 2 ^ 121 ≤ digits_number t → 18 ≤ length t
 big_many t big = ⊎_elim (λ (h : length t < 18). absurd (few_small t h big)) (λ h. h) (cases_lt (length t) 18)
 
-big_fault : (t : List ℕ) (x : ℕ) → IsOpen t → length t < 19 → x < 256 → 2 ^ 121 ≤ digits_number t → IsFaulty (t ++ x ∷ [])
+big_fault : (t : List ℕ) (x : ℕ) → IsOpen t → length t < 19 → x < 256 → 2 ^ 121 ≤ digits_number t → IsMalformed (t ++ x ∷ [])
 big_fault t x o l b big = ⊎_elim
     (λ (h : x < 128). inr (finished_push t x o h, inr (rw (digits_push t x) (omega arith))))
     (λ (h : 128 ≤ x). inl (open_push t x o h b, inr (omega (arith, length_push t x, big_many t big)))) (cases_lt x 128)
 
-pub front_big_step : (t : List ℕ) (x : ℕ) (rest : List ℕ) → IsOpen t → length t < 19 → x < 256 → 2 ^ 121 ≤ digits_number t → number_front (t ++ x ∷ rest) ≡ Err InvalidValue
+pub front_big_step : (t : List ℕ) (x : ℕ) (rest : List ℕ) → IsOpen t → length t < 19 → x < 256 → 2 ^ 121 ≤ digits_number t → leading_number (t ++ x ∷ rest) ≡ Err InvalidValue
 front_big_step t x rest o l b big =
     let e : t ++ x ∷ rest ≡ (t ++ x ∷ []) ++ rest = sym (append_assoc t (x ∷ []) rest) in
     rw e (number_bad (t ++ x ∷ []) rest (big_fault t x o l b big))
 
-pub exit_done : (t : List ℕ) (x : ℕ) (rest : List ℕ) → IsOpen t → ¬ BeginsWithZero t → x < 128 → digits_number t < 2 ^ 121 → number_front (t ++ x ∷ rest) ≡ Ok (digits_number t * 128 + x, rest)
+pub exit_done : (t : List ℕ) (x : ℕ) (rest : List ℕ) → IsOpen t → ¬ BeginsWithZero t → x < 128 → digits_number t < 2 ^ 121 → leading_number (t ++ x ∷ rest) ≡ Ok (digits_number t * 128 + x, rest)
 exit_done t x rest o z b small =
     let e : t ++ x ∷ rest ≡ (t ++ x ∷ []) ++ rest = sym (append_assoc t (x ∷ []) rest) in
     let value : digits_number (t ++ x ∷ []) ≡ digits_number t * 128 + x = digits_push t x ∙ rw (mod_small x b) refl in
     rw e (number_ok (t ++ x ∷ []) rest (digits_number t * 128 + x) (record { finished = finished_push t x o b; shortest = zero_push t x z b; value = value; small = omega arith }))
 
-pub exit_full : (t rest : List ℕ) → IsOpen t → 19 ≤ length t → number_front (t ++ rest) ≡ Err InvalidValue
+pub exit_full : (t rest : List ℕ) → IsOpen t → 19 ≤ length t → leading_number (t ++ rest) ≡ Err InvalidValue
 exit_full t rest o l = number_bad t rest (inl (o, inr l))
 
-pub exit_short : (t : List ℕ) → IsOpen t → ¬ BeginsWithZero t → length t < 19 → number_front t ≡ Err (ShortData 1)
+pub exit_short : (t : List ℕ) → IsOpen t → ¬ BeginsWithZero t → length t < 19 → leading_number t ≡ Err (ShortData 1)
 exit_short t o z l = number_short t o (open_fine t o z l)
 
 -- ---- the encoding of a number
 
-pub length-number_text : (n : ℕ) → length (number_text n) ≡ length (digits_of 128 (n / 128)) + 1
-unfolding number_text
+pub length-number_text : (n : ℕ) → length (number_octets n) ≡ length (digits_of 128 (n / 128)) + 1
+unfolding number_octets
 length-number_text n = rw (length_push, length-map) refl
 
 pub few_digits : (n : ℕ) → n < 2 ^ 128 → length (digits_of 128 (n / 128)) ≤ 18
 few_digits n small = length-digits_of-le 128 18 (n / 128) (omega arith) (omega arith)
 
 -- ---- the same exits, at the index i of the octets
-at_place : (text : List ℕ) (i : ℕ) → i < length text → text ≡ take i text ++ get_or text i 0 ∷ drop (i + 1) text
-at_place text i l = sym (take-append-drop i text) ∙ ap (λ (s : List ℕ). take i text ++ s) (drop_more text i 0 l)
+at_place : (octets : List ℕ) (i : ℕ) → i < length octets → octets ≡ take i octets ++ get_or octets i 0 ∷ drop (i + 1) octets
+at_place octets i l = sym (take-append-drop i octets) ∙ ap (λ (s : List ℕ). take i octets ++ s) (drop_more octets i 0 l)
 
-length_front : (text : List ℕ) (i : ℕ) → i ≤ length text → length (take i text) ≡ i
-length_front text i l = length-take-le i text l
+length_front : (octets : List ℕ) (i : ℕ) → i ≤ length octets → length (take i octets) ≡ i
+length_front octets i l = length-take-le i octets l
 
-pub read_big : (text : List ℕ) (i : ℕ) → i < length text → IsOpen (take i text) → i < 19 → get_or text i 0 < 256 → 2 ^ 121 ≤ digits_number (take i text) → number_front text ≡ Err InvalidValue
-read_big text i l o few octet big =
-    ap number_front (at_place text i l) ∙ front_big_step (take i text) (get_or text i 0) (drop (i + 1) text) o (omega (arith, length_front text i)) octet big
+pub read_big : (octets : List ℕ) (i : ℕ) → i < length octets → IsOpen (take i octets) → i < 19 → get_or octets i 0 < 256 → 2 ^ 121 ≤ digits_number (take i octets) → leading_number octets ≡ Err InvalidValue
+read_big octets i l o few octet big =
+    ap leading_number (at_place octets i l) ∙ front_big_step (take i octets) (get_or octets i 0) (drop (i + 1) octets) o (omega (arith, length_front octets i)) octet big
 
-pub read_zero : (text : List ℕ) (i : ℕ) → i ≡ 0 → get_or text i 0 ≡ 128 → number_front text ≡ Err InvalidValue
-read_zero text i e z = front_zero text (ap (λ (k : ℕ). get_or text k 0) (sym e) ∙ z)
+pub read_zero : (octets : List ℕ) (i : ℕ) → i ≡ 0 → get_or octets i 0 ≡ 128 → leading_number octets ≡ Err InvalidValue
+read_zero octets i e z = front_zero octets (ap (λ (k : ℕ). get_or octets k 0) (sym e) ∙ z)
 
-pub read_done : (text : List ℕ) (i : ℕ) → i < length text → IsOpen (take i text) → ¬ BeginsWithZero (take i text) → get_or text i 0 < 128 → digits_number (take i text) < 2 ^ 121 → number_front text ≡ Ok (digits_number (take i text) * 128 + get_or text i 0, drop (i + 1) text)
-read_done text i l o z octet small =
-    ap number_front (at_place text i l) ∙ exit_done (take i text) (get_or text i 0) (drop (i + 1) text) o z octet small
+pub read_done : (octets : List ℕ) (i : ℕ) → i < length octets → IsOpen (take i octets) → ¬ BeginsWithZero (take i octets) → get_or octets i 0 < 128 → digits_number (take i octets) < 2 ^ 121 → leading_number octets ≡ Ok (digits_number (take i octets) * 128 + get_or octets i 0, drop (i + 1) octets)
+read_done octets i l o z octet small =
+    ap leading_number (at_place octets i l) ∙ exit_done (take i octets) (get_or octets i 0) (drop (i + 1) octets) o z octet small
 
-pub read_full : (text : List ℕ) (i : ℕ) → i ≤ length text → IsOpen (take i text) → 19 ≤ i → number_front text ≡ Err InvalidValue
-read_full text i l o many =
-    ap number_front (sym (take-append-drop i text)) ∙ exit_full (take i text) (drop i text) o (omega (arith, length_front text i))
+pub read_full : (octets : List ℕ) (i : ℕ) → i ≤ length octets → IsOpen (take i octets) → 19 ≤ i → leading_number octets ≡ Err InvalidValue
+read_full octets i l o many =
+    ap leading_number (sym (take-append-drop i octets)) ∙ exit_full (take i octets) (drop i octets) o (omega (arith, length_front octets i))
 
-pub read_short : (text : List ℕ) (i : ℕ) → i ≡ length text → IsOpen (take i text) → ¬ BeginsWithZero (take i text) → i < 19 → number_front text ≡ Err (ShortData 1)
-read_short text i e o z few =
-    let whole : take i text ≡ text = take_all i text (omega arith) in
-    exit_short text (rw whole at o) (rw whole at z) (omega arith)
+pub read_short : (octets : List ℕ) (i : ℕ) → i ≡ length octets → IsOpen (take i octets) → ¬ BeginsWithZero (take i octets) → i < 19 → leading_number octets ≡ Err (ShortData 1)
+read_short octets i e o z few =
+    let whole : take i octets ≡ octets = take_all i octets (omega arith) in
+    exit_short octets (rw whole at o) (rw whole at z) (omega arith)
 
-pub read_more : (text : List ℕ) (i : ℕ) → i < length text → IsOpen (take i text) → 128 ≤ get_or text i 0 → get_or text i 0 < 256 → IsOpen (take (i + 1) text)
-read_more text i l o a b = rw (take_more text i 0 l) (open_push (take i text) (get_or text i 0) o a b)
+pub read_more : (octets : List ℕ) (i : ℕ) → i < length octets → IsOpen (take i octets) → 128 ≤ get_or octets i 0 → get_or octets i 0 < 256 → IsOpen (take (i + 1) octets)
+read_more octets i l o a b = rw (take_more octets i 0 l) (open_push (take i octets) (get_or octets i 0) o a b)
 
-pub read_value : (text : List ℕ) (i : ℕ) → i < length text → digits_number (take (i + 1) text) ≡ digits_number (take i text) * 128 + get_or text i 0 % 128
-read_value text i l = rw (take_more text i 0 l) (digits_push (take i text) (get_or text i 0))
+pub read_value : (octets : List ℕ) (i : ℕ) → i < length octets → digits_number (take (i + 1) octets) ≡ digits_number (take i octets) * 128 + get_or octets i 0 % 128
+read_value octets i l = rw (take_more octets i 0 l) (digits_push (take i octets) (get_or octets i 0))
 
-pub read_shortest : (text : List ℕ) (i : ℕ) → i < length text → ¬ BeginsWithZero (take i text) → (i ≡ 0 → get_or text i 0 ≡ 128 → ⊥) → ¬ BeginsWithZero (take (i + 1) text)
-read_shortest text i l z first = ⊎_elim
-    (λ (e : i ≡ 0). λ (w : BeginsWithZero (take (i + 1) text)). first e (ap (λ (k : ℕ). get_or text k 0) e ∙ sym (get_or-take (i + 1) text 0 0 (omega arith)) ∙ w))
-    (λ (n : i ≡ 0 → ⊥). λ (w : BeginsWithZero (take (i + 1) text)). z (get_or-take i text 0 0 (omega arith) ∙ sym (get_or-take (i + 1) text 0 0 (omega arith)) ∙ w)) (cases_eq i 0)
+pub read_shortest : (octets : List ℕ) (i : ℕ) → i < length octets → ¬ BeginsWithZero (take i octets) → (i ≡ 0 → get_or octets i 0 ≡ 128 → ⊥) → ¬ BeginsWithZero (take (i + 1) octets)
+read_shortest octets i l z first = ⊎_elim
+    (λ (e : i ≡ 0). λ (w : BeginsWithZero (take (i + 1) octets)). first e (ap (λ (k : ℕ). get_or octets k 0) e ∙ sym (get_or-take (i + 1) octets 0 0 (omega arith)) ∙ w))
+    (λ (n : i ≡ 0 → ⊥). λ (w : BeginsWithZero (take (i + 1) octets)). z (get_or-take i octets 0 0 (omega arith) ∙ sym (get_or-take (i + 1) octets 0 0 (omega arith)) ∙ w)) (cases_eq i 0)
 
 pub next_value : (number x : ℕ) → number < 2 ^ 121 → bit_or (number * 128 % 2 ^ 128) (bit_and x 127) ≡ number * 128 + x % 128
 next_value number x small =
@@ -312,8 +312,8 @@ with_top x = rw (and_mask x 7) (numeral_or 127 (x % 128) refl (omega arith))
 abbrev pub topped : ℕ → ℕ
 topped digit = 128 + digit
 
-pub write_start : (n k : ℕ) (old : List ℕ) → k ≡ length (number_text n) → k ≤ length old → map topped (digits_of 128 (n / 128)) ++ drop (k - 1) (set old (k - 1) (n % 128)) ≡ number_text n ++ drop k old
-unfolding number_text
+pub write_start : (n k : ℕ) (old : List ℕ) → k ≡ length (number_octets n) → k ≤ length old → map topped (digits_of 128 (n / 128)) ++ drop (k - 1) (set old (k - 1) (n % 128)) ≡ number_octets n ++ drop k old
+unfolding number_octets
 write_start n k old e l =
     let some : k - 1 + 1 ≡ k = omega (arith, length-number_text n) in
     let in_it : k - 1 < length old = omega (arith, length-number_text n) in
@@ -330,5 +330,5 @@ write_step rest i octets e some l =
     let in_it : i - 1 < length octets = omega arith in
     rw (drop-set octets (i - 1) (128 + rest % 128), same, digits_of_step 128 rest (lit≤ tt) more, map_push, append_assoc) refl
 
-pub few_octets : (n : ℕ) → n < 2 ^ 32 → length (number_text n) ≤ 5
+pub few_octets : (n : ℕ) → n < 2 ^ 32 → length (number_octets n) ≤ 5
 few_octets n small = omega (arith, length-number_text n, length-digits_of-le 128 4 (n / 128) (lit≤ tt) (omega arith))

@@ -10,7 +10,7 @@ use Rattle.asn1_core.specs.declared.parser.Place.{Place}
 use Rattle.asn1_core.specs.declared.parser.Place.TheVariants.{Field, Index}
 use Rattle.asn1_core.specs.declared.tag.Tag.{Tag}
 use Rattle.asn1_core.specs.Tag.{tag_eq}
-use Rattle.asn1_core.specs.Fault.{Fault, kind_eq, place_eq, fault_eq}
+use Rattle.asn1_core.specs.ReadError.{ReadError, kind_eq, place_eq, read_error_eq}
 use Rattle.asn1_core.specs.Lemmas.Tags.{tag_eq-is, tag_eq-refl}
 
 tag_of_kind : Tag → ParseErrorKind → Tag
@@ -51,13 +51,13 @@ place_eq-decides (Field a) (Field b) = (λ e. let i : a ≡ b = (bytes_eq-Decide
 place_eq-decides (Index a) (Index b) = (λ e. let i : a ≡ b = eqb-true a b e in rw i refl, λ e. let i : a ≡ b = cc in eq-eqb a b i)
 place_eq-decides _ _ = (λ e. absurd cc, λ e. absurd cc)
 
-fault_same : (e f : Fault) → e.kind ≡ f.kind → e.places ≡ f.places → e ≡ f
-fault_same e f k p = ap (λ (x : ParseErrorKind). let r : Fault = record { kind = x; places = e.places } in r) k ∙ ap (λ (x : List Place). let r : Fault = record { kind = f.kind; places = x } in r) p
+fault_same : (e f : ReadError) → e.kind ≡ f.kind → e.places ≡ f.places → e ≡ f
+fault_same e f k p = ap (λ (x : ParseErrorKind). let r : ReadError = record { kind = x; places = e.places } in r) k ∙ ap (λ (x : List Place). let r : ReadError = record { kind = f.kind; places = x } in r) p
 
-pub fault_eq-decides : (e f : Fault) → Decides (fault_eq e f) (e ≡ f)
-fault_eq-decides e f =
+pub read_error_eq-decides : (e f : ReadError) → Decides (read_error_eq e f) (e ≡ f)
+read_error_eq-decides e f =
     let places = slice_eq-Decides place_eq-decides e.places f.places (pointwise place_eq e.places f.places) refl in
     let kinds = kind_eq-decides e.kind f.kind in (
       λ t. let p = and_parts (kind_eq e.kind f.kind) (pointwise place_eq e.places f.places) t in fault_same e f (kinds.0 p.0) (places.0 p.1),
-      λ same. and_from _ _ (kinds.1 (ap (λ (x : Fault). x.kind) same)) (places.1 (ap (λ (x : Fault). x.places) same)),
+      λ same. and_from _ _ (kinds.1 (ap (λ (x : ReadError). x.kind) same)) (places.1 (ap (λ (x : ReadError). x.places) same)),
     )

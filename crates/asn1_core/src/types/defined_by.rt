@@ -1,10 +1,10 @@
 //! The traits of types whose form is defined by an item beside them, such as an OBJECT IDENTIFIER (ANY DEFINED BY).
 
 ghost use Rattle.std.specs.Prelude.{◌≡◌, OnOk, OnErr, IfErr};
-ghost use Rattle.asn1_core.specs.Buffer.{Appends, KeepsFront};
+ghost use Rattle.asn1_core.specs.Buffer.{Appends, KeepsPrefix};
 ghost use Rattle.asn1_core.specs.Reading.{EndsWith};
 ghost use Rattle.asn1_core.specs.Reads.{ReadsDefined};
-ghost use Rattle.asn1_core.specs.Writing.{buffer_name, octets_of, GivesLength, Refuses};
+ghost use Rattle.asn1_core.specs.Writing.{buffer_name, octets_of, GivesLength, NamesError};
 ghost use Rattle.asn1_core.specs.DefinedBy.{ByItem};
 
 use crate::parser::{ParseResult, Parser};
@@ -57,14 +57,15 @@ pub trait Asn1DefinedByWritable<T: Asn1Writable>: Asn1DefinedBy<T> + Sized {
     fn write(&self, dest: &mut Writer<'_>) -> Result<(), Self::Error>
         requires { Self.by.means.closures (Self.by.means.meaning self.now) }
         ensures same_buffer { buffer_name dest.new ≡ buffer_name dest.old }
-        ensures ok { OnOk result (Appends (Self.by.means.texts (Self.by.means.meaning self.now))
+        ensures ok { OnOk result (Appends (Self.by.means.encodings (Self.by.means.meaning self.now))
             (octets_of dest.old) (octets_of dest.new)) }
-        ensures err { OnErr result (KeepsFront (octets_of dest.old) (octets_of dest.new)) }
-        ensures error { IfErr result (Refuses Self.Error.from_gives (write_errors_by self.now)) };
+        ensures err { OnErr result (KeepsPrefix (octets_of dest.old) (octets_of dest.new)) }
+        ensures error { IfErr result (NamesError Self.Error.from_gives
+            (write_errors_by self.now)) };
 
     /// How many octets the value's encoding has, without its item, if that is known without writing it. `None` also
     /// if that is 2^64 or more.
     fn encoded_length(&self) -> Option<usize>
         ensures { GivesLength (length_known_by self.now)
-            (Self.by.means.texts (Self.by.means.meaning self.now)) result };
+            (Self.by.means.encodings (Self.by.means.meaning self.now)) result };
 }

@@ -2,10 +2,10 @@
 
 ghost use Rattle.std.specs.Prelude.{◌≡◌, ◌+◌, ◌-◌, ◌^◌, ◌<◌, ◌≤◌, ◌||◌, ◌==◌, ◌++◌, if◌then◌else◌, ◌≤ℤ◌, ◌<ℤ◌};
 ghost use Rattle.std.specs.Prelude.{length, pos, neg_ℤ, IfOk, OnOk, OnErr, IsOkUnless};
-ghost use Rattle.asn1_core.specs.Text.{signed_number};
+ghost use Rattle.asn1_core.specs.Base256.{signed_number};
 ghost use Rattle.asn1_core.specs.Integer.{nine_bits, is_minimal, integer_content, below, read_sized};
-ghost use Rattle.asn1_core.specs.Fault.{framed};
-ghost use Rattle.asn1_core.specs.Reading.{Answers, Fits};
+ghost use Rattle.asn1_core.specs.ReadError.{framed};
+ghost use Rattle.asn1_core.specs.Reading.{Returns, Fits};
 ghost use Rattle.asn1_core.specs.Sized.{integer_text};
 ghost use Rattle.asn1_core.specs.declared.writer.WriteError.TheVariants.{AllocationError};
 ghost use Rattle.asn1_core.specs.declared.parser.ParseErrorKind.TheVariants.{IntegerOverflow};
@@ -92,7 +92,7 @@ pub(crate) fn read(octets: &[u8], low: i128, high: i128) -> Result<i128, ParseEr
     requires least { neg_ℤ (pos (2 ^ 71)) ≤ℤ low }
     requires greatest { high <ℤ pos (2 ^ 71) }
     requires ordered { low ≤ℤ high }
-    ensures exact { Answers (λ z. z) (λ _. ⊥) (framed result) (read_sized low high octets.now) }
+    ensures exact { Returns (λ z. z) (λ _. ⊥) (framed result) (read_sized low high octets.now) }
     ensures within { IfOk result (λ z. (low ≤ℤ z) × (z ≤ℤ high)) }
 {
     if !is_integer_content(octets) {

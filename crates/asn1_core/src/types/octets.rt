@@ -1,7 +1,7 @@
 //! OCTET STRING and NULL (X.690 8.7, 8.8).
 
 ghost use Rattle.std.specs.Prelude.{◌≡◌, IsTrue, length};
-ghost use Rattle.asn1_core.specs.Text.{IsText};
+ghost use Rattle.asn1_core.specs.Base256.{IsOctets};
 ghost use Rattle.asn1_core.specs.Tag.{universal};
 ghost use Rattle.asn1_core.specs.Octets.{octets_content, sized_octets_content, null_content};
 ghost use Rattle.asn1_core.specs.Reads.{ReadsContents};
@@ -64,7 +64,7 @@ impl SimpleAsn1Writable for () {
 
 /// States that a slice holds octets. The body looks at the slice, whose type says so.
 fn are_octets(octets: &[u8])
-    ensures { IsText octets.now }
+    ensures { IsOctets octets.now }
 {
     let _count = octets.len();
 }
@@ -113,7 +113,7 @@ impl SimpleAsn1Writable for &[u8] {
     }
 
     fn data_length(&self) -> Option<usize>
-        ensures known { GivesLength (Unit {0}) (octets_content.texts self.now.now) result }
+        ensures known { GivesLength (Unit {0}) (octets_content.encodings self.now.now) result }
         ensures exact { result ≡ Some (length self.now.now) }
     {
         Some(self.len())
@@ -163,7 +163,8 @@ impl<const N: usize> SimpleAsn1Writable for [u8; N] {
     }
 
     fn data_length(&self) -> Option<usize>
-        ensures known { GivesLength (Unit {0}) ((sized_octets_content N).texts self.now) result }
+        ensures known { GivesLength (Unit {0}) ((sized_octets_content N).encodings self.now)
+            result }
         ensures exact { result ≡ Some N }
     {
         Some(N)

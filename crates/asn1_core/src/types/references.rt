@@ -2,8 +2,8 @@
 
 ghost use Rattle.std.specs.Prelude.{◌≡◌, length};
 ghost use Rattle.asn1_core.specs.CoreTypes.{boxed_der};
-ghost use Rattle.asn1_core.specs.Der.{seen};
-ghost use Rattle.asn1_core.specs.Element.{element_text};
+ghost use Rattle.asn1_core.specs.Der.{viewed};
+ghost use Rattle.asn1_core.specs.Element.{element_encoding};
 ghost use Rattle.asn1_core.specs.Writing.{GivesLength};
 
 use crate::parser::{ParseError, ParseErrorKind, ParseResult};
@@ -63,7 +63,7 @@ impl<T: SimpleAsn1Writable> SimpleAsn1Writable for Box<T> {
 
 /// A reference, which is written as what it points to, and not read.
 impl<T: Asn1Type> Asn1Type for &T {
-    ghost der = { seen (λ r. r.now) T.der };
+    ghost der = { viewed (λ r. r.now) T.der };
 
     fn known(&self) {
         (**self).known()
@@ -103,9 +103,10 @@ impl Asn1Writable for &Tlv<'_> {
     }
 
     fn encoded_length(&self) -> Option<usize>
-        ensures length { GivesLength (Unit {0}) (λ t. t ≡ element_text (element_of self.now.now))
+        ensures length { GivesLength (Unit {0}) (λ t. t ≡ element_encoding
+            (element_of self.now.now))
             result }
-        ensures known { result ≡ Some (length (element_text (element_of self.now.now))) }
+        ensures known { result ≡ Some (length (element_encoding (element_of self.now.now))) }
     {
         (**self).encoded_length()
     }

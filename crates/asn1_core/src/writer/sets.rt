@@ -3,15 +3,16 @@
 ghost use Rattle.std.specs.Prelude.{◌≡◌, ◌++◌, ◌⊎◌};
 ghost use Rattle.std.specs.Prelude.{[], length, map, All, IsPermutation, true, IfSome, OnOk, OnErr, IfErr, IsOkUnless};
 ghost use Rattle.std.specs.List.Sorted.{IsSortedBy};
-ghost use Rattle.asn1_core.specs.Buffer.{Appends, KeepsFront};
-ghost use Rattle.asn1_core.specs.Writing.{Refuses, set_closure, set_items};
+ghost use Rattle.asn1_core.specs.Buffer.{Appends, KeepsPrefix};
+ghost use Rattle.asn1_core.specs.Writing.{NamesError, set_closure, set_items};
 ghost use Rattle.asn1_core.specs.Der.{IsWritable, encoding_of, simple_der};
 ghost use Rattle.asn1_core.specs.LawsOf.Contents.{listing_laws, set_closure_laws};
-ghost use Rattle.asn1_core.specs.Listing.{Each, AnyNames, set_tag, join, ListingOf};
-ghost use Rattle.asn1_core.specs.SetWriting.{StandsBehind, AddsTo, IsOutOfOrder, KeepsElements, OrderedElements};
-ghost use Rattle.asn1_core.specs.SetWriting.{MayRefuseSet, set_closure_written, listing_written};
+ghost use Rattle.std.specs.List.{concat, AllByRecursion};
+ghost use Rattle.asn1_core.specs.Listing.{AnyNames, set_tag, ListingOf};
+ghost use Rattle.asn1_core.specs.SetWriting.{BeginsInOrder, AddsTo, IsOutOfOrder, KeepsElements, OrderedElements};
+ghost use Rattle.asn1_core.specs.SetWriting.{SetClosureMayFail, set_closure_written, listing_written};
 ghost use Rattle.asn1_core.specs.SetSteps.{part_of, first_number, span_cmp, IsBefore, IsWithin, NotesFirst, NotesTexts};
-ghost use Rattle.asn1_core.specs.Tag.{tag_in_front, before_tag};
+ghost use Rattle.asn1_core.specs.Tag.{tag_at_start, before_tag};
 ghost use Rattle.asn1_core.specs.declared.writer.WriteError.TheVariants.{AllocationError, InvalidSetOrdering};
 
 use crate::parser::number_in;
@@ -83,12 +84,13 @@ fn write_items<T: Asn1Writable>(
     dest: &mut WriteBuf,
     spans: &mut Vec<Span>,
 ) -> Result<(), T::Error>
-    requires closures { Each T.der.closures (map T.der.meaning items.now) }
+    requires closures { AllByRecursion T.der.closures (map T.der.meaning items.now) }
     requires spans { spans.old.items ≡ [] }
-    ensures ok { OnOk result (NotesTexts (λ v. T.der.texts (T.der.meaning v)) items.now
+    ensures ok { OnOk result (NotesTexts (λ v. T.der.encodings (T.der.meaning v)) items.now
         dest.new.bytes spans.new.items) }
-    ensures front { KeepsFront dest.old.bytes dest.new.bytes }
-    ensures error { IfErr result (Refuses T.Error.from_gives (AnyNames T.write_errors items.now)) }
+    ensures front { KeepsPrefix dest.old.bytes dest.new.bytes }
+    ensures error { IfErr result (NamesError T.Error.from_gives
+        (AnyNames T.write_errors items.now)) }
 {
     let mut writer = Writer::new(dest);
     for item in items {
@@ -108,8 +110,8 @@ fn write_items<T: Asn1Writable>(
 fn push_spans(dest: &mut WriteBuf, spans: &[Span]) -> WriteResult<()>
     requires { All (IsWithin (length dest.old.bytes)) spans.now }
     ensures ok { OnOk result (dest.new.bytes
-        ≡ dest.old.bytes ++ join (map (part_of dest.old.bytes) spans.now)) }
-    ensures err { OnErr result (KeepsFront dest.old.bytes dest.new.bytes) }
+        ≡ dest.old.bytes ++ concat (map (part_of dest.old.bytes) spans.now)) }
+    ensures err { OnErr result (KeepsPrefix dest.old.bytes dest.new.bytes) }
     ensures error { IsOkUnless result WriteError.AllocationError }
 {
     for span in spans {
@@ -121,11 +123,12 @@ fn push_spans(dest: &mut WriteBuf, spans: &[Span]) -> WriteResult<()>
 /// Appends the items' encodings in ascending order. The encodings are appended as they come, then once more in order.
 /// Those in order are then moved down over the first ones.
 fn write_listing<T: Asn1Writable>(items: &[T], dest: &mut WriteBuf) -> Result<(), T::Error>
-    requires { Each T.der.closures (map T.der.meaning items.now) }
-    ensures ok { OnOk result (Appends (ListingOf T.der.texts (map T.der.meaning items.now))
+    requires { AllByRecursion T.der.closures (map T.der.meaning items.now) }
+    ensures ok { OnOk result (Appends (ListingOf T.der.encodings (map T.der.meaning items.now))
         dest.old.bytes dest.new.bytes) }
-    ensures err { OnErr result (KeepsFront dest.old.bytes dest.new.bytes) }
-    ensures error { IfErr result (Refuses T.Error.from_gives (AnyNames T.write_errors items.now)) }
+    ensures err { OnErr result (KeepsPrefix dest.old.bytes dest.new.bytes) }
+    ensures error { IfErr result (NamesError T.Error.from_gives
+        (AnyNames T.write_errors items.now)) }
 {
     let start = dest.len();
     let mut spans = dest.no_spans();
@@ -182,7 +185,7 @@ impl<T: Asn1Writable> SimpleAsn1Writable for SetOfWriter<'_, T> {
 
     ghost write_errors = { λ v. AnyNames T.write_errors (set_items v) };
 
-    ghost length_known = { λ v. Each T.length_known (set_items v) };
+    ghost length_known = { λ v. AllByRecursion T.length_known (set_items v) };
 
     fn tag() -> Tag
         ensures value { result ≡ set_tag }
@@ -273,13 +276,14 @@ impl<'a> SetElementWriter<'a> {
     pub fn write_element<T: Asn1Writable>(&mut self, val: &T) -> Result<(), T::Error>
         requires { IsWritable T.der (T.der.meaning val.now) }
         ensures front { self.new.front ≡ self.old.front }
-        ensures ok { OnOk result (AddsTo (T.der.texts (T.der.meaning val.now)) self.old self.new) }
+        ensures ok { OnOk result (AddsTo (T.der.encodings (T.der.meaning val.now)) self.old
+            self.new) }
 
         // Elements in the order of their tags stay in that order.
         ensures elements { OnOk result (KeepsElements self.old self.new) }
         ensures err { OnErr result (self.new ≡ self.old) }
-        ensures error { IfErr result (λ e. Refuses T.Error.from_gives (T.write_errors val.now) e
-            ⊎ (IsOutOfOrder (T.der.texts (T.der.meaning val.now)) self.old
+        ensures error { IfErr result (λ e. NamesError T.Error.from_gives (T.write_errors val.now) e
+            ⊎ (IsOutOfOrder (T.der.encodings (T.der.meaning val.now)) self.old
             × T.Error.from_gives InvalidSetOrdering e)) }
     {
         let before = self.buf.len();
@@ -299,11 +303,11 @@ impl<'a> SetElementWriter<'a> {
 
 /// The tag at the start of the octets, if it doesn't come before the last one.
 fn tag_behind(last: Option<Tag>, octets: &[u8]) -> Option<Tag>
-    ensures some { IfSome result (StandsBehind last octets.now) }
-    ensures none { result ≡ None → (tag_in_front octets.now ≡ None)
-        ⊎ (before_tag (tag_in_front octets.now) last ≡ true) }
+    ensures some { IfSome result (BeginsInOrder last octets.now) }
+    ensures none { result ≡ None → (tag_at_start octets.now ≡ None)
+        ⊎ (before_tag (tag_at_start octets.now) last ≡ true) }
 {
-    let Ok((tag, _rest)) = Tag::in_front(octets) else {
+    let Ok((tag, _rest)) = Tag::read(octets) else {
         return None;
     };
     match last {
@@ -359,7 +363,7 @@ impl<F: Fn(&mut SetElementWriter<'_>) -> Result<(), E>, E: From<WriteError>> Sim
     for SetWriter<'_, F, E> {
     type Error = E;
 
-    ghost write_errors = { λ v. MayRefuseSet F.FnOnce (set_closure v) };
+    ghost write_errors = { λ v. SetClosureMayFail F.FnOnce (set_closure v) };
 
     fn tag() -> Tag
         ensures value { result ≡ set_tag }

@@ -6,30 +6,30 @@ use Rattle.std.specs.Str.{is_utf8, IsNotAscii}
 use Rattle.std.proofs.lemmas.Bool.{and_parts, cases_Bool, cases_eq, or_cases, lt-ltb, ltb-true, leb-true, eqb-true, true≢false}
 use Rattle.std.proofs.lemmas.Str.{IsUtf8-from_ascii, IsUtf8-from_is_utf8, is_utf8-from_IsUtf8}
 use Rattle.asn1_core.specs.declared.parser.ParseErrorKind.TheVariants.{InvalidValue}
-use Rattle.asn1_core.specs.Fault.{Fault, fault, IsOfText}
-use Rattle.asn1_core.specs.Text.{IsText}
-use Rattle.asn1_core.specs.Lemmas.Faults.{passed_faults}
+use Rattle.asn1_core.specs.ReadError.{ReadError, read_error, IsOfInput}
+use Rattle.asn1_core.specs.Base256.{IsOctets}
+use Rattle.asn1_core.specs.Lemmas.Faults.{passed_errors}
 use Rattle.asn1_core.specs.Lemmas.Results.{ok_is, passed}
 use Rattle.asn1_values.specs.Texts.{IsTextOf, read_text, is_printable, is_printable_text, is_ia5_text, is_visible_text, is_utf8_text}
 use Rattle.std.proofs.Common.{◌≡◌, ◌∙◌, ℕ, zero, suc, ◌+◌, ◌-◌, ◌<◌, ◌≤◌, ◌/◌, ◌%◌, ◌^◌, Bool, true, false, if◌then◌else◌, not, ◌&&◌, ◌||◌, eqb, nat_eq, codes, List, [], ◌∷◌, Ok, Err, IfErr, IsUtf8, IsAscii, MatchBool, refl, sym, ap, subst, inl, inr, arith}
 
-pub text_takes : (rule : List ℕ → Bool) (c t : List ℕ) → IsText c → read_text rule c ≡ Ok t → (c ≡ t) × IsTextOf rule t
-text_takes rule c t is e =
+pub text_consumes : (rule : List ℕ → Bool) (c t : List ℕ) → IsOctets c → read_text rule c ≡ Ok t → (c ≡ t) × IsTextOf rule t
+text_consumes rule c t is e =
     let p = passed (rule c) (Ok c) _ t e in
     let same : c ≡ t = ok_is _ _ p.1 in (same, subst (IsTextOf rule) same p.0)
 
-pub text_again : (rule : List ℕ → Bool) (t : List ℕ) → IsTextOf rule t → read_text rule t ≡ Ok t
-text_again rule t h = rw h refl
+pub text_read_back : (rule : List ℕ → Bool) (t : List ℕ) → IsTextOf rule t → read_text rule t ≡ Ok t
+text_read_back rule t h = rw h refl
 
-pub text_faults : (rule : List ℕ → Bool) (c : List ℕ) → IfErr (read_text rule c) IsOfText
-text_faults rule c = passed_faults (rule c) (Ok c) InvalidValue tt (λ e. cc)
+pub text_errors : (rule : List ℕ → Bool) (c : List ℕ) → IfErr (read_text rule c) IsOfInput
+text_errors rule c = passed_errors (rule c) (Ok c) InvalidValue tt (λ e. cc)
 
 -- ---- what reading returns
 
 pub text_ok : (rule : List ℕ → Bool) (c t : List ℕ) → IsTextOf rule c → t ≡ c → read_text rule c ≡ Ok t
 text_ok rule c t h e = rw h (ap Ok (sym e))
 
-pub text_err : (rule : List ℕ → Bool) (c : List ℕ) (f : Fault) → rule c ≡ false → f ≡ fault InvalidValue → read_text rule c ≡ Err f
+pub text_err : (rule : List ℕ → Bool) (c : List ℕ) (f : ReadError) → rule c ≡ false → f ≡ read_error InvalidValue → read_text rule c ≡ Err f
 text_err rule c f h e = rw h (ap Err (sym e))
 
 -- ---- ASCII

@@ -2,7 +2,7 @@
 
 ghost use Rattle.std.specs.Prelude.{◌≡◌, ◌+◌, ◌*◌, ◌-◌, ◌/◌, ◌^◌, ◌∷◌, ◌<◌, ◌≤◌, ◌↔◌};
 ghost use Rattle.std.specs.Prelude.{length, pos, int_lt, IsTrue, MatchOption, EachIndex, slice_index};
-ghost use Rattle.asn1_core.specs.Text.{number, signed_number};
+ghost use Rattle.asn1_core.specs.Base256.{number, signed_number};
 ghost use Rattle.asn1_core.specs.Tag.{universal};
 ghost use Rattle.asn1_core.specs.Integer.{integer_content};
 ghost use Rattle.asn1_core.specs.Reads.{ReadsContents};
@@ -112,7 +112,8 @@ impl SimpleAsn1Writable for BigUint<'_> {
     }
 
     fn data_length(&self) -> Option<usize>
-        ensures known { GivesLength (Unit {0}) (unsigned_content.texts (big_uint_number self.now))
+        ensures known { GivesLength (Unit {0}) (unsigned_content.encodings
+            (big_uint_number self.now))
             result }
         ensures exact { result ≡ Some (length (integer_content (big_uint_number self.now))) }
     {
@@ -239,7 +240,7 @@ impl SimpleAsn1Writable for BigInt<'_> {
     }
 
     fn data_length(&self) -> Option<usize>
-        ensures known { GivesLength (Unit {0}) (signed_content.texts (big_int_number self.now))
+        ensures known { GivesLength (Unit {0}) (signed_content.encodings (big_int_number self.now))
             result }
         ensures exact { result ≡ Some (length (integer_content (big_int_number self.now))) }
     {

@@ -3,7 +3,7 @@
 ghost use Rattle.std.specs.Prelude.{◌≡◌, ◌-ℤ◌, ◌^◌, pos, length};
 ghost use Rattle.asn1_core.specs.Tag.{universal};
 ghost use Rattle.asn1_core.specs.Integer.{integer_content};
-ghost use Rattle.asn1_core.specs.Element.{element, element_text};
+ghost use Rattle.asn1_core.specs.Element.{element, element_encoding};
 ghost use Rattle.asn1_core.specs.Reading.{Fits};
 ghost use Rattle.asn1_core.specs.Sized.{sized_content};
 ghost use Rattle.asn1_core.specs.LawsOf.Contents.{sized_laws};
@@ -48,7 +48,7 @@ impl Asn1Type for Enumerated {
     fn known(&self)
         ensures valid { (sized_content (universal 10) (pos 0) (pos (2 ^ 32) -ℤ pos 1)).valid
             (pos (enumerated_value self.now)) }
-        ensures fits { Fits (element_text (element (universal 10)
+        ensures fits { Fits (element_encoding (element (universal 10)
             (integer_content (pos (enumerated_value self.now))))) }
     {
         self.0.known()

@@ -3,7 +3,7 @@
 ghost use Rattle.std.specs.Prelude.{◌≡◌, ◌≤◌, ⊤, length, MatchResult};
 ghost use Rattle.std.proofs.Props.{props};
 ghost use Rattle.asn1_core.specs.declared.parser.ParseErrorKind.TheVariants.{InvalidValue};
-ghost use Rattle.asn1_core.specs.Fault.{fault};
+ghost use Rattle.asn1_core.specs.ReadError.{read_error};
 ghost use Rattle.asn1_core.specs.Der.{simple_der};
 ghost use Rattle.asn1_values.specs.Times.{IsNanoseconds, instant, instant_text};
 
@@ -44,7 +44,7 @@ impl GeneralizedTime {
     /// nanoseconds and they are 0 or above 999999999.
     pub fn new(datetime: DateTime, nanoseconds: Option<u32>) -> ParseResult<GeneralizedTime>
         ensures { MatchResult result (λ t. instant_of t ≡ instant (moment datetime) nanoseconds)
-            (λ e. (e ≡ fault InvalidValue) × ¬ (((moment datetime).year ≤ 9999)
+            (λ e. (e ≡ read_error InvalidValue) × ¬ (((moment datetime).year ≤ 9999)
             × IsNanoseconds nanoseconds)) }
     {
         if datetime.year() > 9999 || !is_fraction(nanoseconds) {

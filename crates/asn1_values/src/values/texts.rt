@@ -165,7 +165,8 @@ impl SimpleAsn1Writable for PrintableString<'_> {
     }
 
     fn data_length(&self) -> Option<usize>
-        ensures known { GivesLength (Unit {0}) (printable_content.texts (printable_octets self.now))
+        ensures known { GivesLength (Unit {0}) (printable_content.encodings
+            (printable_octets self.now))
             result }
         ensures exact { result ≡ Some (length (printable_octets self.now)) }
     {
@@ -278,7 +279,8 @@ impl SimpleAsn1Writable for IA5String<'_> {
     }
 
     fn data_length(&self) -> Option<usize>
-        ensures known { GivesLength (Unit {0}) (ia5_content.texts (ia5_octets self.now)) result }
+        ensures known { GivesLength (Unit {0}) (ia5_content.encodings (ia5_octets self.now))
+            result }
         ensures exact { result ≡ Some (length (ia5_octets self.now)) }
     {
         Some(self.text.len())
@@ -390,7 +392,7 @@ impl SimpleAsn1Writable for VisibleString<'_> {
     }
 
     fn data_length(&self) -> Option<usize>
-        ensures known { GivesLength (Unit {0}) (visible_content.texts (visible_octets self.now))
+        ensures known { GivesLength (Unit {0}) (visible_content.encodings (visible_octets self.now))
             result }
         ensures exact { result ≡ Some (length (visible_octets self.now)) }
     {
@@ -499,7 +501,8 @@ impl SimpleAsn1Writable for Utf8String<'_> {
     }
 
     fn data_length(&self) -> Option<usize>
-        ensures known { GivesLength (Unit {0}) (utf8_content.texts (utf8_octets self.now)) result }
+        ensures known { GivesLength (Unit {0}) (utf8_content.encodings (utf8_octets self.now))
+            result }
         ensures exact { result ≡ Some (length (utf8_octets self.now)) }
     {
         Some(self.text.len())

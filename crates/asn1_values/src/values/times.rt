@@ -3,7 +3,7 @@
 
 ghost use Rattle.std.specs.Prelude.{◌≡◌, ◌≤◌, ⊤, MatchResult};
 ghost use Rattle.asn1_core.specs.declared.parser.ParseErrorKind.TheVariants.{InvalidValue};
-ghost use Rattle.asn1_core.specs.Fault.{fault};
+ghost use Rattle.asn1_core.specs.ReadError.{read_error};
 ghost use Rattle.asn1_core.specs.Der.{simple_der};
 
 use crate::values::DateTime;
@@ -37,7 +37,7 @@ impl UtcTime {
     /// The time. The error is `InvalidValue`, without a location, if the year is before 1950 or after 2049.
     pub fn new(datetime: DateTime) -> ParseResult<UtcTime>
         ensures { MatchResult result (λ t. utc_moment t ≡ moment datetime)
-            (λ e. (e ≡ fault InvalidValue) × ¬ ((1950 ≤ (moment datetime).year)
+            (λ e. (e ≡ read_error InvalidValue) × ¬ ((1950 ≤ (moment datetime).year)
             × ((moment datetime).year ≤ 2049))) }
     {
         if datetime.year() < 1950 || datetime.year() > 2049 {
@@ -138,7 +138,7 @@ impl X509GeneralizedTime {
     /// The time. The error is `InvalidValue`, without a location, if the year is after 9999.
     pub fn new(datetime: DateTime) -> ParseResult<X509GeneralizedTime>
         ensures { MatchResult result (λ t. x509_moment t ≡ moment datetime)
-            (λ e. (e ≡ fault InvalidValue) × ¬ ((moment datetime).year ≤ 9999)) }
+            (λ e. (e ≡ read_error InvalidValue) × ¬ ((moment datetime).year ≤ 9999)) }
     {
         if datetime.year() > 9999 {
             return Err(ParseError::new(ParseErrorKind::InvalidValue));

@@ -3,7 +3,7 @@
 ghost use Rattle.std.specs.Prelude.{◌≡◌, ◌+◌, ◌%◌, ◌<◌, ◌≤◌, ◌↔◌, [], ◌∷◌, ⊤};
 ghost use Rattle.std.specs.Prelude.{drop, true, false, length, MatchOption, IsTrue};
 ghost use Rattle.std.specs.Char.{IsScalar};
-ghost use Rattle.asn1_core.specs.Text.{number};
+ghost use Rattle.asn1_core.specs.Base256.{number};
 ghost use Rattle.asn1_core.specs.Tag.{universal};
 ghost use Rattle.asn1_core.specs.Reads.{ReadsContents};
 ghost use Rattle.asn1_core.specs.Writing.{GivesLength};
@@ -189,7 +189,8 @@ impl SimpleAsn1Writable for BMPString<'_> {
     }
 
     fn data_length(&self) -> Option<usize>
-        ensures known { GivesLength (Unit {0}) (utf16_content.texts (bmp_octets self.now)) result }
+        ensures known { GivesLength (Unit {0}) (utf16_content.encodings (bmp_octets self.now))
+            result }
         ensures exact { result ≡ Some (length (bmp_octets self.now)) }
     {
         Some(self.octets.len())
@@ -307,7 +308,7 @@ impl SimpleAsn1Writable for UniversalString<'_> {
     }
 
     fn data_length(&self) -> Option<usize>
-        ensures known { GivesLength (Unit {0}) (utf32_content.texts (universal_octets self.now))
+        ensures known { GivesLength (Unit {0}) (utf32_content.encodings (universal_octets self.now))
             result }
         ensures exact { result ≡ Some (length (universal_octets self.now)) }
     {

@@ -1,7 +1,7 @@
 //! A type with an error of its own, whose contents octets are those of another type.
 
 ghost use Rattle.std.specs.Prelude.{◌≡◌, true};
-ghost use Rattle.asn1.specs.Der.{seen};
+ghost use Rattle.asn1.specs.Der.{viewed};
 ghost use Rattle.dercheck.specs.declared.own_types.sealable.SealError.TheVariants.{Write, Sealed};
 
 use asn1::{
@@ -36,7 +36,7 @@ impl From<WriteError> for SealError {
 }
 
 impl Asn1Type for Sealable {
-    ghost der = { seen (λ v. v.number) ⟦<u64 as Asn1Type>⟧.der };
+    ghost der = { viewed (λ v. v.number) ⟦<u64 as Asn1Type>⟧.der };
 
     fn known(&self) {
         self.number.known()

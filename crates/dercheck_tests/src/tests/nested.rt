@@ -1,9 +1,9 @@
 //! Nested lists around a structure: the locations of an error in a field.
 
 ghost use Rattle.std.specs.Prelude.{◌≡◌};
-ghost use Rattle.asn1.specs.Der.{seen};
+ghost use Rattle.asn1.specs.Der.{viewed};
 ghost use Rattle.asn1.specs.Listing.{sequence_tag};
-ghost use Rattle.asn1.specs.Reading.{Answers};
+ghost use Rattle.asn1.specs.Reading.{Returns};
 
 use asn1::{
     Asn1Type, ParseError, ParseErrorKind, ParseLocation, ParseResult, SequenceOf,
@@ -24,7 +24,7 @@ type Three<'a> = List<'a, List<'a, List<'a, Signature>>>;
 struct Inner<'a>(Three<'a>);
 
 impl<'a> Asn1Type for Inner<'a> {
-    ghost der = { seen (λ v. v.0) ⟦<Three<'a> as Asn1Type>⟧.der };
+    ghost der = { viewed (λ v. v.0) ⟦<Three<'a> as Asn1Type>⟧.der };
 
     fn known(&self) {
         self.0.known()
@@ -41,7 +41,7 @@ impl<'a> SimpleAsn1Readable<'a> for Inner<'a> {
     }
 
     fn parse_data(alloc: Global, data: &'a [u8]) -> ParseResult<Inner<'a>>
-        ensures { Answers (λ v. ⟦<Three<'a> as Asn1Type>⟧.der.meaning v.0)
+        ensures { Returns (λ v. ⟦<Three<'a> as Asn1Type>⟧.der.meaning v.0)
             (⟦<Three<'a> as Asn1Type>⟧.der.content.runs_out «data».entry.now) result
             (⟦<Three<'a> as Asn1Type>⟧.der.content.read «data».entry.now) }
     {

@@ -1,5 +1,5 @@
 //! Where other data of an issuer or a subject is (RFC 5280, 4.2.2).
-// Printed by scripts/derive from declarations/certificate/access.rs, with the sum 03311605.
+// Printed by tools/derive from declarations/certificate/access.rs, with the sum 03311605.
 
 ghost use Rattle.std.specs.Prelude.{◌≡◌, ◌∷◌, [], IsTrue};
 ghost use Rattle.asn1.specs.Reads.{HasOneEncoding, ReadsContents};

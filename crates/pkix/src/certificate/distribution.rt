@@ -1,5 +1,5 @@
 //! Where revocation lists are found, and what they have (RFC 5280, 4.2.1.13 and 5.2.5).
-// Printed by scripts/derive from declarations/certificate/distribution.rs, with the sum 4d830146.
+// Printed by tools/derive from declarations/certificate/distribution.rs, with the sum 4d830146.
 
 ghost use Rattle.std.specs.Prelude.{◌≡◌, ◌∷◌, [], false, IsTrue, OnErr, IfOk};
 ghost use Rattle.asn1.specs.AlternativeLists.{choice, alternative1, alternative2};

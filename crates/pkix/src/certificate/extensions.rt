@@ -1,5 +1,5 @@
 //! Values of extensions (RFC 5280, 4.2.1 and 4.2.2): each type is what the octets of an extension hold.
-// Printed by scripts/derive from declarations/certificate/extensions.rs, with the sum 7d0600b6.
+// Printed by tools/derive from declarations/certificate/extensions.rs, with the sum 7d0600b6.
 
 ghost use Rattle.std.specs.Prelude.{◌≡◌, ◌∷◌, [], false, IsTrue};
 ghost use Rattle.asn1.specs.Options.{option_meaning};

@@ -1,5 +1,5 @@
 //! Times (RFC 5280, 4.1.2.5).
-// Printed by scripts/derive from declarations/common/time.rs, with the sum c4b741a8.
+// Printed by tools/derive from declarations/common/time.rs, with the sum c4b741a8.
 
 ghost use Rattle.asn1.specs.AlternativeLists.{choice, alternative1, alternative2};
 ghost use Rattle.asn1.specs.Reads.{HasOneEncoding};

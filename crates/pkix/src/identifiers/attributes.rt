@@ -1,5 +1,5 @@
 //! Types of attributes, in names (RFC 5280, A.1), in requests (RFC 2985, 5.4) and in signed data (RFC 5652, 11).
-// Printed by scripts/derive from declarations/identifiers/attributes.rs, with the sum e61d7836.
+// Printed by tools/derive from declarations/identifiers/attributes.rs, with the sum e61d7836.
 
 ghost use Rattle.std.specs.Prelude.{◌≡◌};
 ghost use Rattle.asn1.specs.IdentifierValues.{identifier_of};

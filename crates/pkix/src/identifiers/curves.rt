@@ -1,5 +1,5 @@
 //! Curves, the parameters of keys of elliptic curves (RFC 5480, 2.1.1.1; SEC 2).
-// Printed by scripts/derive from declarations/identifiers/curves.rs, with the sum 627f2761.
+// Printed by tools/derive from declarations/identifiers/curves.rs, with the sum 627f2761.
 
 ghost use Rattle.std.specs.Prelude.{◌≡◌};
 ghost use Rattle.asn1.specs.IdentifierValues.{identifier_of};

@@ -1,6 +1,6 @@
 //! Purposes of keys (RFC 5280, 4.2.1.12), the items of
 //! [`ExtendedKeyUsage`](crate::certificate::extensions::ExtendedKeyUsage).
-// Printed by scripts/derive from declarations/identifiers/purposes.rs, with the sum b843d400.
+// Printed by tools/derive from declarations/identifiers/purposes.rs, with the sum b843d400.
 
 ghost use Rattle.std.specs.Prelude.{◌≡◌};
 ghost use Rattle.asn1.specs.IdentifierValues.{identifier_of};

@@ -1,5 +1,5 @@
 //! Values of extensions of revocation lists and of their entries (RFC 5280, 5.2.3, 5.2.4, 5.3.1 and 5.3.2).
-// Printed by scripts/derive from declarations/revocation/extensions.rs, with the sum fca9bd92.
+// Printed by tools/derive from declarations/revocation/extensions.rs, with the sum fca9bd92.
 
 ghost use Rattle.asn1.specs.Reads.{HasOneEncoding};
 

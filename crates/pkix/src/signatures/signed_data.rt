@@ -1,5 +1,5 @@
 //! Signed data (RFC 5652), as far as time stamps need it.
-// Printed by scripts/derive from declarations/signatures/signed_data.rs, with the sum 6aa76679.
+// Printed by tools/derive from declarations/signatures/signed_data.rs, with the sum 6aa76679.
 
 ghost use Rattle.std.specs.Prelude.{◌≡◌, ◌∷◌, [], IsTrue};
 ghost use Rattle.asn1.specs.Options.{option_meaning};

@@ -1,5 +1,5 @@
 //! Who signed (RFC 5652, 5.3), and the values of signed attributes (11.1 to 11.3).
-// Printed by scripts/derive from declarations/signatures/signer.rs, with the sum b28a0dd5.
+// Printed by tools/derive from declarations/signatures/signer.rs, with the sum b28a0dd5.
 
 ghost use Rattle.std.specs.Prelude.{◌≡◌, ◌∷◌, [], IsTrue, OnErr, IfOk};
 ghost use Rattle.asn1.specs.AlternativeLists.{choice, alternative1, alternative2};

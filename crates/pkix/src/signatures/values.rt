@@ -1,5 +1,5 @@
 //! Values of signatures (RFC 3279, 2.2.2 and 2.2.3; RFC 8017, 9.2).
-// Printed by scripts/derive from declarations/signatures/values.rs, with the sum 7ca5e094.
+// Printed by tools/derive from declarations/signatures/values.rs, with the sum 7ca5e094.
 
 ghost use Rattle.std.specs.Prelude.{◌≡◌, ◌∷◌, [], IsTrue};
 ghost use Rattle.asn1.specs.Reads.{HasOneEncoding, ReadsContents};

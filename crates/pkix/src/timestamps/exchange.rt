@@ -1,5 +1,5 @@
 //! Requests for time stamps, and responses (RFC 3161, 2.4).
-// Printed by scripts/derive from declarations/timestamps/exchange.rs, with the sum b7c6036c.
+// Printed by tools/derive from declarations/timestamps/exchange.rs, with the sum b7c6036c.
 
 ghost use Rattle.std.specs.Prelude.{◌≡◌, ◌∷◌, [], false, IsTrue};
 ghost use Rattle.asn1.specs.Options.{option_meaning};

@@ -5,5 +5,5 @@ pub returns-clause-field : goal.returns-clause-field
 returns-clause-field g c row m n first others =
     let d = g.A.Asn1Type.der in
     let list = g.R.Row.list in
-    both_written {L = d.Meaning × list.Meaning} (λ v. (m v, n v)) (λ x. x.0) (λ x. x.1) d.texts d.closures (λ v. g.K.FieldWritable.encodings (row v).value.now) (λ v. g.K.FieldWritable.owes (row v).value.now)
-    list.fields.texts list.fields.closures (λ v. g.W.RowWritable.encodings (row v).rest) (λ v. g.W.RowWritable.owes (row v).rest) first others
+    both_written {L = d.Meaning × list.Meaning} (λ v. (m v, n v)) (λ x. x.0) (λ x. x.1) d.encodings d.closures (λ v. g.K.FieldWritable.encodings (row v).value.now) (λ v. g.K.FieldWritable.owes (row v).value.now)
+    list.fields.encodings list.fields.closures (λ v. g.W.RowWritable.encodings (row v).rest) (λ v. g.W.RowWritable.owes (row v).rest) first others

@@ -5,7 +5,7 @@ ghost use Rattle.std.specs.Prelude.{◌≡◌};
 ghost use Rattle.asn1_core.specs.Options.{option_meaning};
 ghost use Rattle.asn1_core.specs.Tag.{explicit_tag_of};
 ghost use Rattle.asn1_core.specs.Writing.{IsElementOf, GivesLength};
-ghost use Rattle.asn1.specs.Defaults.{same_text};
+ghost use Rattle.asn1.specs.Defaults.{same_encoding};
 ghost use Rattle.asn1.specs.Structures.{defaulted, encoded, explicit, owed};
 
 use super::{FieldWritable, Wraps};
@@ -16,7 +16,7 @@ use asn1_core::{Asn1Type, Asn1Writable, Writer, explicit_tag};
 /// How many octets the encoding of a value under an explicit tag has, if that is known.
 pub(crate) fn explicit_length<T: Asn1Writable>(value: &T, tag: u32) -> Option<usize>
     ensures { GivesLength (T.length_known value.now) (IsElementOf (explicit_tag_of tag)
-        (T.der.texts (T.der.meaning value.now))) result }
+        (T.der.encodings (T.der.meaning value.now))) result }
 {
     full_length(explicit_tag(tag), value.encoded_length()?)
 }
@@ -25,7 +25,8 @@ pub(crate) fn explicit_length<T: Asn1Writable>(value: &T, tag: u32) -> Option<us
 fn is_explicit_default<T: MeaningEq + Drop, const N: u32, D: DefaultValue<Explicit<T, N>>>(
     value: &T,
 ) -> bool
-    ensures { result ≡ same_text ⟦<Explicit<T, N> as Asn1Type>⟧.der.text (T.der.meaning value.now)
+    ensures { result ≡ same_encoding ⟦<Explicit<T, N> as Asn1Type>⟧.der.encoding
+        (T.der.meaning value.now)
         (⟦<Explicit<T, N> as Asn1Type>⟧.der.meaning D.default) }
 {
     let default = D::value();

@@ -5,7 +5,7 @@ ghost use Rattle.std.specs.Prelude.{◌≡◌};
 ghost use Rattle.asn1_core.specs.Options.{option_meaning};
 ghost use Rattle.asn1_core.specs.Tag.{implicit_tag_of};
 ghost use Rattle.asn1_core.specs.Writing.{IsElementOf, GivesLength};
-ghost use Rattle.asn1.specs.Defaults.{same_text};
+ghost use Rattle.asn1.specs.Defaults.{same_encoding};
 ghost use Rattle.asn1.specs.Structures.{defaulted, encoded, implicit, owed};
 
 use super::{FieldWritable, Wraps};
@@ -16,7 +16,7 @@ use asn1_core::{Asn1Type, Asn1Writable, SimpleAsn1Writable, Writer, implicit_tag
 /// How many octets the encoding of a value under an implicit tag has, if that is known.
 pub(crate) fn implicit_length<T: SimpleAsn1Writable>(value: &T, tag: u32) -> Option<usize>
     ensures { GivesLength (T.length_known value.now) (IsElementOf
-        (implicit_tag_of tag T.der.content.tag) (T.der.content.texts (T.der.meaning value.now)))
+        (implicit_tag_of tag T.der.content.tag) (T.der.content.encodings (T.der.meaning value.now)))
         result }
 {
     full_length(implicit_tag(tag, T::tag()), value.data_length()?)
@@ -26,7 +26,8 @@ pub(crate) fn implicit_length<T: SimpleAsn1Writable>(value: &T, tag: u32) -> Opt
 fn is_implicit_default<T: SimpleMeaningEq + Drop, const N: u32, D: DefaultValue<Implicit<T, N>>>(
     value: &T,
 ) -> bool
-    ensures { result ≡ same_text ⟦<Implicit<T, N> as Asn1Type>⟧.der.text (T.der.meaning value.now)
+    ensures { result ≡ same_encoding ⟦<Implicit<T, N> as Asn1Type>⟧.der.encoding
+        (T.der.meaning value.now)
         (⟦<Implicit<T, N> as Asn1Type>⟧.der.meaning D.default) }
 {
     let default = D::value();

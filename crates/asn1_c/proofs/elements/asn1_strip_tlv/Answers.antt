@@ -13,10 +13,10 @@ number error r e = ap (λ (it : Asn1Error). it.number) e
 pub returns-clause-within : goal.returns-clause-within
 returns-clause-within c = λ none. element_within c.args.element.now c.tell.new.element c.tell.new.error c.args.octets.now (stripped c.strip_tlv-found.result) c.strip_tlv-found.ensures.grammar c.tell.ensures none
 
-pub returns-clause-stands : goal.returns-clause-stands
-returns-clause-stands c = λ more is other.
+pub returns-clause-stays : goal.returns-clause-stays
+returns-clause-stays c = λ more is other.
     let answer = stripped c.strip_tlv-found.result in
-    let same = c.strip_tlv-found.ensures.stands more is (not_short answer (λ six. other (number c.tell.new.error answer c.tell.ensures.error ∙ six))) in
+    let same = c.strip_tlv-found.ensures.stays more is (not_short answer (λ six. other (number c.tell.new.error answer c.tell.ensures.error ∙ six))) in
     rw same (leaves_more c.args.element.now c.tell.new.element c.tell.new.error answer more c.tell.ensures)
 
 pub returns-clause-fewer : goal.returns-clause-fewer

@@ -11,7 +11,7 @@ loop-rest-preserved c = λ found is. c.loop-rest.invariant found (framed_more _ 
 
 pub returns-in-Err : goal.returns-in-Err
 returns-in-Err c =
-    c.loop-rest.invariant (Some c.kind.result) (record { texts = []; rest = c.loop-rest.rest.now; each = tt; joined = refl; some = search (rules, tests); stops = c.in-Err.ensures.exact.0 ∙ ap Err (sym c.kind.ensures) })
+    c.loop-rest.invariant (Some c.kind.result) (record { encodings = []; rest = c.loop-rest.rest.now; each = tt; joined = refl; some = search (rules, tests); stops = c.in-Err.ensures.exact.0 ∙ ap Err (sym c.kind.ensures) })
 
 pub returns : goal.returns
 returns c = c.loop-rest.invariant None ([], record { each = tt; joined = nil_from_length c.loop-rest.rest.now (search (rules, tests)) })

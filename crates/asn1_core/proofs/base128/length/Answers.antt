@@ -15,7 +15,7 @@ returns c =
     let done : c.loop-rest.rest ≡ 0 = omega arith in
     let none = ap (λ k. length (digits_of 128 k)) done in
     record {
-      text = omega (arith, none, length-number_text c.args.n);
+      encoding = omega (arith, none, length-number_text c.args.n);
       some = omega (arith, none);
       most = omega (arith, none, few_digits c.args.n (omega arith));
     }

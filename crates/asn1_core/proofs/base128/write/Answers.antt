@@ -8,8 +8,8 @@ pub loop-i-init : goal.loop-i-init
 loop-i-init c =
     let count = c.length-count.ensures in
     record {
-      left = omega (arith, count.text, length-number_text c.args.n);
-      whole = rw (low_seven c.args.n) (write_start c.args.n c.length-count.result c.args.octets.now count.text (omega arith));
+      left = omega (arith, count.encoding, length-number_text c.args.n);
+      whole = rw (low_seven c.args.n) (write_start c.args.n c.length-count.result c.args.octets.now count.encoding (omega arith));
     }
 
 pub loop-i-preserved : goal.loop-i-preserved

@@ -6,8 +6,8 @@ use Rattle.asn1_core.proofs.laws.one_answer.Goals as goal
 
 pub returns : goal.returns
 returns c = record {
-  numbers = (number_is, λ text answer is a. number_only text answer a);
-  tags = (tag_is, λ text answer is a. tag_only text answer a);
+  numbers = (number_is, λ octets answer is a. number_only octets answer a);
+  tags = (tag_is, λ octets answer is a. tag_only octets answer a);
   lengths = (length_is, length_only);
   elements = (front_is, front_only);
 }

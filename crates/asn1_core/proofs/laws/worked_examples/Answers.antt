@@ -1,22 +1,22 @@
 use Rattle.std.proofs.Common.{◌≡◌, ℕ, ◌+◌, ◌≤◌, ◌^◌, List, [], ◌∷◌, length, refl, sym, ap, ◌∙◌, arith, lit<, lit≤}
 use Rattle.std.specs.Int.Digits.{digits_of}
-use Rattle.asn1_core.specs.Text.{IsText, number}
-use Rattle.asn1_core.specs.Base128.{IsNumberText, number_front}
-use Rattle.asn1_core.specs.Tag.{tag_front}
-use Rattle.asn1_core.specs.Length.{length_text, length_front}
-use Rattle.asn1_core.specs.Element.{element_text, front}
-use Rattle.asn1_core.specs.Laws.{Fronts, Tags, Lengths, Booleans, Places}
+use Rattle.asn1_core.specs.Base256.{IsOctets, number}
+use Rattle.asn1_core.specs.Base128.{AreNumberOctets, leading_number}
+use Rattle.asn1_core.specs.Tag.{leading_tag}
+use Rattle.asn1_core.specs.Length.{length_octets, leading_length}
+use Rattle.asn1_core.specs.Element.{element_encoding, leading_element}
+use Rattle.asn1_core.specs.Laws.{LeadingElements, Tags, Lengths, Booleans, Places}
 use Rattle.asn1_core.specs.Lemmas.Digits.{Leads, digits_back, number_by_digits}
 use Rattle.asn1_core.specs.Lemmas.NumberTexts.{text_only}
 use Rattle.asn1_core.specs.Lemmas.Lengths.{length_text_low, length_text_high}
 use Rattle.asn1_core.proofs.laws.worked_examples.Goals as goal
 
-fronts : Fronts
-unfolding front tag_front length_front number_front
+fronts : LeadingElements
+unfolding leading_element leading_tag leading_length leading_number
 fronts = record { nothing = refl; octets = refl; cut_content = refl; cut_length = refl; long_length = refl; indefinite_length = refl; open_tag = refl; large_tag = refl }
 
 -- the encoding in base 128 of a number, by its digits
-number_is : IsNumberText (0x81 ∷ 0x80 ∷ 0x01 ∷ []) 16385
+number_is : AreNumberOctets (0x81 ∷ 0x80 ∷ 0x01 ∷ []) 16385
 number_is = record {
   finished = (lit≤ tt, lit< tt, (lit≤ tt, lit< tt, lit< tt));
   shortest = λ e. omega arith;
@@ -25,18 +25,18 @@ number_is = record {
 }
 
 tags : Tags
-unfolding tag_front number_front
+unfolding leading_tag leading_number
 tags = record {
   largest = refl;
   small_in_long_form = refl;
   leading_zero = refl;
   eighteen_octets = refl;
   nineteen_octets = refl;
-  text = ap (λ (s : List ℕ). 0x1f ∷ s) (sym (text_only (0x81 ∷ 0x80 ∷ 0x01 ∷ []) 16385 number_is));
+  encoding = ap (λ (s : List ℕ). 0x1f ∷ s) (sym (text_only (0x81 ∷ 0x80 ∷ 0x01 ∷ []) 16385 number_is));
 }
 
 -- the length octets of a long length, by the octets of its number
-long_is : (octets : List ℕ) (n : ℕ) → 128 ≤ n → IsText octets → Leads octets → number octets ≡ n → length_text n ≡ (128 + length octets) ∷ octets
+long_is : (octets : List ℕ) (n : ℕ) → 128 ≤ n → IsOctets octets → Leads octets → number octets ≡ n → length_octets n ≡ (128 + length octets) ∷ octets
 long_is octets n long is leads value =
     let same : digits_of 256 n ≡ octets = ap (digits_of 256) (sym (number_by_digits octets ∙ value)) ∙ digits_back 256 octets (lit≤ tt) is leads in
     length_text_high n long ∙ ap (λ (s : List ℕ). (128 + length s) ∷ s) same
@@ -51,8 +51,8 @@ lengths = record {
 }
 
 booleans : Booleans
-unfolding front tag_front length_front element_text length_text
-booleans = record { text = refl; read = refl; other_octet = refl; other_tag = refl; rest = refl }
+unfolding leading_element leading_tag leading_length element_encoding length_octets
+booleans = record { encoding = refl; read = refl; other_octet = refl; other_tag = refl; rest = refl }
 
 places : Places
 places = record { three = refl; eight = refl; nine = refl }

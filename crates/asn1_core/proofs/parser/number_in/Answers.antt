@@ -4,12 +4,12 @@ use Rattle.asn1_core.proofs.parser.number_in.Goals as goal
 
 pub loop-octet-preserved : goal.loop-octet-preserved
 loop-octet-preserved c =
-    let text = c.args.octets.now in
+    let octets = c.args.octets.now in
     let i = c.loop-octet.octet-index in
     let inv = c.loop-octet.invariant in
-    let octet : get_or text i 0 < 256 = omega (arith, c.type_inv.octets i) in
-    let value = next_number c.loop-octet.n (get_or text i 0) i inv.below (omega arith) octet in
+    let octet : get_or octets i 0 < 256 = omega (arith, c.type_inv.octets i) in
+    let value = next_number c.loop-octet.n (get_or octets i 0) i inv.below (omega arith) octet in
     record {
-      value = rw (c.from.ensures, value, inv.value) (sym (number_more text i c.loop-octet-test.true));
-      below = rw (c.from.ensures, value) (next_below c.loop-octet.n (get_or text i 0) i inv.below octet);
+      value = rw (c.from.ensures, value, inv.value) (sym (number_more octets i c.loop-octet-test.true));
+      below = rw (c.from.ensures, value) (next_below c.loop-octet.n (get_or octets i 0) i inv.below octet);
     }

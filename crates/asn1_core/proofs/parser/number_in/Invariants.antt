@@ -1,5 +1,5 @@
 use Rattle.std.proofs.Common.{◌≡◌, ◌<◌, ◌^◌, take}
-use Rattle.asn1_core.specs.Text.{number}
+use Rattle.asn1_core.specs.Base256.{number}
 use Rattle.asn1_core.proofs.parser.number_in.Given as goal
 
 abbrev pub invariant-loop-octet : goal.invariant-loop-octet

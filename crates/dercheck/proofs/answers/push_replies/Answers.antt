@@ -6,11 +6,11 @@ use Rattle.dercheck.specs.Replies.{answers, is_ok_line}
 use Rattle.dercheck.proofs.Cuts.{lines_of-none}
 use Rattle.dercheck.proofs.answers.push_replies.Goals as goal
 
-answers-none : (text : List ℕ) → text ≡ [] → answers text ≡ []
-answers-none text none = rw (none, lines_of-none) refl
+answers-none : (octets : List ℕ) → octets ≡ [] → answers octets ≡ []
+answers-none octets none = rw (none, lines_of-none) refl
 
-all-none : (text : List ℕ) → text ≡ [] → list_all is_ok_line (lines_of text) ≡ true
-all-none text none = rw (none, lines_of-none) refl
+all-none : (octets : List ℕ) → octets ≡ [] → list_all is_ok_line (lines_of octets) ≡ true
+all-none octets none = rw (none, lines_of-none) refl
 
 and-true : (b : Bool) → b ≡ (b && true)
 and-true true = refl
@@ -21,7 +21,7 @@ returns-clause-ok c =
     let written : List ℕ = c.loop-line.out.items in
     sym (append-nil written)
     ∙ ap (λ (xs : List ℕ). written ++ xs) (sym (answers-none c.loop-line.rest.now c.in_default.ensures.none))
-    ∙ c.loop-line.invariant.text
+    ∙ c.loop-line.invariant.octets
 
 pub returns-clause-all_ok : goal.returns-clause-all_ok
 returns-clause-all_ok c =

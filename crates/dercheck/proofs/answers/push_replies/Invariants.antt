@@ -7,7 +7,7 @@ use Rattle.dercheck.proofs.answers.push_replies.Given as goal
 
 abbrev pub invariant-loop-line : goal.invariant-loop-line
 invariant-loop-line l = record {
-  text : l.out.items ++ answers l.rest ≡ l.initial.out.items ++ answers l.input;
+  octets : l.out.items ++ answers l.rest ≡ l.initial.out.items ++ answers l.input;
   all_ok : (l.all_ok && list_all is_ok_line (lines_of l.rest)) ≡ list_all is_ok_line (lines_of l.input);
   kept : StartsWith l.out.items l.initial.out.items;
 }

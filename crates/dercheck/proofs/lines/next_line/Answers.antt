@@ -14,7 +14,7 @@ returns-in-Some-clause-shorter c =
 
 pub returns-in-None-clause-line : goal.returns-in-None-clause-line
 returns-in-None-clause-line c =
-    let text : List ℕ = c.args.text.now in
-    let some : 0 < length text = omega (arith, eqb-false (length text) 0 (sym c.is_empty.ensures ∙ c.if-is_empty.false)) in
-    lines_of-uncut text some (sym c.split_once.ensures ∙ ap option_split c.in-None.is)
-    ∙ ap (λ (lines : List (List ℕ)). text ∷ lines) (sym lines_of-none)
+    let octets : List ℕ = c.args.text.now in
+    let some : 0 < length octets = omega (arith, eqb-false (length octets) 0 (sym c.is_empty.ensures ∙ c.if-is_empty.false)) in
+    lines_of-uncut octets some (sym c.split_once.ensures ∙ ap option_split c.in-None.is)
+    ∙ ap (λ (lines : List (List ℕ)). octets ∷ lines) (sym lines_of-none)

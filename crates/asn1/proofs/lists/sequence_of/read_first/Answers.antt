@@ -1,6 +1,6 @@
 use Rattle.std.proofs.Common.{refl, ap, subst, ◌∙◌}
-use Rattle.asn1_core.specs.Text.{IsText}
-use Rattle.asn1_core.specs.Element.{front}
+use Rattle.asn1_core.specs.Base256.{IsOctets}
+use Rattle.asn1_core.specs.Element.{leading_element}
 use Rattle.asn1.specs.Lemmas.ListItems.{next_ok, next_cut, refused}
 use Rattle.asn1_core.specs.Lemmas.Facts.{not_nil}
 use Rattle.asn1.proofs.lists.sequence_of.read_first.Goals as goal
@@ -8,22 +8,22 @@ use Rattle.asn1.proofs.lists.sequence_of.read_first.Goals as goal
 pub returns-in-Ok-clause-item : goal.returns-in-Ok-clause-item
 returns-in-Ok-clause-item g c =
     let t = g.T.Asn1Type.der in
-    (next_ok t.read t.text (λ m. t.valid m × t.allowed m) t.laws.takes c.args.parser.now c.args.count _ _ (subst IsText c.rest-items.ensures.same c.known.ensures) (not_nil _ c.requires.some) c.requires.are_items c.in-Ok.ensures.answers).0
+    (next_ok t.read t.encoding (λ m. t.valid m × t.allowed m) t.laws.consumes c.args.parser.now c.args.count _ _ (subst IsOctets c.rest-items.ensures.same c.known.ensures) (not_nil _ c.requires.some) c.requires.are_items c.in-Ok.ensures.answers).0
 
 pub returns-in-Ok-clause-after : goal.returns-in-Ok-clause-after
 returns-in-Ok-clause-after g c =
     let t = g.T.Asn1Type.der in
-    (next_ok t.read t.text (λ m. t.valid m × t.allowed m) t.laws.takes c.args.parser.now c.args.count _ _ (subst IsText c.rest-items.ensures.same c.known.ensures) (not_nil _ c.requires.some) c.requires.are_items c.in-Ok.ensures.answers).1
+    (next_ok t.read t.encoding (λ m. t.valid m × t.allowed m) t.laws.consumes c.args.parser.now c.args.count _ _ (subst IsOctets c.rest-items.ensures.same c.known.ensures) (not_nil _ c.requires.some) c.requires.are_items c.in-Ok.ensures.answers).1
 
 pub returns-in-Err-clause-item : goal.returns-in-Err-clause-item
 returns-in-Err-clause-item g c =
     let t = g.T.Asn1Type.der in
-    let x = next_cut t.read t.text (λ m. t.valid m × t.allowed m) t.laws.takes c.args.parser.now c.args.count (subst IsText c.rest-items.ensures.same c.known.ensures) (not_nil _ c.requires.some) c.requires.are_items in
+    let x = next_cut t.read t.encoding (λ m. t.valid m × t.allowed m) t.laws.consumes c.args.parser.now c.args.count (subst IsOctets c.rest-items.ensures.same c.known.ensures) (not_nil _ c.requires.some) c.requires.are_items in
     let k = refused _ _ x.0 c.in-Err.error x.1.reads refl c.in-Err.ensures.answers in
-    (x.0.0, rw (c.new.ensures ∙ c.behind_element.ensures (x.2, x.0.1) (ap front c.rest-items.ensures.same ∙ x.3)) x.1.lists, k.0, k.1)
+    (x.0.0, rw (c.new.ensures ∙ c.behind_element.ensures (x.2, x.0.1) (ap leading_element c.rest-items.ensures.same ∙ x.3)) x.1.lists, k.0, k.1)
 
 pub returns-in-Err-clause-after : goal.returns-in-Err-clause-after
 returns-in-Err-clause-after g c =
     let t = g.T.Asn1Type.der in
-    let x = next_cut t.read t.text (λ m. t.valid m × t.allowed m) t.laws.takes c.args.parser.now c.args.count (subst IsText c.rest-items.ensures.same c.known.ensures) (not_nil _ c.requires.some) c.requires.are_items in
-    rw (c.new.ensures ∙ c.behind_element.ensures (x.2, x.0.1) (ap front c.rest-items.ensures.same ∙ x.3)) x.1.after
+    let x = next_cut t.read t.encoding (λ m. t.valid m × t.allowed m) t.laws.consumes c.args.parser.now c.args.count (subst IsOctets c.rest-items.ensures.same c.known.ensures) (not_nil _ c.requires.some) c.requires.are_items in
+    rw (c.new.ensures ∙ c.behind_element.ensures (x.2, x.0.1) (ap leading_element c.rest-items.ensures.same ∙ x.3)) x.1.after

@@ -1,12 +1,12 @@
 use Rattle.std.proofs.Common.{◌≡◌, ◌<◌, List, [], ℕ, length, Option, Result, Ok, Some, rules, sym, ap, ◌∙◌, arith}
 use Rattle.std.proofs.lemmas.Bool.{eqb-false}
 use Rattle.asn1_core.specs.declared.tag.Tag.{Tag}
-use Rattle.asn1_core.specs.Element.{Element, element_text, IsReadable, ◌>>=◌}
-use Rattle.asn1_core.specs.Fault.{Fault}
-use Rattle.asn1_core.specs.Reading.{element_front}
+use Rattle.asn1_core.specs.Element.{Element, element_encoding, IsReadable, ◌>>=◌}
+use Rattle.asn1_core.specs.ReadError.{ReadError}
+use Rattle.asn1_core.specs.Reading.{framed_element}
 use Rattle.asn1_core.specs.Tag.{tag_less}
 use Rattle.asn1_core.specs.Tlv.{element_of}
-use Rattle.asn1_core.specs.Lemmas.Texts.{IsText-from_reads}
+use Rattle.asn1_core.specs.Lemmas.Texts.{IsOctets-from_reads}
 use Rattle.asn1_core.proofs.TagOrder.{element_tag_in_front}
 use Rattle.asn1.specs.Sets.{set_item, element_behind, with_text}
 use Rattle.asn1.specs.Lemmas.ListItems.{refused_exit}
@@ -18,7 +18,7 @@ elements-init c = record {
   before = [];
   tag = nothing_in_front;
   same = search rules;
-  octets = rw c.new-parser.ensures (IsText-from_reads c.args.content.now (λ i. omega (arith, c.shared_slice_known-1.given i)));
+  octets = rw c.new-parser.ensures (IsOctets-from_reads c.args.content.now (λ i. omega (arith, c.shared_slice_known-1.given i)));
   room = search rules;
 }
 
@@ -30,11 +30,11 @@ elements-smaller c =
     let e = element_of c.in_ok-tlv.tlv in
     let after = c.read_behind.new.parser in
     let read : element_behind c.elements.last i rest ≡ Ok (e, after) = c.in_ok-tlv.ensures.answers in
-    let found : set_item tag_less element_front inv.before i rest ≡ Ok (e, element_text e, after) =
+    let found : set_item tag_less framed_element inv.before i rest ≡ Ok (e, element_encoding e, after) =
     set_item_behind inv.before i rest inv.octets
     ∙ ap (λ (last : Option Tag). element_behind last i rest >>= with_text) inv.tag
-    ∙ ap (λ (r : Result (Element × List ℕ) Fault). r >>= with_text) read in
-    (set_item_is tag_less element_front element_text IsReadable element_law inv.before i rest (e, element_text e, after) inv.octets found).shorter
+    ∙ ap (λ (r : Result (Element × List ℕ) ReadError). r >>= with_text) read in
+    (set_item_is tag_less framed_element element_encoding IsReadable element_law inv.before i rest (e, element_encoding e, after) inv.octets found).shorter
 
 pub elements-preserved : goal.elements-preserved
 elements-preserved c =
@@ -44,17 +44,17 @@ elements-preserved c =
     let e = element_of c.in_ok-tlv.tlv in
     let after = c.read_behind.new.parser in
     let read : element_behind c.elements.last i rest ≡ Ok (e, after) = c.in_ok-tlv.ensures.answers in
-    let found : set_item tag_less element_front inv.before i rest ≡ Ok (e, element_text e, after) =
+    let found : set_item tag_less framed_element inv.before i rest ≡ Ok (e, element_encoding e, after) =
     set_item_behind inv.before i rest inv.octets
     ∙ ap (λ (last : Option Tag). element_behind last i rest >>= with_text) inv.tag
-    ∙ ap (λ (r : Result (Element × List ℕ) Fault). r >>= with_text) read in
+    ∙ ap (λ (r : Result (Element × List ℕ) ReadError). r >>= with_text) read in
     let some : rest ≡ [] → ⊥ = λ z. eqb-false _ _ (sym c.is_empty.ensures ∙ c.elements-test.true) (ap length z) in
-    let is = set_item_is tag_less element_front element_text IsReadable element_law inv.before i rest (e, element_text e, after) inv.octets found in
+    let is = set_item_is tag_less framed_element element_encoding IsReadable element_law inv.before i rest (e, element_encoding e, after) inv.octets found in
     let shorter : length after < length rest = is.shorter in
     record {
-      before = element_text e;
+      before = element_encoding e;
       tag = element_tag_in_front e is.good.tag ∙ ap Some (sym c.tag.ensures);
-      same = sym (checked_step tag_less element_front element_text IsReadable element_law inv.before i rest (e, element_text e, after) some inv.octets found) ∙ inv.same;
+      same = sym (checked_step tag_less framed_element element_encoding IsReadable element_law inv.before i rest (e, element_encoding e, after) some inv.octets found) ∙ inv.same;
       octets = is.octets;
       room = omega (arith, inv.room);
     }

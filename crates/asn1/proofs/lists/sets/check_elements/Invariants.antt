@@ -1,7 +1,7 @@
 use Rattle.std.proofs.Common.{◌≡◌, ◌+◌, ◌≤◌, List, [], ℕ, length}
-use Rattle.asn1_core.specs.Text.{IsText}
-use Rattle.asn1_core.specs.Tag.{tag_in_front, tag_less}
-use Rattle.asn1_core.specs.Reading.{element_front}
+use Rattle.asn1_core.specs.Base256.{IsOctets}
+use Rattle.asn1_core.specs.Tag.{tag_at_start, tag_less}
+use Rattle.asn1_core.specs.Reading.{framed_element}
 use Rattle.asn1.specs.Sets.{checked}
 use Rattle.asn1.proofs.lists.sets.check_elements.Given as goal
 
@@ -9,9 +9,9 @@ use Rattle.asn1.proofs.lists.sets.check_elements.Given as goal
 abbrev pub invariant-elements : goal.invariant-elements
 invariant-elements l = record {
   before : List ℕ;
-  tag : tag_in_front before ≡ l.last;
-  same : checked tag_less element_front before l.index l.parser ≡ checked tag_less element_front [] 0 l.fn.content;
-  octets : IsText l.parser;
+  tag : tag_at_start before ≡ l.last;
+  same : checked tag_less framed_element before l.index l.parser ≡ checked tag_less framed_element [] 0 l.fn.content;
+  octets : IsOctets l.parser;
   room : l.index + length l.parser ≤ length l.fn.content;
 }
 

@@ -1,7 +1,7 @@
 use Rattle.std.proofs.Common.{rules, ◌++◌, codes, decimal}
 use Rattle.std.proofs.Output.{has_written_append, has_written_of_eq}
 use Rattle.asn1_values.specs.Lemmas.Identifier.{has_front, some_by, empty_by}
-use Rattle.asn1_values.specs.Lemmas.Dotted.{front_numbers, shown_more, shown_all}
+use Rattle.asn1_values.proofs.Dotted.{front_numbers, shown_more, shown_all}
 use Rattle.asn1.specs.Lemmas.Relative.{split, arcs_first}
 use Rattle.asn1.proofs.relative_oid.RelativeOidDisplay.fmt.Goals as goal
 

@@ -1,10 +1,10 @@
 use Rattle.std.proofs.Common.{arith}
 use Rattle.asn1_core.specs.Tag.{implicit_tag_of}
-use Rattle.asn1_core.specs.Element.{element, element_text}
+use Rattle.asn1_core.specs.Element.{element, element_encoding}
 use Rattle.asn1_core.specs.Reading.{simple, simple_out}
-use Rattle.asn1_core.specs.Lemmas.Contents.{simple_takes, simple_read}
+use Rattle.asn1_core.specs.Lemmas.Contents.{simple_consumes, simple_read}
 use Rattle.asn1_core.specs.Lemmas.Elements.{element_some}
-use Rattle.asn1_core.specs.Lemmas.Faults.{simple_faults}
+use Rattle.asn1_core.specs.Lemmas.Faults.{simple_errors}
 use Rattle.asn1_core.proofs.Inside.{taken, shorter, returns_as}
 use Rattle.asn1_core.specs.Lemmas.Wholes.{of_text}
 use Rattle.asn1_core.proofs.parser.Parser.read_implicit_element.Goals as goal
@@ -15,8 +15,8 @@ returns-clause-found g c =
     let k = d.content in
     let tag = implicit_tag_of c.args.tag k.tag in
     let good : d.Meaning → Type 0 = λ m. k.valid m × k.allowed m in
-    taken d.meaning _ (λ m. element_text (element tag (k.text m))) good (simple tag k.read)
-    (simple_takes tag k.text good k.read d.laws.of_content.takes) c.args.self.now _ _ c.are_octets.ensures c.read_implicit.ensures.answers
+    taken d.meaning _ (λ m. element_encoding (element tag (k.encoding m))) good (simple tag k.read)
+    (simple_consumes tag k.encoding good k.read d.laws.of_content.consumes) c.args.self.now _ _ c.are_octets.ensures c.read_implicit.ensures.answers
 
 pub returns-clause-only : goal.returns-clause-only
 returns-clause-only g c m rest lawful valid allowed short is =
@@ -24,19 +24,19 @@ returns-clause-only g c m rest lawful valid allowed short is =
     let k = d.content in
     let tag = implicit_tag_of c.args.tag k.tag in
     returns_as d _ c.read_implicit.result _ m rest (simple tag k.read c.args.self.now) c.read_implicit.ensures.answers
-    (simple_read tag k.text k.read m c.args.self.now rest (omega arith) short (d.laws.of_content.again m lawful valid allowed short) is)
+    (simple_read tag k.encoding k.read m c.args.self.now rest (omega arith) short (d.laws.of_content.read_back m lawful valid allowed short) is)
 
 pub returns-clause-progress : goal.returns-clause-progress
 returns-clause-progress g c =
     let d = g.T.Asn1Type.der in
     let k = d.content in
     let tag = implicit_tag_of c.args.tag k.tag in
-    shorter d.meaning (λ m. element_text (element tag (k.text m))) (λ m. k.valid m × k.allowed m) c.args.self.now _ c.read_implicit.result (λ m good none. element_some (element tag (k.text m)) none) (returns-clause-found g c)
+    shorter d.meaning (λ m. element_encoding (element tag (k.encoding m))) (λ m. k.valid m × k.allowed m) c.args.self.now _ c.read_implicit.result (λ m good none. element_some (element tag (k.encoding m)) none) (returns-clause-found g c)
 
-pub returns-clause-no_want : goal.returns-clause-no_want
-returns-clause-no_want g c none =
+pub returns-clause-no_memory_error : goal.returns-clause-no_memory_error
+returns-clause-no_memory_error g c none =
     let d = g.T.Asn1Type.der in
     let k = d.content in
     let tag = implicit_tag_of c.args.tag k.tag in
     let t = c.args.self.now in
-    of_text _ (simple_out tag k.runs_out t) c.read_implicit.result (simple tag k.read t) c.read_implicit.ensures.answers (simple_faults tag k.read d.laws.of_content.faults t) (λ places out. none (d.laws.as_memory (d.laws.of_content.memory _ places out.3)))
+    of_text _ (simple_out tag k.runs_out t) c.read_implicit.result (simple tag k.read t) c.read_implicit.ensures.answers (simple_errors tag k.read d.laws.of_content.errors t) (λ places out. none (d.laws.as_memory (d.laws.of_content.memory _ places out.3)))

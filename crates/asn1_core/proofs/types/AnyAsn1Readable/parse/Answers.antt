@@ -1,6 +1,6 @@
 use Rattle.std.proofs.Common.{◌≡◌, Err, inl, sym, ap, ◌∙◌}
 use Rattle.asn1_core.specs.declared.tag.Tag.{Tag}
-use Rattle.asn1_core.specs.Reading.{expected_front}
+use Rattle.asn1_core.specs.Reading.{expected_contents}
 use Rattle.asn1_core.specs.Lemmas.Results.{simple_refusal}
 use Rattle.asn1_core.proofs.types.AnyAsn1Readable.parse.Goals as goal
 
@@ -8,5 +8,5 @@ pub returns-in-Err-clause-answers : goal.returns-in-Err-clause-answers
 returns-in-Err-clause-answers g c =
     let d = g.T.Asn1Type.der in
     let t = c.args.parser.now in
-    let refused : expected_front d.content.tag t ≡ Err c.in-Err.kind = ap (λ (tag : Tag). expected_front tag t) (sym c.tag.ensures.value) ∙ c.in-Err.ensures.answers in
+    let refused : expected_contents d.content.tag t ≡ Err c.in-Err.kind = ap (λ (tag : Tag). expected_contents tag t) (sym c.tag.ensures.value) ∙ c.in-Err.ensures.answers in
     inl (rw c.new.ensures (d.laws.as_read c.tag.ensures.simple t ∙ simple_refusal d.content.tag d.content.read t c.in-Err.kind refused))

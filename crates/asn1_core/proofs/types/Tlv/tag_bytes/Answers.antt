@@ -1,19 +1,19 @@
 use Rattle.std.proofs.Common.{◌≡◌, ◌≤◌, ◌++◌, List, ℕ, length, take, refl, ap, sym, arith, length-append}
 use Rattle.std.proofs.lemmas.List.{take_at, length-take-le}
 use Rattle.asn1_core.specs.declared.tag.Tag.{Tag}
-use Rattle.asn1_core.specs.Tag.{tag_text}
-use Rattle.asn1_core.specs.Length.{length_text}
-use Rattle.asn1_core.specs.Element.{element, element_text}
+use Rattle.asn1_core.specs.Tag.{identifier_octets}
+use Rattle.asn1_core.specs.Length.{length_octets}
+use Rattle.asn1_core.specs.Element.{element, element_encoding}
 use Rattle.asn1_core.proofs.types.Tlv.tag_bytes.Goals as goal
 
 -- the identifier octets are at the start of the element's encoding
-in_front : (full : List ℕ) (tag : Tag) (content : List ℕ) (n : ℕ) → full ≡ element_text (element tag content) → n ≡ length (tag_text tag) → take n full ≡ tag_text tag
-unfolding element_text
-in_front full tag content n is count = rw (is, count) (take_at (tag_text tag) (length_text (length content) ++ content) (length (tag_text tag)) refl)
+in_front : (full : List ℕ) (tag : Tag) (content : List ℕ) (n : ℕ) → full ≡ element_encoding (element tag content) → n ≡ length (identifier_octets tag) → take n full ≡ identifier_octets tag
+unfolding element_encoding
+in_front full tag content n is count = rw (is, count) (take_at (identifier_octets tag) (length_octets (length content) ++ content) (length (identifier_octets tag)) refl)
 
-within : (full : List ℕ) (tag : Tag) (content : List ℕ) → full ≡ element_text (element tag content) → length (tag_text tag) ≤ length full
-unfolding element_text
-within full tag content is = omega (arith, ap length is, length-append (tag_text tag) (length_text (length content) ++ content))
+within : (full : List ℕ) (tag : Tag) (content : List ℕ) → full ≡ element_encoding (element tag content) → length (identifier_octets tag) ≤ length full
+unfolding element_encoding
+within full tag content is = omega (arith, ap length is, length-append (identifier_octets tag) (length_octets (length content) ++ content))
 
 pub slice_bounds-result-end : goal.slice_bounds-result-end
 slice_bounds-result-end c =

@@ -1,6 +1,6 @@
 use Rattle.std.proofs.Common.{rules}
-use Rattle.asn1_core.specs.Element.{Element, element_text}
-use Rattle.asn1_core.specs.Reading.{Answers, element_front}
+use Rattle.asn1_core.specs.Element.{Element, element_encoding}
+use Rattle.asn1_core.specs.Reading.{Returns, framed_element}
 use Rattle.asn1_core.specs.Tlv.{element_of}
 use Rattle.asn1_core.specs.Der.{Der, tlv_der}
 use Rattle.asn1_core.specs.declared.types.Tlv.{Tlv}
@@ -11,5 +11,5 @@ pub returns-clause-found : goal.returns-clause-found
 returns-clause-found c =
     let d : Der Tlv = tlv_der element_of in
     let t = c.args.parser.now in
-    let answers : Answers (λ v. (element_of v, c.read_tlv.new.self)) (λ places. ⊥) c.kind_as_error.result (element_front t) = search rules in
-    taken element_of (λ places. ⊥) element_text (λ (e : Element). d.valid e × d.allowed e) element_front d.laws.takes t _ _ c.are_octets.ensures answers
+    let answers : Returns (λ v. (element_of v, c.read_tlv.new.self)) (λ places. ⊥) c.kind_as_error.result (framed_element t) = search rules in
+    taken element_of (λ places. ⊥) element_encoding (λ (e : Element). d.valid e × d.allowed e) framed_element d.laws.consumes t _ _ c.are_octets.ensures answers

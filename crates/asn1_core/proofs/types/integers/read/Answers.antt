@@ -3,27 +3,27 @@ use Rattle.std.specs.Prelude.{◌<ℤ◌, FitsSigned}
 use Rattle.std.specs.Int.{w128}
 use Rattle.std.proofs.lemmas.Int.{ints, to_z-of_z}
 use Rattle.asn1_core.specs.declared.parser.ParseErrorKind.TheVariants.{InvalidValue}
-use Rattle.asn1_core.specs.Fault.{fault}
-use Rattle.asn1_core.specs.Lemmas.Texts.{IsText-from_reads}
+use Rattle.asn1_core.specs.ReadError.{read_error}
+use Rattle.asn1_core.specs.Lemmas.Texts.{IsOctets-from_reads}
 use Rattle.asn1_core.proofs.Integers.{refused_content, beyond_refused, answered_number, long_refused}
 use Rattle.asn1_core.proofs.types.integers.read.Goals as goal
 use Rattle.asn1_core.proofs.types.integers.read.Goals.{then-number-low-via-then-number-low, then-number-low-via-else-number-low+then-number-high}
 
 pub returns-then-not-is_integer_content-clause-exact : goal.returns-then-not-is_integer_content-clause-exact
 returns-then-not-is_integer_content-clause-exact c =
-    inl (refused_content c.args.low c.args.high c.args.octets.now (fault InvalidValue) (sym c.is_integer_content.ensures ∙ c.if-not-is_integer_content.true) refl)
+    inl (refused_content c.args.low c.args.high c.args.octets.now (read_error InvalidValue) (sym c.is_integer_content.ensures ∙ c.if-not-is_integer_content.true) refl)
 
 pub returns-then-octets-gt-MAX_CONTENT_OCTETS-clause-exact : goal.returns-then-octets-gt-MAX_CONTENT_OCTETS-clause-exact
 returns-then-octets-gt-MAX_CONTENT_OCTETS-clause-exact c =
-    let text = c.args.octets.now in
+    let octets = c.args.octets.now in
     let shortest = sym c.is_integer_content.ensures ∙ c.if-not-is_integer_content.false in
     let fits : FitsSigned w128 c.args.low = c.ranges.low in
     let kind = simp to_z-of_z at c.beyond.ensures in
-    inl (long_refused c.args.low c.args.high text (fault c.beyond.result) (IsText-from_reads text (λ k. omega (arith, c.type_inv.octets k))) shortest c.if-octets-gt-MAX_CONTENT_OCTETS.true c.requires.least c.requires.greatest c.requires.ordered (ap fault kind))
+    inl (long_refused c.args.low c.args.high octets (read_error c.beyond.result) (IsOctets-from_reads octets (λ k. omega (arith, c.type_inv.octets k))) shortest c.if-octets-gt-MAX_CONTENT_OCTETS.true c.requires.least c.requires.greatest c.requires.ordered (ap read_error kind))
 
 pub returns-then-number-low-clause-exact : goal.returns-then-number-low-clause-exact
 returns-then-number-low-clause-exact c =
-    let text = c.args.octets.now in
+    let octets = c.args.octets.now in
     let number = c.signed_number-number.result in
     let shortest = sym c.is_integer_content.ensures ∙ c.if-not-is_integer_content.false in
     let fits : FitsSigned w128 c.args.low = c.ranges.low in
@@ -33,7 +33,7 @@ returns-then-number-low-clause-exact c =
       | then-number-low-via-then-number-low w ↦ inl (omega (arith, ints))
       | then-number-low-via-else-number-low+then-number-high w ↦ inr (omega (arith, ints))
     ] in
-    inl (beyond_refused c.args.low c.args.high number text (fault c.beyond-then-number-low.result) shortest c.signed_number-number.ensures (ap fault kind) c.requires.ordered way)
+    inl (beyond_refused c.args.low c.args.high number octets (read_error c.beyond-then-number-low.result) shortest c.signed_number-number.ensures (ap read_error kind) c.requires.ordered way)
 
 pub returns-clause-exact : goal.returns-clause-exact
 returns-clause-exact c =

@@ -2,7 +2,7 @@ use Rattle.std.proofs.Common.{◌≡◌, ◌+◌, ◌-◌, ◌^◌, ◌<◌, ◌
 use Rattle.std.specs.Int.Digits.{digits_of}
 use Rattle.std.proofs.lemmas.Int.Digits.{length-digits_of_step}
 use Rattle.std.proofs.lemmas.List.{length-append, length-replicate, length-set, nil_from_length, set_split, take-set-le, take-take}
-use Rattle.asn1_core.specs.Length.{length_text}
+use Rattle.asn1_core.specs.Length.{length_octets}
 use Rattle.asn1_core.specs.Buffer.{Buffer}
 use Rattle.asn1_core.specs.Lemmas.Lengths.{length_text_high, write_step, low_eight}
 use Rattle.asn1_core.proofs.Patch.{moved_is, moved_tail, moved_front, some_number, top_of}
@@ -13,7 +13,7 @@ shorter : (xs : List ℕ) (n : ℕ) → take (n - 1) (take n xs) ≡ take (n - 1
 shorter xs n = take-take (n - 1) n xs (omega arith)
 
 -- the length octets of a long length except the first
-more_octets : (n m : ℕ) → 128 ≤ n → m ≡ length (length_text n) → m ≡ length (digits_of 256 n) + 1
+more_octets : (n m : ℕ) → 128 ≤ n → m ≡ length (length_octets n) → m ≡ length (digits_of 256 n) + 1
 more_octets n m l e = omega (arith, e, ap length (length_text_high n l))
 
 pub overflow_sub-more : goal.overflow_sub-more
@@ -21,20 +21,20 @@ overflow_sub-more c =
     let v : c.args.self.now.bytes ≡ c.self.inside.octets.items = sym (ap (λ (b : Buffer). b.bytes) c.self.view_is) in
     let ll : c.len-len.result ≡ length c.self.inside.octets.items = c.len-len.ensures ∙ c.self.inside.octets.ok.0 in
     let long : c.args.start + 127 < length c.self.inside.octets.items = rw v at c.requires.long in
-    omega (arith, more_octets (c.len-len.result - c.args.start) c.length_octets-more.result (omega (arith, ll, long)) c.length_octets-more.ensures.value)
+    omega (arith, more_octets (c.len-len.result - c.args.start) c.count_length_octets-more.result (omega (arith, ll, long)) c.count_length_octets-more.ensures.value)
 
 pub loop-place-init : goal.loop-place-init
 loop-place-init c =
     let v : c.args.self.now.bytes ≡ c.self.inside.octets.items = sym (ap (λ (b : Buffer). b.bytes) c.self.view_is) in
     let ll : c.len-len.result ≡ length c.self.inside.octets.items = c.len-len.ensures ∙ c.self.inside.octets.ok.0 in
     let long : c.args.start + 127 < length c.self.inside.octets.items = rw v at c.requires.long in
-    let grown : length c.push_zeros.new.octets.items ≡ length c.self.inside.octets.items + (c.length_octets-more.result - 1) =
-    ap length (c.push_zeros.ensures ∙ ap (λ (t : List ℕ). t ++ replicate (c.length_octets-more.result - 1) 0) c.in_ok-try_reserve.ensures.items)
-    ∙ length-append c.self.inside.octets.items _ ∙ ap (λ (k : ℕ). length c.self.inside.octets.items + k) (length-replicate (c.length_octets-more.result - 1) 0) in
+    let grown : length c.push_zeros.new.octets.items ≡ length c.self.inside.octets.items + (c.count_length_octets-more.result - 1) =
+    ap length (c.push_zeros.ensures ∙ ap (λ (t : List ℕ). t ++ replicate (c.count_length_octets-more.result - 1) 0) c.in_ok-try_reserve.ensures.items)
+    ∙ length-append c.self.inside.octets.items _ ∙ ap (λ (k : ℕ). length c.self.inside.octets.items + k) (length-replicate (c.count_length_octets-more.result - 1) 0) in
     record {
       size = omega (arith, sym c.copy_within.new.self.ok.0, c.push_zeros.new.octets.ok.0, grown, ll, c.copy_within.ensures.len);
       front = refl;
-      left = omega (arith, more_octets (c.len-len.result - c.args.start) c.length_octets-more.result (omega (arith, ll, long)) c.length_octets-more.ensures.value);
+      left = omega (arith, more_octets (c.len-len.result - c.args.start) c.count_length_octets-more.result (omega (arith, ll, long)) c.count_length_octets-more.ensures.value);
       whole = refl;
     }
 
@@ -67,10 +67,10 @@ returns-clause-ok c =
     let long : start + 127 < length xs = rw v at c.requires.long in
     let low : 0 < start = c.requires.from in
     let n : ℕ = c.len-len.result - start in
-    let more : ℕ = c.length_octets-more.result - 1 in
+    let more : ℕ = c.count_length_octets-more.result - 1 in
     let large : 128 ≤ n = omega (arith, ll, long) in
     let small : n < 2 ^ 64 = omega (arith, c.len-len.type_inv) in
-    let count : more ≡ length (digits_of 256 n) = omega (arith, more_octets n c.length_octets-more.result large c.length_octets-more.ensures.value) in
+    let count : more ≡ length (digits_of 256 n) = omega (arith, more_octets n c.count_length_octets-more.result large c.count_length_octets-more.ensures.value) in
     let within : start ≤ length xs = omega (arith, long) in
     let moved = c.copy_within.new.self.items in
     let big : c.push_zeros.new.octets.items ≡ xs ++ replicate more 0 = c.push_zeros.ensures ∙ ap (λ (t : List ℕ). t ++ replicate more 0) c.in_ok-try_reserve.ensures.items in
@@ -83,8 +83,8 @@ returns-clause-ok c =
     let front : take (start - 1) now ≡ take (start - 1) xs =
     sym (shorter now start) ∙ ap (take (start - 1)) inv.front ∙ shorter moved start ∙ moved_front xs start more low within _ _ big m in
     let next : suc (start - 1) ≡ start = omega (arith, low) in
-    let text : bit_or 128 more ∷ digits_of 256 n ≡ length_text (length xs - start) = rw count (top_of n large small) ∙ ap (λ (k : ℕ). length_text (k - start)) ll in
+    let octets : bit_or 128 more ∷ digits_of 256 n ≡ length_octets (length xs - start) = rw count (top_of n large small) ∙ ap (λ (k : ℕ). length_octets (k - start)) ll in
     let inside : start - 1 < length now = omega (arith, inv.size, ll, long) in
     rw v
     (set_split now (start - 1) (bit_or 128 more) inside
-    ∙ rw (next, front, behind) (ap (λ (t : List ℕ). take (start - 1) xs ++ (t ++ drop start xs)) text ∙ sym (append_assoc (take (start - 1) xs) (length_text (length xs - start)) (drop start xs))))
+    ∙ rw (next, front, behind) (ap (λ (t : List ℕ). take (start - 1) xs ++ (t ++ drop start xs)) octets ∙ sym (append_assoc (take (start - 1) xs) (length_octets (length xs - start)) (drop start xs))))

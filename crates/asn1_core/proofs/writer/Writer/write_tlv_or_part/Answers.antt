@@ -1,7 +1,7 @@
 use Rattle.std.proofs.Common.{◌≡◌, ◌++◌, [], ◌∷◌, ℕ, List, ap, ◌∙◌, append_assoc, arith}
-use Rattle.asn1_core.specs.Buffer.{KeepsFront}
-use Rattle.asn1_core.specs.Tag.{tag_text}
-use Rattle.asn1_core.specs.Length.{length_text}
+use Rattle.asn1_core.specs.Buffer.{KeepsPrefix}
+use Rattle.asn1_core.specs.Tag.{identifier_octets}
+use Rattle.asn1_core.specs.Length.{length_octets}
 use Rattle.std.proofs.lemmas.Grind.{common_steps}
 use Rattle.asn1_core.proofs.Bodies.{call_at, keeps_front_on, keeps_front_by, on_err_any, refused, refused_by, announced_ok, announced_err, patched_ok}
 use Rattle.asn1_core.proofs.writer.Writer.write_tlv_or_part.Goals as goal
@@ -13,7 +13,7 @@ kept old b1 b2 tag e f = f ∙ ap (λ xs. xs ++ 0 ∷ []) e ∙ append_assoc old
 pub returns-in_err-body-in-None-clause-err : goal.returns-in_err-body-in-None-clause-err
 returns-in_err-body-in-None-clause-err g c =
     let k = c.requires.front _ _ _ (call_at g.F.FnOnce c.args.body _ _ _ c.body-in-None.ensures) in
-    on_err_any _ (keeps_front_on (keeps_front_by (tag_text c.args.tag ++ 0 ∷ []) (kept c.args.self.now.buf.now.bytes c.write_to.new.dest.bytes c.push_byte.new.self.bytes (tag_text c.args.tag) c.in_ok-write_to.ensures.ok c.in_ok-push_byte-in-None.ensures.ok)) k)
+    on_err_any _ (keeps_front_on (keeps_front_by (identifier_octets c.args.tag ++ 0 ∷ []) (kept c.args.self.now.buf.now.bytes c.write_to.new.dest.bytes c.push_byte.new.self.bytes (identifier_octets c.args.tag) c.in_ok-write_to.ensures.ok c.in_ok-push_byte-in-None.ensures.ok)) k)
 
 pub returns-in_err-body-in-None-clause-error : goal.returns-in_err-body-in-None-clause-error
 returns-in_err-body-in-None-clause-error g c =
@@ -30,18 +30,18 @@ pub returns-in_err-patch_length-in-None-clause-err :
 returns-in_err-patch_length-in-None-clause-err g c =
     let k = c.requires.front _ _ _ (call_at g.F.FnOnce c.args.body _ _ _ c.body-in-None.ensures) in
     let e : c.patch_length.new.self.bytes ≡ c.body-in-None.new.arg2.bytes = c.in_err-patch_length-in-None.ensures.err in
-    let two : KeepsFront c.args.self.now.buf.now.bytes c.push_byte.new.self.bytes = keeps_front_by (tag_text c.args.tag ++ 0 ∷ []) (kept c.args.self.now.buf.now.bytes c.write_to.new.dest.bytes c.push_byte.new.self.bytes (tag_text c.args.tag) c.in_ok-write_to.ensures.ok c.in_ok-push_byte-in-None.ensures.ok) in
-    let all : KeepsFront c.args.self.now.buf.now.bytes c.patch_length.new.self.bytes = rw e (keeps_front_on two k) in
+    let two : KeepsPrefix c.args.self.now.buf.now.bytes c.push_byte.new.self.bytes = keeps_front_by (identifier_octets c.args.tag ++ 0 ∷ []) (kept c.args.self.now.buf.now.bytes c.write_to.new.dest.bytes c.push_byte.new.self.bytes (identifier_octets c.args.tag) c.in_ok-write_to.ensures.ok c.in_ok-push_byte-in-None.ensures.ok) in
+    let all : KeepsPrefix c.args.self.now.buf.now.bytes c.patch_length.new.self.bytes = rw e (keeps_front_on two k) in
     on_err_any _ all
 
 pub returns-in_ok-push_length-in-Some-clause-ok : goal.returns-in_ok-push_length-in-Some-clause-ok
 returns-in_ok-push_length-in-Some-clause-ok g c =
-    let two : c.push_length.new.self.bytes ≡ c.write_to.new.dest.bytes ++ length_text c.in-Some.len = c.in_ok-push_length-in-Some.ensures.ok in
+    let two : c.push_length.new.self.bytes ≡ c.write_to.new.dest.bytes ++ length_octets c.in-Some.len = c.in_ok-push_length-in-Some.ensures.ok in
     announced_ok g.F.FnOnce c.args.body c.args.self.now.buf.now.bytes _ c.push_length.new.self _ c.args.tag c.in-Some.len c.requires.front (rw c.in-Some.is at c.requires.announced) c.in_ok-write_to.ensures.ok two _ (call_at g.F.FnOnce c.args.body _ _ _ c.body.ensures)
 
 pub returns-in_ok-push_length-in-Some-clause-err : goal.returns-in_ok-push_length-in-Some-clause-err
 returns-in_ok-push_length-in-Some-clause-err g c =
-    let two : c.push_length.new.self.bytes ≡ c.write_to.new.dest.bytes ++ length_text c.in-Some.len = c.in_ok-push_length-in-Some.ensures.ok in
+    let two : c.push_length.new.self.bytes ≡ c.write_to.new.dest.bytes ++ length_octets c.in-Some.len = c.in_ok-push_length-in-Some.ensures.ok in
     announced_err g.F.FnOnce c.args.body c.args.self.now.buf.now.bytes _ c.push_length.new.self _ c.args.tag c.in-Some.len c.requires.front (rw c.in-Some.is at c.requires.announced) c.in_ok-write_to.ensures.ok two _ (call_at g.F.FnOnce c.args.body _ _ _ c.body.ensures)
 
 pub returns-in_ok-push_length-in-Some-clause-error :

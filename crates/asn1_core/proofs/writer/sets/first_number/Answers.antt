@@ -1,5 +1,5 @@
 use Rattle.std.proofs.Common.{◌∙◌, ap}
-use Rattle.asn1_core.specs.Text.{number}
+use Rattle.asn1_core.specs.Base256.{number}
 use Rattle.asn1_core.proofs.Firsts.{filled}
 use Rattle.asn1_core.proofs.writer.sets.first_number.Goals as goal
 

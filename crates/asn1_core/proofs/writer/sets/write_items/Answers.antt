@@ -33,6 +33,6 @@ loop-item-preserved g c =
     let a = c.in_ok-write_element.ensures.ok in
     record {
       same_buffer = c.in_ok-write_element.ensures.same_buffer ∙ c.loop-item.invariant.same_buffer;
-      front = keeps_front_on c.loop-item.invariant.front (keeps_front_by a.text a.joined);
-      notes = rw pushed (notes_more (λ v. d.texts (d.meaning v)) c.args.items.now c.loop-item.item-index c.item-item.result old new c.loop-item.spans.items span c.loop-item-test.true c.item-item.is c.loop-item.invariant.notes a at size first);
+      front = keeps_front_on c.loop-item.invariant.front (keeps_front_by a.encoding a.joined);
+      notes = rw pushed (notes_more (λ v. d.encodings (d.meaning v)) c.args.items.now c.loop-item.item-index c.item-item.result old new c.loop-item.spans.items span c.loop-item-test.true c.item-item.is c.loop-item.invariant.notes a at size first);
     }

@@ -5,11 +5,11 @@ use Rattle.asn1_values.proofs.values.big.bit_length.Goals as goal
 
 pub ilog2-requires : goal.ilog2-requires
 ilog2-requires c =
-    let text = c.args.octets.now in
+    let octets = c.args.octets.now in
     let rest = c.without_sign-rest.result.now in
     let b = c.is_negative-is_negative.result in
-    let is = subst (λ (x : Bool). IsMagnitude text rest x) (sym c.is_negative-is_negative.ensures) c.without_sign-rest.ensures.magnitude in
-    let some = counts_some text rest b is (get_or rest 0 0) (take (length rest - 1) (drop 1 rest)) (first_and_others rest c.in-len1-up.len_at_least) in
+    let is = subst (λ (x : Bool). IsMagnitude octets rest x) (sym c.is_negative-is_negative.ensures) c.without_sign-rest.ensures.magnitude in
+    let some = counts_some octets rest b is (get_or rest 0 0) (take (length rest - 1) (drop 1 rest)) (first_and_others rest c.in-len1-up.len_at_least) in
     omega (arith, some, c.leading-high.ensures.value)
 
 pub overflow_add-result-in-len1-up : goal.overflow_add-result-in-len1-up
@@ -18,8 +18,8 @@ overflow_add-result-in-len1-up c =
 
 pub returns-in-len1-up : goal.returns-in-len1-up
 returns-in-len1-up c =
-    let text = c.args.octets.now in
+    let octets = c.args.octets.now in
     let rest = c.without_sign-rest.result.now in
     let b = c.is_negative-is_negative.result in
-    let is = subst (λ (x : Bool). IsMagnitude text rest x) (sym c.is_negative-is_negative.ensures) c.without_sign-rest.ensures.magnitude in
-    some_counted text rest b is (get_or rest 0 0) (take (length rest - 1) (drop 1 rest)) (first_and_others rest c.in-len1-up.len_at_least) c.leading-high.result c.ilog2.result c.leading-high.ensures.value c.ilog2.ensures.power_le c.ilog2.ensures.next_power_gt
+    let is = subst (λ (x : Bool). IsMagnitude octets rest x) (sym c.is_negative-is_negative.ensures) c.without_sign-rest.ensures.magnitude in
+    some_counted octets rest b is (get_or rest 0 0) (take (length rest - 1) (drop 1 rest)) (first_and_others rest c.in-len1-up.len_at_least) c.leading-high.result c.ilog2.result c.leading-high.ensures.value c.ilog2.ensures.power_le c.ilog2.ensures.next_power_gt

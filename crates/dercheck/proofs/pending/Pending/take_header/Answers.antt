@@ -1,6 +1,6 @@
 use Rattle.std.proofs.Common.{◌≡◌, ◌+◌, List, ℕ, [], ◌∷◌, ◌++◌, length, take, set, refl, sym, ap, subst, ◌∙◌, ⊎_elim, inl, inr, arith}
 use Rattle.std.proofs.lemmas.List.{length-set, length-take, length-take-le, take-take}
-use Rattle.asn1.specs.Element.{front}
+use Rattle.asn1.specs.Element.{leading_element}
 use Rattle.dercheck.specs.Frames.{StandsInHeader, StandsInContent, IsBegun, IsOpen, IsWhole, IsFault}
 use Rattle.dercheck.proofs.States.{begun_whole, whole_within, kept_more, element_with}
 use Rattle.dercheck.proofs.pending.Pending.take_header.Goals as goal
@@ -13,12 +13,12 @@ read_header-requires c =
 pub returns-in-Open : goal.returns-in-Open
 returns-in-Open c =
     let p = c.args.self.now in
-    λ text stands. ⊎_elim
-    (λ (h : StandsInHeader p text).
-    let kept = kept_more text p.octets p.count c.args.octet (omega (arith, p.size, p.few)) h.kept in
+    λ octets stands. ⊎_elim
+    (λ (h : StandsInHeader p octets).
+    let kept = kept_more octets p.octets p.count c.args.octet (omega (arith, p.size, p.few)) h.kept in
     let open_header : IsOpen (take (p.count + 1) (set p.octets p.count c.args.octet)) c.in-Open.needed = c.in-Open.ensures in
-    inl (record { stage = h.stage; kept = kept; short = ap front kept ∙ open_header.short }))
-    (λ (h : StandsInContent p text). absurd cc)
+    inl (record { stage = h.stage; kept = kept; short = ap leading_element kept ∙ open_header.short }))
+    (λ (h : StandsInContent p octets). absurd cc)
     stands
 
 pub returns-then-needed-eq0 : goal.returns-then-needed-eq0
@@ -70,10 +70,10 @@ returns-else-needed-eq0 c =
 pub returns-in-Faulty : goal.returns-in-Faulty
 returns-in-Faulty c =
     let p = c.args.self.now in
-    λ text stands. ⊎_elim
-    (λ (h : StandsInHeader p text).
-    let kept = kept_more text p.octets p.count c.args.octet (omega (arith, p.size, p.few)) h.kept in
+    λ octets stands. ⊎_elim
+    (λ (h : StandsInHeader p octets).
+    let kept = kept_more octets p.octets p.count c.args.octet (omega (arith, p.size, p.few)) h.kept in
     let fault : IsFault (take (p.count + 1) (set p.octets p.count c.args.octet)) c.in-Faulty.kind = c.in-Faulty.ensures in
     subst (λ (l : List ℕ). IsFault l c.in-Faulty.kind) (sym kept) fault)
-    (λ (h : StandsInContent p text). absurd cc)
+    (λ (h : StandsInContent p octets). absurd cc)
     stands

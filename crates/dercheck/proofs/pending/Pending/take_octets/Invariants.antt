@@ -7,7 +7,7 @@ abbrev pub invariant-loop-rest : goal.invariant-loop-rest
 invariant-loop-rest l =
     (done : List ℕ)
     × (done ++ l.rest ≡ l.octets)
-    × ((text : List ℕ) → Stands l.initial.self text → Taken l.self (text ++ done) (line_octets l.initial.lines) (line_octets l.lines))
+    × ((octets : List ℕ) → Stands l.initial.self octets → Taken l.self (octets ++ done) (line_octets l.initial.lines) (line_octets l.lines))
     × (l.lines.count + 62 * length l.rest ≤ 62 * 512)
 
 abbrev pub decreases-loop-rest : goal.decreases-loop-rest

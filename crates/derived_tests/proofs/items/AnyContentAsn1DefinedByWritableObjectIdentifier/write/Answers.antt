@@ -1,4 +1,4 @@
--- Printed by scripts/derive from declarations/items.rs, with the sum 81857f2a.
+-- Printed by tools/derive from declarations/items.rs, with the sum 81857f2a.
 use Rattle.std.proofs.Common.{inl, rules}
 use Rattle.asn1.specs.Lemmas.Variants.{unmoved_keeps_front}
 use Rattle.derived_tests.proofs.items.AnyContentAsn1DefinedByWritableObjectIdentifier.write.Goals as goal

@@ -1,14 +1,14 @@
--- Printed by scripts/derive from declarations/identifiers/attributes.rs, with the sum b39e4ab9.
+-- Printed by tools/derive from declarations/identifiers/attributes.rs, with the sum bac46fac.
 use Rattle.std.proofs.Common.{refl, sym}
-use Rattle.asn1.specs.Base128.{number_front}
+use Rattle.asn1.specs.Base128.{leading_number}
 use Rattle.asn1.specs.Identifier.{numbers_in, read_identifier}
 use Rattle.asn1.specs.Lemmas.Results.{ok_is}
 use Rattle.pkix.proofs.identifiers.attributes.common_name.Goals as goal
 
 pub known_identifier-requires : goal.known_identifier-requires
-unfolding read_identifier numbers_in number_front
+unfolding read_identifier numbers_in leading_number
 known_identifier-requires c = refl
 
 pub returns : goal.returns
-unfolding read_identifier numbers_in number_front
+unfolding read_identifier numbers_in leading_number
 returns c = sym (ok_is _ _ c.known_identifier.ensures)

@@ -8,4 +8,4 @@ pub returns : goal.returns
 returns g c =
     let d = g.T.Asn1Type.der in
     let same = g.T.PartialEq.eq in
-    c.eq.ensures ∙ same_default d.meaning _ same _ _ c.value-default.ensures (λ a. inside_tells (λ x. x) d.meaning (explicit_tag_of g.row.N) d.text same a _ (g.met.T.MeaningEq.tells a _)) _
+    c.eq.ensures ∙ same_default d.meaning _ same _ _ c.value-default.ensures (λ a. inside_tells (λ x. x) d.meaning (explicit_tag_of g.row.N) d.encoding same a _ (g.met.T.MeaningEq.tells a _)) _

@@ -1,5 +1,5 @@
 use Rattle.asn1_core.specs.Lemmas.Items.{each_both}
-use Rattle.asn1_core.specs.Lemmas.Texts.{IsText-from_reads}
+use Rattle.asn1_core.specs.Lemmas.Texts.{IsOctets-from_reads}
 use Rattle.asn1.specs.Lists.{left}
 use Rattle.asn1.specs.Lemmas.ListItems.{left_is}
 use Rattle.asn1.proofs.lists.sequence_of.SequenceOf.known_items.Goals as goal
@@ -9,6 +9,6 @@ returns g c =
     let d = g.T.Asn1Type.der in
     let self = c.args.self.now in
     let content = self.content.now in
-    let is = IsText-from_reads content self.are_octets in
-    let items = left_is d.read d.text (λ m. d.valid m × d.allowed m) d.laws.takes content self.count is self.are_items in
+    let is = IsOctets-from_reads content self.are_octets in
+    let items = left_is d.read d.encoding (λ m. d.valid m × d.allowed m) d.laws.consumes content self.count is self.are_items in
     (each_both d.valid d.allowed (left d.read content) items.1).1

@@ -1,5 +1,6 @@
 use Rattle.std.proofs.Common.{◌∙◌, length, map, arith, ◌^◌, ◌≤◌}
-use Rattle.asn1_core.specs.Listing.{Each, joined, sequence_tag}
+use Rattle.std.specs.List.{flat_map, AllByRecursion}
+use Rattle.asn1_core.specs.Listing.{sequence_tag}
 use Rattle.asn1.proofs.MadeLists.{fits_is_short, list_made, list_means}
 use Rattle.asn1.proofs.lists.sequence_of.SequenceOf.of.Goals as goal
 
@@ -7,32 +8,32 @@ pub returns-in-Ok-clause-items : goal.returns-in-Ok-clause-items
 returns-in-Ok-clause-items g c lawful is_element allowed =
     let d = g.T.Asn1Type.der in
     let ms = map d.meaning c.args.items.now in
-    let valid : Each d.valid ms = rw (← c.new-list.ensures) c.known.ensures in
-    let text = rw c.new-list.ensures at (c.in_ok-store.ensures.text c.can_parse-accepted.ensures.plain) in
-    let are = c.in-Ok.ensures sequence_tag (joined d.text ms) (omega arith) (c.as_slice.ensures.value ∙ text) in
+    let valid : AllByRecursion d.valid ms = rw (← c.new-list.ensures) c.known.ensures in
+    let octets = rw c.new-list.ensures at (c.in_ok-store.ensures.encoding c.can_parse-accepted.ensures.plain) in
+    let are = c.in-Ok.ensures sequence_tag (flat_map d.encoding ms) (omega arith) (c.as_slice.ensures.value ∙ octets) in
     list_means d ms valid lawful is_element allowed _ _ _ c.parse_data.result _ are.0 are.1 are.2 c.parse_data.ensures
 
 pub returns-in-Ok-clause-made : goal.returns-in-Ok-clause-made
 returns-in-Ok-clause-made g c lawful is_element allowed fits =
     let d = g.T.Asn1Type.der in
     let ms = map d.meaning c.args.items.now in
-    let valid : Each d.valid ms = rw (← c.new-list.ensures) c.known.ensures in
-    let text = rw c.new-list.ensures at (c.in_ok-store.ensures.text c.can_parse-accepted.ensures.plain) in
-    let are = c.in-Ok.ensures sequence_tag (joined d.text ms) (omega arith) (c.as_slice.ensures.value ∙ text) in
+    let valid : AllByRecursion d.valid ms = rw (← c.new-list.ensures) c.known.ensures in
+    let octets = rw c.new-list.ensures at (c.in_ok-store.ensures.encoding c.can_parse-accepted.ensures.plain) in
+    let are = c.in-Ok.ensures sequence_tag (flat_map d.encoding ms) (omega arith) (c.as_slice.ensures.value ∙ octets) in
     list_made d ms valid lawful is_element _ _ _ allowed c.parse_data.result _ are.0 are.2 c.parse_data.ensures
 
 pub returns-in-Err-clause-read : goal.returns-in-Err-clause-read
 returns-in-Err-clause-read g c fits =
     let d = g.T.Asn1Type.der in
     let ms = map d.meaning c.args.items.now in
-    let text = rw c.new-list.ensures at (c.in_ok-store.ensures.text c.can_parse-accepted.ensures.plain) in
-    let long : 2 ^ 32 ≤ length (joined d.text ms) = c.in-Err.ensures sequence_tag (joined d.text ms) (omega arith) (c.as_slice.ensures.value ∙ text) in
-    absurd (omega (arith, long, fits_is_short sequence_tag (joined d.text ms) (omega arith) fits))
+    let octets = rw c.new-list.ensures at (c.in_ok-store.ensures.encoding c.can_parse-accepted.ensures.plain) in
+    let long : 2 ^ 32 ≤ length (flat_map d.encoding ms) = c.in-Err.ensures sequence_tag (flat_map d.encoding ms) (omega arith) (c.as_slice.ensures.value ∙ octets) in
+    absurd (omega (arith, long, fits_is_short sequence_tag (flat_map d.encoding ms) (omega arith) fits))
 
 pub returns-in-Err-clause-made : goal.returns-in-Err-clause-made
 returns-in-Err-clause-made g c lawful is_element allowed fits =
     let d = g.T.Asn1Type.der in
     let ms = map d.meaning c.args.items.now in
-    let text = rw c.new-list.ensures at (c.in_ok-store.ensures.text c.can_parse-accepted.ensures.plain) in
-    let long : 2 ^ 32 ≤ length (joined d.text ms) = c.in-Err.ensures sequence_tag (joined d.text ms) (omega arith) (c.as_slice.ensures.value ∙ text) in
-    absurd (omega (arith, long, fits_is_short sequence_tag (joined d.text ms) (omega arith) fits))
+    let octets = rw c.new-list.ensures at (c.in_ok-store.ensures.encoding c.can_parse-accepted.ensures.plain) in
+    let long : 2 ^ 32 ≤ length (flat_map d.encoding ms) = c.in-Err.ensures sequence_tag (flat_map d.encoding ms) (omega arith) (c.as_slice.ensures.value ∙ octets) in
+    absurd (omega (arith, long, fits_is_short sequence_tag (flat_map d.encoding ms) (omega arith) fits))

@@ -1,5 +1,5 @@
-use Rattle.asn1_core.specs.Listing.{text_less}
-use Rattle.asn1_core.specs.Lemmas.Texts.{IsText-from_reads}
+use Rattle.asn1_core.specs.Listing.{encoding_less}
+use Rattle.asn1_core.specs.Lemmas.Texts.{IsOctets-from_reads}
 use Rattle.asn1.specs.Sets.{set_left}
 use Rattle.asn1.specs.Lemmas.SetItems.{set_left_is}
 use Rattle.asn1.proofs.SoFar.{appends_joined}
@@ -9,5 +9,5 @@ pub returns-then-writes_as_read-clause-ok : goal.returns-then-writes_as_read-cla
 returns-then-writes_as_read-clause-ok g c =
     let d = g.T.Asn1Type.der in
     let content = c.args.self.now.content.now in
-    let is = set_left_is text_less d.read d.text (λ m. d.valid m × d.allowed m) d.laws.takes content (IsText-from_reads content c.args.self.now.are_octets) c.args.self.now.are_ordered in
-    appends_joined d c.can_parse-accepted.ensures.plain (set_left text_less d.read content) content c.args.dest.now.bytes c.push_slice.new.self.bytes is.0 is.1 c.in_ok-push_slice.ensures.ok
+    let is = set_left_is encoding_less d.read d.encoding (λ m. d.valid m × d.allowed m) d.laws.consumes content (IsOctets-from_reads content c.args.self.now.are_octets) c.args.self.now.are_ordered in
+    appends_joined d c.can_parse-accepted.ensures.plain (set_left encoding_less d.read content) content c.args.dest.now.bytes c.push_slice.new.self.bytes is.0 is.1 c.in_ok-push_slice.ensures.ok

@@ -17,7 +17,7 @@ returns-in_err-write_element-clause-error g c =
 pub loop-item-preserved : goal.loop-item-preserved
 loop-item-preserved g c =
     let d = g.T.Asn1Type.der in
-    (c.in_ok-write_element.ensures.same_buffer ∙ c.loop-item.invariant.0, joined_more (λ v. d.texts (d.meaning v)) c.args.self.now.items.now c.loop-item.item-index c.item-item.result _ _ _ c.loop-item-test.true c.item-item.is c.loop-item.invariant.1 c.in_ok-write_element.ensures.ok)
+    (c.in_ok-write_element.ensures.same_buffer ∙ c.loop-item.invariant.0, joined_more (λ v. d.encodings (d.meaning v)) c.args.self.now.items.now c.loop-item.item-index c.item-item.result _ _ _ c.loop-item-test.true c.item-item.is c.loop-item.invariant.1 c.in_ok-write_element.ensures.ok)
 
 pub returns-clause-ok : goal.returns-clause-ok
 returns-clause-ok g c =
@@ -25,5 +25,5 @@ returns-clause-ok g c =
     let xs = c.args.self.now.items.now in
     let old = c.new-writer.result.buf.now.bytes in
     let new = c.loop-item.writer.buf.now.bytes in
-    let a : Appends (Joins d.texts (map d.meaning xs)) old new = appends_map d.meaning d.texts xs old new (subst (λ ys. Appends (Joins (λ v. d.texts (d.meaning v)) ys) old new) (take_all c.loop-item.item-index xs (omega arith)) c.loop-item.invariant.1) in
+    let a : Appends (Joins d.encodings (map d.meaning xs)) old new = appends_map d.meaning d.encodings xs old new (subst (λ ys. Appends (Joins (λ v. d.encodings (d.meaning v)) ys) old new) (take_all c.loop-item.item-index xs (omega arith)) c.loop-item.invariant.1) in
     search rules

@@ -7,14 +7,14 @@ use Rattle.asn1.proofs.wrappers.defaulted.DefaultedAsn1Readable.parse.Goals as g
 pub returns-clause-answers : goal.returns-clause-answers
 returns-clause-answers g c =
     let d = g.T.Asn1Type.der in
-    answers_default d.meaning d.text g.T.PartialEq.eq _ _ c.value.ensures (λ a. g.met.T.MeaningEq.tells a _) (λ w. w.inner) d.accepts d.read _ _ _ _ _ c.read_element-read.ensures.answers c.or_default.ensures
+    answers_default d.meaning d.encoding g.T.PartialEq.eq _ _ c.value.ensures (λ a. g.met.T.MeaningEq.tells a _) (λ w. w.inner) d.accepts d.read _ _ _ _ _ c.read_element-read.ensures.answers c.or_default.ensures
 
 pub returns-clause-found : goal.returns-clause-found
 returns-clause-found g c =
     let d = default_der defaulted_inner g.T.Asn1Type.der (g.T.Asn1Type.der.meaning g.D.DefaultValue.default) in
-    taken d.meaning _ d.text (λ m. d.valid m × d.allowed m) d.read d.laws.takes c.args.parser.now _ _ c.rest-octets.ensures.octets (returns-clause-answers g c)
+    taken d.meaning _ d.encoding (λ m. d.valid m × d.allowed m) d.read d.laws.consumes c.args.parser.now _ _ c.rest-octets.ensures.octets (returns-clause-answers g c)
 
 pub returns-clause-stops : goal.returns-clause-stops
 returns-clause-stops g c =
     let d = g.T.Asn1Type.der in
-    stops_default d.meaning d.text g.T.PartialEq.eq (λ w. w.inner) _ d.accepts d.read _ _ _ _ _ _ c.read_element-read.ensures.answers c.read_element-read.ensures.stops c.or_default.ensures
+    stops_default d.meaning d.encoding g.T.PartialEq.eq (λ w. w.inner) _ d.accepts d.read _ _ _ _ _ _ c.read_element-read.ensures.answers c.read_element-read.ensures.stops c.or_default.ensures

@@ -6,5 +6,5 @@ pub write_tlv-requires : goal.write_tlv-requires
 write_tlv-requires c = record {
   callable = search rules;
   front = λ old r new h. front_of r c.captures.octets.now old.bytes new.bytes (search rules) (search rules);
-  announced = announced_by _ _ (λ t. t ≡ c.captures.octets.now) (λ old new h. record { text = c.captures.octets.now; is_one = refl; joined = search rules }) (Some (length c.captures.octets.now)) (λ t e. ap length e);
+  announced = announced_by _ _ (λ t. t ≡ c.captures.octets.now) (λ old new h. record { encoding = c.captures.octets.now; is_one = refl; joined = search rules }) (Some (length c.captures.octets.now)) (λ t e. ap length e);
 }

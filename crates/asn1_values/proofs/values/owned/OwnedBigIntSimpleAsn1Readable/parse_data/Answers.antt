@@ -1,6 +1,6 @@
 use Rattle.std.proofs.Common.{◌∙◌, Ok, sym, ap, subst, inl, arith}
 use Rattle.std.proofs.lemmas.Bool.{both_ways}
-use Rattle.asn1_core.specs.Text.{signed_number}
+use Rattle.asn1_core.specs.Base256.{signed_number}
 use Rattle.asn1_values.specs.Big.{IsSigned, IsSignedForm}
 use Rattle.asn1_values.specs.Values.{signed_content}
 use Rattle.asn1_values.specs.Lemmas.Big.{form_of_signed, signed_refused, wants_memory, read_signed_ok}

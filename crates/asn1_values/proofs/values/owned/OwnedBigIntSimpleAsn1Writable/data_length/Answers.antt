@@ -1,6 +1,6 @@
 use Rattle.std.proofs.Common.{◌≡◌, ℕ, length, Some, ap, arith}
 use Rattle.asn1_core.specs.Integer.{integer_content}
-use Rattle.asn1_core.specs.Text.{signed_number}
+use Rattle.asn1_core.specs.Base256.{signed_number}
 use Rattle.asn1_values.specs.Lemmas.Big.{signed_form, signed_length}
 use Rattle.asn1_values.proofs.values.owned.OwnedBigIntSimpleAsn1Writable.data_length.Goals as goal
 

@@ -2,7 +2,7 @@ use Rattle.std.proofs.Common.{◌≡◌, ℕ, List, subst, sym}
 use Rattle.std.specs.Prelude.{OnOk}
 use Rattle.asn1_core.specs.Buffer.{Appends}
 use Rattle.asn1_core.specs.Integer.{integer_content}
-use Rattle.asn1_core.specs.Text.{signed_number}
+use Rattle.asn1_core.specs.Base256.{signed_number}
 use Rattle.asn1_values.specs.Big.{IsSigned}
 use Rattle.asn1_values.specs.Lemmas.Big.{signed_form, appends_signed}
 use Rattle.asn1_values.proofs.values.owned.OwnedBigIntSimpleAsn1Writable.write_data.Goals as goal

@@ -1,4 +1,4 @@
--- Printed by scripts/derive from declarations/common/general_name.rs, with the sum e8c2ef8e.
+-- Printed by tools/derive from declarations/common/general_name.rs, with the sum e8c2ef8e.
 use Rattle.std.proofs.Common.{arith, refl, rules}
 use Rattle.asn1.specs.Lemmas.Fields.{tags_differ}
 use Rattle.pkix.proofs.common.general_name.laws.general_name_is_lawful.Goals as goal

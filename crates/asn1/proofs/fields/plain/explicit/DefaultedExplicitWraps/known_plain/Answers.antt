@@ -8,4 +8,4 @@ returns g c =
     let d = g.T.Asn1Type.der in
     let same = g.T.PartialEq.eq in
     let a = c.args.value.now in
-    known_is d.meaning _ same d.valid _ _ (inside_tells (λ x. x) d.meaning (explicit_tag_of g.row.N) d.text same a _ (g.met.T.MeaningEq.tells a _)) c.known.ensures
+    known_is d.meaning _ same d.valid _ _ (inside_tells (λ x. x) d.meaning (explicit_tag_of g.row.N) d.encoding same a _ (g.met.T.MeaningEq.tells a _)) c.known.ensures

@@ -8,4 +8,4 @@ returns g c =
     let d = g.T.Asn1Type.der in
     let same = g.T.PartialEq.eq in
     let a = c.args.value.now in
-    known_is d.meaning _ same d.content.valid _ _ (retagged_tells (λ x. x) d.meaning (implicit_tag_of g.row.N d.content.tag) d.text d.content.text same a _ (g.met.T.MeaningEq.tells a _) (g.met.T.SimpleMeaningEq.content_tells a _)) (d.laws.as_valid _ c.known.ensures)
+    known_is d.meaning _ same d.content.valid _ _ (retagged_tells (λ x. x) d.meaning (implicit_tag_of g.row.N d.content.tag) d.encoding d.content.encoding same a _ (g.met.T.MeaningEq.tells a _) (g.met.T.SimpleMeaningEq.content_tells a _)) (d.laws.as_valid _ c.known.ensures)

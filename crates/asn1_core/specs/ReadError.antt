@@ -1,4 +1,5 @@
--- An error of reading: its kind, and its locations, the innermost first; when two are the same; and what errors display.
+-- An error of reading: its kind, and its locations, the innermost first; when two are the same; and what errors
+-- display.
 use Rattle.std.specs.Prelude.{◌≡◌, List, [], ◌∷◌, ◌++◌, take, Result, Ok, Err, Bool, true, false, ◌==◌, ◌&&◌, bytes_eq, ℕ, Option, Some, None, codes, decimal, option_map}
 use Rattle.asn1_core.specs.declared.parser.ParseErrorKind.{ParseErrorKind}
 use Rattle.asn1_core.specs.declared.parser.ParseErrorKind.TheVariants.{AllocationError, InvalidValue, InvalidTag, InvalidLength, InvalidSize, UnexpectedTag, ShortData, IntegerOverflow, ExtraData, InvalidSetOrdering, EncodedDefault, OidTooLong, UnknownDefinedBy}
@@ -12,40 +13,40 @@ use Rattle.asn1_core.specs.declared.writer.WriteError.{WriteError}
 use Rattle.asn1_core.specs.declared.writer.WriteError.TheVariants as writing
 
 -- An error: its kind, and its locations in the structures around it, the innermost first.
-pub record Fault : Type 0 where
+pub record ReadError : Type 0 where
   pub kind : ParseErrorKind
   pub places : List Place
 
 -- An error with no location.
-abbrev pub fault : ParseErrorKind → Fault
-fault kind = record { kind = kind; places = [] }
+abbrev pub read_error : ParseErrorKind → ReadError
+read_error kind = record { kind = kind; places = [] }
 
 -- One more location around those that are there, of which the innermost eight are kept.
 abbrev pub add : Place → List Place → List Place
 add place places = take 8 (places ++ place ∷ [])
 
 -- The error, with one more location around it.
-abbrev pub within : Place → Fault → Fault
+abbrev pub within : Place → ReadError → ReadError
 within place f = record { kind = f.kind; places = add place f.places }
 
 -- A result of framing, whose errors have no location.
-abbrev pub framed : {A : Type 0} → Result A ParseErrorKind → Result A Fault
+abbrev pub framed : {A : Type 0} → Result A ParseErrorKind → Result A ReadError
 framed (Ok x) = Ok x
-framed (Err kind) = Err (fault kind)
+framed (Err kind) = Err (read_error kind)
 
 -- A call returned this result, its value seen through `view`.
-abbrev pub AnswersKind : {V A : Type 0} → (V → A) → Result V ParseErrorKind → Result A ParseErrorKind → Type 0
-AnswersKind view (Ok v) answer = answer ≡ Ok (view v)
-AnswersKind view (Err kind) answer = answer ≡ Err kind
+abbrev pub ReturnsKind : {V A : Type 0} → (V → A) → Result V ParseErrorKind → Result A ParseErrorKind → Type 0
+ReturnsKind view (Ok v) answer = answer ≡ Ok (view v)
+ReturnsKind view (Err kind) answer = answer ≡ Err kind
 
 -- A call returned this result, its value seen through `view`, or an error of that kind with no location.
-abbrev pub AnswersError : {V A : Type 0} → (V → A) → Result V Fault → Result A ParseErrorKind → Type 0
-AnswersError view (Ok v) answer = answer ≡ Ok (view v)
-AnswersError view (Err e) answer = (answer ≡ Err e.kind) × (e.places ≡ [])
+abbrev pub ReturnsPlain : {V A : Type 0} → (V → A) → Result V ReadError → Result A ParseErrorKind → Type 0
+ReturnsPlain view (Ok v) answer = answer ≡ Ok (view v)
+ReturnsPlain view (Err e) answer = (answer ≡ Err e.kind) × (e.places ≡ [])
 
 -- The error is one of the input, and not `AllocationError`.
-abbrev pub IsOfText : Fault → Type 0
-IsOfText f = f.kind ≡ AllocationError → ⊥
+abbrev pub IsOfInput : ReadError → Type 0
+IsOfInput f = f.kind ≡ AllocationError → ⊥
 
 -- A `ParseLocation` as the `Place` that is kept.
 abbrev pub place_of : ParseLocation → Place
@@ -78,8 +79,8 @@ place_eq (Index i) (Index i') = i == i'
 place_eq _ _ = false
 
 -- Whether two errors are equal: the same kind, and one by one the same locations.
-abbrev pub fault_eq : Fault → Fault → Bool
-fault_eq e f = kind_eq e.kind f.kind && pointwise place_eq e.places f.places
+abbrev pub read_error_eq : ReadError → ReadError → Bool
+read_error_eq e f = kind_eq e.kind f.kind && pointwise place_eq e.places f.places
 
 -- ---- what errors display
 
@@ -101,7 +102,7 @@ kind_text AllocationError = Some (codes "allocation error")
 
 -- What a `ParseError` displays: `ASN.1 parsing error: ` and the words for its kind. Nothing is said of `UnexpectedTag`.
 abbrev pub error_text : ParseErrorKind → Option (List ℕ)
-error_text kind = option_map (λ text. codes "ASN.1 parsing error: " ++ text) (kind_text kind)
+error_text kind = option_map (λ octets. codes "ASN.1 parsing error: " ++ octets) (kind_text kind)
 
 -- What a `WriteError` displays.
 abbrev pub write_error_text : WriteError → List ℕ

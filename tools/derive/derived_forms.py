@@ -16,7 +16,7 @@ UNKNOWN = "Err(ParseError::new(ParseErrorKind::UnknownDefinedBy))"
 ANSWER = "\npub {0} : goal.{0}\n{2}{0} c = {1}\n"
 # What the proofs of an identifier's function use, and the proofs: the numbers that its octets are read as are computed.
 IDENTIFIER_USES = """use Rattle.std.proofs.Common.{refl, sym}
-use Rattle.asn1.specs.Base128.{number_front}
+use Rattle.asn1.specs.Base128.{leading_number}
 use Rattle.asn1.specs.Identifier.{numbers_in, read_identifier}
 use Rattle.asn1.specs.Lemmas.Results.{ok_is}
 """
@@ -25,7 +25,7 @@ LAW_USES = """use Rattle.std.proofs.Common.{arith, refl, rules}
 use Rattle.asn1.specs.Lemmas.Fields.{tags_differ}
 """
 MOST_SEARCHED = 6
-COMPUTED = "unfolding read_identifier numbers_in number_front\n"
+COMPUTED = "unfolding read_identifier numbers_in leading_number\n"
 IDENTIFIER_ANSWERS = ANSWER.format("known_identifier-requires", "refl", COMPUTED)
 IDENTIFIER_ANSWERS += ANSWER.format("returns", "sym (ok_is _ _ c.known_identifier.ensures)", COMPUTED)
 

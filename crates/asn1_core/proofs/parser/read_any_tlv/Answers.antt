@@ -1,6 +1,6 @@
 use Rattle.std.proofs.lemmas.Result.{err_from_is_err_and}
 use Rattle.asn1_core.specs.Lemmas.Elements.{front_tag, front_length, front_short, front_content}
-use Rattle.asn1_core.proofs.parser.tlv_in.Goals as goal
+use Rattle.asn1_core.proofs.parser.read_any_tlv.Goals as goal
 
 pub returns-in_err-tag : goal.returns-in_err-tag
 returns-in_err-tag c =

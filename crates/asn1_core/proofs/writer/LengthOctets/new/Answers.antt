@@ -3,7 +3,7 @@ use Rattle.std.specs.Int.Digits.{digits_of}
 use Rattle.std.proofs.lemmas.Int.Digits.{length-digits_of_step}
 use Rattle.std.proofs.lemmas.List.{length-set}
 use Rattle.asn1_core.specs.Lemmas.Lengths.{length_text_low, few_digits, write_step, write_end, low_eight}
-use Rattle.asn1_core.proofs.writer.LengthText.new.Goals as goal
+use Rattle.asn1_core.proofs.writer.LengthOctets.new.Goals as goal
 
 pub overflow_sub-start : goal.overflow_sub-start
 overflow_sub-start c = omega (arith, few_digits c.args.n (omega arith), length-digits_of_step 256 c.loop-rest.rest (omega arith) c.loop-rest-test.true)
@@ -27,11 +27,11 @@ overflow_sub-start-2 c =
     let none = ap (λ k. length (digits_of 256 k)) done in
     omega (arith, few_digits c.args.n (omega arith), none)
 
-pub returns-then-n-lt128-clause-text : goal.returns-then-n-lt128-clause-text
-returns-then-n-lt128-clause-text c = rw (length_text_low c.args.n c.if-n-lt128.true) refl
+pub returns-then-n-lt128-clause-encoding : goal.returns-then-n-lt128-clause-encoding
+returns-then-n-lt128-clause-encoding c = rw (length_text_low c.args.n c.if-n-lt128.true) refl
 
-pub returns-clause-text : goal.returns-clause-text
-returns-clause-text c =
+pub returns-clause-encoding : goal.returns-clause-encoding
+returns-clause-encoding c =
     let inv = c.loop-rest.invariant in
     let n = c.args.n in
     let done : c.loop-rest.rest ≡ 0 = omega arith in

@@ -1,6 +1,6 @@
 use Rattle.std.proofs.Common.{◌≡◌, ◌+◌, ◌++◌, ◌≤◌, length, drop}
 use Rattle.std.specs.Int.Digits.{digits_of}
-use Rattle.asn1_core.proofs.writer.LengthText.new.Given as goal
+use Rattle.asn1_core.proofs.writer.LengthOctets.new.Given as goal
 
 -- the digits that are left, before those that are written, are all the digits
 abbrev pub invariant-loop-rest : goal.invariant-loop-rest
