@@ -3,6 +3,8 @@
 import os, re, subprocess, sys, tempfile
 from pathlib import Path
 
+sys.path.insert(0, str(Path(__file__).resolve().parent.parent / "scripts"))
+
 from sources import CRATES, below
 
 
