@@ -1,4 +1,4 @@
-//! The numbers by which `scripts/bench` compares what both sides do.
+//! The numbers by which `tools/beside_original` compares what both sides do.
 
 use asn1::{BitString, ObjectIdentifier, SequenceOf, SetOf, Tlv, UtcTime, Utf8String};
 use pkix::certificate::Certificate;

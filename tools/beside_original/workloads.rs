@@ -1,4 +1,4 @@
-//! The workloads of `crates/speed`, over the original crate, for `scripts/bench --original`: the same numbers, the same
+//! The workloads of `crates/speed`, over the original crate, for `beside_original`: the same numbers, the same
 //! answers. The structures are written as its derives write them.
 
 use asn1::*;
