@@ -14,10 +14,13 @@ Function = namedtuple("Function", "name file is_public trait clauses start end i
 # Of a case of a program, or of a test: its crate, its name, the command, what is on standard input, and how a case has
 # to end: the status and both outputs.
 Run = namedtuple("Run", "crate name command stdin end")
-KINDS = "fn|struct|enum|trait|impl|mod|type|const|static|ghost|use"
-START = rf"(pub )?(?:pub\(\w+\) )?(?:const |unsafe |extern \"C\" )*({KINDS})\b ?(\w*)"
-CLAUSE = re.compile(r"\b(?:requires|(ensures))(?:\s+(\w+))?\s+\{|\bghost (\w+)(?: =|:)\s+\{")
-TYPE = re.compile(r"^(?:pub )?(?:struct|enum) (\w+)", re.MULTILINE)
+# Of a clause or a ghost member: 'requires', 'ensures' or 'ghost'; its name, 'unnamed' if an `ensures` has none, and none
+# of a `requires`; where it begins; where its text in braces begins and ends; and this text.
+Clause = namedtuple("Clause", "kind name start opens end text")
+KINDS = "fn|struct|enum|trait|impl|mod|type|const|static|ghost|use|macro_rules!"
+START = rf"(pub )?(?:pub\(\w+\) )?(?:const |unsafe |extern \"C\" )*({KINDS})(?!\w) ?(\w*)"
+CLAUSE = re.compile(r"\b(?:(requires|ensures)(?:\s+(\w+))?\s+|(ghost) (\w+)(?: =|:)\s+)\{")
+GHOST_USE = re.compile(r"^ *ghost use ([^;{]*)\.\{([^}]*)\};", re.MULTILINE)
 # What is in angle brackets, with up to three pairs in one another.
 IN_ANGLES = r"<(?:[^<>]|<(?:[^<>]|<(?:[^<>]|<[^<>]*>)*>)*>)*>"
 
@@ -80,19 +83,89 @@ def unreadable():
     return os.open(TOP, os.O_RDONLY)
 
 
-def spans_of_clauses(text):
-    """Each clause and ghost member: its name, 'unnamed' if it has none and nothing for `requires`; where it begins,
-    and where its text in braces begins and ends."""
-    for found in CLAUSE.finditer(text):
-        depth, end = 1, found.end()
-        while depth:
-            depth, end = depth + {"{": 1, "}": -1}.get(text[end], 0), end + 1
-        yield (found[2] or "unnamed") if found[1] else found[3], found.start(), found.end(), end - 1
+def bare(text):
+    """A source in which each comment is as much white space."""
+    return re.sub(r"//.*", lambda comment: " " * len(comment[0]), text)
 
 
 def clauses(text):
-    """The name of each clause and ghost member, and its text."""
-    return [(name, text[start:end]) for name, _, start, end in spans_of_clauses(text)]
+    """Each clause and ghost member of a source, or of a part of one."""
+    code = bare(text)
+    for found in CLAUSE.finditer(code):
+        depth, end = 1, found.end()
+        while depth:
+            depth, end = depth + {"{": 1, "}": -1}.get(code[end], 0), end + 1
+        kind = found[1] or found[3]
+        name = None if kind == "requires" else found[2] or found[4] or "unnamed"
+        yield Clause(kind, name, found.start(), found.end(), end - 1, text[found.end() : end - 1])
+
+
+def comment_above(text, start, mark="//"):
+    """The lines of the comment above this place of a source; attributes may be between."""
+    lines, found = text[:start].split("\n")[:-1], []
+    while lines and re.match(rf"\s*({mark}|#\[|[\w( ),:]*\)\]$)", lines[-1]):
+        line = lines.pop().strip()
+        found += [line.lstrip("/").strip()] if line.startswith(mark) else []
+    return found[::-1]
+
+
+class Item:
+    """An item of a source as `rt fmt` lays it out, or a member of an impl, a trait or a module.
+
+    Of each there is its kind, its name, and whether it says `pub`; where it begins in the file; its text up to the next
+    item, its header with the clauses, and its members.
+    """
+
+    def __init__(self, file, found, end, indent):
+        self.is_public, self.kind, self.name = bool(found[1]), found[2], found[3]
+        self.file, self.start, self.text, self.indent = file, found.start(), file[found.start() : end], indent
+        self.code = found.string[self.start : end]
+        has_clauses = re.search(r"\b(requires|ensures)\b|\{\}?$", self.code, re.MULTILINE)
+        opens = rf"^{indent}\{{" if has_clauses and has_clauses[1] else r"\{\}?$"
+        body = re.search(opens, self.code, re.MULTILINE)
+        self.head = self.text[: body.start()] if body else self.text
+        self.members = []
+        if self.kind in ("impl", "trait", "mod") and not indent:
+            self.members = [*items(file, "    ", found.string, self.start, end)]
+
+    def comment(self, mark="//"):
+        """The lines of the comment above it."""
+        return comment_above(self.file, self.start, mark)
+
+    def impl(self):
+        """Of an impl its generic parameters, its trait, which is empty if it has none, and its type."""
+        header = re.split(r"\{\}?$|\bwhere\b", self.code, flags=re.MULTILINE)[0].partition("impl")[2]
+        header = re.sub(r"\s+", " ", header.replace("->", "")).strip()
+        generics, rest = re.fullmatch(f"({IN_ANGLES}|)(.*)", header).groups()
+        trait, _, of = rest.strip().rpartition(" for ")
+        return generics, trait, of
+
+    def body(self):
+        """Where the body of a function begins and ends in the file, if it has one."""
+        if len(self.head) == len(self.text):
+            return None, None
+        opens = self.code.index("{", len(self.head)) + 1
+        is_empty = self.code[opens] == "}"
+        closes = opens if is_empty else self.code.index(f"\n{self.indent}}}\n", len(self.head)) + 1
+        return self.start + opens + (not is_empty), self.start + closes
+
+    def function(self, path, is_public, trait=""):
+        """A function at this path."""
+        named = [it.name for it in clauses(self.head) if it.kind != "requires"]
+        return Function("::".join(path), None, is_public, trait, named, *self.body(), self.indent + "    ")
+
+
+def items(text, indent="", code=None, start=0, end=None):
+    """The items of a file; or those that are indented so, in this part of it."""
+    code, end = bare(text) if code is None else code, len(text) if end is None else end
+    starts = [*re.compile(f"^{indent}{START}", re.MULTILINE).finditer(code, start, end)]
+    for found, next_start in zip(starts, [*(it.start() for it in starts[1:]), end]):
+        yield Item(text, found, next_start, indent)
+
+
+def without_generics(named):
+    """A type or trait without what is in angle brackets, and without the lifetimes of references."""
+    return re.sub(rf"{IN_ANGLES}|(?<=&)'\w+ ", "", named)
 
 
 def word(named, parameters):
@@ -102,83 +175,41 @@ def word(named, parameters):
     return "".join(part[0].upper() + part[1:] for part in re.findall(r"\w+", named) if part not in parameters)
 
 
-def impl_name(header):
-    """The name of an impl, and that of its trait, if it has one."""
-    header = re.sub(r"\s+", " ", header.replace("->", "")).strip()
-    generics, rest = re.fullmatch(f"({IN_ANGLES}|)(.*)", header).groups()
+def impl_name(generics, trait, of):
+    """The name of an impl as a check has it, and that of its trait."""
     parameters = re.findall(r"[<,] ?(?:const )?(\w+)", "<" + re.sub(IN_ANGLES, "", generics[1:-1]))
-    trait, _, of = rest.strip().rpartition(" for ")
     return (word(of, parameters) or "Any") + word(trait, parameters), re.match(r"(?:\w+::)*(\w*)", trait)[1]
-
-
-def items(text, indent=""):
-    """Of each item of a file, or of an impl or trait: whether it is public, its kind, its name, its text, and where it
-    begins."""
-    starts = [*re.finditer(f"^{indent}{START}", text, re.MULTILINE)]
-    ends = [start.start() for start in starts[1:]] + [len(text)]
-    for start, end in zip(starts, ends):
-        yield bool(start[1]), start[2], start[3], text[start.start() : end], start.start()
-
-
-def doc_above(text, start, mark="//"):
-    """The lines of the comment above an item that begins at this place of its file; attributes may be between."""
-    lines, found = text[:start].split("\n")[:-1], []
-    while lines and re.match(rf"\s*({mark}|#\[|[\w( ),:]*\)\]$)", lines[-1]):
-        line = lines.pop().strip()
-        found += [line.lstrip("/").strip()] if line.startswith(mark) else []
-    return found[::-1]
-
-
-def contract(function, indent=""):
-    """A function's header and clauses, without its body."""
-    has_clauses = re.search(r"\b(requires|ensures)\b|\{\}?$", function, re.MULTILINE)
-    opens = rf"^{indent}\{{" if has_clauses and has_clauses[1] else r"\{\}?$"
-    body = re.search(opens, function, re.MULTILINE)
-    return function[: body.start()] if body else function
 
 
 def functions_in(text, path):
     """The functions of a file, whose path of modules is given, those without a body too."""
-    text = re.sub(r"//.*", lambda comment: " " * len(comment[0]), text)
-    for is_public, kind, name, item, start in items(text):
-        if kind == "fn":
-            yield function_in(item, start, [*path, name], is_public)
-        if kind not in ("impl", "trait", "mod"):
-            continue
-        header = re.split(rf"\{{\}}?$|\bwhere\b", item, flags=re.MULTILINE)[0].partition(kind)[2]
-        block, trait = impl_name(header) if kind == "impl" else (name, "" if kind == "mod" else name)
-        for says_pub, inner, member, function, place in items(item, "    "):
-            seen = says_pub or (kind == "impl" and trait != "") or (kind == "trait" and is_public)
-            if inner == "fn":
-                yield function_in(function, start + place, [*path, block, member], seen, trait, "    ")
+    for item in items(text):
+        if item.kind == "fn":
+            yield item.function([*path, item.name], item.is_public)
+        is_trait = item.kind == "trait"
+        block, trait = impl_name(*item.impl()) if item.kind == "impl" else (item.name, item.name * is_trait)
+        is_seen = item.is_public if is_trait else trait != ""
+        for member in item.members:
+            if member.kind == "fn":
+                yield member.function([*path, block, member.name], member.is_public or is_seen, trait)
 
 
-def function_in(item, start, path, is_public, trait="", indent=""):
-    """A function whose text, from its header on, begins at this place of the file."""
-    head, ends = contract(item, indent), (None, None)
-    if len(head) < len(item):
-        opens = item.index("{", len(head)) + 1
-        is_empty = item[opens] == "}"
-        closes = opens if is_empty else item.index(f"\n{indent}}}\n", len(head)) + 1
-        ends = start + opens + (not is_empty), start + closes
-    named = [name for name, _ in clauses(head) if name is not None]
-    return Function("::".join(path), None, is_public, trait, named, *ends, indent + "    ")
-
-
+@cache
 def functions(crate):
     """The functions of a crate, those of its traits that have no body too. A method of no trait has the path of its
     type, wherever its impl is."""
-    source, texts = CRATES / crate / "src", {}
+    source, texts, homes, found = CRATES / crate / "src", {}, {}, []
     for file in sorted(source.rglob("*.rt")):
         path = [crate, *(part for part in file.relative_to(source).with_suffix("").parts if part != "lib")]
         texts[file] = path, file.read_text()
-    homes = {name: path for path, text in texts.values() for name in TYPE.findall(text)}
+        homes.update({item.name: path for item in items(texts[file][1]) if item.kind in ("struct", "enum")})
     for file, (path, text) in texts.items():
         for function in functions_in(text, path):
             *_, block, name = function.name.split("::")
-            if not function.trait and block in homes and block not in TYPE.findall(text):
+            if not function.trait and block in homes:
                 function = function._replace(name="::".join([*homes[block], block, name]))
-            yield function._replace(file=file.relative_to(CRATES / crate))
+            found.append(function._replace(file=file.relative_to(CRATES / crate)))
+    return found
 
 
 @cache
