@@ -100,9 +100,9 @@ def clauses(text):
         yield Clause(kind, name, found.start(), found.end(), end - 1, text[found.end() : end - 1])
 
 
-def comment_above(text, start, mark="//"):
-    """The lines of the comment above this place of a source; attributes may be between."""
-    lines, found = text[:start].split("\n")[:-1], []
+def comment_above(text, mark="//"):
+    """The lines of the comment at the end of this text; attributes may follow them."""
+    lines, found = text.split("\n")[:-1], []
     while lines and re.match(rf"\s*({mark}|#\[|[\w( ),:]*\)\]$)", lines[-1]):
         line = lines.pop().strip()
         found += [line.lstrip("/").strip()] if line.startswith(mark) else []
@@ -113,24 +113,23 @@ class Item:
     """An item of a source as `rt fmt` lays it out, or a member of an impl, a trait or a module.
 
     Of each there is its kind, its name, and whether it says `pub`; where it begins in the file; its text up to the next
-    item, its header with the clauses, and its members.
+    item, with and without comments; its header with the clauses; and its members.
     """
 
-    def __init__(self, file, found, end, indent):
-        self.is_public, self.kind, self.name = bool(found[1]), found[2], found[3]
-        self.file, self.start, self.text, self.indent = file, found.start(), file[found.start() : end], indent
-        self.code = found.string[self.start : end]
+    def __init__(self, text, found, end, indent, base):
+        self.is_public, self.kind, self.name, self.indent = bool(found[1]), found[2], found[3], indent
+        self.above, self.text, self.start = text[: found.start()], text[found.start() : end], base + found.start()
+        self.code = bare(self.text)
         has_clauses = re.search(r"\b(requires|ensures)\b|\{\}?$", self.code, re.MULTILINE)
         opens = rf"^{indent}\{{" if has_clauses and has_clauses[1] else r"\{\}?$"
         body = re.search(opens, self.code, re.MULTILINE)
         self.head = self.text[: body.start()] if body else self.text
-        self.members = []
-        if self.kind in ("impl", "trait", "mod") and not indent:
-            self.members = [*items(file, "    ", found.string, self.start, end)]
+        is_outer = self.kind in ("impl", "trait", "mod") and not indent
+        self.members = [*items(self.text, "    ", self.start)] if is_outer else []
 
     def comment(self, mark="//"):
         """The lines of the comment above it."""
-        return comment_above(self.file, self.start, mark)
+        return comment_above(self.above, mark)
 
     def impl(self):
         """Of an impl its generic parameters, its trait, which is empty if it has none, and its type."""
@@ -155,12 +154,11 @@ class Item:
         return Function("::".join(path), None, is_public, trait, named, *self.body(), self.indent + "    ")
 
 
-def items(text, indent="", code=None, start=0, end=None):
-    """The items of a file; or those that are indented so, in this part of it."""
-    code, end = bare(text) if code is None else code, len(text) if end is None else end
-    starts = [*re.compile(f"^{indent}{START}", re.MULTILINE).finditer(code, start, end)]
-    for found, next_start in zip(starts, [*(it.start() for it in starts[1:]), end]):
-        yield Item(text, found, next_start, indent)
+def items(text, indent="", base=0):
+    """The items of a file; or the members in the text of an item, which begins at this place of the file."""
+    starts = [*re.finditer(f"^{indent}{START}", bare(text), re.MULTILINE)]
+    for found, end in zip(starts, [*(start.start() for start in starts[1:]), len(text)]):
+        yield Item(text, found, end, indent, base)
 
 
 def without_generics(named):
