@@ -35,7 +35,9 @@ FOLDERS = ["must-fail", "wrong-bodies/first", "wrong-bodies"]
 ALL_FOLDERS = [*FOLDERS, "canaries"]
 KEYS = {"function", "body", "first", "file", "old", "new", "clause", "test", "no test", "must"}
 PLANTED = TOP / "scripts/planted.txt"
-Wrong = namedtuple("Wrong", "function name changes clauses tests must reason is_alone", defaults=[None, False])
+# `around` has the bodies of functions in which the changes are, each as its file, where it begins and where it ends; and
+# `None` if a change is in none, as that of a ghost member, which may change the contracts of others.
+Wrong = namedtuple("Wrong", "function name changes clauses tests must reason around", defaults=[None, ()])
 Change = namedtuple("Change", "file start end text")
 
 
@@ -77,9 +79,10 @@ def broken(clause, function):
     return words
 
 
-def is_in(change, function):
-    """Whether this is a change of the function's body."""
-    return change.file == function.file and function.start <= change.start and change.end <= function.end
+def body_around(change, known):
+    """The body in which a change is, of one of these functions."""
+    bodies = ((it.file, it.start, it.end) for it in known if it.file == change.file)
+    return next((body for body in bodies if body[1] <= change.start and change.end <= body[2]), None)
 
 
 def blocks_of(file):
@@ -102,9 +105,8 @@ def wrong_body(text, name, crate, known):
     function = known[values["function"]]
     changes, clauses = changes_of(crate, said, function), broken(values["clause"], function)
     name, tests = values.get("body") or values.get("first") or name, values["test"].split()
-    # What isn't in a body, as a ghost member, may change the contracts of others.
-    is_alone = not all(any(is_in(change, body) for body in known.values()) for change in changes)
-    return Wrong(function.name, name, changes, clauses, tests, values["must"], values["no test"], is_alone)
+    around = {body_around(change, known.values()) for change in changes}
+    return Wrong(function.name, name, changes, clauses, tests, values["must"], values["no test"], around)
 
 
 def wrong_bodies(crate, *folders):
