@@ -31,12 +31,6 @@ def kit():
     return Path(subprocess.run(["rt", "doc"], capture_output=True, text=True, check=True).stdout.strip()).parent
 
 
-def said_by(*words, folder=TOP):
-    """What the kit's `rattle` says on both outputs."""
-    words = [kit() / "bin/rattle", *words]
-    return subprocess.run(words, cwd=folder, stdout=subprocess.PIPE, stderr=subprocess.STDOUT, text=True).stdout
-
-
 def report(results, tells_all=False):
     """Prints each result that isn't well, or all, and how many are; the status is 1 if one isn't, or none is."""
     counts = {True: 0, False: 0}
