@@ -95,11 +95,11 @@ def clauses(text):
 
 
 def comment_above(text, mark="//"):
-    """The lines of the comment at the end of this text; attributes may follow them."""
+    """The lines of the comment at the end of a text, of a definition too; attributes may be between, and fixities."""
     lines, found = text.split("\n")[:-1], []
-    while lines and re.match(rf"\s*({mark}|#\[|[\w( ),:]*\)\]$)", lines[-1]):
+    while lines and re.match(rf"\s*({mark}|#\[|[\w( ),:]*\)\]$|infix[lr]? )", lines[-1]):
         line = lines.pop().strip()
-        found += [line.lstrip("/").strip()] if line.startswith(mark) else []
+        found += [line.lstrip(mark[0]).strip()] if line.startswith(mark) else []
     return found[::-1]
 
 
