@@ -16,12 +16,9 @@ def run(*words, **more):
 
 
 def port():
-    """The port's library as one that can be loaded. It is built if it isn't there."""
-    crate = CRATES / "speed"
-    if not (crate / "out/libspeed.a").exists():
-        run("rt", "lib", cwd=crate, stdout=sys.stderr)
+    """The port's library as one that can be loaded."""
     run(TOP / "scripts/link_c", "speed")
-    return crate / "out/libspeed.so"
+    return CRATES / "speed/out/libspeed.so"
 
 
 def loaded(shared):
