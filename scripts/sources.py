@@ -11,11 +11,11 @@ CRATES = TOP / "crates"
 # Of a function: its name, its file in the crate, whether it is public, its trait, the names of its `ensures` clauses,
 # and where its body begins and ends in the file, with the body's indentation.
 Function = namedtuple("Function", "name file is_public trait clauses start end indent")
-# Of a case of a program, or of a test: its crate, its name, the command, what is on standard input, and how a case has
-# to end: the status and both outputs.
-Run = namedtuple("Run", "crate name command stdin end")
-# Of a clause or a ghost member: 'requires', 'ensures' or 'ghost'; its name, 'unnamed' if an `ensures` has none, and none
-# of a `requires`; where it begins; where its text in braces begins and ends; and this text.
+# Of a case of a program, or of a test: its name behind its crate's, the command, what is on standard input, and how a
+# case has to end: the status and both outputs.
+Run = namedtuple("Run", "name command stdin end")
+# Of a clause or a ghost member: 'requires', 'ensures' or 'ghost'; the name of the last two, 'unnamed' if there is none;
+# where it begins; where its text in braces begins and ends; and this text.
 Clause = namedtuple("Clause", "kind name start opens end text")
 KINDS = "fn|struct|enum|trait|impl|mod|type|const|static|ghost|use|macro_rules!"
 START = rf"(pub )?(?:pub\(\w+\) )?(?:const |unsafe |extern \"C\" )*({KINDS})(?!\w) ?(\w*)"
@@ -67,8 +67,8 @@ def cases():
     for folder in sorted(CRATES.glob("*/cases/*")):
         stored, crate = {file.name: file.read_bytes() for file in folder.iterdir()}, folder.parent.parent
         stdout, stderr, args = (stored.get(name, b"") for name in ("stdout", "stderr", "args"))
-        command = [crate / "out" / crate.name, *args.splitlines()]
-        yield Run(crate.name, folder.name, command, stored.get("stdin"), (int(stored.get("status") or 0), stdout, stderr))
+        command, status = [crate / "out" / crate.name, *args.splitlines()], int(stored.get("status") or 0)
+        yield Run(f"{crate.name}::{folder.name}", command, stored.get("stdin"), (status, stdout, stderr))
 
 
 @cache

@@ -36,7 +36,7 @@ ALL_FOLDERS = [*FOLDERS, "canaries"]
 KEYS = {"function", "body", "first", "file", "old", "new", "clause", "test", "no test", "must"}
 PLANTED = TOP / "scripts/planted.txt"
 # `around` has the bodies of functions in which the changes are, each as its file, where it begins and where it ends; and
-# `None` if a change is in none, as that of a ghost member, which may change the contracts of others.
+# `None` if one is in none, as that of a ghost member, which may change the contracts of others.
 Wrong = namedtuple("Wrong", "function name changes clauses tests must reason around", defaults=[None, ()])
 Change = namedtuple("Change", "file start end text")
 
