@@ -133,19 +133,16 @@ class Item:
         trait, _, of = rest.strip().rpartition(" for ")
         return generics, trait, of
 
-    def body(self):
-        """Where the body of a function begins and ends in the file, if it has one."""
-        if len(self.head) == len(self.text):
-            return None, None
-        opens = self.code.index("{", len(self.head)) + 1
-        is_empty = self.code[opens] == "}"
-        closes = opens if is_empty else self.code.index(f"\n{self.indent}}}\n", len(self.head)) + 1
-        return self.start + opens + (not is_empty), self.start + closes
-
     def function(self, path, is_public, trait=""):
         """A function at this path."""
+        start = end = None
+        if len(self.head) < len(self.text):
+            opens = self.code.index("{", len(self.head)) + 1
+            is_empty = self.code[opens] == "}"
+            closes = opens if is_empty else self.code.index(f"\n{self.indent}}}\n", len(self.head)) + 1
+            start, end = self.start + opens + (not is_empty), self.start + closes
         named = [it.name for it in clauses(self.head) if it.kind != "requires"]
-        return Function("::".join(path), None, is_public, trait, named, *self.body(), self.indent + "    ")
+        return Function("::".join(path), None, is_public, trait, named, start, end, self.indent + "    ")
 
 
 def items(text, indent="", base=0):
