@@ -69,15 +69,13 @@ class Chosen(Random):
 def workloads(count):
     """Each workload, on so many values; on fewer that are large."""
     chosen, some = Chosen(1), count // 50
+    certificate = lambda: chosen.choice([RSA, P256])
 
     def many(name, number, make, times=count):
         return Workload(name, number, b"".join(make() for _ in range(times)), times)
 
     def one(name, number, octets, times=count):
         return Workload(name, number, octets, times)
-
-    def certificate():
-        return chosen.choice([RSA, P256])
 
     yield many("any element, read", 0, lambda: element(4, chosen.octets()))
     yield many("`bool`, read", 1, lambda: element(1, chosen.choice([b"\x00", b"\xff"])))

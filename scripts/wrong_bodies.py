@@ -35,8 +35,8 @@ FOLDERS = ["must-fail", "wrong-bodies/first", "wrong-bodies"]
 ALL_FOLDERS = [*FOLDERS, "canaries"]
 KEYS = {"function", "body", "first", "file", "old", "new", "clause", "test", "no test", "must"}
 PLANTED = TOP / "scripts/planted.txt"
-# `around` has the bodies of functions in which the changes are, each as its file and where it begins and ends; and `None`
-# if one is in none, as that of a ghost member, which may change the contracts of others.
+# `around` has the bodies of functions in which the changes are, each as its file and where it begins and ends; and
+# `None` if one is in none, as that of a ghost member, which may change the contracts of others.
 Wrong = namedtuple("Wrong", "function name changes clauses tests must reason around", defaults=[None, ()])
 Change = namedtuple("Change", "file start end text")
 
