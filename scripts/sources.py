@@ -1,5 +1,5 @@
-"""Reads the sources of the repository's crates: what each crate uses, the cases of programs, and functions as a check
-names them, each with its clauses and its body. Runs the kit's `rattle`, and reports what a script of the gate found."""
+"""Reads the repository: what each crate uses, the cases of programs, the items of sources with their clauses, and
+functions as a check names them, each with the place of its body. Reports what a script of the gate found."""
 
 import os, re, subprocess
 from collections import namedtuple
@@ -15,8 +15,8 @@ Function = namedtuple("Function", "name file is_public trait clauses start end i
 # case has to end: the status and both outputs.
 Run = namedtuple("Run", "name command stdin end")
 # Of a clause or a ghost member: 'requires', 'ensures' or 'ghost'; the name of the last two, 'unnamed' if there is none;
-# where it begins; where its text in braces begins and ends; and this text.
-Clause = namedtuple("Clause", "kind name start opens end text")
+# where it begins, and where its text in braces ends; and this text.
+Clause = namedtuple("Clause", "kind name start end text")
 KINDS = "fn|struct|enum|trait|impl|mod|type|const|static|ghost|use|macro_rules!"
 START = rf"(pub )?(?:pub\(\w+\) )?(?:const |unsafe |extern \"C\" )*({KINDS})(?!\w) ?(\w*)"
 CLAUSE = re.compile(r"\b(?:(requires|ensures)(?:\s+(\w+))?\s+|(ghost) (\w+)(?: =|:)\s+)\{")
@@ -91,7 +91,7 @@ def clauses(text):
             depth, end = depth + {"{": 1, "}": -1}.get(code[end], 0), end + 1
         kind = found[1] or found[3]
         name = None if kind == "requires" else found[2] or found[4] or "unnamed"
-        yield Clause(kind, name, found.start(), found.end(), end - 1, text[found.end() : end - 1])
+        yield Clause(kind, name, found.start(), end - 1, text[found.end() : end - 1])
 
 
 def comment_above(text, mark="//"):
