@@ -32,7 +32,7 @@ fn common_names<'a>(
         for attribute in set? {
             let attribute = attribute?;
             if attribute.type_id == attributes::common_name() {
-                names.push(attribute.value.parse(alloc)?)?;
+                names.push(attribute.value.parse::<DirectoryString<'_>>(alloc)?)?;
             }
         }
     }
