@@ -73,7 +73,7 @@ fn push_tag(out: &mut String, tag: Tag, expected: &[Tag]) -> Result<(), AllocErr
     write!(out, "{form}[{class}{}]", tag.value())
 }
 
-/// Appends the expected tags, if there are up to eight, and the one that was found.
+/// Appends the expected tags, if there are any, and the one that was found.
 fn push_found(out: &mut String, found: Tag, expected: &[Tag]) -> Result<(), AllocError> {
     if expected.is_empty() {
         push_tag(out, found, &[])?;
