@@ -21,7 +21,7 @@ def built(name):
 def runs_unproved(name, words, inputs):
     """Runs the program unproved, after one build for all inputs: of each the status and both outputs."""
     why = "this build is not proved and takes a minute or two at each run"
-    print(f"{name}: {why}; tools/build {name} proves and builds it once.", file=sys.stderr, flush=True)
+    print(f"{name}: {why}; scripts/build {name} proves and builds it once.", file=sys.stderr, flush=True)
     with tempfile.TemporaryDirectory() as folder:
         # The names are in the order of the inputs, and in no line that a program writes.
         names = [f"{Path(folder).name}-{number:06}" for number in range(len(inputs))]
@@ -36,6 +36,6 @@ def runs_unproved(name, words, inputs):
     if len(ends) < len(names):
         sys.stderr.buffer.write(ran.stdout + ran.stderr)
         why = "no answer. An unproved run writes at most 1 MiB"
-        print(f"{name}: {why}; tools/build {name} has no such bound.", file=sys.stderr)
+        print(f"{name}: {why}; scripts/build {name} has no such bound.", file=sys.stderr)
         sys.exit(2)
     return [ends[case.encode()] for case in names]
