@@ -1,6 +1,7 @@
 -- An error of reading: its kind, and its locations, the innermost first; when two are the same; and what errors
 -- display.
 use Rattle.std.specs.Prelude.{◌≡◌, List, [], ◌∷◌, ◌++◌, take, Result, Ok, Err, Bool, true, false, ◌==◌, ◌&&◌, bytes_eq, ℕ, Option, Some, None, codes, decimal, option_map}
+use Rattle.std.specs.Borrow.{Bor}
 use Rattle.asn1_core.specs.declared.parser.ParseErrorKind.{ParseErrorKind}
 use Rattle.asn1_core.specs.declared.parser.ParseErrorKind.TheVariants.{AllocationError, InvalidValue, InvalidTag, InvalidLength, InvalidSize, UnexpectedTag, ShortData, IntegerOverflow, ExtraData, InvalidSetOrdering, EncodedDefault, OidTooLong, UnknownDefinedBy}
 use Rattle.asn1_core.specs.declared.parser.Place.{Place}
@@ -33,6 +34,10 @@ within place f = record { kind = f.kind; places = add place f.places }
 abbrev pub framed : {A : Type 0} → Result A ParseErrorKind → Result A ReadError
 framed (Ok x) = Ok x
 framed (Err kind) = Err (read_error kind)
+
+-- What was read, and the remaining octets, without their address in memory.
+abbrev pub with_rest : {A : Type 0} → A × Bor (List ℕ) → A × List ℕ
+with_rest x = (x.0, x.1.now)
 
 -- A call returned this result, its value seen through `view`.
 abbrev pub ReturnsKind : {V A : Type 0} → (V → A) → Result V ParseErrorKind → Result A ParseErrorKind → Type 0

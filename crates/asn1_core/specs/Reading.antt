@@ -1,5 +1,7 @@
 -- What reading returns.
 use Rattle.std.specs.Prelude.{ℕ, ◌<◌, ◌^◌, ◌≡◌, ◌⊎◌, List, [], ◌∷◌, ◌++◌, if◌then◌else◌, Result, Ok, Err, Bool, false, IsErrAnd}
+use Rattle.std.specs.Fn.{FnOnceReturnsAtMut, Once}
+use Rattle.std.specs.Borrow.{MutBor}
 use Rattle.asn1_core.specs.declared.parser.ParseErrorKind.{ParseErrorKind}
 use Rattle.asn1_core.specs.declared.parser.ParseErrorKind.TheVariants.{AllocationError, ExtraData, InvalidValue, UnexpectedTag}
 use Rattle.asn1_core.specs.declared.parser.Place.{Place}
@@ -37,7 +39,8 @@ Fits octets = (octets ≡ []) ⊎ ((e : Element) × IsReadable e × (octets ≡ 
 abbrev pub IsNothingOrElement : List ℕ → Type 0
 IsNothingOrElement octets = (octets ≡ []) ⊎ ((e : Element) × (octets ≡ element_encoding e))
 
--- What is consumed at the start of `t` is `text`, which is nothing or one readable element.
+-- What is consumed at the start of `t` is `octets`, which are nothing or the encoding of one readable element; `rest`
+-- remains.
 pub record Consumes (t octets rest : List ℕ) : Type 0 where
   pub is : t ≡ octets ++ rest
   pub one : Fits octets
@@ -102,6 +105,12 @@ abbrev pub PassesOn : {T E : Type 0} → (ReadError → E → Type 0) → Result
 PassesOn gives (Err e) rest result = result ≡ Err e
 PassesOn gives (Ok v) [] result = result ≡ Ok v
 PassesOn gives (Ok v) (octet ∷ octets) result = IsErrAnd result (gives (read_error ExtraData))
+
+-- The octets are read by the closure: at a parser over them it returned a result and left the remaining octets, and the
+-- result is passed on, or is an error made from `ExtraData` if octets remain after a value.
+abbrev pub ReadsBy : {F T E : Type 0} → Once F (MutBor (List ℕ) × Unit {0}) (Result T E × (MutBor (List ℕ) × Unit {0})) → (ReadError → E → Type 0) → F → List ℕ → Result T E → Type 0
+ReadsBy {F} {T} {E} calls gives f octets result =
+    (rest : List ℕ) × (answer : Result T E) × FnOnceReturnsAtMut calls f octets answer rest × PassesOn gives answer rest result
 
 -- Rejects all contents octets, for a type that isn't simple or is only written.
 abbrev pub rejects_all : {M : Type 0} → List ℕ → Result M ReadError

@@ -2,7 +2,7 @@
 //! bit set (X.690 8.1.2.4.2, 8.19.2). A number is below 2^128, so its encoding has 1 to 19 octets.
 
 ghost use Rattle.std.specs.Prelude.{◌≡◌, ◌+◌, ◌<◌, ◌≤◌, ◌++◌, length, drop, IfNone, IfSome};
-ghost use Rattle.asn1_core.specs.ReadError.{ReturnsPlain, ReturnsKind};
+ghost use Rattle.asn1_core.specs.ReadError.{ReturnsPlain, ReturnsKind, with_rest};
 ghost use Rattle.asn1_core.specs.Base128.{number_octets, leading_number};
 
 use crate::parser::{ParseErrorKind, ParseResult, kind_as_error};
@@ -16,14 +16,14 @@ const MAX_NUMBER_OCTETS: usize = 19;
 /// 0x80, a leading group of zeros; or the number is 2^128 or more; or the first 19 octets all have their top bit set.
 /// `ShortData { needed: 1 }` if the octets end before the number does, also if there are none.
 pub fn read(octets: &[u8]) -> ParseResult<(u128, &[u8])>
-    ensures { ReturnsPlain (λ x. (x.0, x.1.now)) result (leading_number octets.now) }
+    ensures { ReturnsPlain with_rest result (leading_number octets.now) }
 {
     kind_as_error(read_number(octets))
 }
 
 /// What [`read`] returns, with the kind of the error alone.
 pub(crate) fn read_number(octets: &[u8]) -> Result<(u128, &[u8]), ParseErrorKind>
-    ensures { ReturnsKind (λ x. (x.0, x.1.now)) result (leading_number octets.now) }
+    ensures { ReturnsKind with_rest result (leading_number octets.now) }
 {
     let mut number = 0u128;
     for i in 0..MAX_NUMBER_OCTETS {

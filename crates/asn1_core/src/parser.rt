@@ -1,22 +1,21 @@
 //! Reading: errors with their locations, framing, and the parser.
 
-ghost use Rattle.std.specs.Prelude.{◌≡◌, ◌↔◌, ◌*◌, ◌^◌, ◌<◌, ◌≤◌, ◌==◌, ◌++◌};
+ghost use Rattle.std.specs.Prelude.{◌≡◌, ◌↔◌, ◌*◌, ◌<◌, ◌≤◌, ◌==◌, ◌++◌};
 ghost use Rattle.std.specs.Prelude.{ℕ, [], List, Result, length, IsTrue, IfOk, IfErr, IfSome, OnErr, false};
-ghost use Rattle.std.specs.Fn.{FnOnceReturnsAtMut};
 ghost use Rattle.asn1_core.specs.declared.parser.ParseErrorKind.{ParseErrorKind};
 ghost use Rattle.asn1_core.specs.declared.parser.ParseErrorKind.TheVariants.{ShortData};
 ghost use Rattle.asn1_core.specs.Base256.{IsOctets, number};
-ghost use Rattle.asn1_core.specs.Tag.{leading_tag, found_tag, explicit_tag_of, implicit_tag_of};
+ghost use Rattle.asn1_core.specs.Tag.{leading_tag, found_tag};
 ghost use Rattle.asn1_core.specs.Length.{leading_length};
 ghost use Rattle.asn1_core.specs.Element.{Element, IsLeadingElement, leading_content, leading_element};
 ghost use Rattle.asn1_core.specs.Element.{element_encoding};
 ghost use Rattle.asn1_core.specs.Tlv.{element_of, full_octets, stripped};
 ghost use Rattle.asn1_core.specs.ReadError.{read_error, within, framed, ReturnsPlain, ReturnsKind, IsOfInput, place_of};
-ghost use Rattle.asn1_core.specs.ReadError.{error_text, kind_eq, place_eq, read_error_eq};
-ghost use Rattle.asn1_core.specs.Reading.{Returns, EndsWith, PassesOn, Fits, rest_rejected, expected_contents};
-ghost use Rattle.asn1_core.specs.Reading.{simple_out, simple_stops, begins_accepted};
-ghost use Rattle.asn1_core.specs.Reads.{BeginsWithElement, BeginsWithEncodingOf, IsEncodingOf, ReadsExplicit};
-ghost use Rattle.asn1_core.specs.Reads.{ReadsImplicit, ReadsPrefix, ReadsWhole, ReturnsValue};
+ghost use Rattle.asn1_core.specs.ReadError.{error_text, kind_eq, place_eq, read_error_eq, with_rest};
+ghost use Rattle.asn1_core.specs.Reading.{EndsWith, ReadsBy, rest_rejected, expected_contents, simple_stops};
+ghost use Rattle.asn1_core.specs.Reads.{BeginsWithEncodingOf, BeginsWithExplicit, BeginsWithImplicit, IsEncodingOf};
+ghost use Rattle.asn1_core.specs.Reads.{ReadsBack, ReadsBackExplicit, ReadsBackImplicit, ReadsBackPrefix};
+ghost use Rattle.asn1_core.specs.Reads.{ReadsExplicit, ReadsImplicit, ReadsPrefix, ReadsWhole};
 ghost use Rattle.asn1_core.specs.Laws.{IsShort, with_more};
 ghost use Rattle.std.specs.Cmp.{decided, partial_equiv_from_equiv};
 ghost use Rattle.asn1_core.specs.Lemmas.Same.{place_eq-decides, read_error_eq-decides};
@@ -433,11 +432,7 @@ impl<'a> Parser<'a> {
         ensures found { IfOk result (λ v. BeginsWithEncodingOf T.der v self.old self.new) }
 
         // The encoding of a value is read as that value.
-        ensures only { (m : T.der.Meaning) (rest : List ℕ) → T.der.lawful → T.der.valid m
-            → T.der.allowed m → Fits (T.der.encoding m)
-            → (T.der.encoding m ≡ [] → begins_accepted T.der.accepts rest ≡ false)
-            → self.old ≡ T.der.encoding m ++ rest
-            → ReturnsValue T.der (T.der.runs_out self.old) result self.new m rest }
+        ensures only { ReadsBackPrefix T.der self.old self.new result }
 
         // A value that is one element is not empty, so fewer octets remain.
         ensures progress { T.der.lawful → T.der.is_element
@@ -460,16 +455,10 @@ impl<'a> Parser<'a> {
         ensures answers { ReadsExplicit tag T.der self.old self.new result }
 
         // The octets that were there are the element of the value's encoding and the octets that remain.
-        ensures found { IfOk result (λ v. BeginsWithElement (explicit_tag_of tag)
-            (T.der.encoding (T.der.meaning v)) self.old self.new
-            × (T.der.valid (T.der.meaning v) × T.der.allowed (T.der.meaning v))) }
+        ensures found { IfOk result (λ v. BeginsWithExplicit tag T.der v self.old self.new) }
 
         // Such an element is read as that value.
-        ensures only { (m : T.der.Meaning) (rest : List ℕ) → T.der.lawful → T.der.valid m
-            → T.der.allowed m → length (T.der.encoding m) < 2 ^ 32
-            → BeginsWithElement (explicit_tag_of tag) (T.der.encoding m) self.old rest
-            → ReturnsValue T.der (simple_out (explicit_tag_of tag) T.der.runs_out self.old) result
-            self.new m rest }
+        ensures only { ReadsBackExplicit tag T.der self.old self.new result }
         ensures progress { IfOk result (λ _. length self.new < length self.old) }
         ensures rest { EndsWith self.old self.new }
         ensures stops { OnErr result (simple_stops self.old self.new) }
@@ -498,18 +487,10 @@ impl<'a> Parser<'a> {
         ensures answers { ReadsImplicit tag T.der self.old self.new result }
 
         // The octets that were there are the element of the value's contents octets and the octets that remain.
-        ensures found { IfOk result (λ v. BeginsWithElement
-            (implicit_tag_of tag T.der.content.tag) (T.der.content.encoding (T.der.meaning v))
-            self.old self.new × (T.der.content.valid (T.der.meaning v)
-            × T.der.content.allowed (T.der.meaning v))) }
+        ensures found { IfOk result (λ v. BeginsWithImplicit tag T.der v self.old self.new) }
 
         // Such an element is read as that value.
-        ensures only { (m : T.der.Meaning) (rest : List ℕ) → T.der.content.lawful
-            → T.der.content.valid m → T.der.content.allowed m
-            → length (T.der.content.encoding m) < 2 ^ 32
-            → BeginsWithElement (implicit_tag_of tag T.der.content.tag) (T.der.content.encoding m)
-            self.old rest → ReturnsValue T.der (simple_out (implicit_tag_of tag
-            T.der.content.tag) T.der.content.runs_out self.old) result self.new m rest }
+        ensures only { ReadsBackImplicit tag T.der self.old self.new result }
         ensures progress { IfOk result (λ _. length self.new < length self.old) }
         ensures rest { EndsWith self.old self.new }
         ensures stops { OnErr result (simple_stops self.old self.new) }
@@ -560,7 +541,7 @@ pub(crate) fn number_in(octets: &[u8]) -> usize
 /// The length at the start of the octets, and the remaining octets.
 #[inline(always)]
 fn read_length(octets: &[u8]) -> Result<(usize, &[u8]), ParseErrorKind>
-    ensures { ReturnsKind (λ x. (x.0, x.1.now)) result (leading_length octets.now) }
+    ensures { ReturnsKind with_rest result (leading_length octets.now) }
 {
     let [first, rest @ ..] = octets else {
         return Err(ParseErrorKind::ShortData { needed: 1 });
@@ -695,9 +676,7 @@ pub fn parse<'a, T: Drop, E: From<ParseError> + Drop, F: FnOnce(&mut Parser<'a>)
     f: F,
 ) -> Result<T, E>
     requires { F.IsAlwaysCallable f }
-    ensures { (rest : List ℕ) × (answer : Result T E)
-        × FnOnceReturnsAtMut F.FnOnce f «data».entry.now answer rest
-        × PassesOn E.from_gives answer rest result }
+    ensures { ReadsBy F.FnOnce E.from_gives f «data».entry.now result }
 {
     let mut parser = Parser::new(alloc, data);
     let answer = f(&mut parser)?;
@@ -722,9 +701,7 @@ pub fn parse_single<'a, T: Asn1Readable<'a>>(alloc: Global, data: &'a [u8]) -> P
     ensures found { IfOk result (λ v. IsEncodingOf T.der v «data».entry.now) }
 
     // The encoding of a value is read as that value.
-    ensures only { (m : T.der.Meaning) → T.der.lawful → T.der.valid m → T.der.allowed m
-        → Fits (T.der.encoding m) → «data».entry.now ≡ T.der.encoding m
-        → Returns T.der.meaning (T.der.runs_out «data».entry.now) result (Ok m) }
+    ensures only { ReadsBack T.der «data».entry.now result }
 
     // A type that doesn't allocate is never out of memory.
     ensures no_memory_error { ¬ T.der.takes_memory → IfErr result IsOfInput }

@@ -4,7 +4,7 @@
 ghost use Rattle.std.specs.Prelude.{◌≡◌, ◌+◌, ◌*◌, ◌/◌, ◌<◌, ◌≤◌, ◌++◌};
 ghost use Rattle.std.specs.Prelude.{length, SomeIff, OnOk, OnErr, IsOkUnless, true, false};
 ghost use Rattle.asn1_core.specs.declared.tag.TagClass.TheVariants.{Universal};
-ghost use Rattle.asn1_core.specs.ReadError.{ReturnsPlain, ReturnsKind};
+ghost use Rattle.asn1_core.specs.ReadError.{ReturnsPlain, ReturnsKind, with_rest};
 ghost use Rattle.asn1_core.specs.Tag.{tag_before, tag_class, tag_constructed, tag_number, tag_with, universal};
 ghost use Rattle.asn1_core.specs.Tag.{universal_constructed, implicit_tag_of, explicit_tag_of, class_number, class_of};
 ghost use Rattle.asn1_core.specs.Tag.{tag_of, leading_tag, identifier_octets, first_octet, tag_eq};
@@ -87,7 +87,7 @@ impl Tag {
     /// below 31, is 2^32 or more, or doesn't end within 19 octets. `ShortData { needed: 1 }` if the octets end before
     /// the tag does, also if there are none.
     pub fn from_bytes(octets: &[u8]) -> ParseResult<(Tag, &[u8])>
-        ensures { ReturnsPlain (λ x. (x.0, x.1.now)) result (leading_tag octets.now) }
+        ensures { ReturnsPlain with_rest result (leading_tag octets.now) }
     {
         kind_as_error(Tag::read(octets))
     }
@@ -95,7 +95,7 @@ impl Tag {
     /// What [`Tag::from_bytes`] returns, with the kind of the error alone.
     #[inline(always)]
     pub(crate) fn read(octets: &[u8]) -> Result<(Tag, &[u8]), ParseErrorKind>
-        ensures { ReturnsKind (λ x. (x.0, x.1.now)) result (leading_tag octets.now) }
+        ensures { ReturnsKind with_rest result (leading_tag octets.now) }
     {
         let [first, rest @ ..] = octets else {
             return Err(ParseErrorKind::ShortData { needed: 1 });

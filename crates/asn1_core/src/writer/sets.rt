@@ -9,7 +9,7 @@ ghost use Rattle.asn1_core.specs.Der.{IsWritable, encoding_of, simple_der};
 ghost use Rattle.asn1_core.specs.LawsOf.Contents.{listing_laws, set_closure_laws};
 ghost use Rattle.std.specs.List.{concat, AllByRecursion};
 ghost use Rattle.asn1_core.specs.Listing.{AnyNames, set_tag, ListingOf};
-ghost use Rattle.asn1_core.specs.SetWriting.{BeginsInOrder, AddsTo, IsOutOfOrder, KeepsElements, OrderedElements};
+ghost use Rattle.asn1_core.specs.SetWriting.{BeginsInOrder, AddsTo, KeepsElements, NamesErrorInSet, OrderedElements};
 ghost use Rattle.asn1_core.specs.SetWriting.{SetClosureMayFail, set_closure_written, listing_written};
 ghost use Rattle.asn1_core.specs.SetSteps.{part_of, first_number, span_cmp, IsBefore, IsWithin, NotesFirst, NotesTexts};
 ghost use Rattle.asn1_core.specs.Tag.{tag_at_start, before_tag};
@@ -282,9 +282,8 @@ impl<'a> SetElementWriter<'a> {
         // Elements in the order of their tags stay in that order.
         ensures elements { OnOk result (KeepsElements self.old self.new) }
         ensures err { OnErr result (self.new ≡ self.old) }
-        ensures error { IfErr result (λ e. NamesError T.Error.from_gives (T.write_errors val.now) e
-            ⊎ (IsOutOfOrder (T.der.encodings (T.der.meaning val.now)) self.old
-            × T.Error.from_gives InvalidSetOrdering e)) }
+        ensures error { IfErr result (NamesErrorInSet T.Error.from_gives (T.write_errors val.now)
+            (T.der.encodings (T.der.meaning val.now)) self.old) }
     {
         let before = self.buf.len();
         Writer::new(&mut self.buf).write_element(val)?;
