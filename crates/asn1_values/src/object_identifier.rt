@@ -1,7 +1,7 @@
 //! OBJECT IDENTIFIER (X.690 8.19), and its dotted form in decimal.
 
-ghost use Rattle.std.specs.Prelude.{⊤, ◌≡◌, ◌+◌, ◌<◌, ◌≤◌, ◌^◌, ◌++◌, ◌∷◌};
-ghost use Rattle.std.specs.Prelude.{IfSome, drop, option_map, length, true, Some, take, is_some};
+ghost use Rattle.std.specs.Prelude.{⊤, ◌≡◌, ◌+◌, ◌<◌, ◌≤◌, ◌^◌, ◌∷◌};
+ghost use Rattle.std.specs.Prelude.{IfSome, option_map, length, true, Some, take, is_some};
 ghost use Rattle.std.specs.Prelude.{MatchOption};
 ghost use Rattle.asn1_core.specs.declared.parser.ParseErrorKind.{ParseErrorKind};
 ghost use Rattle.asn1_core.specs.Base128.{leading_number, number_octets};
@@ -10,7 +10,7 @@ ghost use Rattle.asn1_core.specs.Der.{simple_der};
 ghost use Rattle.asn1_values.specs.Identifier.{identifier_content, identifier_numbers, numbers_in, read_identifier};
 ghost use Rattle.asn1_values.specs.Identifier.{IsIdentifierForm, IsIdentifier, dotted_text, part_number, text_numbers};
 ghost use Rattle.asn1_values.specs.Identifier.{first_of, and_then, if_few, read_dotted};
-ghost use Rattle.asn1_values.specs.IdentifierSteps.{first_text, left_numbers, left_size};
+ghost use Rattle.asn1_values.specs.IdentifierSteps.{AppendsNumber, first_text, left_numbers, left_size};
 ghost use Rattle.std.specs.Fmt.{DisplaysOnOk};
 
 use asn1_core::{
@@ -122,9 +122,7 @@ pub struct ObjectIdentifier {
 fn append_number(octets: &mut [u8; MAX_OCTETS], count: usize, number: u128) -> Option<usize>
     requires { count ≤ 63 }
     ensures { MatchOption result (63 < count + length (number_octets number))
-        (λ total. (total ≡ count + length (number_octets number)) × (total ≤ 63)
-        × (octets.new ≡ take count octets.old ++ (number_octets number
-        ++ drop (length (number_octets number)) (drop count octets.old)))) }
+        (AppendsNumber count number octets.old octets.new) }
 {
     let added = base128::write(number, &mut octets[count..])?;
     Some(count + added)
