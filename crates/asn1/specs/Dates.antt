@@ -21,6 +21,10 @@ pub record Day : Type 0 where
   pub month : ℕ
   pub day : ℕ
 
+-- The date with these three numbers.
+abbrev pub day_with : ℕ → ℕ → ℕ → Day
+day_with year month day = record { year = year; month = month; day = day }
+
 abbrev pub IsDate : Day → Type 0
 IsDate d = IsDay d.year d.month d.day
 
@@ -44,4 +48,4 @@ day_alone d after = if is_day d && nat_eq (length after) 0 then Ok d else wrong
 -- The date with these contents octets.
 abbrev pub read_day : List ℕ → Result Day ReadError
 read_day c = front_two c >>= λ hundreds. front_two hundreds.1 >>= λ years. front_two years.1 >>= λ month. front_two month.1 >>= λ day.
-    day_alone (record { year = hundreds.0 * 100 + years.0; month = month.0; day = day.0 }) day.1
+    day_alone (day_with (hundreds.0 * 100 + years.0) month.0 day.0) day.1

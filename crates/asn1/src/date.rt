@@ -5,7 +5,7 @@ ghost use Rattle.asn1_core.specs.declared.parser.ParseErrorKind.TheVariants.{Inv
 ghost use Rattle.asn1_core.specs.ReadError.{read_error};
 ghost use Rattle.asn1_core.specs.Der.{simple_der};
 ghost use Rattle.asn1_values.specs.TimeSteps.{front_two, is_digit, wrong};
-ghost use Rattle.asn1.specs.Dates.{IsDay, day_alone, day_text, read_day};
+ghost use Rattle.asn1.specs.Dates.{IsDay, day_alone, day_text, day_with, read_day};
 
 use asn1_core::{
     Asn1Type, ParseError, ParseErrorKind, ParseResult, SimpleAsn1Readable, SimpleAsn1Writable, Tag,
@@ -72,11 +72,7 @@ impl Date {
     /// The date with these numbers: year 1582 to 9999, month 1 to 12, day from 1 to the month's last. The error is
     /// `InvalidValue`, without a location, if these numbers are no date.
     pub fn new(year: u16, month: u8, day: u8) -> ParseResult<Date>
-        ensures { MatchResult result (λ d. day_of d ≡ record {
-          year = year;
-          month = month;
-          day = day;
-        })
+        ensures { MatchResult result (λ d. day_of d ≡ day_with year month day)
             (λ e. (e ≡ read_error InvalidValue) × ¬ IsDay year month day) }
     {
         match Date::of_numbers(year, month, day) {
@@ -88,7 +84,7 @@ impl Date {
     /// The date with these numbers. `None` if they are no date.
     fn of_numbers(year: u16, month: u8, day: u8) -> Option<Date>
         ensures { MatchOption result (¬ IsDay year month day)
-            (λ d. day_of d ≡ record { year = year; month = month; day = day }) }
+            (λ d. day_of d ≡ day_with year month day) }
     {
         if year < 1582 || year > 9999 {
             return None;
@@ -118,10 +114,8 @@ impl Date {
 
     /// The date with these numbers. `None` if they are no date, or if octets follow.
     fn at_end(year: u16, month: u8, day: u8, after: &[u8]) -> Option<Date>
-        ensures { MatchOption result
-            (day_alone (record { year = year; month = month; day = day }) after.now ≡ wrong)
-            (λ d. day_alone (record { year = year; month = month; day = day }) after.now
-            ≡ Ok (day_of d)) }
+        ensures { MatchOption result (day_alone (day_with year month day) after.now ≡ wrong)
+            (λ d. day_alone (day_with year month day) after.now ≡ Ok (day_of d)) }
     {
         if !after.is_empty() {
             return None;

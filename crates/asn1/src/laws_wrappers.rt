@@ -116,42 +116,36 @@ pub fn fields_are_encoded<
     I: DefaultValue<Implicit<T, TAG>>,
     const TAG: u32,
 >()
-    ensures plain { IsEncoded T.der (λ v. v) ⟦<Plain as FieldWritable<T>>⟧.encodings
-        ⟦<Plain as FieldWritable<T>>⟧.owes }
-    ensures default { IsEncoded ⟦<Defaulted<T, D> as Asn1Type>⟧.der defaulted
-        ⟦<Defaulted<T, D> as FieldWritable<T>>⟧.encodings
-        ⟦<Defaulted<T, D> as FieldWritable<T>>⟧.owes }
-    ensures explicit { IsEncoded ⟦<Explicit<T, TAG> as Asn1Type>⟧.der explicit
-        ⟦<Explicit<T, TAG> as FieldWritable<T>>⟧.encodings
-        ⟦<Explicit<T, TAG> as FieldWritable<T>>⟧.owes }
-    ensures explicit_option { IsEncoded ⟦<Option<Explicit<T, TAG>> as Asn1Type>⟧.der
-        (option_meaning explicit)
-        ⟦<Option<Explicit<T, TAG>> as FieldWritable<Option<T>>>⟧.encodings
-        ⟦<Option<Explicit<T, TAG>> as FieldWritable<Option<T>>>⟧.owes }
-    ensures explicit_default { IsEncoded ⟦<Defaulted<Explicit<T, TAG>, E> as Asn1Type>⟧.der
-        (λ v. defaulted (explicit v))
-        ⟦<Defaulted<Explicit<T, TAG>, E> as FieldWritable<T>>⟧.encodings
-        ⟦<Defaulted<Explicit<T, TAG>, E> as FieldWritable<T>>⟧.owes }
-    ensures implicit { IsEncoded ⟦<Implicit<T, TAG> as Asn1Type>⟧.der implicit
-        ⟦<Implicit<T, TAG> as FieldWritable<T>>⟧.encodings
-        ⟦<Implicit<T, TAG> as FieldWritable<T>>⟧.owes }
-    ensures implicit_option { IsEncoded ⟦<Option<Implicit<T, TAG>> as Asn1Type>⟧.der
-        (option_meaning implicit)
-        ⟦<Option<Implicit<T, TAG>> as FieldWritable<Option<T>>>⟧.encodings
-        ⟦<Option<Implicit<T, TAG>> as FieldWritable<Option<T>>>⟧.owes }
-    ensures implicit_default { IsEncoded ⟦<Defaulted<Implicit<T, TAG>, I> as Asn1Type>⟧.der
-        (λ v. defaulted (implicit v))
-        ⟦<Defaulted<Implicit<T, TAG>, I> as FieldWritable<T>>⟧.encodings
-        ⟦<Defaulted<Implicit<T, TAG>, I> as FieldWritable<T>>⟧.owes }
+    ensures plain { let field = ⟦<Plain as FieldWritable<T>>⟧ in
+        IsEncoded T.der (λ v. v) field.encodings field.owes }
+    ensures default { let field = ⟦<Defaulted<T, D> as FieldWritable<T>>⟧ in
+        IsEncoded ⟦<Defaulted<T, D> as Asn1Type>⟧.der defaulted field.encodings field.owes }
+    ensures explicit { let field = ⟦<Explicit<T, TAG> as FieldWritable<T>>⟧ in
+        IsEncoded ⟦<Explicit<T, TAG> as Asn1Type>⟧.der explicit field.encodings field.owes }
+    ensures explicit_option { let der = ⟦<Option<Explicit<T, TAG>> as Asn1Type>⟧.der in
+        let field = ⟦<Option<Explicit<T, TAG>> as FieldWritable<Option<T>>>⟧ in
+        IsEncoded der (option_meaning explicit) field.encodings field.owes }
+    ensures explicit_default { let der = ⟦<Defaulted<Explicit<T, TAG>, E> as Asn1Type>⟧.der in
+        let field = ⟦<Defaulted<Explicit<T, TAG>, E> as FieldWritable<T>>⟧ in
+        IsEncoded der (λ v. defaulted (explicit v)) field.encodings field.owes }
+    ensures implicit { let field = ⟦<Implicit<T, TAG> as FieldWritable<T>>⟧ in
+        IsEncoded ⟦<Implicit<T, TAG> as Asn1Type>⟧.der implicit field.encodings field.owes }
+    ensures implicit_option { let der = ⟦<Option<Implicit<T, TAG>> as Asn1Type>⟧.der in
+        let field = ⟦<Option<Implicit<T, TAG>> as FieldWritable<Option<T>>>⟧ in
+        IsEncoded der (option_meaning implicit) field.encodings field.owes }
+    ensures implicit_default { let der = ⟦<Defaulted<Implicit<T, TAG>, I> as Asn1Type>⟧.der in
+        let field = ⟦<Defaulted<Implicit<T, TAG>, I> as FieldWritable<T>>⟧ in
+        IsEncoded der (λ v. defaulted (implicit v)) field.encodings field.owes }
 {}
 
 /// The same of an item, which is written from the value that it defines, and of that value.
 pub fn items_are_encoded<T: Asn1Writable + Drop, C: DefinedField<T> + Asn1DefinedByWritable<T>>()
-    ensures item { IsWrittenAs C.both.item.encodings C.both.item.closures
-        (λ v. C.both.value.item (C.both.value.meaning v))
-        ⟦<ItemOf<T> as FieldWritable<C>>⟧.encodings ⟦<ItemOf<T> as FieldWritable<C>>⟧.owes }
-    ensures value { IsWrittenAs C.both.value.encodings C.both.value.closures C.both.value.meaning
-        ⟦<ValueOf<T> as FieldWritable<C>>⟧.encodings ⟦<ValueOf<T> as FieldWritable<C>>⟧.owes }
+    ensures item { let field = ⟦<ItemOf<T> as FieldWritable<C>>⟧ in
+        IsWrittenAs C.both.item.encodings C.both.item.closures
+        (λ v. C.both.value.item (C.both.value.meaning v)) field.encodings field.owes }
+    ensures value { let field = ⟦<ValueOf<T> as FieldWritable<C>>⟧ in
+        IsWrittenAs C.both.value.encodings C.both.value.closures C.both.value.meaning
+        field.encodings field.owes }
 {}
 
 /// What [`RowReadable`] states of a row is what [`Row`] states: of no fields, of the last field, and of a field with
@@ -197,23 +191,24 @@ pub fn rows_are_written<
     KR,
     W: RowWritable<KR, Error = K::Error>,
 >()
-    ensures last { (row : V → Last (Bor P)) (m : V → A.der.Meaning)
+    ensures last { let fields = ⟦<Last<A> as Row>⟧.list.fields in
+        let written = ⟦<Last<&'a P> as RowWritable<Last<K>>>⟧ in
+        (row : V → Last (Bor P)) (m : V → A.der.Meaning)
         → IsWrittenAs A.der.encodings A.der.closures m (λ v. K.encodings (row v).value.now)
         (λ v. K.owes (row v).value.now)
-        → IsWrittenAs ⟦<Last<A> as Row>⟧.list.fields.encodings
-        ⟦<Last<A> as Row>⟧.list.fields.closures
-        m (λ v. ⟦<Last<&'a P> as RowWritable<Last<K>>>⟧.encodings (row v))
-        (λ v. ⟦<Last<&'a P> as RowWritable<Last<K>>>⟧.owes (row v)) }
-    ensures field { (row : V → Field (Bor P) W) (m : V → A.der.Meaning) (n : V → R.list.Meaning)
+        → IsWrittenAs fields.encodings fields.closures m (λ v. written.encodings (row v))
+        (λ v. written.owes (row v)) }
+    ensures field { let fields = ⟦<Field<A, R> as Row>⟧.list.fields in
+        let written = ⟦<Field<&'a P, W> as RowWritable<Field<K, KR>>>⟧ in
+        (row : V → Field (Bor P) W) (m : V → A.der.Meaning) (n : V → R.list.Meaning)
         → IsWrittenAs A.der.encodings A.der.closures m (λ v. K.encodings (row v).value.now)
         (λ v. K.owes (row v).value.now)
         → IsWrittenAs R.list.fields.encodings R.list.fields.closures n
         (λ v. W.encodings (row v).rest)
         (λ v. W.owes (row v).rest)
-        → IsWrittenAs ⟦<Field<A, R> as Row>⟧.list.fields.encodings
-        ⟦<Field<A, R> as Row>⟧.list.fields.closures (λ v. (m v, n v))
-        (λ v. ⟦<Field<&'a P, W> as RowWritable<Field<K, KR>>>⟧.encodings (row v))
-        (λ v. ⟦<Field<&'a P, W> as RowWritable<Field<K, KR>>>⟧.owes (row v)) }
+        → IsWrittenAs fields.encodings fields.closures (λ v. (m v, n v))
+        (λ v. written.encodings (row v))
+        (λ v. written.owes (row v)) }
 {}
 
 /// The same of an item and the fields after it, if it holds of these: of the value that the item defines as the last
@@ -231,42 +226,43 @@ pub fn rows_behind_items_are_written<
     KR,
     W: RowWritable<KR, Error = K::Error>,
 >()
-    ensures last_value { (row : V → Last (Bor P)) (m : V → C.both.value.Meaning)
+    ensures last_value { let fields = ⟦<LastValue<C> as RowBehind<T>>⟧.behind.fields in
+        let written = ⟦<Last<&'a P> as RowWritable<Last<K>>>⟧ in
+        (row : V → Last (Bor P)) (m : V → C.both.value.Meaning)
         → IsWrittenAs C.both.value.encodings C.both.value.closures m
         (λ v. K.encodings (row v).value.now) (λ v. K.owes (row v).value.now)
-        → IsWrittenAs ⟦<LastValue<C> as RowBehind<T>>⟧.behind.fields.encodings
-        ⟦<LastValue<C> as RowBehind<T>>⟧.behind.fields.closures m
-        (λ v. ⟦<Last<&'a P> as RowWritable<Last<K>>>⟧.encodings (row v))
-        (λ v. ⟦<Last<&'a P> as RowWritable<Last<K>>>⟧.owes (row v)) }
-    ensures value { (row : V → Field (Bor P) W) (m : V → C.both.value.Meaning)
-        → (n : V → R.list.Meaning)
+        → IsWrittenAs fields.encodings fields.closures m (λ v. written.encodings (row v))
+        (λ v. written.owes (row v)) }
+    ensures value { let fields = ⟦<Value<C, R> as RowBehind<T>>⟧.behind.fields in
+        let written = ⟦<Field<&'a P, W> as RowWritable<Field<K, KR>>>⟧ in
+        (row : V → Field (Bor P) W) (m : V → C.both.value.Meaning) (n : V → R.list.Meaning)
         → IsWrittenAs C.both.value.encodings C.both.value.closures m
         (λ v. K.encodings (row v).value.now) (λ v. K.owes (row v).value.now)
         → IsWrittenAs R.list.fields.encodings R.list.fields.closures n
         (λ v. W.encodings (row v).rest) (λ v. W.owes (row v).rest)
-        → IsWrittenAs ⟦<Value<C, R> as RowBehind<T>>⟧.behind.fields.encodings
-        ⟦<Value<C, R> as RowBehind<T>>⟧.behind.fields.closures (λ v. (m v, n v))
-        (λ v. ⟦<Field<&'a P, W> as RowWritable<Field<K, KR>>>⟧.encodings (row v))
-        (λ v. ⟦<Field<&'a P, W> as RowWritable<Field<K, KR>>>⟧.owes (row v)) }
-    ensures before { (row : V → Field (Bor P) W) (m : V → A.der.Meaning) (n : V → B.behind.Meaning)
+        → IsWrittenAs fields.encodings fields.closures (λ v. (m v, n v))
+        (λ v. written.encodings (row v))
+        (λ v. written.owes (row v)) }
+    ensures before { let fields = ⟦<Before<A, B> as RowBehind<T>>⟧.behind.fields in
+        let written = ⟦<Field<&'a P, W> as RowWritable<Field<K, KR>>>⟧ in
+        (row : V → Field (Bor P) W) (m : V → A.der.Meaning) (n : V → B.behind.Meaning)
         → IsWrittenAs A.der.encodings A.der.closures m
         (λ v. K.encodings (row v).value.now) (λ v. K.owes (row v).value.now)
         → IsWrittenAs B.behind.fields.encodings B.behind.fields.closures n
         (λ v. W.encodings (row v).rest) (λ v. W.owes (row v).rest)
-        → IsWrittenAs ⟦<Before<A, B> as RowBehind<T>>⟧.behind.fields.encodings
-        ⟦<Before<A, B> as RowBehind<T>>⟧.behind.fields.closures (λ v. (m v, n v))
-        (λ v. ⟦<Field<&'a P, W> as RowWritable<Field<K, KR>>>⟧.encodings (row v))
-        (λ v. ⟦<Field<&'a P, W> as RowWritable<Field<K, KR>>>⟧.owes (row v)) }
-    ensures item { (row : V → Field (Bor P) W) (n : V → B.behind.Meaning)
+        → IsWrittenAs fields.encodings fields.closures (λ v. (m v, n v))
+        (λ v. written.encodings (row v))
+        (λ v. written.owes (row v)) }
+    ensures item { let fields = ⟦<Item<T, B> as Row>⟧.list.fields in
+        let written = ⟦<Field<&'a P, W> as RowWritable<Field<K, KR>>>⟧ in
+        (row : V → Field (Bor P) W) (n : V → B.behind.Meaning)
         → IsWrittenAs B.behind.item.encodings B.behind.item.closures
         (λ v. B.behind.fields.item (n v))
         (λ v. K.encodings (row v).value.now) (λ v. K.owes (row v).value.now)
         → IsWrittenAs B.behind.fields.encodings B.behind.fields.closures n
         (λ v. W.encodings (row v).rest) (λ v. W.owes (row v).rest)
-        → IsWrittenAs ⟦<Item<T, B> as Row>⟧.list.fields.encodings
-        ⟦<Item<T, B> as Row>⟧.list.fields.closures n
-        (λ v. ⟦<Field<&'a P, W> as RowWritable<Field<K, KR>>>⟧.encodings (row v))
-        (λ v. ⟦<Field<&'a P, W> as RowWritable<Field<K, KR>>>⟧.owes (row v)) }
+        → IsWrittenAs fields.encodings fields.closures n (λ v. written.encodings (row v))
+        (λ v. written.owes (row v)) }
 {}
 
 /// A row that is read has one encoding for each value: no fields, a last field, and a field with those after it, if

@@ -1,8 +1,7 @@
 //! SEQUENCE (X.690 8.9), whose contents octets are read by the caller.
 
-ghost use Rattle.std.specs.Prelude.{◌≡◌, IsTrue, List, ℕ, length, Result};
-ghost use Rattle.std.specs.Fn.{FnOnceReturnsAtMut};
-ghost use Rattle.asn1_core.specs.Reading.{PassesOn};
+ghost use Rattle.std.specs.Prelude.{◌≡◌, IsTrue, length};
+ghost use Rattle.asn1_core.specs.Reading.{ReadsBy};
 ghost use Rattle.asn1_core.specs.Reads.{ReadsContents};
 ghost use Rattle.asn1_core.specs.Der.{simple_der};
 ghost use Rattle.asn1_core.specs.Listing.{sequence_tag};
@@ -44,9 +43,7 @@ impl<'a> Sequence<'a> {
         f: F,
     ) -> Result<T, E>
         requires { F.IsAlwaysCallable f }
-        ensures { (rest : List ℕ) × (answer : Result T E)
-            × FnOnceReturnsAtMut F.FnOnce f (sequence_octets self.entry) answer rest
-            × PassesOn E.from_gives answer rest result }
+        ensures { ReadsBy F.FnOnce E.from_gives f (sequence_octets self.entry) result }
     {
         parse(alloc, self.data, f)
     }

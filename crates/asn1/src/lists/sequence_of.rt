@@ -77,9 +77,9 @@ impl<'a, T: Asn1Readable<'a>, const MINIMUM_LEN: usize, const MAXIMUM_LEN: usize
     pub fn len(&self) -> usize
         ensures count { result ≡ length
             (⟦<SequenceOf<'a, T, MINIMUM_LEN, MAXIMUM_LEN> as Asn1Type>⟧.der.meaning self.now) }
-        ensures allowed { MINIMUM_LEN ≤ result → result ≤ MAXIMUM_LEN
-            → ⟦<SequenceOf<'a, T, MINIMUM_LEN, MAXIMUM_LEN> as Asn1Type>⟧.der.allowed
-            (⟦<SequenceOf<'a, T, MINIMUM_LEN, MAXIMUM_LEN> as Asn1Type>⟧.der.meaning self.now) }
+        ensures allowed { let lists =
+            ⟦<SequenceOf<'a, T, MINIMUM_LEN, MAXIMUM_LEN> as Asn1Type>⟧.der in
+            MINIMUM_LEN ≤ result → result ≤ MAXIMUM_LEN → lists.allowed (lists.meaning self.now) }
     {
         self.count
     }
@@ -126,29 +126,23 @@ impl<
         store: &'a mut Vec<u8>,
     ) -> Result<ParseResult<Self>, T::Error>
         // The list is what reading the items' encodings returns, if they are short enough to be read.
-        ensures read { Fits
-            (⟦<SequenceOf<'a, T, MINIMUM_LEN, MAXIMUM_LEN> as Asn1Type>⟧.der.encoding
-            (map T.der.meaning items.now)) → IfOk result (ReadsContents
-            ⟦<SequenceOf<'a, T, MINIMUM_LEN, MAXIMUM_LEN> as Asn1Type>⟧.der
-            (flat_map T.der.encoding (map T.der.meaning items.now))) }
+        ensures read { let meanings = map T.der.meaning items.now in
+            let lists = ⟦<SequenceOf<'a, T, MINIMUM_LEN, MAXIMUM_LEN> as Asn1Type>⟧.der in
+            Fits (lists.encoding meanings)
+            → IfOk result (ReadsContents lists (flat_map T.der.encoding meanings)) }
 
         // The list means the items, in their order.
-        ensures items { T.der.lawful → T.der.is_element
-            → AllByRecursion T.der.allowed (map T.der.meaning items.now) → IfOk result
-            (λ read. IfOk read
-            (λ list. ⟦<SequenceOf<'a, T, MINIMUM_LEN, MAXIMUM_LEN> as Asn1Type>⟧.der.meaning list
-            ≡ map T.der.meaning items.now)) }
+        ensures items { let meanings = map T.der.meaning items.now in
+            let lists = ⟦<SequenceOf<'a, T, MINIMUM_LEN, MAXIMUM_LEN> as Asn1Type>⟧.der in
+            T.der.lawful → T.der.is_element → AllByRecursion T.der.allowed meanings
+            → IfOk result (λ read. IfOk read (λ list. lists.meaning list ≡ meanings)) }
 
         // There is such a list if the items are as many as it may have, and their encoding is short enough to be read.
-        ensures made { T.der.lawful → T.der.is_element
-            → ⟦<SequenceOf<'a, T, MINIMUM_LEN, MAXIMUM_LEN> as Asn1Type>⟧.der.allowed
-            (map T.der.meaning items.now)
-            → Fits (⟦<SequenceOf<'a, T, MINIMUM_LEN, MAXIMUM_LEN> as Asn1Type>⟧.der.encoding
-            (map T.der.meaning items.now)) → IfOk result (λ read. Returns
-            ⟦<SequenceOf<'a, T, MINIMUM_LEN, MAXIMUM_LEN> as Asn1Type>⟧.der.meaning
-            (⟦<SequenceOf<'a, T, MINIMUM_LEN, MAXIMUM_LEN> as Asn1Type>⟧.der.content.runs_out
-            (flat_map T.der.encoding (map T.der.meaning items.now))) read
-            (Ok (map T.der.meaning items.now))) }
+        ensures made { let meanings = map T.der.meaning items.now in
+            let lists = ⟦<SequenceOf<'a, T, MINIMUM_LEN, MAXIMUM_LEN> as Asn1Type>⟧.der in
+            T.der.lawful → T.der.is_element → lists.allowed meanings
+            → Fits (lists.encoding meanings) → IfOk result (λ read. Returns lists.meaning
+            (lists.content.runs_out (flat_map T.der.encoding meanings)) read (Ok meanings)) }
         ensures error { IfErr result (NamesError T.Error.from_gives
             (AnyNames T.write_errors items.now)) }
     {

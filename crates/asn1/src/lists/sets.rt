@@ -2,8 +2,7 @@
 //! as an iterator, its items in the order of their encodings (11.6).
 
 ghost use Rattle.std.specs.Prelude.{◌≡◌, ◌↔◌, ◌<◌};
-ghost use Rattle.std.specs.Prelude.{IsTrue, List, ℕ, [], length, map, Result, OnOk, OnErr, IfOk, IfErr, IsSome, nat_eq};
-ghost use Rattle.std.specs.Fn.{FnOnceReturnsAtMut};
+ghost use Rattle.std.specs.Prelude.{IsTrue, [], length, map, Result, OnOk, OnErr, IfOk, IfErr, IsSome, nat_eq};
 ghost use Rattle.std.specs.Iterator.{at_most};
 ghost use Rattle.std.specs.Hash as fed;
 ghost use Rattle.std.specs.Cmp.{partial_equiv_from_equiv, on_per, on_equiv};
@@ -15,7 +14,7 @@ ghost use Rattle.std.specs.List.{flat_map, AllByRecursion};
 ghost use Rattle.asn1_core.specs.Listing.{encoding_less, AnyNames, Joins, OneNames, set_tag};
 ghost use Rattle.asn1_core.specs.Tag.{tag_less};
 ghost use Rattle.asn1_core.specs.Tlv.{element_of};
-ghost use Rattle.asn1_core.specs.Reading.{Returns, EndsWith, Fits, PassesOn, framed_element};
+ghost use Rattle.asn1_core.specs.Reading.{Returns, EndsWith, Fits, ReadsBy, framed_element};
 ghost use Rattle.asn1_core.specs.Reads.{ReadsContents};
 ghost use Rattle.asn1_core.specs.Der.{simple_der};
 ghost use Rattle.asn1_core.specs.Writing.{buffer_name, octets_of, GivesLength, NamesError};
@@ -151,9 +150,7 @@ impl<'a> Set<'a> {
         f: F,
     ) -> Result<T, E>
         requires { F.IsAlwaysCallable f }
-        ensures { (rest : List ℕ) × (answer : Result T E)
-            × FnOnceReturnsAtMut F.FnOnce f (octets_of_set self.entry) answer rest
-            × PassesOn E.from_gives answer rest result }
+        ensures { ReadsBy F.FnOnce E.from_gives f (octets_of_set self.entry) result }
     {
         parse(alloc, self.data, f)
     }
@@ -287,27 +284,26 @@ impl<'a, T: Asn1Readable<'a> + Asn1Writable> SetOf<'a, T> {
         store: &'a mut Vec<u8>,
     ) -> Result<ParseResult<Self>, T::Error>
         // The set is what reading the items' encodings in order returns, if they are short enough to be read.
-        ensures read { Fits (⟦<SetOf<'a, T> as Asn1Type>⟧.der.encoding
-            (in_order T.der.encoding (map T.der.meaning items.now)))
-            → IfOk result (ReadsContents ⟦<SetOf<'a, T> as Asn1Type>⟧.der
-            (flat_map T.der.encoding (in_order T.der.encoding (map T.der.meaning items.now)))) }
+        ensures read { let sets = ⟦<SetOf<'a, T> as Asn1Type>⟧.der in
+            let ordered = in_order T.der.encoding (map T.der.meaning items.now) in
+            Fits (sets.encoding ordered)
+            → IfOk result (ReadsContents sets (flat_map T.der.encoding ordered)) }
 
         // The set means the items, in ascending order of their encodings.
-        ensures items { T.der.lawful → T.der.is_element
-            → AllByRecursion T.der.allowed (map T.der.meaning items.now) → IfOk result
-            (λ read. IfOk read
-            (λ set. ⟦<SetOf<'a, T> as Asn1Type>⟧.der.meaning set
-            ≡ in_order T.der.encoding (map T.der.meaning items.now))) }
+        ensures items { let sets = ⟦<SetOf<'a, T> as Asn1Type>⟧.der in
+            let meanings = map T.der.meaning items.now in
+            T.der.lawful → T.der.is_element → AllByRecursion T.der.allowed meanings
+            → IfOk result
+            (λ read. IfOk read (λ set. sets.meaning set ≡ in_order T.der.encoding meanings)) }
 
         // There is such a set if the items' encodings are short enough to be read.
-        ensures made { T.der.lawful → T.der.is_element
-            → AllByRecursion T.der.allowed (map T.der.meaning items.now)
-            → Fits (⟦<SetOf<'a, T> as Asn1Type>⟧.der.encoding
-            (in_order T.der.encoding (map T.der.meaning items.now))) → IfOk result (λ read. Returns
-            ⟦<SetOf<'a, T> as Asn1Type>⟧.der.meaning
-            (⟦<SetOf<'a, T> as Asn1Type>⟧.der.content.runs_out
-            (flat_map T.der.encoding (in_order T.der.encoding (map T.der.meaning items.now)))) read
-            (Ok (in_order T.der.encoding (map T.der.meaning items.now)))) }
+        ensures made { let sets = ⟦<SetOf<'a, T> as Asn1Type>⟧.der in
+            let meanings = map T.der.meaning items.now in
+            let ordered = in_order T.der.encoding meanings in
+            T.der.lawful → T.der.is_element → AllByRecursion T.der.allowed meanings
+            → Fits (sets.encoding ordered)
+            → IfOk result (λ read. Returns sets.meaning
+            (sets.content.runs_out (flat_map T.der.encoding ordered)) read (Ok ordered)) }
         ensures error { IfErr result (NamesError T.Error.from_gives
             (AnyNames T.write_errors items.now)) }
     {
