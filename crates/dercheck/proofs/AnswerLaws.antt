@@ -13,7 +13,7 @@ use Rattle.dercheck.specs.declared.words.Word.{Word}
 use Rattle.dercheck.specs.declared.words.Word.TheVariants as words
 use Rattle.dercheck.specs.Replies.{kind_text, is_ok_line, is_ok_to, answer, answer_to, answer_read, reading}
 use Rattle.dercheck.specs.Requests.{type_of, IsRequest, request_of}
-use Rattle.dercheck.specs.Laws.{IsOkLine, OkLinesAreOk, BadLinesAreBad, IsValueText, ValuesAreOk, FaultsAreErr}
+use Rattle.dercheck.specs.Laws.{IsOkLine, OkLinesAreOk, BadLinesAreBad, IsValueEncoding, ValuesAreOk, FaultsAreErr}
 use Rattle.dercheck.proofs.RequestLaws.{request_of-is, requests_are_right}
 
 -- each type is lawful
@@ -43,21 +43,18 @@ octets_are_text hex octets e = IsOctets-from_reads octets (decode_of-ok hex octe
 abbrev IsMeaning : Word → Type 0
 IsMeaning word = (type_of word).der.Meaning
 
-reading-value : (word : Word) (octets : List ℕ) (v : IsValueText word octets) → reading word octets ≡ Ok v.value
+reading-value : (word : Word) (octets : List ℕ) (v : IsValueEncoding word octets) → reading word octets ≡ Ok v.value
 reading-value word octets v =
     let d = (type_of word).der in
-    whole_read_back d.encoding d.read v.value octets (d.laws.read_back v.value [] (lawful word) v.valid v.allowed v.fits (λ e. stands-nil d.accepts)) v.is
+    whole_read_back d.encoding d.read v.value octets (d.laws.read_back v.value [] (lawful word) v.encodes.valid v.encodes.allowed v.encodes.fits (λ e. stands-nil d.accepts)) v.encodes.is
 
-value-reading : (word : Word) (octets : List ℕ) (value : IsMeaning word) → IsOctets octets → reading word octets ≡ Ok value → IsValueText word octets
+value-reading : (word : Word) (octets : List ℕ) (value : IsMeaning word) → IsOctets octets → reading word octets ≡ Ok value → IsValueEncoding word octets
 value-reading word octets value text e =
     let d = (type_of word).der in
     let found = whole_is d.encoding (λ m. d.valid m × d.allowed m) d.read d.laws.consumes octets value text e in
     record {
       value = value;
-      valid = found.1.0;
-      allowed = found.1.1;
-      fits = found.0.one;
-      is = found.0.is ∙ append-nil (d.encoding value);
+      encodes = record { is = found.0.is ∙ append-nil (d.encoding value); valid = found.1.0; allowed = found.1.1; fits = found.0.one };
     }
 
 -- the first letters of `err` and `ok` differ
@@ -65,13 +62,13 @@ not_ok : (kind octets : List ℕ) → codes "err " ++ kind ≡ codes "ok " ++ oc
 not_ok kind octets e = let letters : ◌≡◌ {A = ℕ} 101 111 = ap (λ (xs : List ℕ). get_or xs 0 0) e in omega arith
 
 value-ok : (word : Word) (octets : List ℕ) (read : Result (IsMeaning word) ReadError) → IsOctets octets → reading word octets ≡ read →
-    answer_read octets read ≡ codes "ok " ++ encode_lower octets → IsValueText word octets
+    answer_read octets read ≡ codes "ok " ++ encode_lower octets → IsValueEncoding word octets
 value-ok word octets (Ok value) text same e = value-reading word octets value text same
 value-ok word octets (Err fault) text same e = absurd (not_ok (kind_text fault.kind) (encode_lower octets) e)
 
 pub values_are_ok : ValuesAreOk
 values_are_ok line word octets is = (
-  λ (v : IsValueText word octets). answer-is line word octets is ∙ ap (answer_read octets) (reading-value word octets v),
+  λ (v : IsValueEncoding word octets). answer-is line word octets is ∙ ap (answer_read octets) (reading-value word octets v),
   λ (e : answer line ≡ codes "ok " ++ encode_lower octets).
       value-ok word octets (reading word octets) (octets_are_text is.hex octets is.decoded) refl (sym (answer-is line word octets is) ∙ e),
 )

@@ -2,7 +2,7 @@
 use Rattle.std.specs.Prelude.{IsTrue, ℕ, ◌≡◌, ◌↔◌, List, ◌++◌, codes, Some, Err}
 use Rattle.hex.specs.Hex.{encode_lower}
 use Rattle.asn1.specs.ReadError.{ReadError}
-use Rattle.asn1.specs.Reading.{Fits}
+use Rattle.asn1.specs.Headline.{Encodes}
 use Rattle.dercheck.specs.declared.words.Word.{Word}
 use Rattle.dercheck.specs.Lines.{lines_of, AreLines}
 use Rattle.dercheck.specs.Replies.{kind_text, answer, is_ok_line, reading}
@@ -20,25 +20,23 @@ RequestsAreRight = (line : List ℕ) (word : Word) (octets : List ℕ) → IsReq
 abbrev pub BadLinesAreBad : Type 0
 BadLinesAreBad = (line : List ℕ) → ((word : Word) (octets : List ℕ) → ¬ IsRequest line word octets) → answer line ≡ codes "bad line"
 
--- The octets are the encoding of a valid, allowed value of the word's type, and are nothing or one readable element.
-pub record IsValueText (word : Word) (octets : List ℕ) : Type 0 where
+-- The octets are the encoding of a value of the word's type, which is valid, within the type's bounds, and short enough to
+-- be read.
+pub record IsValueEncoding (word : Word) (octets : List ℕ) : Type 0 where
   pub value : (type_of word).der.Meaning
-  pub valid : (type_of word).der.valid value
-  pub allowed : (type_of word).der.allowed value
-  pub fits : Fits ((type_of word).der.encoding value)
-  pub is : octets ≡ (type_of word).der.encoding value
+  pub encodes : Encodes (type_of word).der value octets
 
 -- The reply to a request is `ok` and its octets, exactly if these are the encoding of a value.
 abbrev pub ValuesAreOk : Type 0
 ValuesAreOk = (line : List ℕ) (word : Word) (octets : List ℕ) → IsRequest line word octets →
-    IsValueText word octets ↔ (answer line ≡ codes "ok " ++ encode_lower octets)
+    IsValueEncoding word octets ↔ (answer line ≡ codes "ok " ++ encode_lower octets)
 
 -- The line is a request whose octets are the encoding of a value.
 pub record IsOkLine (line : List ℕ) : Type 0 where
   pub word : Word
   pub octets : List ℕ
   pub request : IsRequest line word octets
-  pub value : IsValueText word octets
+  pub value : IsValueEncoding word octets
 
 -- The lines whose replies are `ok` are these.
 abbrev pub OkLinesAreOk : Type 0

@@ -39,6 +39,10 @@ Puts false old new had_failed has_failed octets = AppendsInPart old new octets �
 abbrev pub pieces_left : Pieces → List ℕ
 pieces_left s = s.first.now ++ s.second.now
 
+-- How many octets pieces have left.
+abbrev pub left_count : Pieces → ℕ
+left_count s = length s.first.now + length s.second.now
+
 -- Pieces are never at hand before a pull.
 abbrev pub pieces_ready : Pieces → Bool
 pieces_ready s = false

@@ -40,13 +40,13 @@ impl<'a> Pieces<'a> {
 
 impl Source for Pieces<'_> {
     ghost use Rattle.dercheck.specs.Streams.{FlagFollows, GivesIfReady, PullTakes, pieces_left, pieces_ready, piece_of};
-    ghost use Rattle.dercheck.specs.Streams.{fails_at_end, pieces_failed};
+    ghost use Rattle.dercheck.specs.Streams.{fails_at_end, left_count, pieces_failed};
 
     ghost left = { λ s. Some (pieces_left s) };
 
     ghost has_failed = { λ s. pieces_failed s };
 
-    ghost bound = { λ s. length s.first.now + length s.second.now };
+    ghost bound = { λ s. left_count s };
 
     ghost ready = { λ s. pieces_ready s };
 
@@ -54,10 +54,8 @@ impl Source for Pieces<'_> {
         ensures within { IfSome result (λ n. n ≤ length buf.new) }
         ensures octets { PullTakes (Some (pieces_left self.old)) (Some (pieces_left self.new))
             result buf.new }
-        ensures bound { MatchOption result (length self.new.first.now + length self.new.second.now
-            ≤ length self.old.first.now + length self.old.second.now)
-            (λ n. length self.new.first.now + length self.new.second.now + n
-            ≤ length self.old.first.now + length self.old.second.now) }
+        ensures bound { MatchOption result (left_count self.new ≤ left_count self.old)
+            (λ n. left_count self.new + n ≤ left_count self.old) }
         ensures ready { GivesIfReady (pieces_ready self.old) result buf.new }
         ensures flag { FlagFollows (pieces_failed self.old) (pieces_failed self.new) result }
         ensures most { IfSome result (λ n. n ≤ piece_of self.old) }
