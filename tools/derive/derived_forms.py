@@ -3,7 +3,7 @@
 import re
 import textwrap
 
-from declarations import ITEM, Type, reject
+from declarations import ANY, ITEM, Type, reject
 
 BY_TAGS = "#[tactic(auto, using(asn1::specs::Lemmas::Fields::tags_differ))]\n"
 BY_NUMBERS = "#[tactic(auto, using(asn1::specs::Lemmas::DefaultIdentifiers::identifier_of_default))] "
@@ -20,10 +20,14 @@ use Rattle.asn1.specs.Base128.{leading_number}
 use Rattle.asn1.specs.Identifier.{numbers_in, read_identifier}
 use Rattle.asn1.specs.Lemmas.Results.{ok_is}
 """
-# What the proof of a large choice's law uses; and the most alternatives of which the search proves it.
-LAW_USES = """use Rattle.std.proofs.Common.{arith, refl, rules}
-use Rattle.asn1.specs.Lemmas.Fields.{tags_differ}
-"""
+# Where the names are from that the proof of a large choice's law uses; and the most alternatives of which the search
+# proves it.
+LAW_USES = {
+    "std.proofs.Common": "arith false refl rules true",
+    "asn1.specs.Lemmas.Fields": "no_other_accepts tags_differ",
+    "asn1.specs.Tag": "explicit_tag_of implicit_tag_of universal universal_constructed",
+    "asn1.specs.Tagged": "application_tag private_tag",
+}
 MOST_SEARCHED = 6
 COMPUTED = "unfolding read_identifier numbers_in leading_number\n"
 IDENTIFIER_ANSWERS = ANSWER.format("known_identifier-requires", "refl", COMPUTED)
@@ -576,13 +580,31 @@ def alias(item, _):
 FORMS = {"struct": Structure, "enum": Choice, "numbers": Numbers, "type": alias, "const": identifier, "number": alias}
 
 
-def law_of_choice(item):
-    """The proof of a choice's law, alternative by alternative: the search would end at its limit in more than six."""
+def term_of(tag):
+    """A tag, as [`Known`] has it, in a proof."""
+    *names, number = tag.removesuffix(" constructed").split(" ")
+    is_constructed = tag.endswith(" constructed")
+    if names == ["context"]:
+        return f"(explicit_tag_of {number})" if is_constructed else f"(implicit_tag_of {number} (universal 0))"
+    return group(tag_of((*names, number) if names else ("universal", number), is_constructed)[0])
+
+
+def law_of_choice(item, module):
+    """The proof of a choice's law, alternative by alternative: the search would end at its limit in more than six. That
+    no other alternative accepts an alternative's tag is computed, if this is one tag that is known."""
     lawful, others = "tt", "tt"
     for part in reversed(item.parts):
-        apart = "λ tag accepted. refl" if part is item.parts[-1] else "grind (arith, tags_differ)"
+        tags = module.known(part.form).tags
+        is_one = tags and tags != ANY and len(tags) == 1
+        apart = f"no_other_accepts {term_of(*tags)} _ refl" if is_one else "grind (arith, tags_differ)"
+        apart = "λ tag accepted. refl" if part is item.parts[-1] else apart
         lawful, others = f"(search rules, search rules, {lawful}, {apart})", f"(search rules, {others})"
-    return ANSWER.format("returns", f"({lawful}, {others}, {others})", "")
+    proof = ANSWER.format("returns", f"({lawful}, {others}, {others})", "")
+    uses = ""
+    for source, names in LAW_USES.items():
+        used = ", ".join(name for name in names.split() if re.search(rf"\b{name}\b", proof))
+        uses += f"use Rattle.{source}.{{{used}}}\n" if used else ""
+    return uses, proof
 
 
 def answers(item, module):
@@ -592,7 +614,7 @@ def answers(item, module):
     owes some."""
     if item.kind == "enum" and not item.is_defined:
         is_large = item.reads and len(item.parts) > MOST_SEARCHED
-        return f"laws/{snake(item.name)}_is_lawful", LAW_USES, law_of_choice(item) if is_large else ""
+        return f"laws/{snake(item.name)}_is_lawful", *(law_of_choice(item, module) if is_large else ("", ""))
     if not (item.is_defined and item.writes):
         return (item.name.lower(), IDENTIFIER_USES, IDENTIFIER_ANSWERS) if item.kind == "const" else ("", "", "")
     names, large, kept = {*module.items, *module.imported}, "", ""

@@ -113,18 +113,14 @@ pub fn wrappers_compare<T: Asn1Type + PartialEq, const TAG: u32>()
 {}
 
 /// If the equality of each alternative compares what values mean, so does the equality of the choice.
-pub fn choices_compare<
-    T1: Asn1Type + PartialEq,
-    T2: Asn1Type + PartialEq,
-    T3: Asn1Type + PartialEq,
->()
-    ensures choice2 { IsEqualityOf T1.der.meaning T1.eq → IsEqualityOf T2.der.meaning T2.eq
-        → IsEqualityOf ⟦<Choice2<T1, T2> as Asn1Type>⟧.der.meaning
-        ⟦<Choice2<T1, T2> as PartialEq>⟧.eq }
-    ensures choice3 { IsEqualityOf T1.der.meaning T1.eq → IsEqualityOf T2.der.meaning T2.eq
-        → IsEqualityOf T3.der.meaning T3.eq
-        → IsEqualityOf ⟦<Choice3<T1, T2, T3> as Asn1Type>⟧.der.meaning
-        ⟦<Choice3<T1, T2, T3> as PartialEq>⟧.eq }
+pub fn choices_compare<A: Asn1Type + PartialEq, B: Asn1Type + PartialEq, C: Asn1Type + PartialEq>()
+    ensures choice2 { IsEqualityOf A.der.meaning A.eq → IsEqualityOf B.der.meaning B.eq
+        → IsEqualityOf ⟦<Choice2<A, B> as Asn1Type>⟧.der.meaning
+        ⟦<Choice2<A, B> as PartialEq>⟧.eq }
+    ensures choice3 { IsEqualityOf A.der.meaning A.eq → IsEqualityOf B.der.meaning B.eq
+        → IsEqualityOf C.der.meaning C.eq
+        → IsEqualityOf ⟦<Choice3<A, B, C> as Asn1Type>⟧.der.meaning
+        ⟦<Choice3<A, B, C> as PartialEq>⟧.eq }
 {}
 
 /// If values of a type that mean the same have the same hash, those of its wrappers do too.
@@ -143,16 +139,16 @@ pub fn wrappers_hash<T: Asn1Type + Hash, const TAG: u32>()
 {}
 
 /// If values of each alternative that mean the same have the same hash, those of the choice do too.
-pub fn choices_hash<T1: Asn1Type + Hash, T2: Asn1Type + Hash, T3: Asn1Type + Hash>()
-    ensures choice2 { HashesAlike T1.der.meaning T1.hash_input
-        → HashesAlike T2.der.meaning T2.hash_input
-        → HashesAlike ⟦<Choice2<T1, T2> as Asn1Type>⟧.der.meaning
-        ⟦<Choice2<T1, T2> as Hash>⟧.hash_input }
-    ensures choice3 { HashesAlike T1.der.meaning T1.hash_input
-        → HashesAlike T2.der.meaning T2.hash_input
-        → HashesAlike T3.der.meaning T3.hash_input
-        → HashesAlike ⟦<Choice3<T1, T2, T3> as Asn1Type>⟧.der.meaning
-        ⟦<Choice3<T1, T2, T3> as Hash>⟧.hash_input }
+pub fn choices_hash<A: Asn1Type + Hash, B: Asn1Type + Hash, C: Asn1Type + Hash>()
+    ensures choice2 { HashesAlike A.der.meaning A.hash_input
+        → HashesAlike B.der.meaning B.hash_input
+        → HashesAlike ⟦<Choice2<A, B> as Asn1Type>⟧.der.meaning
+        ⟦<Choice2<A, B> as Hash>⟧.hash_input }
+    ensures choice3 { HashesAlike A.der.meaning A.hash_input
+        → HashesAlike B.der.meaning B.hash_input
+        → HashesAlike C.der.meaning C.hash_input
+        → HashesAlike ⟦<Choice3<A, B, C> as Asn1Type>⟧.der.meaning
+        ⟦<Choice3<A, B, C> as Hash>⟧.hash_input }
 {}
 
 /// If a clone of a type equals its source, so does a clone of one of its wrappers, or of a field with a default. If a
@@ -181,23 +177,23 @@ pub fn wrappers_are_cloned<T: Clone + PartialEq, D, const TAG: u32>()
 {}
 
 /// The same of choices, by each of their alternatives.
-pub fn choices_are_cloned<T1: Clone + PartialEq, T2: Clone + PartialEq, T3: Clone + PartialEq>()
-    ensures choice1 { ClonesAreEqual T1.is_clone T1.eq
-        → ClonesAreEqual ⟦<Choice1<T1> as Clone>⟧.is_clone ⟦<Choice1<T1> as PartialEq>⟧.eq }
-    ensures choice2 { ClonesAreEqual T1.is_clone T1.eq → ClonesAreEqual T2.is_clone T2.eq
-        → ClonesAreEqual ⟦<Choice2<T1, T2> as Clone>⟧.is_clone
-        ⟦<Choice2<T1, T2> as PartialEq>⟧.eq }
-    ensures choice3 { ClonesAreEqual T1.is_clone T1.eq → ClonesAreEqual T2.is_clone T2.eq
-        → ClonesAreEqual T3.is_clone T3.eq
-        → ClonesAreEqual ⟦<Choice3<T1, T2, T3> as Clone>⟧.is_clone
-        ⟦<Choice3<T1, T2, T3> as PartialEq>⟧.eq }
-    ensures choice1_infallible { NeverFails T1.is_infallible
-        → NeverFails ⟦<Choice1<T1> as Clone>⟧.is_infallible }
-    ensures choice2_infallible { NeverFails T1.is_infallible → NeverFails T2.is_infallible
-        → NeverFails ⟦<Choice2<T1, T2> as Clone>⟧.is_infallible }
-    ensures choice3_infallible { NeverFails T1.is_infallible → NeverFails T2.is_infallible
-        → NeverFails T3.is_infallible
-        → NeverFails ⟦<Choice3<T1, T2, T3> as Clone>⟧.is_infallible }
+pub fn choices_are_cloned<A: Clone + PartialEq, B: Clone + PartialEq, C: Clone + PartialEq>()
+    ensures choice1 { ClonesAreEqual A.is_clone A.eq
+        → ClonesAreEqual ⟦<Choice1<A> as Clone>⟧.is_clone ⟦<Choice1<A> as PartialEq>⟧.eq }
+    ensures choice2 { ClonesAreEqual A.is_clone A.eq → ClonesAreEqual B.is_clone B.eq
+        → ClonesAreEqual ⟦<Choice2<A, B> as Clone>⟧.is_clone
+        ⟦<Choice2<A, B> as PartialEq>⟧.eq }
+    ensures choice3 { ClonesAreEqual A.is_clone A.eq → ClonesAreEqual B.is_clone B.eq
+        → ClonesAreEqual C.is_clone C.eq
+        → ClonesAreEqual ⟦<Choice3<A, B, C> as Clone>⟧.is_clone
+        ⟦<Choice3<A, B, C> as PartialEq>⟧.eq }
+    ensures choice1_infallible { NeverFails A.is_infallible
+        → NeverFails ⟦<Choice1<A> as Clone>⟧.is_infallible }
+    ensures choice2_infallible { NeverFails A.is_infallible → NeverFails B.is_infallible
+        → NeverFails ⟦<Choice2<A, B> as Clone>⟧.is_infallible }
+    ensures choice3_infallible { NeverFails A.is_infallible → NeverFails B.is_infallible
+        → NeverFails C.is_infallible
+        → NeverFails ⟦<Choice3<A, B, C> as Clone>⟧.is_infallible }
 {}
 
 /// A value whose writes fail with another error compares as the value itself does.

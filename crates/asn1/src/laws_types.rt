@@ -140,10 +140,10 @@ pub fn error_into_inherits<T: Asn1Type, E>()
 {}
 
 /// The same of choices, by each of their alternatives.
-pub fn choices_inherit<T1: Asn1Type, T2: Asn1Type, T3: Asn1Type>()
-    ensures choice2 { InheritsBoth T1.der T2.der ⟦<Choice2<T1, T2> as Asn1Type>⟧.der }
-    ensures choice3 { InheritsBoth T1.der ⟦<Choice2<T2, T3> as Asn1Type>⟧.der
-        ⟦<Choice3<T1, T2, T3> as Asn1Type>⟧.der }
+pub fn choices_inherit<A: Asn1Type, B: Asn1Type, C: Asn1Type>()
+    ensures choice2 { InheritsBoth A.der B.der ⟦<Choice2<A, B> as Asn1Type>⟧.der }
+    ensures choice3 { InheritsBoth A.der ⟦<Choice2<B, C> as Asn1Type>⟧.der
+        ⟦<Choice3<A, B, C> as Asn1Type>⟧.der }
 {}
 
 /// A row of lawful fields is lawful if a field that may be missing accepts no tag with which the fields after it may

@@ -12,6 +12,8 @@ mod numbers;
 #[cfg(test)]
 mod page;
 #[cfg(test)]
+mod snmp;
+#[cfg(test)]
 mod spellings;
 #[cfg(test)]
 mod tags;

@@ -3,6 +3,7 @@
 mod ec_private_key;
 mod kerberos;
 mod numbers;
+mod snmp;
 mod spellings;
 mod tags;
 
