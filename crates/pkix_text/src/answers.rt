@@ -132,6 +132,8 @@ pub enum Refusal {
     Told(String),
 }
 
+/// The reason. Of octets that aren't an encoding it is what their error displays, without a location; `report_on` puts
+/// this in other words.
 impl fmt::Display for Refusal {
     fn fmt<W: fmt::Write>(&self, f: &mut fmt::Formatter<W>) -> fmt::Result {
         match self {
