@@ -2,12 +2,12 @@
 
 use crate::key_sizes::{modulus_size, show_size, size_by_algorithm};
 use crate::show::{Lines, Numbered, Show, fields};
-use asn1::{ObjectIdentifier, SetOf, parse_single};
+use asn1::{ObjectIdentifier, SetOf, Tlv, parse_single, write_readable};
 use pkix::algorithm_parameters::AlgorithmParameters;
 use pkix::algorithm_parameters::KnownAlgorithm::{self, RsaEncryption, RsassaPss};
 use pkix::certificate::extensions::SubjectDirectoryAttributes;
 use pkix::common::{
-    AlgorithmIdentifier, Attribute, AttributeTypeAndValue, Attributes, Extensions,
+    AlgorithmIdentifier, Attribute, AttributeTypeAndValue, Attributes, DirectoryString, Extensions,
     SubjectPublicKeyInfo,
 };
 use pkix::keys::{DssParms, RsassaPssParams};
@@ -80,6 +80,19 @@ impl Show for SubjectPublicKeyInfo<'_> {
             _ => size_by_algorithm(lines.alloc, &self.algorithm),
         };
         show_size(lines, size);
+    }
+}
+
+/// The string as the element that it is: most attributes of names have these, and are shown as elements.
+impl Show for DirectoryString<'_> {
+    fn show(&self, lines: &mut Lines) {
+        match write_readable(lines.alloc, self) {
+            Ok(octets) => {
+                let element = parse_single::<Tlv<'_>>(lines.alloc, octets.as_slice());
+                lines.item(element).show(lines);
+            }
+            Err(_) => lines.is_out_of_memory = true,
+        }
     }
 }
 

@@ -1,6 +1,6 @@
 //! General names (RFC 5280, 4.2.1.6).
 
-use crate::common::Name;
+use crate::common::{DirectoryString, Name};
 
 /// OtherName (RFC 5280, 4.2.1.6), a SEQUENCE: a name of a form that an identifier names.
 #[derive(asn1::Asn1Read, asn1::Asn1Write, Debug, Clone, PartialEq, Eq)]
@@ -13,15 +13,15 @@ pub struct OtherName<'a> {
     pub value: asn1::Tlv<'a>,
 }
 
-/// EDIPartyName (RFC 5280, 4.2.1.6), a SEQUENCE. Its strings are elements of any type, of which the RFC allows five.
+/// EDIPartyName (RFC 5280, 4.2.1.6), a SEQUENCE.
 #[derive(asn1::Asn1Read, asn1::Asn1Write, Debug, Clone, PartialEq, Eq)]
 pub struct EdiPartyName<'a> {
     /// Who assigned the name.
     #[explicit(0)]
-    pub name_assigner: Option<asn1::Tlv<'a>>,
+    pub name_assigner: Option<DirectoryString<'a>>,
     /// The name.
     #[explicit(1, required = true)]
-    pub party_name: asn1::Tlv<'a>,
+    pub party_name: DirectoryString<'a>,
 }
 
 /// GeneralName (RFC 5280, 4.2.1.6), a CHOICE of nine.

@@ -1,5 +1,5 @@
 //! General names (RFC 5280, 4.2.1.6).
-// Printed by tools/derive from declarations/common/general_name.rs, with the sum 2430951a.
+// Printed by tools/derive from declarations/common/general_name.rs, with the sum 0d3161d3.
 
 ghost use Rattle.std.specs.Prelude.{◌≡◌, ◌∷◌, [], IsTrue, OnErr, IfOk};
 ghost use Rattle.asn1.specs.AlternativeLists.{choice, alternative1, alternative2, alternative3, alternative4};
@@ -9,7 +9,7 @@ ghost use Rattle.asn1.specs.Reading.{EndsWith};
 ghost use Rattle.asn1.specs.Reads.{BeginsWithEncodingOf, HasOneEncoding, ReadsContents, ReadsPrefix};
 ghost use Rattle.asn1.specs.Structures.{explicit, field_names, implicit, structure, fields2};
 
-use crate::common::Name;
+use crate::common::{DirectoryString, Name};
 use asn1::alternatives::{Alternatives, AlternativesReadable, AsOneOf, OneOf9, read_choice};
 use asn1::fields::{Fields2, Row};
 use asn1::{
@@ -91,18 +91,18 @@ impl<'a> SimpleAsn1Writable for OtherName<'a> {
     }
 }
 
-/// EDIPartyName (RFC 5280, 4.2.1.6), a SEQUENCE. Its strings are elements of any type, of which the RFC allows five.
+/// EDIPartyName (RFC 5280, 4.2.1.6), a SEQUENCE.
 #[derive(Debug, Clone, PartialEq, Eq, Drop)]
 pub struct EdiPartyName<'a> {
     /// Who assigned the name.
-    pub name_assigner: Option<Tlv<'a>>,
+    pub name_assigner: Option<DirectoryString<'a>>,
     /// The name.
-    pub party_name: Tlv<'a>,
+    pub party_name: DirectoryString<'a>,
 }
 
-type EdiPartyNameNameAssignerField<'a> = Option<Explicit<Tlv<'a>, 0>>;
+type EdiPartyNameNameAssignerField<'a> = Option<Explicit<DirectoryString<'a>, 0>>;
 
-type EdiPartyNamePartyNameField<'a> = Explicit<Tlv<'a>, 1>;
+type EdiPartyNamePartyNameField<'a> = Explicit<DirectoryString<'a>, 1>;
 
 type EdiPartyNameFields<'a> = Fields2<
     EdiPartyNameNameAssignerField<'a>,
@@ -143,8 +143,6 @@ impl<'a> SimpleAsn1Readable<'a> for EdiPartyName<'a> {
 
 impl<'a> SimpleAsn1Writable for EdiPartyName<'a> {
     type Error = WriteError;
-
-    ghost length_known = { λ _. Unit {0} };
 
     fn tag() -> Tag
         ensures value { result ≡ ⟦<EdiPartyName<'a> as Asn1Type>⟧.der.content.tag }
@@ -302,7 +300,9 @@ pub mod laws {
     #[tactic(auto, using(asn1::specs::Lemmas::Fields::tags_differ))]
     pub fn edi_party_name_is_lawful()
         ensures { HasOneEncoding ⟦<EdiPartyName<'static> as Asn1Type>⟧.der }
-    {}
+    {
+        crate::common::laws::directory_string_is_lawful();
+    }
 
     /// Each value of `GeneralName` has one encoding, which is read back.
     #[tactic(auto, using(asn1::specs::Lemmas::Fields::tags_differ))]

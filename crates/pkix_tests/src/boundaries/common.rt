@@ -129,12 +129,34 @@ const OTHER_NAME: &str = "\
 
 /// EdiPartyName (RFC 5280, 4.2.1.6).
 const EDI_PARTY_NAME: &str = "\
-? a0020500: read; tag a0 party_name; tag ae party_name
+? a0030c0161: read; tag a0 party_name; tag ae party_name
+= a003140161: read
+= a003130161: read
+= a0061c0400000061: read
+= a0041e020061: read
+= a0020c00: read
+= a0020500: tag 05 name_assigner
+= a003160161: tag 16 name_assigner
+= a003130140: InvalidValue name_assigner
+= a0030c01c3: InvalidValue name_assigner
 = a000: short 1 name_assigner
-= a00405000500: ExtraData name_assigner
-+ a1020500: short 1 party_name; ExtraData; tag ae party_name
+= a0060c01610c0162: ExtraData name_assigner
+= 0c0161: tag 0c party_name
+= 800161: tag 80 party_name
++ a1030c0161: short 1 party_name; ExtraData; tag ae party_name
+= a103140161: read
+= a103130161: read
+= a1061c0400000061: read
+= a1041e020061: read
+= a1020c00: read
+= a1020500: tag 05 party_name
+= a103160161: tag 16 party_name
+= a103130140: InvalidValue party_name
+= a1030c01c3: InvalidValue party_name
 = a100: short 1 party_name
-= a10405000500: ExtraData party_name";
+= a1060c01610c0162: ExtraData party_name
+= 0c0161: tag 0c party_name
+= 810161: tag 81 party_name";
 
 /// GeneralName (RFC 5280, 4.2.1.6).
 const GENERAL_NAME: &str = "\
@@ -143,7 +165,7 @@ a00806022a03a0020500: read
 820161: read
 a300: read
 a4023000: read
-a504a1020500: read
+a505a1030c0161: read
 860161: read
 8704c0000201: read
 88022a03: read
@@ -163,7 +185,8 @@ a40430023100: read
 a400: short 1
 a40430000500: ExtraData
 84023000: tag 84
-8504a1020500: tag 85
+a504a1020500: tag 05 EdiPartyName::party_name
+8505a1030c0161: tag 85
 86017f: read
 860180: InvalidValue
 8602c3a9: InvalidValue
