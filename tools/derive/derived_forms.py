@@ -624,8 +624,8 @@ def answers(item, module):
         at = "" if part is plain[0] else f"-in-{part.name}"
         is_large = any(type.name in names for type in module.within(part.base))
         large += ANSWER.format(f"write_element-requires{at}", "inl (search rules)", "") if is_large else ""
-        term = f"unmoved_keeps_front _ _ c.write_element{at}.result c.write_element{at}.ensures.err"
+        term = f"OnErr-KeepsPrefix _ _ c.write_element{at}.result c.write_element{at}.ensures.err"
         kept += ANSWER.format(f"returns-in-{part.name}-clause-err", term, "")
     uses = "use Rattle.std.proofs.Common.{inl, rules}\n"
-    uses += "use Rattle.asn1.specs.Lemmas.Variants.{unmoved_keeps_front}\n"
+    uses += "use Rattle.asn1.specs.Lemmas.Variants.{OnErr-KeepsPrefix}\n"
     return f"{item.name}Asn1DefinedByWritable{item.of}/write", uses, large and large + kept

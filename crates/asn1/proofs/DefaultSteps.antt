@@ -9,7 +9,7 @@ use Rattle.asn1_core.specs.Element.{◌>>=◌}
 use Rattle.asn1_core.specs.ReadError.{ReadError, read_error}
 use Rattle.asn1_core.specs.Reading.{Returns, IsErrorOf, begins_accepted}
 use Rattle.asn1_core.specs.Options.{option_meaning, option_read}
-use Rattle.asn1_core.specs.Lemmas.Results.{ok_is, bind_ok, chosen}
+use Rattle.asn1_core.specs.Lemmas.Results.{ok_is, bind_ok, if-cases}
 use Rattle.asn1.specs.Defaults.{same_encoding, read_default, or_read_default, seen_ok, default_read}
 use Rattle.asn1.specs.Defaulted.{EqualityTells}
 
@@ -47,8 +47,8 @@ no_value {M} m t rest e = nothing_apart m (ap (λ (p : Option M × List ℕ). p.
 
 module _ {V M : Type 0} (meaning : V → M) (encoding : M → List ℕ) (same : V → V → Bool) where
   -- equality is the equality of encodings
-  pub same_is : (a b : V) → EqualityTells meaning encoding same a b → same a b ≡ same_encoding encoding (meaning a) (meaning b)
-  same_is a b tells =
+  pub same-same_encoding : (a b : V) → EqualityTells meaning encoding same a b → same a b ≡ same_encoding encoding (meaning a) (meaning b)
+  same-same_encoding a b tells =
       same_from_decides {P = encoding (meaning a) ≡ encoding (meaning b)} (same a b) (same_encoding encoding (meaning a) (meaning b)) (λ e. ap encoding (tells.means e), tells.equal) (bytes_eq-Decides (encoding (meaning a)) (encoding (meaning b)))
 
   -- a valid value means the default, or has another encoding
@@ -56,13 +56,13 @@ module _ {V M : Type 0} (meaning : V → M) (encoding : M → List ℕ) (same : 
   known_is valid a b tells v =
       elim (either_answer (same a b)) [
         | inl e ↦ inl (tells.means e)
-        | inr e ↦ inr (v, sym (same_is a b tells) ∙ e)
+        | inr e ↦ inr (v, sym (same-same_encoding a b tells) ∙ e)
       ]
 
   module _ (b : V) (default : M) (default_is : meaning b ≡ default) (tells : (a : V) → EqualityTells meaning encoding same a b) where
     -- equality with the default is the equality of encodings
     pub same_default : (a : V) → same a b ≡ same_encoding encoding (meaning a) default
-    same_default a = same_is a b (tells a) ∙ ap (λ (m : M). same_encoding encoding (meaning a) m) default_is
+    same_default a = same-same_encoding a b (tells a) ∙ ap (λ (m : M). same_encoding encoding (meaning a) m) default_is
 
     -- ---- reading
 
@@ -94,7 +94,7 @@ module _ {V M : Type 0} (meaning : V → M) (encoding : M → List ℕ) (same : 
       option_read accepts read t ≡ Ok (option_meaning meaning o, rest) → read_default same o b ≡ Err e → (m : M) × (read t ≡ Ok (m, rest))
   left_behind b accepts read t rest None e found refused = absurd cc
   left_behind b accepts read t rest (Some a) e found refused =
-      elim (chosen (begins_accepted accepts t) (read t >>= some_gave) (Ok (None, t)) (Ok (Some (meaning a), rest)) found) [
+      elim (if-cases (begins_accepted accepts t) (read t >>= some_gave) (Ok (None, t)) (Ok (Some (meaning a), rest)) found) [
         | inl p ↦
             let q = bind_ok (read t) some_gave (Some (meaning a), rest) p.1 in
             (q.0.0, q.1 ∙ ap (λ (s : List ℕ). gave s q.0.0) (second_same _ _ (ok_is _ _ q.2)))

@@ -15,7 +15,7 @@ use Rattle.asn1_core.specs.Reading.{Returns, Fits}
 use Rattle.std.specs.List.{concat, flat_map, AllByRecursion}
 use Rattle.asn1_core.specs.Listing.{encoding_less, InOrder, listing, place_encoding}
 use Rattle.asn1_core.specs.Lemmas.Contents.{fits_is_readable}
-use Rattle.asn1_core.specs.Lemmas.Elements.{element_ok, element_octets, front_long}
+use Rattle.asn1_core.specs.Lemmas.Elements.{element_ok, element_octets, leading_element-too_long}
 use Rattle.asn1_core.specs.Lemmas.Listing.{listing_is}
 use Rattle.asn1_core.specs.Lemmas.Results.{ok_is}
 use Rattle.asn1_core.specs.Der.{Der, encoding_of}
@@ -83,7 +83,7 @@ module _ (octets : List ℕ) (tag : Tag) (content : List ℕ) (small : tag.value
   fronts_short short = ap leading_element (is ∙ sym (append-nil (element_encoding (element tag content)))) ∙ element_ok (element tag content) [] (record { tag = small; content = short })
 
   fronts_long : 2 ^ 32 ≤ length content → leading_element octets ≡ Err InvalidLength
-  fronts_long long = ap leading_element (is ∙ sym (append-nil (element_encoding (element tag content)))) ∙ front_long (element tag content) [] small long
+  fronts_long long = ap leading_element (is ∙ sym (append-nil (element_encoding (element tag content)))) ∙ leading_element-too_long (element tag content) [] small long
 
   -- an element is found
   pub contents_found : (e : Element) (rest : List ℕ) (found : Bor (List ℕ)) → IsOctets octets → leading_element octets ≡ Ok (e, rest) → found.now ≡ e.content → AreContents content (Ok found)

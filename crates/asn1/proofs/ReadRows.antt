@@ -6,7 +6,7 @@ use Rattle.asn1_core.specs.ReadError.{ReadError}
 use Rattle.asn1_core.specs.Reading.{Returns, IsErrorOf}
 use Rattle.asn1_core.specs.Lemmas.Results.{ok_is}
 use Rattle.asn1.specs.FieldReads.{field_out, others_out, field_read, item_read, behind_out}
-use Rattle.asn1.specs.ItemsAndValues.{seen_front, same_front as is_same}
+use Rattle.asn1.specs.ItemsAndValues.{seen_front, seen_front-id as is_same}
 
 pair_ok : {K M : Type 0} (k l : K) (r : Result M ReadError) (n : M)
     → ◌≡◌ {A = Result (K × M) ReadError} (r >>= λ m. Ok (k, m)) (Ok (l, n)) → (r ≡ Ok n) × (k ≡ l)
@@ -26,8 +26,8 @@ no_value f x e = absurd cc
 same_error : {A B : Type 0} (f g : ReadError) → ◌≡◌ {A = Result A ReadError} (Err f) (Err g) → ◌≡◌ {A = Result B ReadError} (Err f) (Err g)
 same_error f g e = cc
 
-pub same_front : {M : Type 0} (read : List ℕ → Result (M × List ℕ) ReadError) (t : List ℕ) → read t ≡ seen_front (λ m. m) (read t)
-same_front read t = is_same (read t)
+pub seen_front-id_read : {M : Type 0} (read : List ℕ → Result (M × List ℕ) ReadError) (t : List ℕ) → read t ≡ seen_front (λ m. m) (read t)
+seen_front-id_read read t = is_same (read t)
 
 -- a field, and those after it
 module _ {U W K M N : Type 0} (first : W → K) (rest : W → U) (one : U → M) (other : U → N)
@@ -38,28 +38,28 @@ module _ {U W K M N : Type 0} (first : W → K) (rest : W → U) (one : U → M)
   abbrev Out : (List ℕ → List Place → Type 0) → List ℕ → List Place → Type 0
   Out behind c places = field_out name out c places ⊎ others_out read behind c places
 
-  refused : (c : List ℕ) (x : K × List ℕ) (f : ReadError) → read c ≡ Ok x
+  IsErrorOf-field_read : (c : List ℕ) (x : K × List ℕ) (f : ReadError) → read c ≡ Ok x
       → Returns {V = U} other (out2 x.1) (Err f) (read2 x.1) → IsErrorOf (Out out2 c) (field_read name read read2 c) f
-  refused c x f e (inl q) = inl (rw (e, q) refl)
-  refused c x f e (inr o) = inr (o.0, inr (x, e, o.1))
+  IsErrorOf-field_read c x f e (inl q) = inl (rw (e, q) refl)
+  IsErrorOf-field_read c x f e (inr o) = inr (o.0, inr (x, e, o.1))
 
-  answered : (c : List ℕ) (r : Result (K × List ℕ) ReadError) → read c ≡ r → (result : Result W ReadError)
+  Returns-field_read : (c : List ℕ) (r : Result (K × List ℕ) ReadError) → read c ≡ r → (result : Result W ReadError)
       → Returns (λ w. (first w, one (rest w))) (Out out1 c) result (field_read name read read1 c)
       → Returns (λ w. (first w, other (rest w))) (Out out2 c) result (field_read name read read2 c)
-  answered c (Ok x) e (Ok w) h =
+  Returns-field_read c (Ok x) e (Ok w) h =
       let was = pair_ok x.0 (first w) (read1 x.1) (one (rest w)) (rw e at h) in
       let is : read2 x.1 ≡ Ok (other (rest w)) = same x.1 (Ok (rest w)) was.0 in
       rw (e, is) (ap (λ (k : K). Ok (k, other (rest w))) was.1)
-  answered c (Ok x) e (Err f) (inl h) = refused c x f e (same x.1 (Err f) (inl (pair_err x.0 (read1 x.1) f (rw e at h))))
-  answered c r e (Err f) (inr (k, inl o)) = inr (k, inl o)
-  answered c r e (Err f) (inr (k, inr (x, is, o))) = refused c x f is (same x.1 (Err f) (inr (k, o)))
-  answered c (Err g) e (Ok w) h = absurd cc
-  answered c (Err g) e (Err f) (inl h) = inl (rw e (same_error _ f (rw e at h)))
+  Returns-field_read c (Ok x) e (Err f) (inl h) = IsErrorOf-field_read c x f e (same x.1 (Err f) (inl (pair_err x.0 (read1 x.1) f (rw e at h))))
+  Returns-field_read c r e (Err f) (inr (k, inl o)) = inr (k, inl o)
+  Returns-field_read c r e (Err f) (inr (k, inr (x, is, o))) = IsErrorOf-field_read c x f is (same x.1 (Err f) (inr (k, o)))
+  Returns-field_read c (Err g) e (Ok w) h = absurd cc
+  Returns-field_read c (Err g) e (Err f) (inl h) = inl (rw e (same_error _ f (rw e at h)))
 
   pub one_field_more : (c : List ℕ) (result : Result W ReadError)
       → Returns (λ w. (first w, one (rest w))) (Out out1 c) result (field_read name read read1 c)
       → Returns (λ w. (first w, other (rest w))) (Out out2 c) result (field_read name read read2 c)
-  one_field_more c result h = answered c (read c) refl result h
+  one_field_more c result h = Returns-field_read c (read c) refl result h
 
 -- an item, which two statements map to what they say of it, and the fields after it
 module _ {U W K I J M N : Type 0} (rest : W → U) (one : U → M) (other : U → N)

@@ -58,9 +58,9 @@ pub record ValueAgrees {T V : Type 0} (by : ByItem T V) (both : ItemAndValue T V
 abbrev pub Agrees : {T V : Type 0} → Der T → ByItem T V → ItemAndValue T V → Type 0
 Agrees d by both = ItemAgrees d both.item × ValueAgrees by both
 
-pub same_front : {M : Type 0} (r : Result (M × List ℕ) ReadError) → r ≡ seen_front (λ m. m) r
-same_front (Ok x) = refl
-same_front (Err e) = refl
+pub seen_front-id : {M : Type 0} (r : Result (M × List ℕ) ReadError) → r ≡ seen_front (λ m. m) r
+seen_front-id (Ok x) = refl
+seen_front-id (Err e) = refl
 
 -- They agree if they state the same, word for word.
 pub word_for_word : {T V : Type 0} (both : ItemAndValue T V) → Agrees both.item (by_item both) both
@@ -68,7 +68,7 @@ word_for_word both = (
   record {
     stands_for = λ m. m;
     meaning = λ v. refl;
-    read = λ t. same_front (both.item.read t);
+    read = λ t. seen_front-id (both.item.read t);
     runs_out = λ t places out. out;
     encodings = λ m t. (λ h. h, λ h. h);
     closures = λ m h. h;
@@ -78,7 +78,7 @@ word_for_word both = (
     stands_for = λ m. m;
     meaning = λ v. refl;
     item = λ i m e. e;
-    read = λ i t. same_front (both.value.read (both.item.meaning i) t);
+    read = λ i t. seen_front-id (both.value.read (both.item.meaning i) t);
     runs_out = λ i t places out. out;
     encodings = λ m t. (λ h. h, λ h. h);
     closures = λ m h. h;

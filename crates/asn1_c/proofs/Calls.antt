@@ -15,7 +15,7 @@ module _ {n : ℕ} where
       (rest.0, rest.1 ∙ ap (λ l. l ++ concat parts) first.1 ∙ append_assoc (inline_text s) x (concat parts))
 
   -- Several writes append what they wrote together.
-  pub appended : (s : InlineText n) (octets : List ℕ) (t : InlineText n) → WritesInCalls AppendsIfIntact s octets t → IsIntact s → inline_text s ≡ [] → inline_text t ≡ octets
-  appended s octets t wrote intact none =
+  pub inline_text-WritesInCalls : (s : InlineText n) (octets : List ℕ) (t : InlineText n) → WritesInCalls AppendsIfIntact s octets t → IsIntact s → inline_text s ≡ [] → inline_text t ≡ octets
+  inline_text-WritesInCalls s octets t wrote intact none =
       let all = subst (λ l. AppendsIfIntact s l t) wrote.whole (text_after_calls s wrote.parts t wrote.calls) intact in
       all.1 ∙ ap (λ l. l ++ octets) none

@@ -36,8 +36,8 @@ framed_more octets rest e (Some kind) is s =
     }
 
 -- An element has an octet.
-pub shorter : (octets rest : List ℕ) (e : Element) → IsLeadingElement octets (Ok (e, rest)) → length rest < length octets
-shorter octets rest e is = omega (arith, ap length is.1, length-append (element_encoding e) rest, content_less e)
+pub length-remaining-lt : (octets rest : List ℕ) (e : Element) → IsLeadingElement octets (Ok (e, rest)) → length rest < length octets
+length-remaining-lt octets rest e is = omega (arith, ap length is.1, length-append (element_encoding e) rest, content_less e)
 
 -- The first of the elements is what the octets begin with.
 pub first_of : (octets rest : List ℕ) (e : Element) (encodings : List (List ℕ)) → IsLeadingElement octets (Ok (e, rest)) → AreElements octets encodings → (others : List (List ℕ)) × (encodings ≡ element_encoding e ∷ others) × AreElements rest others
@@ -85,22 +85,22 @@ passes_more listed octets front rest after e p is less = record {
 }
 
 -- The place is behind what is passed, if the next element isn't less.
-pub place_here : (listed octets front rest after : List ℕ) (e : Element) → IsPassed listed octets front rest → IsLeadingElement rest (Ok (e, after)) → encoding_less (element_encoding e) octets ≡ false → (encodings : List (List ℕ)) → AreElements listed encodings → concat (place_encoding octets encodings) ≡ front ++ (octets ++ rest)
-place_here listed octets front rest after e p is less encodings a =
+pub concat-place_encoding_here : (listed octets front rest after : List ℕ) (e : Element) → IsPassed listed octets front rest → IsLeadingElement rest (Ok (e, after)) → encoding_less (element_encoding e) octets ≡ false → (encodings : List (List ℕ)) → AreElements listed encodings → concat (place_encoding octets encodings) ≡ front ++ (octets ++ rest)
+concat-place_encoding_here listed octets front rest after e p is less encodings a =
     let b = p.behind encodings a in
     let f = first_of rest after e b.0 is b.1 in
     b.2 ∙ ap (λ us. front ++ concat (place_encoding octets us)) f.1 ∙ ap (λ us. front ++ concat us) (placed_here octets (element_encoding e) f.0 less) ∙ ap (λ us. front ++ (octets ++ concat us)) (sym f.1) ∙ ap (λ t. front ++ (octets ++ t)) (sym b.1.joined)
 
 -- So it is, if there is no next element.
-pub place_last : (listed octets front rest : List ℕ) (answer : Result (Element × List ℕ) ParseErrorKind) (kind : ParseErrorKind) → IsPassed listed octets front rest → ((a : Result (Element × List ℕ) ParseErrorKind) → IsLeadingElement rest a → answer ≡ a) → answer ≡ Err kind → (encodings : List (List ℕ)) → AreElements listed encodings → concat (place_encoding octets encodings) ≡ front ++ (octets ++ rest)
-place_last listed octets front rest answer kind p only err encodings a =
+pub concat-place_encoding_last : (listed octets front rest : List ℕ) (answer : Result (Element × List ℕ) ParseErrorKind) (kind : ParseErrorKind) → IsPassed listed octets front rest → ((a : Result (Element × List ℕ) ParseErrorKind) → IsLeadingElement rest a → answer ≡ a) → answer ≡ Err kind → (encodings : List (List ℕ)) → AreElements listed encodings → concat (place_encoding octets encodings) ≡ front ++ (octets ++ rest)
+concat-place_encoding_last listed octets front rest answer kind p only err encodings a =
     let b = p.behind encodings a in
     let none = none_of rest b.0 answer kind only err b.1 in
     b.2 ∙ ap (λ us. front ++ concat (place_encoding octets us)) none ∙ ap (λ t. front ++ (octets ++ t)) (ap concat (sym none) ∙ sym b.1.joined)
 
 -- The place as a count of octets.
-pub place_counted : (listed octets front rest : List ℕ) (n : ℕ) → listed ≡ front ++ rest → n ≡ length listed - length rest → front ++ (octets ++ rest) ≡ take n listed ++ octets ++ drop n listed
-place_counted listed octets front rest n whole is =
+pub append-take_drop : (listed octets front rest : List ℕ) (n : ℕ) → listed ≡ front ++ rest → n ≡ length listed - length rest → front ++ (octets ++ rest) ≡ take n listed ++ octets ++ drop n listed
+append-take_drop listed octets front rest n whole is =
     let size : n ≡ length front = omega (arith, is, ap length whole, length-append front rest) in
     let before : take n listed ≡ front = rw (size, whole) (take-append_seam front rest) in
     let after : drop n listed ≡ rest = rw (size, whole) (drop-append_seam front rest) in
@@ -129,12 +129,12 @@ rotated front octets all turn at is within turns =
     let turned_is : turn ≡ octets ++ drop at front = turns ∙ turned (drop at front) octets (mid_of at (length all - at) all) (last_of at all ∙ behind) in
     put_last at all turn ∙ ap (λ t. t ++ turn) before ∙ ap (λ t. take at front ++ t) turned_is ∙ sym (append_assoc (take at front) octets (drop at front))
 
-pub inserted : (old octets copy turn : List ℕ) (at : ℕ) (encodings : List (List ℕ)) → let n = length old - length octets in let all = put_mid n (length old - n) old copy in
+pub put_mid-place_encoding : (old octets copy turn : List ℕ) (at : ℕ) (encodings : List (List ℕ)) → let n = length old - length octets in let all = put_mid n (length old - n) old copy in
     length octets ≤ length old → at ≤ length (take n old) → copy ≡ octets
     → turn ≡ drop (length (mid_of at (length all - at) all) - length octets) (mid_of at (length all - at) all) ++ take (length (mid_of at (length all - at) all) - length octets) (mid_of at (length all - at) all)
     → concat (place_encoding octets encodings) ≡ take at (take n old) ++ octets ++ drop at (take n old)
     → put_mid at (length all - at) all turn ≡ concat (place_encoding octets encodings)
-inserted old octets copy turn at encodings room within copied turns place =
+put_mid-place_encoding old octets copy turn at encodings room within copied turns place =
     let n = length old - length octets in
     let all = put_mid n (length old - n) old copy in
     rotated (take n old) octets all turn at (put_last n old copy ∙ ap (λ t. take n old ++ t) copied) within turns ∙ sym place

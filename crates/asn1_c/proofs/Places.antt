@@ -12,8 +12,8 @@ use Rattle.asn1_c.specs.Texts.{LeavesText}
 -- ---- a text in parts
 
 -- Two parts.
-pub both : (s t octets b₀ b₁ b₂ : List ℕ) (c₀ c₁ c₂ : ℕ) → Appends s b₀ c₀ b₁ c₁ → Appends t b₁ c₁ b₂ c₂ → octets ≡ s ++ t → Appends octets b₀ c₀ b₂ c₂
-both s t octets b₀ b₁ b₂ c₀ c₁ c₂ first second is front old holds =
+pub Appends-append : (s t octets b₀ b₁ b₂ : List ℕ) (c₀ c₁ c₂ : ℕ) → Appends s b₀ c₀ b₁ c₁ → Appends t b₁ c₁ b₂ c₂ → octets ≡ s ++ t → Appends octets b₀ c₀ b₂ c₂
+Appends-append s t octets b₀ b₁ b₂ c₀ c₁ c₂ first second is front old holds =
     subst (λ all. Holds all old b₂ c₂) (append_assoc front s t ∙ ap (λ l. front ++ l) (sym is)) (second (front ++ s) old (first front old holds))
 
 -- One octet more of a name.
@@ -103,8 +103,8 @@ module _ (octets old : List ℕ) where
       let backs : drop (length octets) old ≡ drop (length cut) old = sym (drop_min (length octets) old) ∙ ap (λ n. drop n old) (omega (arith, size, room, short)) ∙ drop_min (length cut) old in
       ap (λ l. l ++ drop (length octets) old) fronts ∙ ap (λ l. cut ++ l) backs
 
-  pub left : (empty new : List ℕ) (count last : ℕ) → length old < 2 ^ 64 → Appends octets [] 0 empty count → count ≤ length old → Appends octets old 0 new last → LeavesText cut old new last
-  left empty new count last short counts room puts =
+  pub LeavesText-fits : (empty new : List ℕ) (count last : ℕ) → length old < 2 ^ 64 → Appends octets [] 0 empty count → count ≤ length old → Appends octets old 0 new last → LeavesText cut old new last
+  LeavesText-fits empty new count last short counts room puts =
       let holds = puts [] old none in
       let size = counted empty count counts in
       let fits : leb (length cut) (length old) ≡ true = le-leb (length cut) (length old) (omega (arith, size, room)) in

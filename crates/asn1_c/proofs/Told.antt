@@ -30,21 +30,21 @@ not_short (Err UnknownDefinedBy) other short = short
 not_short (Err AllocationError) other short = short
 
 -- If the number says so, it is.
-pub short_told : {A : Type 0} (r : Result A ParseErrorKind) → (told r).number ≡ 6 → r ≡ Err (ShortData (told r).needed)
-short_told (Ok x) six = absurd (omega (arith, six))
-short_told (Err InvalidValue) six = absurd (omega (arith, six))
-short_told (Err InvalidTag) six = absurd (omega (arith, six))
-short_told (Err InvalidLength) six = absurd (omega (arith, six))
-short_told (Err (InvalidSize min max actual)) six = absurd (omega (arith, six))
-short_told (Err (UnexpectedTag actual)) six = absurd (omega (arith, six))
-short_told (Err (ShortData needed)) six = refl
-short_told (Err IntegerOverflow) six = absurd (omega (arith, six))
-short_told (Err ExtraData) six = absurd (omega (arith, six))
-short_told (Err InvalidSetOrdering) six = absurd (omega (arith, six))
-short_told (Err EncodedDefault) six = absurd (omega (arith, six))
-short_told (Err OidTooLong) six = absurd (omega (arith, six))
-short_told (Err UnknownDefinedBy) six = absurd (omega (arith, six))
-short_told (Err AllocationError) six = absurd (omega (arith, six))
+pub told-ShortData : {A : Type 0} (r : Result A ParseErrorKind) → (told r).number ≡ 6 → r ≡ Err (ShortData (told r).needed)
+told-ShortData (Ok x) six = absurd (omega (arith, six))
+told-ShortData (Err InvalidValue) six = absurd (omega (arith, six))
+told-ShortData (Err InvalidTag) six = absurd (omega (arith, six))
+told-ShortData (Err InvalidLength) six = absurd (omega (arith, six))
+told-ShortData (Err (InvalidSize min max actual)) six = absurd (omega (arith, six))
+told-ShortData (Err (UnexpectedTag actual)) six = absurd (omega (arith, six))
+told-ShortData (Err (ShortData needed)) six = refl
+told-ShortData (Err IntegerOverflow) six = absurd (omega (arith, six))
+told-ShortData (Err ExtraData) six = absurd (omega (arith, six))
+told-ShortData (Err InvalidSetOrdering) six = absurd (omega (arith, six))
+told-ShortData (Err EncodedDefault) six = absurd (omega (arith, six))
+told-ShortData (Err OidTooLong) six = absurd (omega (arith, six))
+told-ShortData (Err UnknownDefinedBy) six = absurd (omega (arith, six))
+told-ShortData (Err AllocationError) six = absurd (omega (arith, six))
 
 -- No error has the number 0.
 pub some_number : (kind : ParseErrorKind) {P : Type 0} → (told {A = Unit {0}} (Err kind)).number ≡ 0 → P

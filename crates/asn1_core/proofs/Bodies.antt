@@ -14,12 +14,12 @@ use Rattle.asn1_core.specs.Element.{element, element_encoding}
 use Rattle.asn1_core.specs.declared.writer.WriteError.{WriteError}
 use Rattle.std.proofs.lemmas.Option.{none-some}
 
-pub keeps_front_by : {a b : List ℕ} (t : List ℕ) → b ≡ a ++ t → KeepsPrefix a b
-keeps_front_by {a} {b} t e = let d : drop (length a) b ≡ t = grind (arith, common_steps) in record { joined = e ∙ ap (λ xs. a ++ xs) (sym d) }
+pub KeepsPrefix-append : {a b : List ℕ} (t : List ℕ) → b ≡ a ++ t → KeepsPrefix a b
+KeepsPrefix-append {a} {b} t e = let d : drop (length a) b ≡ t = grind (arith, common_steps) in record { joined = e ∙ ap (λ xs. a ++ xs) (sym d) }
 
 -- two steps that each keep the prefix keep it together
-pub keeps_front_on : {a b c : List ℕ} → KeepsPrefix a b → KeepsPrefix b c → KeepsPrefix a c
-keeps_front_on {a} {b} {c} h k = keeps_front_by (drop (length a) b ++ drop (length b) c) (k.joined ∙ ap (λ xs. xs ++ drop (length b) c) h.joined ∙ append_assoc a (drop (length a) b) (drop (length b) c))
+pub KeepsPrefix-trans : {a b c : List ℕ} → KeepsPrefix a b → KeepsPrefix b c → KeepsPrefix a c
+KeepsPrefix-trans {a} {b} {c} h k = KeepsPrefix-append (drop (length a) b ++ drop (length b) c) (k.joined ∙ ap (λ xs. xs ++ drop (length b) c) h.joined ∙ append_assoc a (drop (length a) b) (drop (length b) c))
 
 take_front : (n : ℕ) (xs ys : List ℕ) → n ≡ length xs → take n (xs ++ ys) ≡ xs
 take_front n xs ys e = grind (arith, common_steps)
@@ -64,16 +64,16 @@ module _ {F E : Type 0} (calls : Once F (MutBor Buffer × Unit {0}) (Result (Uni
         record { content = t; allowed = m; joined = announced_is old b1 before.bytes after.bytes t tag n e1 e2 k.joined (announced t m) }
 
     pub announced_err : (r : Result (Unit {0}) E) → FnOnceReturnsAtMut calls body before r after → OnErr r (KeepsPrefix old after.bytes)
-    announced_err r h = on_err_any r (keeps_front_on (keeps_front_by (identifier_octets tag) e1) (keeps_front_on (keeps_front_by (length_octets n) e2) (front _ _ _ h)))
+    announced_err r h = on_err_any r (KeepsPrefix-trans (KeepsPrefix-append (identifier_octets tag) e1) (KeepsPrefix-trans (KeepsPrefix-append (length_octets n) e2) (front _ _ _ h)))
 
-  pub refused : (gives : WriteError → E → Type 0) (before after : Buffer) (r : Result (Unit {0}) E) → FnOnceReturnsAtMut calls body before r after → IfErr r (FailsAs calls body gives)
-  refused gives before after (Ok u) h = tt
-  refused gives before after (Err e) h = inr (record { old = before; new = after; called = h })
+  pub FailsAs-call_err : (gives : WriteError → E → Type 0) (before after : Buffer) (r : Result (Unit {0}) E) → FnOnceReturnsAtMut calls body before r after → IfErr r (FailsAs calls body gives)
+  FailsAs-call_err gives before after (Ok u) h = tt
+  FailsAs-call_err gives before after (Err e) h = inr (record { old = before; new = after; called = h })
 
   -- the exit of a `?` on the body's result
-  pub refused_by : (gives : WriteError → E → Type 0) (before after : Buffer) (r s : Result (Unit {0}) E) (e : E) → s ≡ Err e → FnOnceReturnsAtMut calls body before s after → IsErrAnd r (λ x. x ≡ e) → IfErr r (FailsAs calls body gives)
-  refused_by gives before after (Ok u) s e i h a = tt
-  refused_by gives before after (Err x) s e i h a = inr (record { old = before; new = after; called = rw (i, ← a) at h })
+  pub FailsAs-result_err : (gives : WriteError → E → Type 0) (before after : Buffer) (r s : Result (Unit {0}) E) (e : E) → s ≡ Err e → FnOnceReturnsAtMut calls body before s after → IsErrAnd r (λ x. x ≡ e) → IfErr r (FailsAs calls body gives)
+  FailsAs-result_err gives before after (Ok u) s e i h a = tt
+  FailsAs-result_err gives before after (Err x) s e i h a = inr (record { old = before; new = after; called = rw (i, ← a) at h })
 
   -- if the length is patched
   pub patched_ok : (old b1 : List ℕ) (before after : Buffer) (b4 : List ℕ) (tag : Tag) (start : ℕ) (r : Result (Unit {0}) E) → LeavesPrefix calls body → b1 ≡ old ++ identifier_octets tag → before.bytes ≡ b1 ++ 0 ∷ [] → start ≡ length before.bytes → r ≡ Ok tt → FnOnceReturnsAtMut calls body before r after → b4 ≡ take (start - 1) after.bytes ++ length_octets (length after.bytes - start) ++ drop start after.bytes → Appended calls body tag old b4
@@ -143,6 +143,6 @@ pub gives_one : (has : Type 0) (octets : List ℕ) (r : Option ℕ) → r ≡ So
 gives_one has octets r e = record { right = rw e (λ t same. ap length same); told = λ k t same small. e ∙ ap (λ u. Some (length u)) (sym same) }
 
 -- from what a body states at Ok and at Err
-pub front_of : {E : Type 0} (r : Result (Unit {0}) E) (t old new : List ℕ) → OnOk r (new ≡ old ++ t) → OnErr r (KeepsPrefix old new) → KeepsPrefix old new
-front_of (Ok u) t old new h k = keeps_front_by t h
-front_of (Err e) t old new h k = k
+pub KeepsPrefix-result : {E : Type 0} (r : Result (Unit {0}) E) (t old new : List ℕ) → OnOk r (new ≡ old ++ t) → OnErr r (KeepsPrefix old new) → KeepsPrefix old new
+KeepsPrefix-result (Ok u) t old new h k = KeepsPrefix-append t h
+KeepsPrefix-result (Err e) t old new h k = k

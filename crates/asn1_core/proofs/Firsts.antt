@@ -91,8 +91,8 @@ filled_firsts n t ys count e f = ⊎_elim
     grind (arith, common_steps))
     (cases_lt (length t) n)
 
-pub filled : (t ys : List ℕ) (count : ℕ) → count ≡ min (length t) 8 → ys ≡ take count t → ys ++ drop count (replicate 8 0) ≡ take 8 (t ++ replicate 8 0)
-filled t ys count e f = filled_firsts 8 t ys count e f
+pub append-drop_zeros : (t ys : List ℕ) (count : ℕ) → count ≡ min (length t) 8 → ys ≡ take count t → ys ++ drop count (replicate 8 0) ≡ take 8 (t ++ replicate 8 0)
+append-drop_zeros t ys count e f = filled_firsts 8 t ys count e f
 
 -- ---- spans
 

@@ -9,7 +9,7 @@ use Rattle.asn1_core.specs.ReadError.{ReadError}
 use Rattle.asn1_core.specs.Reading.{Returns, Consumes, Fits, IsOneElement, begins_accepted, whole}
 use Rattle.asn1_core.specs.Der.{Der}
 use Rattle.asn1_core.specs.Reads.{ReturnsValue}
-use Rattle.asn1_core.specs.Lemmas.Wholes.{whole_is, whole_read_back, fits_inside, stands-nil}
+use Rattle.asn1_core.specs.Lemmas.Wholes.{whole_is, whole_read_back, fits_inside, begins_accepted-nil}
 
 pub inside_consumes : {M : Type 0} (encoding : M → List ℕ) (valid : M → Type 0) (read : List ℕ → Result (M × List ℕ) ReadError) →
     ((t rest : List ℕ) (m : M) → IsOctets t → read t ≡ Ok (m, rest) → Consumes t (encoding m) rest × valid m) →
@@ -22,14 +22,14 @@ pub inside_read_back : {M : Type 0} (accepts : Tag → Bool) (encoding : M → L
     (encoding m ≡ []) ⊎ IsOneElement (encoding m) →
     (Fits (encoding m) → (encoding m ≡ [] → begins_accepted accepts [] ≡ false) → read (encoding m ++ []) ≡ Ok (m, [])) →
     length (encoding m) < 2 ^ 32 → whole (read (encoding m)) ≡ Ok m
-inside_read_back accepts encoding read m shape again small = whole_read_back encoding read m (encoding m) (again (fits_inside (encoding m) shape small) (λ e. stands-nil accepts)) refl
+inside_read_back accepts encoding read m shape again small = whole_read_back encoding read m (encoding m) (again (fits_inside (encoding m) shape small) (λ e. begins_accepted-nil accepts)) refl
 
 -- what a call took that returned a value: the value's encoding
-pub taken : {V M : Type 0} (view : V → M) (out : List Place → Type 0) (encoding : M → List ℕ) (good : M → Type 0) (read : List ℕ → Result (M × List ℕ) ReadError) →
+pub Returns-consumed : {V M : Type 0} (view : V → M) (out : List Place → Type 0) (encoding : M → List ℕ) (good : M → Type 0) (read : List ℕ → Result (M × List ℕ) ReadError) →
     ((t rest : List ℕ) (m : M) → IsOctets t → read t ≡ Ok (m, rest) → Consumes t (encoding m) rest × good m) →
     (t rest : List ℕ) (result : Result V ReadError) → IsOctets t → Returns (λ v. (view v, rest)) out result (read t) → IfOk result (λ v. (t ≡ encoding (view v) ++ rest) × good (view v))
-taken view out encoding good read law t rest (Ok v) is answers = let took = law t rest (view v) is answers in (took.0.is, took.1)
-taken view out encoding good read law t rest (Err e) is answers = tt
+Returns-consumed view out encoding good read law t rest (Ok v) is answers = let took = law t rest (view v) is answers in (took.0.is, took.1)
+Returns-consumed view out encoding good read law t rest (Err e) is answers = tt
 
 -- what a call returned whose read gives this value
 pub returns_as : {V : Type 0} (d : Der V) (out : List Place → Type 0) (result : Result V ReadError) (remaining : List ℕ) (m : d.Meaning) (rest : List ℕ) (read : Result (d.Meaning × List ℕ) ReadError) →
@@ -41,7 +41,7 @@ some_shorter [] rest t is some = absurd (some refl)
 some_shorter (octet ∷ octets) rest t is some = omega (arith, ap length is, length-append octets rest)
 
 -- what remains after a value is shorter, if no value's encoding is empty
-pub shorter : {V M : Type 0} (view : V → M) (encoding : M → List ℕ) (good : M → Type 0) (t rest : List ℕ) (result : Result V ReadError) → ((m : M) → good m → encoding m ≡ [] → ⊥) →
+pub length-remaining-lt : {V M : Type 0} (view : V → M) (encoding : M → List ℕ) (good : M → Type 0) (t rest : List ℕ) (result : Result V ReadError) → ((m : M) → good m → encoding m ≡ [] → ⊥) →
     IfOk result (λ v. (t ≡ encoding (view v) ++ rest) × good (view v)) → IfOk result (λ v. length rest < length t)
-shorter view encoding good t rest (Ok v) solid took = some_shorter (encoding (view v)) rest t took.0 (solid (view v) took.1)
-shorter view encoding good t rest (Err e) solid took = tt
+length-remaining-lt view encoding good t rest (Ok v) solid took = some_shorter (encoding (view v)) rest t took.0 (solid (view v) took.1)
+length-remaining-lt view encoding good t rest (Err e) solid took = tt

@@ -16,7 +16,7 @@ use Rattle.asn1_core.specs.declared.parser.ParseErrorKind.TheVariants.{InvalidVa
 use Rattle.asn1_core.specs.ReadError.{ReadError, read_error}
 use Rattle.asn1_core.specs.Integer.{nine_bits, is_minimal, with_sign, turned, integer_content, below, within_range, read_sized}
 use Rattle.asn1_core.specs.Lemmas.Lengths.{number_lt, number_push as number_more}
-use Rattle.asn1_core.specs.Lemmas.Integers.{zero_front, signed_low, signed_high, turned_length, turned_text, turned_low, turned_number, turned_shortest, shortest_nine, fewer_same, content_only, content_text, content_shortest, content_value, range_ok, range_below, range_above, sized_ok, sized_refused}
+use Rattle.asn1_core.specs.Lemmas.Integers.{number-zero_cons, signed_low, signed_high, turned_length, IsOctets-turned, turned_low, turned_number, turned_shortest, shortest_nine, fewer_same, content_only, IsOctets-integer_content, content_shortest, content_value, range_ok, range_below, range_above, sized_ok, sized_refused}
 
 -- ---- one more octet
 
@@ -58,7 +58,7 @@ content_few z least most =
     ⊎_elim
     (λ (long : 9 < length c). ⊎_elim
     (λ (h : get_or c 0 0 < 128). absurd (beyond_itself (inl (subst (λ (x : ℤ). z <ℤ x) (content_value z) (long_above c z (content_shortest z) long h most)))))
-    (λ (h : 128 ≤ get_or c 0 0). absurd (beyond_itself (inr (subst (λ (x : ℤ). x <ℤ z) (content_value z) (long_below c z (content_text z) (content_shortest z) long h least)))))
+    (λ (h : 128 ≤ get_or c 0 0). absurd (beyond_itself (inr (subst (λ (x : ℤ). x <ℤ z) (content_value z) (long_below c z (IsOctets-integer_content z) (content_shortest z) long h least)))))
     (cases_lt (get_or c 0 0) 128))
     (λ (few : length c ≤ 9). few)
     (cases_lt 9 (length c))
@@ -217,7 +217,7 @@ pub length_by_bits : (z : ℤ) (k n : ℕ) → size_of z ≡ n → n < 2 ^ k →
 unfolding integer_content
 length_by_bits z k n same small most =
     let c : List ℕ = integer_content z in
-    let is : IsOctets c = content_text z in
+    let is : IsOctets c = IsOctets-integer_content z in
     let e : is_minimal c ≡ true = content_shortest z in
     elim (cases_lt (get_or c 0 0) 128) [
       | inl h ↦
@@ -225,7 +225,7 @@ length_by_bits z k n same small most =
           low_bits c k is e h (omega (arith, value, small)) (omega (arith, value, most))
       | inr h ↦
           let value : number (turned c) ≡ n = sym (ap size_of (signed_high c is h)) ∙ ap size_of (content_value z) ∙ same in
-          low_bits (turned c) k (turned_text c) (turned_shortest c is e) (turned_low c is h) (omega (arith, value, small)) (omega (arith, value, most)) ∙ turned_length c
+          low_bits (turned c) k (IsOctets-turned c) (turned_shortest c is e) (turned_low c is h) (omega (arith, value, small)) (omega (arith, value, most)) ∙ turned_length c
     ]
 
 pub length_counted : (w : ℕ) (z : ℤ) (m n : ℕ) → size_of z ≡ n → n < 2 ^ w → m ≡ count_leading_zeros w n → (w - m) / 8 + 1 ≡ length (integer_content z)
@@ -262,7 +262,7 @@ length_passed w z r fits e = e ∙ ap (λ (x : ℤ). length (integer_content x))
 
 zeros_number : (k : ℕ) (c : List ℕ) → number (replicate k 0 ++ c) ≡ number c
 zeros_number zero c = refl
-zeros_number (suc k) c = zero_front (replicate k 0 ++ c) ∙ zeros_number k c
+zeros_number (suc k) c = number-zero_cons (replicate k 0 ++ c) ∙ zeros_number k c
 
 zeros_low : (k : ℕ) (c : List ℕ) → get_or c 0 0 < 128 → get_or (replicate k 0 ++ c) 0 0 < 128
 zeros_low zero c h = h
@@ -336,7 +336,7 @@ signed_sixteen t is l =
     elim (cases_lt (get_or t 0 0) 128) [
       | inl h ↦ ap (cast_signed w128) (from_sixteen t l) ∙ to_z_pos w128 (number t) (sixteen_small t is l h) ∙ sym (signed_low t h)
       | inr h ↦
-          let low : number (turned t) < 2 ^ 127 = sixteen_small (turned t) (turned_text t) (turned_length t ∙ l) (turned_low t is h) in
+          let low : number (turned t) < 2 ^ 127 = sixteen_small (turned t) (IsOctets-turned t) (turned_length t ∙ l) (turned_low t is h) in
           let power : 256 ^ length t ≡ 2 ^ 128 = ap (λ (k : ℕ). 256 ^ k) l in
           let value : number t ≡ 2 ^ 128 - suc (number (turned t)) = omega (arith, turned_number t is, power) in
           ap (cast_signed w128) (from_sixteen t l ∙ value) ∙ to_z-neg w128 (number (turned t)) low ∙ sym (signed_high t is h)
@@ -356,9 +356,9 @@ sign_same k s c is e =
       | inr h ↦ subst P (sym (e ∙ ap (λ (b : Bool). if b then 255 else 0) (le-leb 128 (get_or c 0 0) h))) (lit< tt, ones_same k c is h)
     ]
 
-pub extended : (s : ℕ) (c ys : List ℕ) (z : ℤ) → IsOctets c → length c ≤ 9 → s ≡ (if leb 128 (get_or c 0 0) then 255 else 0) → ys ≡ c →
+pub signed_number-sign_extended : (s : ℕ) (c ys : List ℕ) (z : ℤ) → IsOctets c → length c ≤ 9 → s ≡ (if leb 128 (get_or c 0 0) then 255 else 0) → ys ≡ c →
     z ≡ cast_signed w128 (from_be_bytes w128 (put_mid (16 - length c) (16 - (16 - length c)) (replicate 16 s) ys)) → z ≡ signed_number c
-extended s c ys z is few sign same value =
+signed_number-sign_extended s c ys z is few sign same value =
     let k : ℕ = 16 - length c in
     let filled = sign_same k s c is sign in
     let whole : put_mid (16 - length c) (16 - (16 - length c)) (replicate 16 s) ys ≡ replicate k s ++ c =
@@ -376,8 +376,8 @@ pub refused_number : (low high : ℤ) (c : List ℕ) (f : ReadError) (b : Bool) 
 refused_number low high c f true e same lower upper = sized_ok low high c (Err f) e (range_below low high (signed_number c) (lower refl) ∙ ap Err (sym same))
 refused_number low high c f false e same lower upper = sized_ok low high c (Err f) e (range_above low high (signed_number c) (upper refl).0 (upper refl).1 ∙ ap Err (sym same))
 
-pub answered_number : (low high : ℤ) (c : List ℕ) (z : ℤ) → is_minimal c ≡ true → z ≡ signed_number c → low ≤ℤ z → z ≤ℤ high → read_sized low high c ≡ Ok z
-answered_number low high c z e same a b = sized_ok low high c (Ok z) e (ap (within_range low high) (sym same) ∙ range_ok low high z a b)
+pub read_sized-ok : (low high : ℤ) (c : List ℕ) (z : ℤ) → is_minimal c ≡ true → z ≡ signed_number c → low ≤ℤ z → z ≤ℤ high → read_sized low high c ≡ Ok z
+read_sized-ok low high c z e same a b = sized_ok low high c (Ok z) e (ap (within_range low high) (sym same) ∙ range_ok low high z a b)
 
 pub long_refused : (low high : ℤ) (c : List ℕ) (f : ReadError) → IsOctets c → is_minimal c ≡ true → 9 < length c → neg_ℤ (pos (2 ^ 71)) ≤ℤ low → high <ℤ pos (2 ^ 71) → low ≤ℤ high →
     f ≡ read_error (if leb 128 (get_or c 0 0) then below low else IntegerOverflow) → read_sized low high c ≡ Err f

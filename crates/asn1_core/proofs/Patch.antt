@@ -5,7 +5,7 @@ use Rattle.std.proofs.lemmas.Grind.{common_steps, numeral_or}
 use Rattle.std.proofs.lemmas.List.Edits.{take-paste, length-paste}
 use Rattle.std.specs.List.{copy_within}
 use Rattle.asn1_core.specs.Length.{length_octets}
-use Rattle.asn1_core.specs.Lemmas.Lengths.{length_text_high, few_digits}
+use Rattle.asn1_core.specs.Lemmas.Lengths.{length_octets-high, few_digits}
 
 pub some_number : (n : ℕ) → 0 < length (digits_of 256 n) → 0 < n
 some_number zero h = absurd (omega (arith, h))
@@ -15,7 +15,7 @@ some_number (suc n) h = omega arith
 pub top_of : (n : ℕ) → 128 ≤ n → n < 2 ^ 64 → bit_or 128 (length (digits_of 256 n)) ∷ digits_of 256 n ≡ length_octets n
 top_of n l small =
     let few : length (digits_of 256 n) < 128 = omega (arith, few_digits n small) in
-    rw (numeral_or 127 (length (digits_of 256 n)) refl few) (sym (length_text_high n l))
+    rw (numeral_or 127 (length (digits_of 256 n)) refl few) (sym (length_octets-high n l))
 
 module _ (xs : List ℕ) (start more : ℕ) (low : 0 < start) (within : start ≤ length xs) where
   pub moved_is : (big moved : List ℕ) → big ≡ xs ++ replicate more 0 → moved ≡ copy_within big start (length xs) (start + more) → moved ≡ take (start + more) big ++ drop start xs
@@ -35,8 +35,8 @@ module _ (xs : List ℕ) (start more : ℕ) (low : 0 < start) (within : start �
       let l : length big ≡ length xs + more = grind (arith, common_steps) in
       grind (arith, common_steps)
 
-  pub moved_front : (big moved : List ℕ) → big ≡ xs ++ replicate more 0 → moved ≡ take (start + more) big ++ drop start xs → take (start - 1) moved ≡ take (start - 1) xs
-  moved_front big moved e f =
+  pub take-moved : (big moved : List ℕ) → big ≡ xs ++ replicate more 0 → moved ≡ take (start + more) big ++ drop start xs → take (start - 1) moved ≡ take (start - 1) xs
+  take-moved big moved e f =
       let l : length big ≡ length xs + more = grind (arith, common_steps) in
       let a : take (start - 1) moved ≡ take (start - 1) (take (start + more) big) = grind (arith, common_steps) in
       let b : take (start - 1) (take (start + more) big) ≡ take (start - 1) big = grind (arith, common_steps) in

@@ -11,24 +11,24 @@ use Rattle.asn1_core.specs.Tag.{identifier_octets, first_octet, BeginsLongTag, I
 use Rattle.asn1_core.specs.Length.{length_octets, IsLeadingLength}
 use Rattle.asn1_core.specs.Element.{Element, element_encoding, IsReadable, IsLeadingElement, leading_element}
 use Rattle.asn1_core.specs.Laws.{IsShort, with_more, ResultsStay, FewerAreShort, ProperPrefixesAreShort, ElementsAreApart, JoinsHaveOneCutting}
-use Rattle.asn1_core.specs.Lemmas.Texts.{IsOctets-front, IsOctets-both}
-use Rattle.asn1_core.specs.Lemmas.Lengths.{length_text_low, length_text_high, few_octets, digits_shortest}
-use Rattle.asn1_core.specs.Lemmas.Tags.{tag_none, class_below, bit_le, short_text, long_text}
-use Rattle.asn1_core.specs.Lemmas.NumberTexts.{text_is}
-use Rattle.asn1_core.specs.Lemmas.Elements.{ElementFront, element_ok, front_only, front_is, front_tag}
+use Rattle.asn1_core.specs.Lemmas.Texts.{IsOctets-prefix, IsOctets-both}
+use Rattle.asn1_core.specs.Lemmas.Lengths.{length_octets-low, length_octets-high, few_octets, digits_shortest}
+use Rattle.asn1_core.specs.Lemmas.Tags.{tag_none, class_below, bit_le, identifier_octets-low, identifier_octets-long}
+use Rattle.asn1_core.specs.Lemmas.NumberTexts.{AreNumberOctets-number_octets}
+use Rattle.asn1_core.specs.Lemmas.Elements.{ElementFront, element_ok, leading_element-only, IsLeadingElement-leading_element, leading_element-tag_err}
 
 -- octets in two parts, with more octets after them
-behind : (octets t rest more : List ℕ) → octets ≡ t ++ rest → octets ++ more ≡ t ++ (rest ++ more)
-behind octets t rest more e = ap (λ (s : List ℕ). s ++ more) e ∙ append_assoc t rest more
+append-append_more : (octets t rest more : List ℕ) → octets ≡ t ++ rest → octets ++ more ≡ t ++ (rest ++ more)
+append-append_more octets t rest more e = ap (λ (s : List ℕ). s ++ more) e ∙ append_assoc t rest more
 
 number_found_stands : (octets more : List ℕ) (n : ℕ) (rest : List ℕ) → IsLeadingNumber octets (Ok (n, rest)) → IsLeadingNumber (octets ++ more) (Ok (n, rest ++ more))
-number_found_stands octets more n rest (t, is, e) = (t, is, behind octets t rest more e)
+number_found_stands octets more n rest (t, is, e) = (t, is, append-append_more octets t rest more e)
 
 number_bad_stands : (octets more : List ℕ) → IsLeadingNumber octets (Err InvalidValue) → IsLeadingNumber (octets ++ more) (Err InvalidValue)
-number_bad_stands octets more (t, rest, bad, e) = (t, rest ++ more, bad, behind octets t rest more e)
+number_bad_stands octets more (t, rest, bad, e) = (t, rest ++ more, bad, append-append_more octets t rest more e)
 
 tag_found_stands : (octets more : List ℕ) (tag : Tag) (rest : List ℕ) → IsLeadingTag octets (Ok (tag, rest)) → IsLeadingTag (octets ++ more) (Ok (tag, rest ++ more))
-tag_found_stands octets more tag rest is = (is.0, behind octets (identifier_octets tag) rest more is.1)
+tag_found_stands octets more tag rest is = (is.0, append-append_more octets (identifier_octets tag) rest more is.1)
 
 long_stands : (octets after more : List ℕ) → BeginsLongTag octets after → BeginsLongTag (octets ++ more) (after ++ more)
 long_stands octets after more (first, high, e) = (first, high, ap (λ (s : List ℕ). s ++ more) e)
@@ -39,24 +39,24 @@ tag_bad_stands octets more (after, long, inr (n, rest, found, range)) =
     (after ++ more, long_stands octets after more long, inr (n, rest ++ more, number_found_stands after more n rest found, range))
 
 length_found_stands : (octets more : List ℕ) (n : ℕ) (rest : List ℕ) → IsLeadingLength octets (Ok (n, rest)) → IsLeadingLength (octets ++ more) (Ok (n, rest ++ more))
-length_found_stands octets more n rest is = (is.0, behind octets (length_octets n) rest more is.1)
+length_found_stands octets more n rest is = (is.0, append-append_more octets (length_octets n) rest more is.1)
 
 length_bad_stands : (octets more : List ℕ) → IsLeadingLength octets (Err InvalidLength) → IsLeadingLength (octets ++ more) (Err InvalidLength)
 length_bad_stands octets more (inl (first, rest, bad, e)) = inl (first, rest ++ more, bad, ap (λ (s : List ℕ). s ++ more) e)
-length_bad_stands octets more (inr (t, rest, some, few, apart, e)) = inr (t, rest ++ more, some, few, apart, behind octets ((128 + length t) ∷ t) rest more e)
+length_bad_stands octets more (inr (t, rest, some, few, apart, e)) = inr (t, rest ++ more, some, few, apart, append-append_more octets ((128 + length t) ∷ t) rest more e)
 
-stands : (octets more : List ℕ) (a : ElementFront) → IsLeadingElement octets a → ¬ IsShort a → IsLeadingElement (octets ++ more) (with_more a more)
-stands octets more (Ok found) is long = (is.0, behind octets (element_encoding found.0) found.1 more is.1)
-stands octets more (Err (ShortData n)) is long = absurd (long tt)
-stands octets more (Err InvalidTag) (inl t) long = inl (tag_bad_stands octets more t)
-stands octets more (Err InvalidLength) (inr (inl (tag, after, t, l))) long = inr (inl (tag, after ++ more, tag_found_stands octets more tag after t, length_bad_stands after more l))
-stands octets more (Err _) (inl t) long = absurd t
-stands octets more (Err _) (inr (inl (tag, after, t, l))) long = absurd l
-stands octets more (Err _) (inr (inr (tag, after, n, content, t, l, fewer, e))) long = absurd cc
+IsLeadingElement-append : (octets more : List ℕ) (a : ElementFront) → IsLeadingElement octets a → ¬ IsShort a → IsLeadingElement (octets ++ more) (with_more a more)
+IsLeadingElement-append octets more (Ok found) is long = (is.0, append-append_more octets (element_encoding found.0) found.1 more is.1)
+IsLeadingElement-append octets more (Err (ShortData n)) is long = absurd (long tt)
+IsLeadingElement-append octets more (Err InvalidTag) (inl t) long = inl (tag_bad_stands octets more t)
+IsLeadingElement-append octets more (Err InvalidLength) (inr (inl (tag, after, t, l))) long = inr (inl (tag, after ++ more, tag_found_stands octets more tag after t, length_bad_stands after more l))
+IsLeadingElement-append octets more (Err _) (inl t) long = absurd t
+IsLeadingElement-append octets more (Err _) (inr (inl (tag, after, t, l))) long = absurd l
+IsLeadingElement-append octets more (Err _) (inr (inr (tag, after, n, content, t, l, fewer, e))) long = absurd cc
 
 pub answers_stand : ResultsStay
 answers_stand octets more is long =
-    front_only (octets ++ more) (with_more (leading_element octets) more) is (stands octets more (leading_element octets) (front_is octets (IsOctets-front octets more is)) long)
+    leading_element-only (octets ++ more) (with_more (leading_element octets) more) is (IsLeadingElement-append octets more (leading_element octets) (IsLeadingElement-leading_element octets (IsOctets-prefix octets more is)) long)
 
 -- ---- fewer octets than were needed
 
@@ -90,8 +90,8 @@ fewer_of text more needed fewer (inr (inr (tag, after, n, content, t, l, less, e
 
 pub fewer_are_short : FewerAreShort
 fewer_are_short octets more needed is short fewer =
-    let m = fewer_of octets more needed fewer (subst (λ (a : ElementFront). IsLeadingElement octets a) short (front_is octets (IsOctets-front octets more is))) in
-    rw (front_only (octets ++ more) (Err (ShortData m.0)) is m.1) tt
+    let m = fewer_of octets more needed fewer (subst (λ (a : ElementFront). IsLeadingElement octets a) short (IsLeadingElement-leading_element octets (IsOctets-prefix octets more is))) in
+    rw (leading_element-only (octets ++ more) (Err (ShortData m.0)) is m.1) tt
 
 -- ---- no element is a proper prefix of another
 
@@ -115,33 +115,33 @@ not_whole (Ok found) more e some same =
     omega (arith, ap length rest.1, length-append found.1 more)
 not_whole (Err kind) more e some same = cc
 
-pub finished_is_text : (t : List ℕ) → IsFinished t → IsOctets t
-finished_is_text [] f = absurd f
-finished_is_text (x ∷ []) f = (omega arith, tt)
-finished_is_text (x ∷ y ∷ ys) f = (f.1, finished_is_text (y ∷ ys) f.2)
+pub IsFinished-IsOctets : (t : List ℕ) → IsFinished t → IsOctets t
+IsFinished-IsOctets [] f = absurd f
+IsFinished-IsOctets (x ∷ []) f = (omega arith, tt)
+IsFinished-IsOctets (x ∷ y ∷ ys) f = (f.1, IsFinished-IsOctets (y ∷ ys) f.2)
 
 first_is_octet : (tag : Tag) (low : ℕ) → low < 32 → first_octet tag low < 256
 first_is_octet tag low small = omega (arith, class_below tag.class, bit_le tag.constructed)
 
-pub tag_is_text : (tag : Tag) → tag.value < 2 ^ 32 → IsOctets (identifier_octets tag)
-tag_is_text tag small = ⊎_elim
-    (λ (l : tag.value < 31). rw (short_text tag (omega arith)) (first_is_octet tag tag.value (omega arith), tt))
-    (λ (l : 31 ≤ tag.value). rw (long_text tag l) (first_is_octet tag 31 (omega arith), finished_is_text (number_octets tag.value) (text_is tag.value (omega arith)).finished)) (cases_lt tag.value 31)
+pub IsOctets-identifier_octets : (tag : Tag) → tag.value < 2 ^ 32 → IsOctets (identifier_octets tag)
+IsOctets-identifier_octets tag small = ⊎_elim
+    (λ (l : tag.value < 31). rw (identifier_octets-low tag (omega arith)) (first_is_octet tag tag.value (omega arith), tt))
+    (λ (l : 31 ≤ tag.value). rw (identifier_octets-long tag l) (first_is_octet tag 31 (omega arith), IsFinished-IsOctets (number_octets tag.value) (AreNumberOctets-number_octets tag.value (omega arith)).finished)) (cases_lt tag.value 31)
 
-pub length_is_text : (n : ℕ) → n < 2 ^ 32 → IsOctets (length_octets n)
-length_is_text n small = ⊎_elim
-    (λ (l : n < 128). rw (length_text_low n l) (omega arith, tt))
-    (λ (l : 128 ≤ n). rw (length_text_high n l) (omega (arith, few_octets n small), (digits_shortest n).encoding)) (cases_lt n 128)
+pub IsOctets-length_octets : (n : ℕ) → n < 2 ^ 32 → IsOctets (length_octets n)
+IsOctets-length_octets n small = ⊎_elim
+    (λ (l : n < 128). rw (length_octets-low n l) (omega arith, tt))
+    (λ (l : 128 ≤ n). rw (length_octets-high n l) (omega (arith, few_octets n small), (digits_shortest n).encoding)) (cases_lt n 128)
 
-pub element_is_text : (e : Element) → IsReadable e → IsOctets e.content → IsOctets (element_encoding e)
+pub IsOctets-element_encoding : (e : Element) → IsReadable e → IsOctets e.content → IsOctets (element_encoding e)
 unfolding element_encoding
-element_is_text e is content = IsOctets-both (identifier_octets e.tag) (length_octets (length e.content) ++ e.content) (tag_is_text e.tag is.tag) (IsOctets-both (length_octets (length e.content)) e.content (length_is_text (length e.content) is.content) content)
+IsOctets-element_encoding e is content = IsOctets-both (identifier_octets e.tag) (length_octets (length e.content) ++ e.content) (IsOctets-identifier_octets e.tag is.tag) (IsOctets-both (length_octets (length e.content)) e.content (IsOctets-length_octets (length e.content) is.content) content)
 
 pub proper_fronts_are_short : ProperPrefixesAreShort
 proper_fronts_are_short e octets more readable content same some = ⊎_elim
     (λ (short : IsShort (leading_element octets)). short)
     (λ (long : ¬ IsShort (leading_element octets)).
-    let is : IsOctets (octets ++ more) = subst IsOctets same (element_is_text e readable content) in
+    let is : IsOctets (octets ++ more) = subst IsOctets same (IsOctets-element_encoding e readable content) in
     let whole : leading_element (octets ++ more) ≡ Ok (e, []) = ap leading_element (sym same ∙ sym (append-nil (element_encoding e))) ∙ element_ok e [] readable in
     absurd (not_whole (leading_element octets) more e some (sym (answers_stand octets more is long) ∙ whole)))
     (short_or_not (leading_element octets))
@@ -152,7 +152,7 @@ nothing_found : (e : Element) (rest : List ℕ) → ◌≡◌ {A = ElementFront}
 nothing_found e rest same = cc
 
 none_front : (e : Element) (rest : List ℕ) → ◌≡◌ {A = ElementFront} (Ok (e, rest)) (leading_element []) → ⊥
-none_front e rest same = nothing_found e rest (same ∙ front_tag [] (ShortData 1) (tag_none [] refl))
+none_front e rest same = nothing_found e rest (same ∙ leading_element-tag_err [] (ShortData 1) (tag_none [] refl))
 
 some_text : (e : Element) (rest : List ℕ) → IsReadable e → element_encoding e ++ rest ≡ [] → ⊥
 some_text e rest is same = none_front e rest (sym (element_ok e rest is) ∙ ap leading_element same)

@@ -26,10 +26,10 @@ pub tag_order_is_answered : TagOrderIsAnswered
 tag_order_is_answered a b = (before_is (class_number (tag_class a)) (class_number (tag_class b)) (tag_number a) (tag_number b), is_before (class_number (tag_class a)) (class_number (tag_class b)) (tag_number a) (tag_number b))
 
 -- the tag at the start of an element
-pub element_tag_in_front : (e : Element) → e.tag.value < 2 ^ 32 → tag_at_start (element_encoding e) ≡ Some e.tag
+pub tag_at_start-element_encoding : (e : Element) → e.tag.value < 2 ^ 32 → tag_at_start (element_encoding e) ≡ Some e.tag
 unfolding element_encoding
-element_tag_in_front e small = rw (tag_ok e.tag (length_octets (length e.content) ++ e.content) small) refl
+tag_at_start-element_encoding e small = rw (tag_ok e.tag (length_octets (length e.content) ++ e.content) small) refl
 
 -- the encodings of elements have the order of their tags
 pub element_tag_less : (e f : Element) → e.tag.value < 2 ^ 32 → f.tag.value < 2 ^ 32 → tag_less (element_encoding e) (element_encoding f) ≡ tag_before e.tag f.tag
-element_tag_less e f small little = rw (element_tag_in_front e small, element_tag_in_front f little) refl
+element_tag_less e f small little = rw (tag_at_start-element_encoding e small, tag_at_start-element_encoding f little) refl

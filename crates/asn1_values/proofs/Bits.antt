@@ -107,11 +107,11 @@ sign_apart false x xs is e (inl h) = rw h (omega arith)
 sign_apart true x xs is e (inr h) = let whole : 256 ^ suc (length xs) ≡ 256 ^ length xs * 256 = pow-suc 256 (length xs) in rw h (omega (arith, whole))
 sign_apart false x xs is e (inr h) = absurd (omega (arith, leb-false 128 x (sym e)))
 
-pub counted : (b : Bool) (y : ℕ) (ys : List ℕ) → IsOctets (y ∷ ys) → ((b ≡ false) × (0 < y)) ⊎ ((b ≡ true) × (y < 255)) → 0 < magnitude b (y ∷ ys) / 256 ^ length ys
-counted true y ys is (inl h) = absurd cc
-counted false y ys is (inl h) = omega (arith, leading_low y ys is.1, h.1)
-counted false y ys is (inr h) = absurd cc
-counted true y ys is (inr h) =
+pub magnitude-first_positive : (b : Bool) (y : ℕ) (ys : List ℕ) → IsOctets (y ∷ ys) → ((b ≡ false) × (0 < y)) ⊎ ((b ≡ true) × (y < 255)) → 0 < magnitude b (y ∷ ys) / 256 ^ length ys
+magnitude-first_positive true y ys is (inl h) = absurd cc
+magnitude-first_positive false y ys is (inl h) = omega (arith, leading_low y ys is.1, h.1)
+magnitude-first_positive false y ys is (inr h) = absurd cc
+magnitude-first_positive true y ys is (inr h) =
     ⊎_elim
     (λ (n : number ys < 1). omega (arith, leading_zero y ys is.0 (omega arith), h.1))
     (λ (n : 1 ≤ number ys). omega (arith, leading_high y ys is.0 is.1 n, h.1))
@@ -147,7 +147,7 @@ counts_some c rest b h y ys e =
       | inl k ↦ inl (k.0, omega (arith, k.1, first))
       | inr k ↦ inr (k.0, omega (arith, k.1, first))
     ] in
-    counted b y ys (subst IsOctets e h.encoding) way
+    magnitude-first_positive b y ys (subst IsOctets e h.encoding) way
 
 pub some_counted : (c rest : List ℕ) (b : Bool) → IsMagnitude c rest b → (y : ℕ) (ys : List ℕ) → rest ≡ y ∷ ys → (high j : ℕ) → high ≡ magnitude b (y ∷ ys) / 256 ^ length ys →
     2 ^ j ≤ high → high < 2 * 2 ^ j → 8 * length ys + j + 1 ≡ bit_count (signed_number c)

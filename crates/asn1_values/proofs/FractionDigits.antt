@@ -12,7 +12,7 @@ use Rattle.std.proofs.lemmas.Str.Parse.{IsNumeralModel, numerals_by_weight, digi
 use Rattle.std.proofs.lemmas.Int.Digits.{digits_value-lt}
 use Rattle.std.proofs.lemmas.List.{append-nil, length-append, length-replicate, length-take, take-append-drop}
 use Rattle.asn1_values.specs.Times.{fraction, IsFraction}
-use Rattle.asn1_values.specs.Lemmas.Fractions.{at, fraction_zero, fraction_step, parts_zero, power_some}
+use Rattle.asn1_values.specs.Lemmas.Fractions.{drop-cons, fraction_zero, fraction_step, parts_zero, power_some}
 
 -- the number that digits encode, by their positions
 abbrev weighed : List ℕ → ℕ
@@ -31,8 +31,8 @@ weighed_decimal j n few =
     let d = decimal_is_IsNumeral n (omega (arith, few)) in
     zeros_in_front j (decimal n) ∙ by_places.same (decimal n) d.0.1 ∙ d.1
 
-pub none_behind : (t : List ℕ) → t ++ drop 9 (replicate 9 48) ≡ t
-none_behind t = append-nil t
+pub append-drop_9 : (t : List ℕ) → t ++ drop 9 (replicate 9 48) ≡ t
+append-drop_9 t = append-nil t
 
 -- ---- the last digit is not zero
 
@@ -128,7 +128,7 @@ zeros_step octets n count few is some most e h =
     let next : k + 1 ≡ count = omega (arith, some) in
     let more : suc (9 - count) ≡ 9 - k = omega (arith, some, most) in
     let long = nine_long octets n few is in
-    at octets k (omega (arith, some, most, long)) ∙ ap (λ (x : ℕ). x ∷ drop (k + 1) octets) e ∙ ap (λ (x : ℕ). 48 ∷ drop x octets) next ∙ ap (λ (l : List ℕ). 48 ∷ l) h ∙ ap (λ (x : ℕ). replicate x 48) more
+    drop-cons octets k (omega (arith, some, most, long)) ∙ ap (λ (x : ℕ). x ∷ drop (k + 1) octets) e ∙ ap (λ (x : ℕ). 48 ∷ drop x octets) next ∙ ap (λ (l : List ℕ). 48 ∷ l) h ∙ ap (λ (x : ℕ). replicate x 48) more
 
 front_is : (octets : List ℕ) (n count : ℕ) → n ≤ 999999999 → octets ≡ replicate (9 - length (decimal n)) 48 ++ decimal n → count ≤ 9 → IsEnded (take count octets) → drop count octets ≡ replicate (9 - count) 48 → take count octets ≡ fraction 9 n []
 front_is octets n count few is most ended zeros =

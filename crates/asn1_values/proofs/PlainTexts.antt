@@ -8,8 +8,8 @@ use Rattle.std.proofs.lemmas.Str.Parse.{digit_from_value, without_leading_plus_n
 use Rattle.std.proofs.lemmas.Bool.{cases_lt, lt-ltb, le-ltb}
 use Rattle.std.proofs.lemmas.List.{append-nil, append_assoc, append_cancel_left, length-append}
 use Rattle.asn1_values.specs.Identifier.{arcs, dotted_text, parts_of, read_dotted, IsPart, IsDotted, IsIdentifierText, IsPlainPart, IsPlainText}
-use Rattle.asn1_values.proofs.IdentifierText.{own, read_on, parts_whole, parts_front}
-use Rattle.asn1_values.proofs.DottedTexts.{part_no_dot, text_found}
+use Rattle.asn1_values.proofs.IdentifierText.{IsNumeralModel-read_on, read_on, parts_whole, parts_of-dot}
+use Rattle.asn1_values.proofs.DottedTexts.{part_no_dot, read_dotted-some_is}
 use Rattle.asn1_values.proofs.Shown.{no_dot, no_plus}
 
 -- ---- digits without a needless zero are those of their number
@@ -77,7 +77,7 @@ part_shown : (t : List ℕ) (n : ℕ) → IsPart t n → IsPlainPart t → decim
 part_shown t n is plain =
     let whole = without_leading_plus_none t plain.0 in
     let digits = subst (λ (l : List ℕ). IsNumeral 10 l) whole is.digits in
-    let value : read_on 0 t ≡ n = own.same t digits.1 ∙ ap (digits_value 10) (sym whole) ∙ is.value in
+    let value : read_on 0 t ≡ n = IsNumeralModel-read_on.same t digits.1 ∙ ap (digits_value 10) (sym whole) ∙ is.value in
     let small = is.small in
     sym (ap decimal value) ∙ plain_digits t digits plain.1 (omega (arith, value, small))
 
@@ -95,7 +95,7 @@ dotted_shown (n ∷ []) t is plain =
     let parts = parts_whole t (part_no_dot t n is) in
     append-nil (decimal n) ∙ part_shown t n is (subst (AllByRecursion IsPlainPart) parts plain).0
 dotted_shown (n ∷ m ∷ ns) t is plain =
-    let parts = ap parts_of is.3 ∙ parts_front is.0 is.1 (part_no_dot is.0 n is.2) in
+    let parts = ap parts_of is.3 ∙ parts_of-dot is.0 is.1 (part_no_dot is.0 n is.2) in
     let each = subst (AllByRecursion IsPlainPart) parts plain in
     ap (λ (l : List ℕ). l ++ 46 ∷ joined (m ∷ ns)) (part_shown is.0 n is.2 each.0)
     ∙ ap (λ (l : List ℕ). is.0 ++ 46 ∷ l) (dotted_shown (m ∷ ns) is.1 is.4 each.1) ∙ sym is.3
@@ -106,8 +106,8 @@ dotted_plain (n ∷ []) t is e =
     subst (AllByRecursion IsPlainPart) (sym (parts_whole t (part_no_dot t n is))) (part_plain t n is (sym (append-nil (decimal n)) ∙ e), tt)
 dotted_plain (n ∷ m ∷ ns) t is e =
     let small = is.2.small in
-    let left : parts_of (joined (n ∷ m ∷ ns)) ≡ decimal n ∷ parts_of (joined (m ∷ ns)) = parts_front (decimal n) (joined (m ∷ ns)) (no_dot n small) in
-    let right : parts_of t ≡ is.0 ∷ parts_of is.1 = ap parts_of is.3 ∙ parts_front is.0 is.1 (part_no_dot is.0 n is.2) in
+    let left : parts_of (joined (n ∷ m ∷ ns)) ≡ decimal n ∷ parts_of (joined (m ∷ ns)) = parts_of-dot (decimal n) (joined (m ∷ ns)) (no_dot n small) in
+    let right : parts_of t ≡ is.0 ∷ parts_of is.1 = ap parts_of is.3 ∙ parts_of-dot is.0 is.1 (part_no_dot is.0 n is.2) in
     let both : decimal n ∷ parts_of (joined (m ∷ ns)) ≡ is.0 ∷ parts_of is.1 = sym left ∙ ap parts_of e ∙ right in
     let front : decimal n ≡ is.0 = cc in
     let behind : 46 ∷ joined (m ∷ ns) ≡ 46 ∷ is.1 = append_cancel_left is.0 (46 ∷ joined (m ∷ ns)) (46 ∷ is.1) (ap (λ (l : List ℕ). l ++ 46 ∷ joined (m ∷ ns)) (sym front) ∙ e ∙ is.3) in
@@ -134,7 +134,7 @@ text_is t numbers is = ap (λ (l : List ℕ). joined (arcs l)) (sym is.are) ∙ 
 
 pub shown_read_back : (t numbers : List ℕ) → read_dotted t ≡ Some numbers → (dotted_text numbers ≡ t) ↔ IsPlainText t
 shown_read_back t numbers e =
-    let is = text_found t numbers e in
+    let is = read_dotted-some_is t numbers e in
     let octets = text_is t numbers is in (
       (λ same. dotted_plain (is.first ∷ is.second ∷ is.others) t is.dotted (sym octets ∙ same)),
       λ plain. octets ∙ dotted_shown (is.first ∷ is.second ∷ is.others) t is.dotted plain,

@@ -5,7 +5,7 @@ use Rattle.asn1_values.specs.Times.{Instant, IsInstant, IsNanoseconds, IsUtcText
 use Rattle.asn1_values.specs.TimeSteps.{read_utc, read_x509, read_instant}
 use Rattle.asn1_values.specs.TimeValues.{TimesAreRead, TimesAreWritten, utc_content, x509_content, instant_content}
 use Rattle.asn1_values.specs.Lemmas.Times.{none_rejected, utc_consumes, utc_read_back, utc_rejected, x509_consumes, x509_read_back, x509_rejected}
-use Rattle.asn1_values.specs.Lemmas.Fractions.{instant_consumes, instant_read_back, instant_rejected, text_append}
+use Rattle.asn1_values.specs.Lemmas.Fractions.{instant_consumes, instant_read_back, instant_rejected, fraction_text-append}
 use Rattle.asn1_values.proofs.FractionDigits.{fraction_of_digits, digits_of_fraction}
 
 -- ---- fractions
@@ -30,11 +30,11 @@ instant_of_text : (octets : List ℕ) (i : Instant) → IsInstantText octets i �
 instant_of_text octets i h =
     let part = h.1.0 in
     let end : part ++ 90 ∷ [] ≡ fraction_text i.nanoseconds (90 ∷ []) =
-    ap (λ (t : List ℕ). t ++ 90 ∷ []) (fraction_text_of part i.nanoseconds h.1.1) ∙ sym (text_append i.nanoseconds) in
+    ap (λ (t : List ℕ). t ++ 90 ∷ []) (fraction_text_of part i.nanoseconds h.1.1) ∙ sym (fraction_text-append i.nanoseconds) in
     h.1.2 ∙ ap (general_text i.moment) end
 
 instant_text_is : (i : Instant) → IsInstant i → IsInstantText (instant_text i) i
-instant_text_is i h = (h, (fraction_text i.nanoseconds [], fraction_text_is i.nanoseconds h.1, ap (general_text i.moment) (text_append i.nanoseconds)))
+instant_text_is i h = (h, (fraction_text i.nanoseconds [], fraction_text_is i.nanoseconds h.1, ap (general_text i.moment) (fraction_text-append i.nanoseconds)))
 
 pub instants_written : TimesAreWritten instant_content IsInstantText
 instants_written octets i =

@@ -100,10 +100,10 @@ split_once-is octet (next ∷ octets) parts e = ⊎_elim
     (cases_eq next octet)
 
 -- an input that is cut after a prefix without the octet
-pub split_once-behind : (octet : ℕ) (front rest : List ℕ) → HasNone octet front → split_once octet (front ++ octet ∷ rest) ≡ Some (front, rest)
-split_once-behind octet [] rest none = split_once-here octet octet rest refl
-split_once-behind octet (next ∷ front) rest none =
-    split_once-later octet next (front ++ octet ∷ rest) none.0 ∙ ap (with_octet next) (split_once-behind octet front rest none.1)
+pub split_once-append : (octet : ℕ) (front rest : List ℕ) → HasNone octet front → split_once octet (front ++ octet ∷ rest) ≡ Some (front, rest)
+split_once-append octet [] rest none = split_once-here octet octet rest refl
+split_once-append octet (next ∷ front) rest none =
+    split_once-later octet next (front ++ octet ∷ rest) none.0 ∙ ap (with_octet next) (split_once-append octet front rest none.1)
 
 -- ---- an input cut into lines
 

@@ -16,8 +16,8 @@ use Rattle.asn1.proofs.Stands.{elements_are_apart}
 use Rattle.dercheck.specs.Frames.{IsFraming, IsUnfinished, EachTextHasAFraming, TextsHaveOneFraming, element_line, end_line, lines}
 use Rattle.asn1.specs.Lemmas.Facts.{has_octets}
 
-pub front_nothing : leading_element [] ≡ Err (ShortData 1)
-front_nothing = front_tag [] (ShortData 1) (tag_none [] refl)
+pub leading_element-empty : leading_element [] ≡ Err (ShortData 1)
+leading_element-empty = front_tag [] (ShortData 1) (tag_none [] refl)
 
 err_from_short : (a : ElementFront) → IsShort a → IsErr a
 err_from_short (Ok found) short = absurd short
@@ -38,7 +38,7 @@ pub framing_one : (octets : List ℕ) (e : Element) → IsReadable e → octets 
 framing_one octets e readable same = record {
   readable = (readable, tt);
   whole = same ∙ sym (append-nil (element_encoding e)) ∙ sym (append-nil (element_encoding e ++ []));
-  stops = err_at (leading_element []) (ShortData 1) front_nothing;
+  stops = err_at (leading_element []) (ShortData 1) leading_element-empty;
 }
 
 all_append : (es fs : List Element) → AllByRecursion IsReadable es → AllByRecursion IsReadable fs → AllByRecursion IsReadable (es ++ fs)
@@ -66,7 +66,7 @@ lines_join es fs r = ap (λ (l : List ℕ). l ++ end_line r) (flat_map-append el
 some_text : (e : Element) → IsReadable e → 0 < length (element_encoding e)
 some_text e readable = has_octets (element_encoding e) (λ (nothing : element_encoding e ≡ []).
     let whole : leading_element (element_encoding e) ≡ Ok (e, []) = sym (ap leading_element (append-nil (element_encoding e))) ∙ element_ok e [] readable in
-    let none : leading_element (element_encoding e) ≡ Err (ShortData 1) = ap leading_element nothing ∙ front_nothing in
+    let none : leading_element (element_encoding e) ≡ Err (ShortData 1) = ap leading_element nothing ∙ leading_element-empty in
     absurd cc)
 
 framing_by : (n : ℕ) (octets : List ℕ) (a : ElementFront) → length octets ≤ n → IsOctets octets → leading_element octets ≡ a → (es : List Element) × (rest : List ℕ) × IsFraming octets es rest

@@ -12,7 +12,7 @@ use Rattle.dercheck.specs.declared.words.TheConstants.Word.{ALL}
 use Rattle.dercheck.specs.Lines.{split_once}
 use Rattle.dercheck.specs.Requests.{word_text, word_of, IsRequest, asked, asked_by, request_of}
 use Rattle.dercheck.specs.Laws.{RequestsAreRight}
-use Rattle.dercheck.proofs.Cuts.{split_once-behind, split_once-is, HasNone-missing, some_is}
+use Rattle.dercheck.proofs.Cuts.{split_once-append, split_once-is, HasNone-missing, some_is}
 
 -- ---- the words
 
@@ -64,7 +64,7 @@ asked_by_is line (Some parts) word octets same e =
 pub request_of-is : (line : List ℕ) (word : Word) (octets : List ℕ) → IsRequest line word octets → request_of line ≡ Some (word, octets)
 request_of-is line word octets is =
     ap request_of is.is
-    ∙ ap asked_by (split_once-behind 32 (word_text word) is.hex (HasNone-missing 32 (word_text word) (uncut word)))
+    ∙ ap asked_by (split_once-append 32 (word_text word) is.hex (HasNone-missing 32 (word_text word) (uncut word)))
     ∙ ap (λ (found : Option Word). asked found (decode_of is.hex)) (word_of-text word)
     ∙ ap (asked (Some word)) is.decoded
 

@@ -21,28 +21,28 @@ use Rattle.dercheck.specs.Frames.{IsFraming, IsUnfinished, line_of, element_line
 use Rattle.dercheck.specs.declared.answers.Fault.{Fault}
 use Rattle.dercheck.specs.declared.pending.Pending.{Pending}
 use Rattle.dercheck.specs.declared.pending.Progress.TheVariants.{GoesOn, Completes, Fails}
-use Rattle.dercheck.proofs.Parts.{in_part_of_more, in_part_behind}
-use Rattle.dercheck.proofs.Framings.{err_at, framing_short, framing_one, framing_join, lines_join, front_nothing}
+use Rattle.dercheck.proofs.Parts.{in_part_of_more, AppendsInPart-after_Appends}
+use Rattle.dercheck.proofs.Framings.{err_at, framing_short, framing_one, framing_join, lines_join, leading_element-empty}
 use Rattle.dercheck.proofs.States.{begun_short}
 
 -- what is pending is too short, by `needed`
-pub stands_short : (p : Pending) (octets : List ℕ) → Stands p octets → leading_element octets ≡ Err (ShortData p.needed)
-stands_short p octets (inl h) = h.short
-stands_short p octets (inr h) = begun_short octets h.tag p.content_length h.content p.needed h.begun h.missing h.some
+pub Stands-ShortData : (p : Pending) (octets : List ℕ) → Stands p octets → leading_element octets ≡ Err (ShortData p.needed)
+Stands-ShortData p octets (inl h) = h.short
+Stands-ShortData p octets (inr h) = begun_short octets h.tag p.content_length h.content p.needed h.begun h.missing h.some
 
 short_at : (a : ElementFront) (needed : ℕ) → a ≡ Err (ShortData needed) → IsShort a
 short_at a needed e = rw e tt
 
-pub stands_unfinished : (p : Pending) (octets : List ℕ) → Stands p octets → IsUnfinished octets
-stands_unfinished p octets stands = short_at (leading_element octets) p.needed (stands_short p octets stands)
+pub Stands-IsUnfinished : (p : Pending) (octets : List ℕ) → Stands p octets → IsUnfinished octets
+Stands-IsUnfinished p octets stands = short_at (leading_element octets) p.needed (Stands-ShortData p octets stands)
 
 -- ---- one step
 
-pub taken_none : (p : Pending) (octets before : List ℕ) → Stands p octets → Taken p (octets ++ []) before before
-taken_none p octets before stands = record {
+pub Taken-nil : (p : Pending) (octets before : List ℕ) → Stands p octets → Taken p (octets ++ []) before before
+Taken-nil p octets before stands = record {
   elements = [];
   rest = octets;
-  framing = rw (append-nil octets) (framing_short octets (stands_unfinished p octets stands));
+  framing = rw (append-nil octets) (framing_short octets (Stands-IsUnfinished p octets stands));
   stands = stands;
   made_lines = sym (append-nil before);
 }
@@ -62,7 +62,7 @@ goes_on p q a octets before made taken step =
     record {
       elements = taken.elements;
       rest = rest;
-      framing = framing_more a octets taken.elements taken.rest taken.framing (err_at (leading_element rest) (ShortData q.needed) (stands_short q rest stands));
+      framing = framing_more a octets taken.elements taken.rest taken.framing (err_at (leading_element rest) (ShortData q.needed) (Stands-ShortData q rest stands));
       stands = stands;
       made_lines = taken.made_lines;
     }
@@ -74,9 +74,9 @@ complete_line q octets is = ap (λ (l : List ℕ). line_of l q.content_length) i
 lines_push : (es : List Element) (e : Element) → flat_map element_line (es ++ e ∷ []) ≡ flat_map element_line es ++ element_line e
 lines_push es e = flat_map-append element_line es (e ∷ []) ∙ ap (λ (l : List ℕ). flat_map element_line es ++ l) (append-nil (element_line e))
 
-pub completes : (p q s : Pending) (a octets before made made' : List ℕ) → Taken p a before made → Advances p q Completes octets → Stands s []
+pub Taken-Completes : (p q s : Pending) (a octets before made made' : List ℕ) → Taken p a before made → Advances p q Completes octets → Stands s []
     → made' ≡ made ++ line_of (take q.count q.octets) q.content_length → Taken s (a ++ octets) before made'
-completes p q s a octets before made made' taken step fresh line =
+Taken-Completes p q s a octets before made made' taken step fresh line =
     let is : IsComplete q (taken.rest ++ octets) = step taken.rest taken.stands in
     let done = flat_map element_line taken.elements in
     record {
@@ -97,16 +97,16 @@ answer_fault _ long = refl
 
 -- the line of remaining octets that hold an error
 fault_end : (octets : List ℕ) (kind : ParseErrorKind) → leading_element octets ≡ Err kind → ¬ IsShort (leading_element octets) → end_line octets ≡ fault_line kind
-fault_end [] kind e long = absurd (long (short_at (leading_element []) 1 front_nothing))
+fault_end [] kind e long = absurd (long (short_at (leading_element []) 1 leading_element-empty))
 fault_end (x ∷ xs) kind e long = ap answer_line e ∙ answer_fault kind (subst (λ (a : ElementFront). ¬ IsShort a) e long)
 
 -- remaining octets that hold an error, whatever follows them
 fault_more : (octets more : List ℕ) (kind : ParseErrorKind) → IsFault octets kind → IsOctets more → ¬ IsUnfinished (octets ++ more)
 fault_more octets more kind fault is short = fault.long (subst (λ (a : ElementFront). IsShort a) (fault.stands more is ∙ sym fault.here) short)
 
-pub fails : (p q : Pending) (a octets more before made made' : List ℕ) (kind : ParseErrorKind) → Taken p a before made → Advances p q (Fails kind) octets → IsOctets more
+pub Taken-Fails : (p q : Pending) (a octets more before made made' : List ℕ) (kind : ParseErrorKind) → Taken p a before made → Advances p q (Fails kind) octets → IsOctets more
     → made' ≡ made ++ fault_line kind → TakenToFault ((a ++ octets) ++ more) before made'
-fails p q a octets more before made made' kind taken step is line =
+Taken-Fails p q a octets more before made made' kind taken step is line =
     let rest = taken.rest ++ octets in
     let fault : IsFault rest kind = step taken.rest taken.stands in
     let long : ¬ IsUnfinished (rest ++ more) = fault_more rest more kind fault is in
@@ -124,12 +124,12 @@ fails p q a octets more before made made' kind taken step is line =
 
 -- ---- where the octets are
 
-pub around : (octets all done rest : List ℕ) (n : ℕ) → done ++ rest ≡ all → ((octets ++ done) ++ take n rest) ++ drop n rest ≡ octets ++ all
-around octets all done rest n e =
+pub append-take-drop_rest : (octets all done rest : List ℕ) (n : ℕ) → done ++ rest ≡ all → ((octets ++ done) ++ take n rest) ++ drop n rest ≡ octets ++ all
+append-take-drop_rest octets all done rest n e =
     append_assoc (octets ++ done) (take n rest) (drop n rest) ∙ ap (λ l. (octets ++ done) ++ l) (take-append-drop n rest) ∙ append_assoc octets done rest ∙ ap (λ l. octets ++ l) e
 
-pub text_left : (all done rest : List ℕ) (n : ℕ) → done ++ rest ≡ all → IsOctets all → IsOctets (drop n rest)
-text_left all done rest n e is =
+pub IsOctets-drop_rest : (all done rest : List ℕ) (n : ℕ) → done ++ rest ≡ all → IsOctets all → IsOctets (drop n rest)
+IsOctets-drop_rest all done rest n e is =
     IsOctets-rest (take n rest) (drop n rest) (subst IsOctets (sym (take-append-drop n rest)) (IsOctets-rest done rest (subst IsOctets (sym e) is)))
 
 -- ---- the line at the end
@@ -139,9 +139,9 @@ end_of [] needed some e = absurd (omega arith)
 end_of (x ∷ xs) needed some e = ap answer_line e
 
 -- something is pending if an octet is kept, and else nothing
-pub stands_some : (p : Pending) (octets : List ℕ) → Stands p octets → ¬ (p.count ≡ 0) → 0 < length octets
-stands_some p octets (inl h) some = omega (arith, ap length h.kept, length-take p.count p.octets, p.size, p.few)
-stands_some p octets (inr h) some = omega (arith, ap length h.begun.encoded, length-append (identifier_octets h.tag) (length_octets p.content_length ++ h.content), tag_has_octets h.tag)
+pub Stands-nonempty : (p : Pending) (octets : List ℕ) → Stands p octets → ¬ (p.count ≡ 0) → 0 < length octets
+Stands-nonempty p octets (inl h) some = omega (arith, ap length h.kept, length-take p.count p.octets, p.size, p.few)
+Stands-nonempty p octets (inr h) some = omega (arith, ap length h.begun.encoded, length-append (identifier_octets h.tag) (length_octets p.content_length ++ h.content), tag_has_octets h.tag)
 
 -- ---- the whole stream
 
@@ -151,7 +151,7 @@ framed_none p left held stands = record {
   elements = [];
   rest = [];
   read = Consumes-nil left;
-  framing = framing_short [] (stands_unfinished p [] stands);
+  framing = framing_short [] (Stands-IsUnfinished p [] stands);
   stands = stands;
   sent = [];
   written = Appends-nil held;
@@ -211,7 +211,7 @@ framed_so_far p l0 l1 l2 h0 h1 framed kept = record {
   rest = framed.rest;
   read = Consumes-kept l0 l1 l2 framed.octets framed.read kept;
   framing = framed.framing;
-  unfinished = stands_unfinished p framed.rest framed.stands;
+  unfinished = Stands-IsUnfinished p framed.rest framed.stands;
   written = all_written p l0 l1 h0 h1 framed;
 }
 
@@ -225,10 +225,10 @@ framed_fault p l0 l1 l2 h0 h1 h2 octets kept made framed read few takes put =
       rest = taken.rest;
       read = Consumes-trans l0 l1 l2 framed.octets octets framed.read read;
       framing = framing_join framed.octets octets framed.elements taken.elements framed.rest taken.rest framed.framing taken.framing;
-      ends = inr (taken.long, (framed.octets, octets, refl, few, (framed.elements, framed.rest, framed.framing, stands_unfinished p framed.rest framed.stands)));
+      ends = inr (taken.long, (framed.octets, octets, refl, few, (framed.elements, framed.rest, framed.framing, Stands-IsUnfinished p framed.rest framed.stands)));
       written = subst (Appends h0 h2) (lines_more framed.sent kept made framed.elements taken.elements taken.rest framed.made_lines taken.made_lines)
           (Appends-trans h0 h1 h2 framed.sent made framed.written put);
-      answer = (λ (w : IsTrue false). absurd cc, λ (none : taken.rest ≡ []). absurd (taken.long (short_at (leading_element taken.rest) 1 (ap leading_element none ∙ front_nothing))));
+      answer = (λ (w : IsTrue false). absurd cc, λ (none : taken.rest ≡ []). absurd (taken.long (short_at (leading_element taken.rest) 1 (ap leading_element none ∙ leading_element-empty))));
     }
 
 -- the lines that were made, which were written in part
@@ -245,7 +245,7 @@ framed_in_part p q l0 l1 l2 h0 h1 h2 octets kept made true framed read takes fau
       read = more.read;
       framing = more.framing;
       written = in_part_of_more h0 h2 (flat_map element_line more.elements) (end_line more.rest)
-          (subst (AppendsInPart h0 h2) more.made_lines (in_part_behind h0 h1 h2 more.sent made more.written put));
+          (subst (AppendsInPart h0 h2) more.made_lines (AppendsInPart-after_Appends h0 h1 h2 more.sent made more.written put));
     }
 framed_in_part p q l0 l1 l2 h0 h1 h2 octets kept made false framed read takes faults put =
     let taken = faults refl framed.rest framed.stands in
@@ -256,7 +256,7 @@ framed_in_part p q l0 l1 l2 h0 h1 h2 octets kept made false framed read takes fa
       read = Consumes-trans l0 l1 l2 framed.octets octets framed.read read;
       framing = framing_join framed.octets octets framed.elements taken.elements framed.rest taken.rest framed.framing taken.framing;
       written = subst (AppendsInPart h0 h2) (lines_more framed.sent kept made framed.elements taken.elements taken.rest framed.made_lines taken.made_lines)
-          (in_part_behind h0 h1 h2 framed.sent made framed.written put);
+          (AppendsInPart-after_Appends h0 h1 h2 framed.sent made framed.written put);
     }
 
 -- a pull of no octets
@@ -272,7 +272,7 @@ framed_end p l0 l1 l2 h0 h1 h2 octets whole framed read none end answer line = r
   rest = framed.rest;
   read = read_none l0 l1 l2 framed.octets octets framed.read read none;
   framing = framed.framing;
-  ends = inl (end, stands_unfinished p framed.rest framed.stands);
+  ends = inl (end, Stands-IsUnfinished p framed.rest framed.stands);
   written = Appends-trans h0 h1 h2 (flat_map element_line framed.elements) (end_line framed.rest) (all_written p l0 l1 h0 h1 framed) (line framed.rest framed.stands);
   answer = answer framed.rest framed.stands;
 }
@@ -292,5 +292,5 @@ finish_cut p l0 l1 l2 h0 h1 h2 octets (Err x) e framed read none cut is = record
   rest = framed.rest;
   read = read_none l0 l1 l2 framed.octets octets framed.read read none;
   framing = framed.framing;
-  written = in_part_behind h0 h1 h2 (flat_map element_line framed.elements) (end_line framed.rest) (all_written p l0 l1 h0 h1 framed) (cut framed.rest framed.stands);
+  written = AppendsInPart-after_Appends h0 h1 h2 (flat_map element_line framed.elements) (end_line framed.rest) (all_written p l0 l1 h0 h1 framed) (cut framed.rest framed.stands);
 }

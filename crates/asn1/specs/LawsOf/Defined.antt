@@ -15,7 +15,7 @@ use Rattle.asn1_core.specs.Lemmas.Faults.{simple_errors}
 use Rattle.asn1.specs.DefinedReads.{Known, element_read}
 use Rattle.asn1.specs.DefinedEncodings.{variant_encoding, or_variant_encoding, any_variant_encoding, inside_encoding}
 use Rattle.asn1.specs.Lemmas.Defined.{element_consumes, element_read_back, element_errors}
-use Rattle.asn1.specs.Lemmas.Variants.{variant_consumes, variant_read_back, variant_accepted, variant_errors, variant_told, or_variant_consumes, or_variant_told, or_variant_read_back, or_variant_accepted, or_variant_nothing_or_element, or_variant_not_empty, or_variant_errors, or_variant_both, or_variant_pair, or_variant_memory, or_variant_front, any_consumes, any_read_back, any_errors}
+use Rattle.asn1.specs.Lemmas.Variants.{variant_consumes, variant_read_back, variant_accepted, variant_errors, variant_element_or_apart, or_variant_consumes, or_variant_element_or_apart, or_variant_read_back, or_variant_accepted, or_variant_nothing_or_element, or_variant_not_empty, or_variant_errors, or_variant_both, or_variant_pair, or_variant_memory, or_variant_leading_element, any_consumes, any_read_back, any_errors}
 use Rattle.asn1.specs.Lemmas.Choices.{or_one, or_has, or_all, or_weaker}
 
 pub known_itself : (numbers : List ℕ) → bytes_eq numbers numbers ≡ true
@@ -33,7 +33,7 @@ variant_laws k {d = d} ld = record {
   nothing_or_element = ld.nothing_or_element;
   accepted = λ m e v same. variant_accepted k d.accepts e.tag (ld.accepted m e v same);
   not_empty = ld.not_empty;
-  told = λ starts is_told m v. variant_told k d.accepts d.is_element starts is_told;
+  told = λ starts is_told m v. variant_element_or_apart k d.accepts d.is_element starts is_told;
   read_back = λ m rest l v a fits none. variant_read_back k d.accepts d.encoding d.read m rest (ld.read_back m rest l v a fits) none;
   unbounded = ld.unbounded;
   memory = λ i t places out. ld.memory t places out.1;
@@ -52,12 +52,12 @@ or_variant_laws k {d = d} {others = others} ld lo = record {
   nothing_or_element = λ m l v. or_variant_nothing_or_element k d.encoding others.encoding others.item d.valid others.valid (λ x w. ld.nothing_or_element x l.0 w) (λ x w. lo.nothing_or_element x l.1 w) m v;
   accepted = or_variant_accepted k d.encoding others.encoding others.item d.accepts others.accepts d.valid others.valid ld.accepted lo.accepted;
   not_empty = λ m l i v e. or_variant_not_empty k d.encoding others.encoding others.item d.valid others.valid d.is_element others.is_element (λ x. ld.not_empty x l.0) (λ x. lo.not_empty x l.1) m i v e;
-  told = λ starts is_told. or_variant_told k others.item d.accepts others.accepts d.valid others.valid d.is_element others.is_element starts is_told.0 (lo.told starts is_told.1);
+  told = λ starts is_told. or_variant_element_or_apart k others.item d.accepts others.accepts d.valid others.valid d.is_element others.is_element starts is_told.0 (lo.told starts is_told.1);
   read_back = λ m rest l v a fits none. or_variant_read_back k d.encoding others.encoding others.item d.accepts others.accepts (λ x. d.valid x × d.allowed x) (λ x. others.valid x × others.allowed x) d.read others.read rest
       (λ x w. ld.read_back x rest l.0 w.0 w.1) (λ x w. lo.read_back x rest l.1 w.0 w.1) m (or_variant_pair d.valid d.allowed others.valid others.allowed (λ n. k.is (others.item n) ≡ false) m v a) fits none;
   unbounded = λ free. or_weaker d.valid d.allowed (λ n. others.valid n × (k.is (others.item n) ≡ false)) others.allowed (ld.unbounded (λ b. free (inl b))) (λ n v. lo.unbounded (λ b. free (inr b)) n v.0);
   memory = λ i t places out. or_variant_memory (k.is i) (d.runs_out t places) d.takes_memory (others.runs_out i t places) others.takes_memory (ld.memory t places) (lo.memory i t places) out;
-  begins_with_element = λ i t places out. or_variant_front (k.is i) (d.runs_out t places) (others.runs_out i t places) t (ld.begins_with_element t places) (lo.begins_with_element i t places) out;
+  begins_with_element = λ i t places out. or_variant_leading_element (k.is i) (d.runs_out t places) (others.runs_out i t places) t (ld.begins_with_element t places) (lo.begins_with_element i t places) out;
   errors = λ i. or_variant_errors (k.is i) d.read (others.read i) ld.errors (lo.errors i);
 }
 

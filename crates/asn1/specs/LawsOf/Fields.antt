@@ -14,10 +14,10 @@ use Rattle.asn1.specs.Tagged.{retagged}
 use Rattle.asn1.specs.LawsOf.Tagged.{retagged_laws}
 use Rattle.asn1_core.specs.DefinedBy.{DefinedEncoding, DefinedLaws}
 use Rattle.asn1_core.specs.Lemmas.Options.{element_in}
-use Rattle.asn1_core.specs.Lemmas.Wholes.{stands-nil}
+use Rattle.asn1_core.specs.Lemmas.Wholes.{begins_accepted-nil}
 use Rattle.asn1.specs.FieldReads.{Both, field_out, others_out, last_read, field_read, item_read, behind_out}
 use Rattle.asn1.specs.Fields.{first_name, other_names, Fields, FieldsLaws, FieldsBy, FieldsByLaws, last, field, no_fields, value_last, value_field, between, with_item, sequence}
-use Rattle.asn1.specs.Lemmas.Fields.{last_consumes, last_read_back, last_errors, field_consumes, field_read_back, field_faults_all, last_apart, field_apart, none_by, both_one, both_has, field_memory, item_consumes, item_read_back, item_errors, item_memory, first_apart}
+use Rattle.asn1.specs.Lemmas.Fields.{last_consumes, last_read_back, last_errors, field_consumes, field_read_back, field_faults_all, last_apart, field_apart, begins_accepted-nil_append, both_one_encoding, both_has, field_memory, item_consumes, item_read_back, item_errors, item_memory, first_apart}
 
 module _ {A : Type 0} (d : Encoding A) (ld : EncodingLaws d) where
   pub last_law_consumes : (names : List (List ℕ)) (c : List ℕ) (m : A) → IsOctets c → last_read (first_name names) d.read c ≡ Ok m → (c ≡ d.encoding m) × (d.valid m × d.allowed m)
@@ -37,7 +37,7 @@ module _ {A : Type 0} (d : Encoding A) (ld : EncodingLaws d) where
 
   module _ {N : Type 0} (others : Fields N) (lo : FieldsLaws others) where
     pub field_law_one_encoding : d.plain × others.plain → (m : A × N) (t : List ℕ) → Both (d.encodings m.0) (others.encodings m.1) t → t ≡ d.encoding m.0 ++ others.encoding m.1
-    field_law_one_encoding p m = both_one (d.encoding m.0) (d.encodings m.0) (others.encoding m.1) (others.encodings m.1) (ld.one_encoding p.0 m.0) (lo.one_encoding p.1 m.1)
+    field_law_one_encoding p m = both_one_encoding (d.encoding m.0) (d.encodings m.0) (others.encoding m.1) (others.encodings m.1) (ld.one_encoding p.0 m.0) (lo.one_encoding p.1 m.1)
 
     pub field_law_consumes : (names : List (List ℕ)) (c : List ℕ) (m : A × N) → IsOctets c → field_read (first_name names) d.read (others.read (other_names names)) c ≡ Ok m →
         (c ≡ d.encoding m.0 ++ others.encoding m.1) × ((d.valid m.0 × others.valid m.1) × (d.allowed m.0 × others.allowed m.1))
@@ -53,7 +53,7 @@ module _ {A : Type 0} (d : Encoding A) (ld : EncodingLaws d) where
     pub field_law_read_back : (names : List (List ℕ)) (m : A × N) → d.lawful × others.lawful × (d.is_element ⊎ ((tag : Tag) → others.starts tag → d.accepts tag ≡ false)) → d.valid m.0 × others.valid m.1 →
         d.allowed m.0 × others.allowed m.1 → length (d.encoding m.0 ++ others.encoding m.1) < 2 ^ 32 → field_read (first_name names) d.read (others.read (other_names names)) (d.encoding m.0 ++ others.encoding m.1) ≡ Ok m
     field_law_read_back names m l v a s = field_read_back (first_name names) d.encoding d.read others.encoding (others.read (other_names names)) d.accepts m (ld.nothing_or_element m.0 l.0 v.0) (λ rest fits none. ld.read_back m.0 rest l.0 v.0 a.0 fits none)
-        (none_by (d.encoding m.0) d.accepts (others.encoding m.1) (λ i e. ld.not_empty m.0 l.0 i v.0 e) (lo.apart m.1 l.1 v.1 d.accepts) l.2) (lo.read_back (other_names names) m.1 l.1 v.1 a.1) s
+        (begins_accepted-nil_append (d.encoding m.0) d.accepts (others.encoding m.1) (λ i e. ld.not_empty m.0 l.0 i v.0 e) (lo.apart m.1 l.1 v.1 d.accepts) l.2) (lo.read_back (other_names names) m.1 l.1 v.1 a.1) s
 
     pub field_law_unbounded : (d.bounded ⊎ others.bounded → ⊥) → (m : A × N) → d.valid m.0 × others.valid m.1 → d.allowed m.0 × others.allowed m.1
     field_law_unbounded free m v = (ld.unbounded (λ b. free (inl b)) m.0 v.0, lo.unbounded (λ b. free (inr b)) m.1 v.1)
@@ -112,7 +112,7 @@ no_fields_laws = record {
   has_encoding = λ p m v. refl;
   no_closures = λ p m. tt;
   consumes = no_law_consumes;
-  apart = λ m l v asked free. stands-nil asked;
+  apart = λ m l v asked free. begins_accepted-nil asked;
   read_back = λ names m l v a s. refl;
   unbounded = λ free m v. tt;
   memory = λ names c places out. out;
@@ -139,7 +139,7 @@ module _ {I A : Type 0} (by : DefinedEncoding I A) (lby : DefinedLaws by) where
 
   module _ {N : Type 0} (others : Fields N) (lo : FieldsLaws others) where
     pub value_law_one_encoding : by.plain × others.plain → (m : A × N) (t : List ℕ) → Both (by.encodings m.0) (others.encodings m.1) t → t ≡ by.encoding m.0 ++ others.encoding m.1
-    value_law_one_encoding p m = both_one (by.encoding m.0) (by.encodings m.0) (others.encoding m.1) (others.encodings m.1) (lby.one_encoding p.0 m.0) (lo.one_encoding p.1 m.1)
+    value_law_one_encoding p m = both_one_encoding (by.encoding m.0) (by.encodings m.0) (others.encoding m.1) (others.encodings m.1) (lby.one_encoding p.0 m.0) (lo.one_encoding p.1 m.1)
 
     pub value_law_consumes : (names : List (List ℕ)) (i : I) (c : List ℕ) (m : A × N) → IsOctets c → field_read (first_name names) (by.read i) (others.read (other_names names)) c ≡ Ok m →
         (c ≡ by.encoding m.0 ++ others.encoding m.1) × ((by.item m.0 ≡ i) × ((by.valid m.0 × others.valid m.1) × (by.allowed m.0 × others.allowed m.1)))
@@ -155,7 +155,7 @@ module _ {I A : Type 0} (by : DefinedEncoding I A) (lby : DefinedLaws by) where
     pub value_law_read_back : (names : List (List ℕ)) (m : A × N) → by.lawful × others.lawful × by.is_told others.starts → by.valid m.0 × others.valid m.1 →
         by.allowed m.0 × others.allowed m.1 → length (by.encoding m.0 ++ others.encoding m.1) < 2 ^ 32 → field_read (first_name names) (by.read (by.item m.0)) (others.read (other_names names)) (by.encoding m.0 ++ others.encoding m.1) ≡ Ok m
     value_law_read_back names m l v a s = field_read_back (first_name names) by.encoding (by.read (by.item m.0)) others.encoding (others.read (other_names names)) (by.accepts (by.item m.0)) m (lby.nothing_or_element m.0 l.0 v.0) (λ rest fits none. lby.read_back m.0 rest l.0 v.0 a.0 fits none)
-        (none_by (by.encoding m.0) (by.accepts (by.item m.0)) (others.encoding m.1) (λ i e. lby.not_empty m.0 l.0 i v.0 e) (lo.apart m.1 l.1 v.1 (by.accepts (by.item m.0))) (lby.told others.starts l.2 m.0 v.0)) (lo.read_back (other_names names) m.1 l.1 v.1 a.1) s
+        (begins_accepted-nil_append (by.encoding m.0) (by.accepts (by.item m.0)) (others.encoding m.1) (λ i e. lby.not_empty m.0 l.0 i v.0 e) (lo.apart m.1 l.1 v.1 (by.accepts (by.item m.0))) (lby.told others.starts l.2 m.0 v.0)) (lo.read_back (other_names names) m.1 l.1 v.1 a.1) s
 
     pub value_law_unbounded : (by.bounded ⊎ others.bounded → ⊥) → (m : A × N) → by.valid m.0 × others.valid m.1 → by.allowed m.0 × others.allowed m.1
     value_law_unbounded free m v = (lby.unbounded (λ b. free (inl b)) m.0 v.0, lo.unbounded (λ b. free (inr b)) m.1 v.1)
@@ -194,7 +194,7 @@ value_field_laws {by = by} {others = others} lby lo = record {
 
 module _ {I A M : Type 0} (d : Encoding A) (behind : FieldsBy I M) (ld : EncodingLaws d) (lb : FieldsByLaws behind) where
   pub between_law_one_encoding : d.plain × behind.plain → (m : A × M) (t : List ℕ) → Both (d.encodings m.0) (behind.encodings m.1) t → t ≡ d.encoding m.0 ++ behind.encoding m.1
-  between_law_one_encoding p m = both_one (d.encoding m.0) (d.encodings m.0) (behind.encoding m.1) (behind.encodings m.1) (ld.one_encoding p.0 m.0) (lb.one_encoding p.1 m.1)
+  between_law_one_encoding p m = both_one_encoding (d.encoding m.0) (d.encodings m.0) (behind.encoding m.1) (behind.encodings m.1) (ld.one_encoding p.0 m.0) (lb.one_encoding p.1 m.1)
 
   pub between_law_consumes : (names : List (List ℕ)) (i : I) (c : List ℕ) (m : A × M) → IsOctets c → field_read (first_name names) d.read (behind.read (other_names names) i) c ≡ Ok m →
       (c ≡ d.encoding m.0 ++ behind.encoding m.1) × ((behind.item m.1 ≡ i) × ((d.valid m.0 × behind.valid m.1) × (d.allowed m.0 × behind.allowed m.1)))
@@ -210,7 +210,7 @@ module _ {I A M : Type 0} (d : Encoding A) (behind : FieldsBy I M) (ld : Encodin
   pub between_law_read_back : (names : List (List ℕ)) (m : A × M) → d.lawful × behind.lawful × (d.is_element ⊎ ((i : I) (tag : Tag) → behind.starts i tag → d.accepts tag ≡ false)) → d.valid m.0 × behind.valid m.1 →
       d.allowed m.0 × behind.allowed m.1 → length (d.encoding m.0 ++ behind.encoding m.1) < 2 ^ 32 → field_read (first_name names) d.read (behind.read (other_names names) (behind.item m.1)) (d.encoding m.0 ++ behind.encoding m.1) ≡ Ok m
   between_law_read_back names m l v a s = field_read_back (first_name names) d.encoding d.read behind.encoding (behind.read (other_names names) (behind.item m.1)) d.accepts m (ld.nothing_or_element m.0 l.0 v.0) (λ rest fits none. ld.read_back m.0 rest l.0 v.0 a.0 fits none)
-      (none_by (d.encoding m.0) d.accepts (behind.encoding m.1) (λ i e. ld.not_empty m.0 l.0 i v.0 e) (λ free. lb.apart m.1 l.1 v.1 d.accepts (free (behind.item m.1))) l.2) (lb.read_back (other_names names) m.1 l.1 v.1 a.1) s
+      (begins_accepted-nil_append (d.encoding m.0) d.accepts (behind.encoding m.1) (λ i e. ld.not_empty m.0 l.0 i v.0 e) (λ free. lb.apart m.1 l.1 v.1 d.accepts (free (behind.item m.1))) l.2) (lb.read_back (other_names names) m.1 l.1 v.1 a.1) s
 
   pub between_law_unbounded : (d.bounded ⊎ behind.bounded → ⊥) → (m : A × M) → d.valid m.0 × behind.valid m.1 → d.allowed m.0 × behind.allowed m.1
   between_law_unbounded free m v = (ld.unbounded (λ b. free (inl b)) m.0 v.0, lb.unbounded (λ b. free (inr b)) m.1 v.1)
@@ -236,7 +236,7 @@ between_laws {d = d} {behind = behind} ld lb = record {
 
 module _ {A M : Type 0} (d : Encoding A) (behind : FieldsBy A M) (ld : EncodingLaws d) (lb : FieldsByLaws behind) where
   pub item_law_one_encoding : d.plain × behind.plain → (m : M) (t : List ℕ) → Both (d.encodings (behind.item m)) (behind.encodings m) t → t ≡ d.encoding (behind.item m) ++ behind.encoding m
-  item_law_one_encoding p m = both_one (d.encoding (behind.item m)) (d.encodings (behind.item m)) (behind.encoding m) (behind.encodings m) (ld.one_encoding p.0 (behind.item m)) (lb.one_encoding p.1 m)
+  item_law_one_encoding p m = both_one_encoding (d.encoding (behind.item m)) (d.encodings (behind.item m)) (behind.encoding m) (behind.encodings m) (ld.one_encoding p.0 (behind.item m)) (lb.one_encoding p.1 m)
 
   pub item_law_consumes : (names : List (List ℕ)) (c : List ℕ) (m : M) → IsOctets c → item_read (first_name names) d.read (behind.read (other_names names)) c ≡ Ok m →
       (c ≡ d.encoding (behind.item m) ++ behind.encoding m) × ((d.valid (behind.item m) × behind.valid m) × (d.allowed (behind.item m) × behind.allowed m))

@@ -7,7 +7,7 @@ use Rattle.std.proofs.lemmas.Bool.{and_parts, and_from, le-leb, leb-true, eqb-tr
 use Rattle.asn1_core.specs.declared.parser.ParseErrorKind.TheVariants.{InvalidValue}
 use Rattle.asn1_core.specs.Base256.{IsOctets}
 use Rattle.asn1_core.specs.ReadError.{read_error, IsOfInput}
-use Rattle.asn1_core.specs.Lemmas.Results.{ok_is, bind_ok, passed}
+use Rattle.asn1_core.specs.Lemmas.Results.{ok_is, bind_ok, if_ok-is}
 use Rattle.asn1_values.specs.Times.{IsDate as IsDateAndTime, Moment, IsMoment, days, is_leap, month_lengths, two}
 use Rattle.asn1_values.specs.TimeSteps.{is_digit, front_two}
 use Rattle.asn1_values.specs.Lemmas.Times.{moment_by_test, two_rejected, two_consumes, two_read_back, IsRejected, bind_rejected, if_rejected, rejected_errors, none_rejected}
@@ -55,7 +55,7 @@ few_days year month = all_at (month_lengths (is_leap year)) (few_lengths (is_lea
 alone_is : (d : Day) (after : List ℕ) (x : Day) → day_alone d after ≡ Ok x → (is_day d ≡ true) × (after ≡ []) × (d ≡ x)
 unfolding day_alone
 alone_is d after x e =
-    let p = passed (is_day d && eqb (length after) 0) (Ok d) _ x e in
+    let p = if_ok-is (is_day d && eqb (length after) 0) (Ok d) _ x e in
     let q = and_parts _ _ p.0 in
     (q.0, nil_from_length after (eqb-true (length after) 0 q.1), ok_is _ _ p.1)
 
@@ -127,13 +127,13 @@ day_errors c = rejected_errors (read_day c) (day_rejected c)
 pub alone_read : (d : Day) (after : List ℕ) → IsDate d → length after ≡ 0 → day_alone d after ≡ Ok d
 alone_read d after h e = ap (day_alone d) (nil_from_length after e) ∙ alone_ok d h
 
-pub alone_refused : (d : Day) (after : List ℕ) → (IsDate d → length after ≡ 0 → ⊥) → day_alone d after ≡ Err (read_error InvalidValue)
-alone_refused d after none = none_rejected (day_alone d after) (alone_rejected d after) (λ x e. let a = alone_is d after x e in none (day_by_test d a.0) (ap length a.1))
+pub day_alone-err : (d : Day) (after : List ℕ) → (IsDate d → length after ≡ 0 → ⊥) → day_alone d after ≡ Err (read_error InvalidValue)
+day_alone-err d after none = none_rejected (day_alone d after) (alone_rejected d after) (λ x e. let a = alone_is d after x e in none (day_by_test d a.0) (ap length a.1))
 
 -- the date that is made of the numbers, or none
-pub alone_answers : {T : Type 0} (view : T → Day) (r : Option T) (d : Day) (after : List ℕ) → ((x : T) → IsDate (view x)) → length after ≡ 0 → MatchOption r (IsDate d → ⊥) (λ x. view x ≡ d) → MatchOption r (day_alone d after ≡ Err (read_error InvalidValue)) (λ x. day_alone d after ≡ Ok (view x))
-alone_answers view None d after valid e none = alone_refused d after (λ h _. none h)
-alone_answers view (Some x) d after valid e same = alone_read d after (subst IsDate same (valid x)) e ∙ ap Ok (sym same)
+pub day_alone-option : {T : Type 0} (view : T → Day) (r : Option T) (d : Day) (after : List ℕ) → ((x : T) → IsDate (view x)) → length after ≡ 0 → MatchOption r (IsDate d → ⊥) (λ x. view x ≡ d) → MatchOption r (day_alone d after ≡ Err (read_error InvalidValue)) (λ x. day_alone d after ≡ Ok (view x))
+day_alone-option view None d after valid e none = day_alone-err d after (λ h _. none h)
+day_alone-option view (Some x) d after valid e same = alone_read d after (subst IsDate same (valid x)) e ∙ ap Ok (sym same)
 
 -- ---- the law
 

@@ -11,14 +11,14 @@ use Rattle.asn1_core.specs.Options.{option_read}
 use Rattle.asn1_core.specs.Lemmas.Elements.{element_some}
 use Rattle.asn1_core.specs.Lemmas.Results.{ok_is, bind_ok}
 use Rattle.asn1_core.specs.Lemmas.Options.{option_consumes, element_in, option_errors}
-use Rattle.asn1_core.specs.Lemmas.Wholes.{stands_tag}
+use Rattle.asn1_core.specs.Lemmas.Wholes.{begins_accepted-element}
 use Rattle.asn1_core.specs.Lemmas.Faults.{bind_errors, missed_errors}
 use Rattle.asn1.specs.Defaults.{same_encoding, unless, unless_default_encoding, read_default, default_text, default_read}
 use Rattle.asn1_core.specs.Lemmas.Facts.{not_both}
 
 -- a value has the same encoding as itself
-pub same_itself : {M : Type 0} (encoding : M → List ℕ) (m : M) → same_encoding encoding m m ≡ true
-same_itself encoding m = (bytes_eq-Decides (encoding m) (encoding m)).1 refl
+pub same_encoding-refl : {M : Type 0} (encoding : M → List ℕ) (m : M) → same_encoding encoding m m ≡ true
+same_encoding-refl encoding m = (bytes_eq-Decides (encoding m) (encoding m)).1 refl
 
 abbrev gave : {M : Type 0} → List ℕ → M → Result (M × List ℕ) ReadError
 gave rest m = Ok (m, rest)
@@ -30,7 +30,7 @@ some_is false v m rest1 rest e = (refl, ok_is _ _ e)
 module _ {M : Type 0} (encoding : M → List ℕ) (default : M) where
   -- the default is encoded as nothing, and another value as in its type
   pub none_of : (m : M) → m ≡ default → default_text encoding default m ≡ []
-  none_of m e = rw (ap (λ (x : M). same_encoding encoding x default) e, same_itself encoding default) refl
+  none_of m e = rw (ap (λ (x : M). same_encoding encoding x default) e, same_encoding-refl encoding default) refl
 
   pub own_of : (m : M) → same_encoding encoding m default ≡ false → default_text encoding default m ≡ encoding m
   own_of m other = rw other refl
@@ -75,11 +75,11 @@ module _ {M : Type 0} (encoding : M → List ℕ) (default : M) where
     default_read_back allowed shape accepted solid again m rest (inl e) a one none =
         let nothing = none_of m e in
         rw (nothing, none nothing, e) refl
-    default_read_back allowed shape accepted solid again m rest (inr v) (inl e) one none = not_both (same_encoding encoding m default) (ap (λ (x : M). same_encoding encoding x default) e ∙ same_itself encoding default) v.1
+    default_read_back allowed shape accepted solid again m rest (inr v) (inl e) one none = not_both (same_encoding encoding m default) (ap (λ (x : M). same_encoding encoding x default) e ∙ same_encoding-refl encoding default) v.1
     default_read_back allowed shape accepted solid again m rest (inr v) (inr a) one none =
         let own = own_of m v.1 in
         let e = element_in (shape m v.0) (solid m v.0) in
-        let here = stands_tag accepts (encoding m) rest e (accepted m e.element v.0 e.is) in
+        let here = begins_accepted-element accepts (encoding m) rest e (accepted m e.element v.0 e.is) in
         let back = again m rest v.0 a (subst Fits own one) (λ n. absurd (solid m v.0 n)) in
         rw (own, here, back, v.1) refl
 
@@ -102,7 +102,7 @@ has_unless false octets encodings law = law refl
 
 pub default_has : {M : Type 0} (encoding : M → List ℕ) (default : M) (encodings : M → List ℕ → Type 0) (valid : M → Type 0) → ((m : M) → valid m → encodings m (encoding m)) →
     (m : M) → (m ≡ default) ⊎ (valid m × (same_encoding encoding m default ≡ false)) → unless (same_encoding encoding m default) (encodings m) (default_text encoding default m)
-default_has {M} encoding default encodings valid law m (inl e) = has_unless (same_encoding encoding m default) (encoding m) (encodings m) (λ other. not_both (same_encoding encoding m default) (ap (λ (x : M). same_encoding encoding x default) e ∙ same_itself encoding default) other)
+default_has {M} encoding default encodings valid law m (inl e) = has_unless (same_encoding encoding m default) (encoding m) (encodings m) (λ other. not_both (same_encoding encoding m default) (ap (λ (x : M). same_encoding encoding x default) e ∙ same_encoding-refl encoding default) other)
 default_has encoding default encodings valid law m (inr v) = has_unless (same_encoding encoding m default) (encoding m) (encodings m) (λ other. law m v.0)
 
 pub default_at_most_one : (b : Bool) (encodings : List ℕ → Type 0) → ((t : List ℕ) → encodings t → IsNothingOrElement t) → (t : List ℕ) → unless b encodings t → IsNothingOrElement t

@@ -21,7 +21,7 @@ use Rattle.asn1_core.specs.Integer.{integer_content}
 use Rattle.asn1_core.specs.Boolean.{bool_octets}
 use Rattle.asn1_core.specs.ReadError.{ReadError}
 use Rattle.asn1_core.specs.Lemmas.Results.{ok_is}
-use Rattle.asn1_core.specs.Lemmas.Lengths.{length_text_low, length_text_high}
+use Rattle.asn1_core.specs.Lemmas.Lengths.{length_octets-low, length_octets-high}
 use Rattle.asn1_core.specs.Lemmas.Integers.{content_value}
 use Rattle.asn1_values.specs.Big.{IsSignedForm}
 use Rattle.asn1_values.specs.Bits.{Bits, bits, bits_text}
@@ -51,17 +51,17 @@ lengths_apart : (c d : List ℕ) → length_octets (length c) ++ c ≡ length_oc
 lengths_apart c d e =
     elim (cases_lt (length c) 128) [
       | inl low ↦ elim (cases_lt (length d) 128) [
-        | inl low2 ↦ (same_heads _ _ _ _ (rw (length_text_low (length c) low, length_text_low (length d) low2) at e)).1
+        | inl low2 ↦ (same_heads _ _ _ _ (rw (length_octets-low (length c) low, length_octets-low (length d) low2) at e)).1
         | inr high2 ↦
-            let h = same_heads _ _ _ _ (rw (length_text_low (length c) low, length_text_high (length d) high2) at e) in
+            let h = same_heads _ _ _ _ (rw (length_octets-low (length c) low, length_octets-high (length d) high2) at e) in
             absurd (omega (arith, h.0))
       ]
       | inr high ↦ elim (cases_lt (length d) 128) [
         | inl low2 ↦
-            let h = same_heads _ _ _ _ (rw (length_text_high (length c) high, length_text_low (length d) low2) at e) in
+            let h = same_heads _ _ _ _ (rw (length_octets-high (length c) high, length_octets-low (length d) low2) at e) in
             absurd (omega (arith, h.0))
         | inr high2 ↦
-            let h = same_heads _ _ _ _ (rw (length_text_high (length c) high, length_text_high (length d) high2) at e) in
+            let h = same_heads _ _ _ _ (rw (length_octets-high (length c) high, length_octets-high (length d) high2) at e) in
             behind_same (digits_of 256 (length c)) (digits_of 256 (length d)) c d (omega (arith, h.0)) h.1
       ]
     ]
@@ -186,8 +186,8 @@ AreNumbersOf m n = (m.year ≡ n.year) × ((m.month ≡ n.month) × ((m.day ≡ 
 numbers_decide : {P : Type 0} {b : Bool} (x y : ℕ) → Decides b P → Decides (nat_eq x y && b) ((x ≡ y) × P)
 numbers_decide {P} {b} x y others = Decides-and (nat_eq x y) b (Decides-eqb x y) others
 
-moment_of : (m n : Moment) → AreNumbersOf m n → m ≡ n
-moment_of m n h =
+AreNumbersOf-eq : (m n : Moment) → AreNumbersOf m n → m ≡ n
+AreNumbersOf-eq m n h =
     let same : moment_with m.year m.month m.day m.hour m.minute m.second ≡ moment_with n.year n.month n.day n.hour n.minute n.second = rw (h.0, h.1.0, h.1.1.0, h.1.1.1.0, h.1.1.1.1.0, h.1.1.1.1.1) refl in
     same
 
@@ -196,7 +196,7 @@ moment_numbers m n e = (ap (λ (x : Moment). x.year) e, (ap (λ (x : Moment). x.
 
 moments_decide : (m n : Moment) → Decides (same_moments m n) (m ≡ n)
 moments_decide m n =
-    Decides-like (same_moments m n) (moment_of m n) (moment_numbers m n)
+    Decides-like (same_moments m n) (AreNumbersOf-eq m n) (moment_numbers m n)
     (numbers_decide m.year n.year (numbers_decide m.month n.month (numbers_decide m.day n.day (numbers_decide m.hour n.hour (numbers_decide m.minute n.minute (Decides-eqb m.second n.second))))))
 
 utc_back : (t : UtcTime) → read_utc (utc_text (utc_moment t)) ≡ Ok (utc_moment t)

@@ -5,7 +5,7 @@ use Rattle.std.specs.List.{list_all}
 use Rattle.std.proofs.lemmas.Bool.{and_parts, and_from, ltb-true, lt-ltb, leb-true, le-leb}
 use Rattle.asn1_core.specs.Base128.{number_octets}
 use Rattle.asn1_values.specs.Identifier.{AllSmall, IsIdentifier, IsIdentifierForm, identifier_content}
-use Rattle.asn1_values.specs.Lemmas.Identifier.{content_text, form_before, numbers_joined, some_content}
+use Rattle.asn1_values.specs.Lemmas.Identifier.{IsOctets-identifier_content, form_before, numbers_joined, some_content}
 use Rattle.asn1.specs.IdentifierTests.{is_identifier}
 
 small_by_test : (numbers : List ℕ) → list_all (λ n. ltb n (2 ^ 128)) numbers ≡ true → AllSmall numbers
@@ -26,7 +26,7 @@ pub test_by_identifier : (numbers : List ℕ) → IsIdentifier numbers → is_id
 test_by_identifier numbers is = and_from _ _ (and_from _ _ (lt-ltb 0 (length numbers) is.some) (test_by_small numbers is.small)) (le-leb (length (identifier_content numbers)) 63 is.few)
 
 pub content_form : (numbers : List ℕ) → IsIdentifier numbers → IsIdentifierForm (identifier_content numbers ++ replicate (63 - length (identifier_content numbers)) 0) (length (identifier_content numbers))
-content_form numbers is = form_before (identifier_content numbers) (some_content numbers is.some) is.few (ap is_some (numbers_joined numbers is.small)) (content_text numbers is.small)
+content_form numbers is = form_before (identifier_content numbers) (some_content numbers is.some) is.few (ap is_some (numbers_joined numbers is.small)) (IsOctets-identifier_content numbers is.small)
 
 -- the identifier 0.0
 pub zero_is : IsIdentifier (0 ∷ [])

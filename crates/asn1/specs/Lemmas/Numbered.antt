@@ -7,7 +7,7 @@ use Rattle.asn1_core.specs.ReadError.{ReadError, read_error, IsOfInput}
 use Rattle.asn1_core.specs.Element.{◌>>=◌}
 use Rattle.asn1_core.specs.Integer.{integer_content, read_sized}
 use Rattle.asn1_core.specs.Lemmas.Integers.{sized_consumes, sized_read_back, sized_errors}
-use Rattle.asn1_core.specs.Lemmas.Results.{bind_ok, ok_is, passed}
+use Rattle.asn1_core.specs.Lemmas.Results.{bind_ok, ok_is, if_ok-is}
 use Rattle.asn1_core.specs.Lemmas.Faults.{bind_errors, passed_errors}
 use Rattle.asn1.specs.Listed.{largest, lists, IsListed, if_listed, read_listed}
 
@@ -16,7 +16,7 @@ done z = Ok z
 
 if_listed_is : (numbers : List ℕ) (z m : ℤ) → if_listed numbers z ≡ Ok m → (z ≡ m) × IsListed numbers m
 if_listed_is numbers (pos n) m e =
-    let p = passed (lists numbers n) (Ok (pos n)) (read_error InvalidValue) m e in
+    let p = if_ok-is (lists numbers n) (Ok (pos n)) (read_error InvalidValue) m e in
     let same = ok_is _ _ p.1 in
     (same, subst (IsListed numbers) same p.0)
 if_listed_is numbers (negsuc n) m e = absurd cc

@@ -11,8 +11,8 @@ use Rattle.asn1_core.specs.Lemmas.Faults.{missed_errors}
 use Rattle.asn1_core.specs.Lemmas.Texts.{IsOctets-from_reads}
 use Rattle.asn1_values.specs.Identifier.{identifier_content, numbers_in, or_invalid, or_none, identifier_numbers}
 use Rattle.asn1_values.specs.IdentifierSteps.{others_text}
-use Rattle.asn1_values.specs.Lemmas.Identifier.{content_some, has_front, none_of, numbers_is, numbers_nil, numbers_of, numbers_joined, or_invalid_errors, refuses_ok, some_content, valid_numbers}
-use Rattle.asn1_values.proofs.Dotted.{front_numbers}
+use Rattle.asn1_values.specs.Lemmas.Identifier.{content_some, leading_number-HasFront, none_of, numbers_is, numbers_nil, numbers_of, numbers_joined, or_invalid_errors, refuses_ok, some_content, valid_numbers}
+use Rattle.asn1_values.proofs.Dotted.{identifier_numbers-cons}
 use Rattle.asn1.specs.Relative.{IsRelative, IsRelativeContent, IsRelativeForm, RelativesAreRead, read_relative, arcs_text}
 
 -- ---- what reading returns
@@ -56,12 +56,12 @@ relative_read t some cuts = relative_some t some ∙ ap or_invalid (numbers_of t
 
 -- ---- the form in memory
 
-pub form_text : (t : List ℕ) → IsRelativeForm t → IsOctets t
-form_text t form = IsOctets-from_reads t form.each
+pub IsRelativeForm-IsOctets : (t : List ℕ) → IsRelativeForm t → IsOctets t
+IsRelativeForm-IsOctets t form = IsOctets-from_reads t form.each
 
 pub form_content : (t : List ℕ) → IsRelativeForm t → IsRelativeContent t (identifier_numbers t)
 form_content t form =
-    let taken = relative_consumes t (identifier_numbers t) (form_text t form) (relative_read t form.some form.cuts) in
+    let taken = relative_consumes t (identifier_numbers t) (IsRelativeForm-IsOctets t form) (relative_read t form.some form.cuts) in
     record { identifier = taken.1; content = taken.0 }
 
 -- the first arc, and the octets after it
@@ -71,21 +71,21 @@ pub record IsSplit (t : List ℕ) (n : ℕ) (rest : List ℕ) : Type 0 where
   pub cuts : is_some (numbers_in rest) ≡ true
   pub shorter : length rest < length t
 
-pub split : (t : List ℕ) (n : ℕ) (rest : List ℕ) → IsRelativeForm t → leading_number t ≡ Ok (n, rest) → IsSplit t n rest
-split t n rest form e =
-    let numbers = front_numbers t n rest (form_text t form) form.some e form.cuts in
-    let front = has_front t n rest (form_text t form) e in
+pub IsRelativeForm-IsSplit : (t : List ℕ) (n : ℕ) (rest : List ℕ) → IsRelativeForm t → leading_number t ≡ Ok (n, rest) → IsSplit t n rest
+IsRelativeForm-IsSplit t n rest form e =
+    let numbers = identifier_numbers-cons t n rest (IsRelativeForm-IsOctets t form) form.some e form.cuts in
+    let front = leading_number-HasFront t n rest (IsRelativeForm-IsOctets t form) e in
     record { arcs = numbers.1; octets = front.octets; cuts = numbers.0; shorter = front.shorter }
 
 pub form_rest : (t : List ℕ) (n : ℕ) (rest : List ℕ) → IsRelativeForm t → leading_number t ≡ Ok (n, rest) → 0 < length rest → IsRelativeForm rest
 form_rest t n rest form e some =
-    let found = split t n rest form e in
+    let found = IsRelativeForm-IsSplit t n rest form e in
     record { some = some; cuts = found.cuts; each = octet_at rest found.octets }
 
 pub split_last : (t : List ℕ) (n : ℕ) (rest : List ℕ) → IsRelativeForm t → leading_number t ≡ Ok (n, rest) → length rest ≡ 0 → identifier_numbers t ≡ n ∷ []
-split_last t n rest form e none = (split t n rest form e).arcs ∙ ap (λ (o : Option (List ℕ)). n ∷ or_none o) (numbers_nil rest none)
+split_last t n rest form e none = (IsRelativeForm-IsSplit t n rest form e).arcs ∙ ap (λ (o : Option (List ℕ)). n ∷ or_none o) (numbers_nil rest none)
 
 -- ---- the dotted form
 
 pub arcs_first : (t : List ℕ) (n : ℕ) (rest : List ℕ) → IsRelativeForm t → leading_number t ≡ Ok (n, rest) → decimal n ++ others_text (identifier_numbers rest) ≡ arcs_text (identifier_numbers t)
-arcs_first t n rest form e = sym (ap arcs_text (split t n rest form e).arcs)
+arcs_first t n rest form e = sym (ap arcs_text (IsRelativeForm-IsSplit t n rest form e).arcs)

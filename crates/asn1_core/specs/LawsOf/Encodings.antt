@@ -16,7 +16,7 @@ use Rattle.asn1_core.specs.EncodingLaws.{ContentLaws, BasicLaws, EncodingLaws}
 use Rattle.asn1_core.specs.Boxed.{boxed, boxed_encoding}
 use Rattle.asn1_core.specs.Lemmas.Options.{option_consumes, option_nothing_or_element, option_accepted, option_read_back, option_both, option_pair, option_weaker, option_one, option_has, option_at_most_one, option_all, option_errors}
 use Rattle.asn1_core.specs.Lemmas.Elements.{element_some}
-use Rattle.asn1_core.specs.Lemmas.Wholes.{fits_inside, of_text, one_value}
+use Rattle.asn1_core.specs.Lemmas.Wholes.{fits_inside, IfErr-Returns, one_value}
 use Rattle.asn1_core.specs.Lemmas.Faults.{simple_errors, tlv_errors, refuses_errors}
 use Rattle.asn1_core.specs.Lemmas.Contents.{simple_consumes, simple_nothing_or_element, simple_accepted, simple_read_back, one_element, tlv_consumes, tlv_read_back, refuses_consumes}
 
@@ -55,7 +55,7 @@ module _ {M : Type 0} (c : Content M) (laws : ContentLaws c) where
   simple_type_short_fits m l v = fits_inside (element_encoding (element c.tag (c.encoding m))) (simple_type_nothing_or_element m l v)
 
   simple_type_as_errors : {V : Type 0} (meaning : V → M) → (c.takes_memory → ⊥) → (t : List ℕ) (result : Result V ReadError) → Returns meaning (c.runs_out t) result (c.read t) → IfErr result IsOfInput
-  simple_type_as_errors meaning none t result answers = of_text meaning (c.runs_out t) result (c.read t) answers (laws.errors t) (λ places out. none (laws.memory t places out))
+  simple_type_as_errors meaning none t result answers = IfErr-Returns meaning (c.runs_out t) result (c.read t) answers (laws.errors t) (λ places out. none (laws.memory t places out))
 
   simple_type_memory : (t : List ℕ) (places : List Place) → simple_out c.tag c.runs_out t places → c.takes_memory
   simple_type_memory t places out = laws.memory out.0.0.content places out.3
@@ -126,7 +126,7 @@ no_content_laws {M = M} = record {
 
 -- A type that isn't simple rejects all contents octets.
 pub no_content_errors : {V M : Type 0} (meaning : V → M) {P : Type 0} → P → (c : List ℕ) (result : Result V ReadError) → Returns meaning (λ places. ⊥) result (rejects_all c) → IfErr result IsOfInput
-no_content_errors {M = M} meaning none c result answers = of_text meaning (λ places. ⊥) result (rejects_all c) answers (refuses_errors M c) (λ places out. out)
+no_content_errors {M = M} meaning none c result answers = IfErr-Returns meaning (λ places. ⊥) result (rejects_all c) answers (refuses_errors M c) (λ places out. out)
 
 -- ---- any element
 

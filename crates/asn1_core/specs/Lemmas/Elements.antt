@@ -17,28 +17,28 @@ abbrev pub ElementFront : Type 0
 ElementFront = Result (Element × List ℕ) ParseErrorKind
 
 -- the four cases: an error of the tag or of the length, too few contents octets, an element
-pub front_tag : (octets : List ℕ) (kind : ParseErrorKind) → leading_tag octets ≡ Err kind → leading_element octets ≡ Err kind
+pub leading_element-tag_err : (octets : List ℕ) (kind : ParseErrorKind) → leading_tag octets ≡ Err kind → leading_element octets ≡ Err kind
 unfolding leading_element
-front_tag octets kind e = rw e refl
+leading_element-tag_err octets kind e = rw e refl
 
-pub front_length : (octets : List ℕ) (tag : Tag) (after : List ℕ) (kind : ParseErrorKind) → leading_tag octets ≡ Ok (tag, after) → leading_length after ≡ Err kind → leading_element octets ≡ Err kind
+pub leading_element-length_err : (octets : List ℕ) (tag : Tag) (after : List ℕ) (kind : ParseErrorKind) → leading_tag octets ≡ Ok (tag, after) → leading_length after ≡ Err kind → leading_element octets ≡ Err kind
 unfolding leading_element
-front_length octets tag after kind e f = rw (e, f) refl
+leading_element-length_err octets tag after kind e f = rw (e, f) refl
 
-pub front_content : (octets : List ℕ) (tag : Tag) (after : List ℕ) (n : ℕ) (rest : List ℕ) → leading_tag octets ≡ Ok (tag, after) → leading_length after ≡ Ok (n, rest) → leading_element octets ≡ leading_content tag n rest
+pub leading_element-leading_content : (octets : List ℕ) (tag : Tag) (after : List ℕ) (n : ℕ) (rest : List ℕ) → leading_tag octets ≡ Ok (tag, after) → leading_length after ≡ Ok (n, rest) → leading_element octets ≡ leading_content tag n rest
 unfolding leading_element
-front_content octets tag after n rest e f = rw (e, f) refl
+leading_element-leading_content octets tag after n rest e f = rw (e, f) refl
 
-pub front_short : (octets : List ℕ) (tag : Tag) (after : List ℕ) (n : ℕ) (rest : List ℕ) → leading_tag octets ≡ Ok (tag, after) → leading_length after ≡ Ok (n, rest) → length rest < n → leading_element octets ≡ Err (ShortData (n - length rest))
-front_short octets tag after n rest e f l = front_content octets tag after n rest e f ∙ rw (lt-ltb (length rest) n l) refl
+pub leading_element-short : (octets : List ℕ) (tag : Tag) (after : List ℕ) (n : ℕ) (rest : List ℕ) → leading_tag octets ≡ Ok (tag, after) → leading_length after ≡ Ok (n, rest) → length rest < n → leading_element octets ≡ Err (ShortData (n - length rest))
+leading_element-short octets tag after n rest e f l = leading_element-leading_content octets tag after n rest e f ∙ rw (lt-ltb (length rest) n l) refl
 
-pub front_found : (octets : List ℕ) (tag : Tag) (after : List ℕ) (n : ℕ) (rest : List ℕ) → leading_tag octets ≡ Ok (tag, after) → leading_length after ≡ Ok (n, rest) → n ≤ length rest → leading_element octets ≡ Ok (record { tag = tag; content = take n rest }, drop n rest)
-front_found octets tag after n rest e f l = front_content octets tag after n rest e f ∙ rw (le-ltb (length rest) n l) refl
+pub leading_element-found : (octets : List ℕ) (tag : Tag) (after : List ℕ) (n : ℕ) (rest : List ℕ) → leading_tag octets ≡ Ok (tag, after) → leading_length after ≡ Ok (n, rest) → n ≤ length rest → leading_element octets ≡ Ok (record { tag = tag; content = take n rest }, drop n rest)
+leading_element-found octets tag after n rest e f l = leading_element-leading_content octets tag after n rest e f ∙ rw (le-ltb (length rest) n l) refl
 
 -- the fields of an element, one after another
-pub regroup : (e : Element) (rest : List ℕ) → element_encoding e ++ rest ≡ identifier_octets e.tag ++ (length_octets (length e.content) ++ (e.content ++ rest))
+pub element_encoding-append : (e : Element) (rest : List ℕ) → element_encoding e ++ rest ≡ identifier_octets e.tag ++ (length_octets (length e.content) ++ (e.content ++ rest))
 unfolding element_encoding
-regroup e rest =
+element_encoding-append e rest =
     append_assoc (identifier_octets e.tag) (length_octets (length e.content) ++ e.content) rest
     ∙ ap (λ (l : List ℕ). identifier_octets e.tag ++ l) (append_assoc (length_octets (length e.content)) e.content rest)
 
@@ -46,27 +46,27 @@ pub element_ok : (e : Element) (rest : List ℕ) → IsReadable e → leading_el
 element_ok e rest is =
     let same : take (length e.content) (e.content ++ rest) ≡ e.content = take_at e.content rest (length e.content) refl in
     let left : drop (length e.content) (e.content ++ rest) ≡ rest = drop_at e.content rest (length e.content) refl in
-    ap leading_element (regroup e rest)
-    ∙ front_found (identifier_octets e.tag ++ (length_octets (length e.content) ++ (e.content ++ rest))) e.tag (length_octets (length e.content) ++ (e.content ++ rest)) (length e.content) (e.content ++ rest)
+    ap leading_element (element_encoding-append e rest)
+    ∙ leading_element-found (identifier_octets e.tag ++ (length_octets (length e.content) ++ (e.content ++ rest))) e.tag (length_octets (length e.content) ++ (e.content ++ rest)) (length e.content) (e.content ++ rest)
     (tag_ok e.tag (length_octets (length e.content) ++ (e.content ++ rest)) is.tag)
     (length_ok (length e.content) (e.content ++ rest) is.content)
     (omega (arith, length-append e.content rest))
     ∙ rw (same, left) refl
 
 -- octets have only one result
-pub front_only : (octets : List ℕ) (answer : ElementFront) → IsOctets octets → IsLeadingElement octets answer → leading_element octets ≡ answer
-front_only octets (Ok found) is a = rw a.1 (element_ok found.0 found.1 a.0)
-front_only octets (Err kind) is (inl a) = front_tag octets kind (tag_only octets (Err kind) a)
-front_only octets (Err kind) is (inr (inl (tag, after, t, l))) =
-    front_length octets tag after kind (tag_only octets (Ok (tag, after)) t) (length_only after (Err kind) (IsOctets-rest (identifier_octets tag) after (subst IsOctets t.1 is)) l)
-front_only octets (Err kind) is (inr (inr (tag, after, n, content, t, l, fewer, e))) =
-    rw e (front_short octets tag after n content (tag_only octets (Ok (tag, after)) t) (length_only after (Ok (n, content)) (IsOctets-rest (identifier_octets tag) after (subst IsOctets t.1 is)) l) fewer)
+pub leading_element-only : (octets : List ℕ) (answer : ElementFront) → IsOctets octets → IsLeadingElement octets answer → leading_element octets ≡ answer
+leading_element-only octets (Ok found) is a = rw a.1 (element_ok found.0 found.1 a.0)
+leading_element-only octets (Err kind) is (inl a) = leading_element-tag_err octets kind (tag_only octets (Err kind) a)
+leading_element-only octets (Err kind) is (inr (inl (tag, after, t, l))) =
+    leading_element-length_err octets tag after kind (tag_only octets (Ok (tag, after)) t) (length_only after (Err kind) (IsOctets-rest (identifier_octets tag) after (subst IsOctets t.1 is)) l)
+leading_element-only octets (Err kind) is (inr (inr (tag, after, n, content, t, l, fewer, e))) =
+    rw e (leading_element-short octets tag after n content (tag_only octets (Ok (tag, after)) t) (length_only after (Ok (n, content)) (IsOctets-rest (identifier_octets tag) after (subst IsOctets t.1 is)) l) fewer)
 
 -- all octets have a result
 whole : (octets : List ℕ) (tag : Tag) (after : List ℕ) (n : ℕ) (rest : List ℕ) → octets ≡ identifier_octets tag ++ after → after ≡ length_octets n ++ rest → length (take n rest) ≡ n → octets ≡ element_encoding (record { tag = tag; content = take n rest }) ++ drop n rest
 whole octets tag after n rest t l size =
     t ∙ ap (λ (s : List ℕ). identifier_octets tag ++ s) (l ∙ ap (λ (s : List ℕ). length_octets n ++ s) (sym (take-append-drop n rest)) ∙ ap (λ (k : ℕ). length_octets k ++ (take n rest ++ drop n rest)) (sym size))
-    ∙ sym (regroup (record { tag = tag; content = take n rest }) (drop n rest))
+    ∙ sym (element_encoding-append (record { tag = tag; content = take n rest }) (drop n rest))
 
 content_is : (octets : List ℕ) (tag : Tag) (after : List ℕ) (n : ℕ) (rest : List ℕ) → IsLeadingTag octets (Ok (tag, after)) → IsLeadingLength after (Ok (n, rest)) → (answer : ElementFront) × IsLeadingElement octets answer
 content_is octets tag after n rest t l = ⊎_elim
@@ -84,16 +84,16 @@ with_tag : (octets : List ℕ) (r : TagFront) → IsOctets octets → IsLeadingT
 with_tag octets (Ok found) is t = after_tag octets found.0 found.1 (leading_length found.1) t (length_is found.1 (IsOctets-rest (identifier_octets found.0) found.1 (subst IsOctets t.1 is)))
 with_tag octets (Err kind) is t = (Err kind, inl t)
 
-pub front_some : (octets : List ℕ) → IsOctets octets → (answer : ElementFront) × IsLeadingElement octets answer
-front_some octets is = with_tag octets (leading_tag octets) is (tag_is octets is)
+pub IsLeadingElement-some : (octets : List ℕ) → IsOctets octets → (answer : ElementFront) × IsLeadingElement octets answer
+IsLeadingElement-some octets is = with_tag octets (leading_tag octets) is (tag_is octets is)
 
-pub front_is : (octets : List ℕ) → IsOctets octets → IsLeadingElement octets (leading_element octets)
-front_is octets is =
-    let found = front_some octets is in
-    subst (λ (a : ElementFront). IsLeadingElement octets a) (sym (front_only octets found.0 is found.1)) found.1
+pub IsLeadingElement-leading_element : (octets : List ℕ) → IsOctets octets → IsLeadingElement octets (leading_element octets)
+IsLeadingElement-leading_element octets is =
+    let found = IsLeadingElement-some octets is in
+    subst (λ (a : ElementFront). IsLeadingElement octets a) (sym (leading_element-only octets found.0 is found.1)) found.1
 
-pub front_ok_is : (octets : List ℕ) (e : Element) (rest : List ℕ) → IsOctets octets → leading_element octets ≡ Ok (e, rest) → IsReadable e × (octets ≡ element_encoding e ++ rest)
-front_ok_is octets e rest is same = subst (λ (a : ElementFront). IsLeadingElement octets a) same (front_is octets is)
+pub leading_element-ok_is : (octets : List ℕ) (e : Element) (rest : List ℕ) → IsOctets octets → leading_element octets ≡ Ok (e, rest) → IsReadable e × (octets ≡ element_encoding e ++ rest)
+leading_element-ok_is octets e rest is same = subst (λ (a : ElementFront). IsLeadingElement octets a) same (IsLeadingElement-leading_element octets is)
 
 pub cut_whole : (octets whole rest : List ℕ) → octets ≡ whole ++ rest → take (length octets - length rest) octets ≡ whole
 cut_whole octets whole rest e =
@@ -106,10 +106,10 @@ no_fault : (f : Element) (rest : List ℕ) → ◌≡◌ {A = ElementFront} (Ok 
 no_fault f rest same = cc
 
 -- too many contents octets are rejected
-pub front_long : (e : Element) (rest : List ℕ) → e.tag.value < 2 ^ 32 → 2 ^ 32 ≤ length e.content → leading_element (element_encoding e ++ rest) ≡ Err InvalidLength
-front_long e rest tag long =
-    ap leading_element (regroup e rest)
-    ∙ front_length (identifier_octets e.tag ++ (length_octets (length e.content) ++ (e.content ++ rest))) e.tag (length_octets (length e.content) ++ (e.content ++ rest)) InvalidLength
+pub leading_element-too_long : (e : Element) (rest : List ℕ) → e.tag.value < 2 ^ 32 → 2 ^ 32 ≤ length e.content → leading_element (element_encoding e ++ rest) ≡ Err InvalidLength
+leading_element-too_long e rest tag long =
+    ap leading_element (element_encoding-append e rest)
+    ∙ leading_element-length_err (identifier_octets e.tag ++ (length_octets (length e.content) ++ (e.content ++ rest))) e.tag (length_octets (length e.content) ++ (e.content ++ rest)) InvalidLength
     (tag_ok e.tag (length_octets (length e.content) ++ (e.content ++ rest)) tag)
     (length_big (length e.content) (e.content ++ rest) long)
 
@@ -118,7 +118,7 @@ pub readable_as : (e f : Element) → e.tag.value < 2 ^ 32 → IsReadable f → 
 readable_as e f tag is same = ⊎_elim
     (λ (l : length e.content < 2 ^ 32). record { tag = tag; content = l })
     (λ (l : 2 ^ 32 ≤ length e.content).
-    let a : leading_element (element_encoding e ++ []) ≡ Err InvalidLength = front_long e [] tag l in
+    let a : leading_element (element_encoding e ++ []) ≡ Err InvalidLength = leading_element-too_long e [] tag l in
     let b : leading_element (element_encoding f ++ []) ≡ Ok (f, []) = element_ok f [] is in
     absurd (no_fault f [] (sym b ∙ ap (λ (t : List ℕ). leading_element (t ++ [])) (sym same) ∙ a)))
     (cases_lt (length e.content) (2 ^ 32))

@@ -6,8 +6,8 @@ use Rattle.asn1_core.specs.Base256.{IsOctets}
 pub not_both : {P : Type 0} (b : Bool) → b ≡ true → b ≡ false → P
 not_both b holds fails = absurd cc
 
-pub some_is : {T : Type 0} (a b : T) → Some a ≡ Some b → a ≡ b
-some_is a b e = cc
+pub Some-injective : {T : Type 0} (a b : T) → Some a ≡ Some b → a ≡ b
+Some-injective a b e = cc
 
 pub same_heads : (x y : ℕ) (xs ys : List ℕ) → x ∷ xs ≡ y ∷ ys → (x ≡ y) × (xs ≡ ys)
 same_heads x y xs ys e = (cc, cc)
@@ -19,9 +19,9 @@ has_octets (x ∷ xs) none = omega arith
 pub not_nil : (t : List ℕ) → 0 < length t → t ≡ [] → ⊥
 not_nil t some none = omega (arith, some, ap length none)
 
-pub take_all : (t : List ℕ) → take (length t) t ≡ t
-take_all [] = refl
-take_all (x ∷ xs) = ap (λ ys. x ∷ ys) (take_all xs)
+pub take-length : (t : List ℕ) → take (length t) t ≡ t
+take-length [] = refl
+take-length (x ∷ xs) = ap (λ ys. x ∷ ys) (take-length xs)
 
 pub octet_at : (t : List ℕ) → IsOctets t → (k : ℕ) → get_or t k 0 < 256
 octet_at [] is k = lit< tt

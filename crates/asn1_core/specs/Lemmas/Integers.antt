@@ -12,7 +12,7 @@ use Rattle.asn1_core.specs.Integer.{IsIntegerContent, nine_bits, is_minimal, wit
 use Rattle.asn1_core.specs.Element.{◌>>=◌}
 use Rattle.asn1_core.specs.ReadError.{ReadError, read_error, IsOfInput}
 use Rattle.asn1_core.specs.Lemmas.Digits.{digits_back, number_by_digits, Leads}
-use Rattle.asn1_core.specs.Lemmas.Results.{done, ok_is, passed, bind_ok}
+use Rattle.asn1_core.specs.Lemmas.Results.{done, ok_is, if_ok-is, bind_ok}
 use Rattle.asn1_core.specs.Lemmas.Faults.{bind_errors, passed_errors, missed_errors}
 use Rattle.asn1_core.specs.declared.parser.ParseErrorKind.TheVariants.{AllocationError, InvalidValue, IntegerOverflow}
 use Rattle.asn1_core.specs.Lemmas.Lengths.{leads_digits}
@@ -22,9 +22,9 @@ use Rattle.asn1_core.specs.Lemmas.Lengths.{leads_digits}
 pub turned_length : (c : List ℕ) → length (turned c) ≡ length c
 turned_length c = length-map c (λ x. 255 - x)
 
-pub turned_text : (c : List ℕ) → IsOctets (turned c)
-turned_text [] = tt
-turned_text (x ∷ xs) = (omega arith, turned_text xs)
+pub IsOctets-turned : (c : List ℕ) → IsOctets (turned c)
+IsOctets-turned [] = tt
+IsOctets-turned (x ∷ xs) = (omega arith, IsOctets-turned xs)
 
 pub turned_twice : (c : List ℕ) → IsOctets c → turned (turned c) ≡ c
 turned_twice [] is = refl
@@ -47,8 +47,8 @@ turned_low [] is h = absurd (omega arith)
 turned_low (x ∷ xs) is h = omega arith
 
 -- a leading zero octet adds nothing
-pub zero_front : (c : List ℕ) → number (0 ∷ c) ≡ number c
-zero_front c = omega arith
+pub number-zero_cons : (c : List ℕ) → number (0 ∷ c) ≡ number c
+number-zero_cons c = omega arith
 
 -- ---- the signed number, by the top bit
 
@@ -91,7 +91,7 @@ turned_shortest (x ∷ y ∷ ys) is e =
 same_low : (x y : ℕ) (ys : List ℕ) → x ≡ 0 → y < 128 → signed_number (x ∷ y ∷ ys) ≡ signed_number (y ∷ ys)
 same_low x y ys e h =
     let first : x < 128 = omega arith in
-    rw (lt-leb 128 x first, lt-leb 128 y h, e) (ap pos (zero_front (y ∷ ys)))
+    rw (lt-leb 128 x first, lt-leb 128 y h, e) (ap pos (number-zero_cons (y ∷ ys)))
 
 pub fewer_same : (x y : ℕ) (ys : List ℕ) → IsOctets (x ∷ y ∷ ys) → is_minimal (x ∷ y ∷ ys) ≡ false → signed_number (x ∷ y ∷ ys) ≡ signed_number (y ∷ ys)
 fewer_same x y ys is e =
@@ -99,7 +99,7 @@ fewer_same x y ys is e =
       | inl h ↦ same_low x y ys (omega arith) (omega arith)
       | inr h ↦
           let first : 255 - x ≡ 0 = omega (arith, is.0, is.1.0) in
-          let same : number (turned (x ∷ y ∷ ys)) ≡ number (turned (y ∷ ys)) = rw first (zero_front (turned (y ∷ ys))) in
+          let same : number (turned (x ∷ y ∷ ys)) ≡ number (turned (y ∷ ys)) = rw first (number-zero_cons (turned (y ∷ ys))) in
           signed_high (x ∷ y ∷ ys) is (omega (arith, is.0, is.1.0)) ∙ ap negsuc same ∙ sym (signed_high (y ∷ ys) is.1 (omega (arith, is.0, is.1.0)))
     ]
 
@@ -119,7 +119,7 @@ sign_only [] is e h = absurd cc
 sign_only (zero ∷ []) is e h = refl
 sign_only (zero ∷ y ∷ ys) is e h =
     let high : 128 ≤ y = omega (arith, (shortest_nine zero y ys e).0) in
-    let same : digits_of 256 (number (zero ∷ y ∷ ys)) ≡ y ∷ ys = ap (digits_of 256) (zero_front (y ∷ ys)) ∙ digits_same (y ∷ ys) is.1 (λ l. omega arith) in
+    let same : digits_of 256 (number (zero ∷ y ∷ ys)) ≡ y ∷ ys = ap (digits_of 256) (number-zero_cons (y ∷ ys)) ∙ digits_same (y ∷ ys) is.1 (λ l. omega arith) in
     rw same (sym (with_sign_high y ys high))
 sign_only (suc x ∷ xs) is e h =
     rw (digits_same (suc x ∷ xs) is (λ l. omega arith)) (sym (with_sign_low (suc x) xs h))
@@ -142,7 +142,7 @@ signed_is (x ∷ xs) n is leads e =
     let P : List ℕ → Type 0 = λ s. IsSigned s n in
     elim (cases_lt x 128) [
       | inl h ↦ subst P (sym (with_sign_low x xs h)) (record { octets = is; value = e; low = h; shortest = low_shortest x xs is first h })
-      | inr h ↦ subst P (sym (with_sign_high x xs h)) (record { octets = (lit< tt, is); value = zero_front (x ∷ xs) ∙ e; low = lit< tt; shortest = nine_shortest 0 x xs (omega arith) (omega (arith, is.0)) })
+      | inr h ↦ subst P (sym (with_sign_high x xs h)) (record { octets = (lit< tt, is); value = number-zero_cons (x ∷ xs) ∙ e; low = lit< tt; shortest = nine_shortest 0 x xs (omega arith) (omega (arith, is.0)) })
     ]
 
 signed_digits : (n : ℕ) → IsSigned (with_sign (digits_of 256 n)) n
@@ -157,13 +157,13 @@ content_only c is e =
     elim (cases_lt (get_or c 0 0) 128) [
       | inl h ↦ sign_only c is e h ∙ ap integer_content (sym (signed_low c h))
       | inr h ↦
-          sym (turned_twice c is) ∙ ap turned (sign_only (turned c) (turned_text c) (turned_shortest c is e) (turned_low c is h)) ∙ ap integer_content (sym (signed_high c is h))
+          sym (turned_twice c is) ∙ ap turned (sign_only (turned c) (IsOctets-turned c) (turned_shortest c is e) (turned_low c is h)) ∙ ap integer_content (sym (signed_high c is h))
     ]
 
-pub content_text : (z : ℤ) → IsOctets (integer_content z)
+pub IsOctets-integer_content : (z : ℤ) → IsOctets (integer_content z)
 unfolding integer_content
-content_text (pos n) = (signed_digits n).octets
-content_text (negsuc n) = turned_text (with_sign (digits_of 256 n))
+IsOctets-integer_content (pos n) = (signed_digits n).octets
+IsOctets-integer_content (negsuc n) = IsOctets-turned (with_sign (digits_of 256 n))
 
 pub content_shortest : (z : ℤ) → is_minimal (integer_content z) ≡ true
 unfolding integer_content
@@ -184,7 +184,7 @@ content_value (pos n) = let s = signed_digits n in signed_low (with_sign (digits
 content_value (negsuc n) =
     let s = signed_digits n in
     let ds = with_sign (digits_of 256 n) in
-    signed_high (turned ds) (turned_text ds) (turned_high ds (shortest_some ds s.shortest) s.low) ∙ ap (λ (t : List ℕ). negsuc (number t)) (turned_twice ds s.octets) ∙ ap negsuc s.value
+    signed_high (turned ds) (IsOctets-turned ds) (turned_high ds (shortest_some ds s.shortest) s.low) ∙ ap (λ (t : List ℕ). negsuc (number t)) (turned_twice ds s.octets) ∙ ap negsuc s.value
 
 -- ---- contents octets, and no fewer octets
 
@@ -219,7 +219,7 @@ is_content c is e = record {
 }
 
 pub content_is : (z : ℤ) → IsIntegerContent (integer_content z) z
-content_is z = subst (λ (x : ℤ). IsIntegerContent (integer_content z) x) (content_value z) (is_content (integer_content z) (content_text z) (content_shortest z))
+content_is z = subst (λ (x : ℤ). IsIntegerContent (integer_content z) x) (content_value z) (is_content (integer_content z) (IsOctets-integer_content z) (content_shortest z))
 
 pub is_content_shortest : (c : List ℕ) (z : ℤ) → IsIntegerContent c z → is_minimal c ≡ true
 is_content_shortest [] z is = absurd (omega (arith, is.some))
@@ -230,8 +230,8 @@ is_content_shortest (x ∷ y ∷ ys) z is =
       | inr e ↦ absurd (is.shortest (y ∷ ys) is.octets.1 (omega arith) (omega arith) (sym (fewer_same x y ys is.octets e) ∙ is.value))
     ]
 
-pub is_content_only : (c : List ℕ) (z : ℤ) → IsIntegerContent c z → c ≡ integer_content z
-is_content_only c z is = content_only c is.octets (is_content_shortest c z is) ∙ ap integer_content is.value
+pub IsIntegerContent-only : (c : List ℕ) (z : ℤ) → IsIntegerContent c z → c ≡ integer_content z
+IsIntegerContent-only c z is = content_only c is.octets (is_content_shortest c z is) ∙ ap integer_content is.value
 
 pub nine_bits_tell : (x y : ℕ) (ys : List ℕ) → IsOctets (x ∷ y ∷ ys) → (is_minimal (x ∷ y ∷ ys) ≡ false) ↔ (signed_number (x ∷ y ∷ ys) ≡ signed_number (y ∷ ys))
 nine_bits_tell x y ys is = (
@@ -251,7 +251,7 @@ read_integer_ok c e = rw e refl
 pub read_integer_is : (c : List ℕ) (z : ℤ) → read_integer c ≡ Ok z → (is_minimal c ≡ true) × (signed_number c ≡ z)
 unfolding read_integer
 read_integer_is c z e =
-    let p = passed (is_minimal c) (Ok (signed_number c)) _ z e in
+    let p = if_ok-is (is_minimal c) (Ok (signed_number c)) _ z e in
     (p.0, ok_is (signed_number c) z p.1)
 
 pub reads_contents_alone : (c : List ℕ) (z : ℤ) → IsOctets c → (read_integer c ≡ Ok z) ↔ IsIntegerContent c z
@@ -263,9 +263,9 @@ reads_contents_alone c z is = (
 -- ---- numbers of a range
 
 -- a test with an error in its first branch
-pub refused : {A : Type 0} (b : Bool) (d : ReadError) (x : Result A ReadError) (y : A) → (if b then Err d else x) ≡ Ok y → (b ≡ false) × (x ≡ Ok y)
-refused true d x y e = absurd cc
-refused false d x y e = (refl, e)
+pub if_err-ok : {A : Type 0} (b : Bool) (d : ReadError) (x : Result A ReadError) (y : A) → (if b then Err d else x) ≡ Ok y → (b ≡ false) × (x ≡ Ok y)
+if_err-ok true d x y e = absurd cc
+if_err-ok false d x y e = (refl, e)
 
 pub range_ok : (low high z : ℤ) → low ≤ℤ z → z ≤ℤ high → within_range low high z ≡ Ok z
 range_ok low high z a b =
@@ -286,8 +286,8 @@ range_above low high z a b =
 
 range_consumes : (low high z m : ℤ) → within_range low high z ≡ Ok m → (z ≡ m) × ((low ≤ℤ m) × (m ≤ℤ high))
 range_consumes low high z m e =
-    let first = refused (int_lt z low) (read_error (below low)) _ m e in
-    let second = refused (int_lt high z) (read_error IntegerOverflow) (Ok z) m first.1 in
+    let first = if_err-ok (int_lt z low) (read_error (below low)) _ m e in
+    let second = if_err-ok (int_lt high z) (read_error IntegerOverflow) (Ok z) m first.1 in
     let same : z ≡ m = ok_is z m second.1 in
     let above : low ≤ℤ z = let h = first.0 in omega (arith, ints) in
     let under : z ≤ℤ high = let h = second.0 in omega (arith, ints) in

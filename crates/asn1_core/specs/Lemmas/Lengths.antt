@@ -12,7 +12,7 @@ use Rattle.asn1_core.specs.Base256.{IsOctets, number}
 use Rattle.asn1_core.specs.Length.{length_octets, long_length, leading_length, IsShortest, AreLengthOctets, IsLeadingLength}
 use Rattle.std.specs.Int.Digits.{digits_of}
 use Rattle.std.proofs.lemmas.Int.Digits.{number_digits_of, all_below_base_digits_of, first_digits_of, digits_of_step, length-digits_of-le}
-use Rattle.asn1_core.specs.Lemmas.Texts.{IsOctets-front}
+use Rattle.asn1_core.specs.Lemmas.Texts.{IsOctets-prefix}
 use Rattle.asn1_core.specs.Lemmas.Digits.{digits_back, number_by_digits, Leads}
 
 pub number_lt : (t : List ℕ) → IsOctets t → number t < 256 ^ length t
@@ -110,24 +110,24 @@ pub shortest_only : (octets : List ℕ) (n : ℕ) → IsShortest octets n → oc
 shortest_only octets n is =
     sym (digits_back 256 octets (lit≤ tt) is.encoding (shortest_leads octets n is)) ∙ ap (digits_of 256) (number_by_digits octets ∙ is.value)
 
-pub length_text_low : (n : ℕ) → n < 128 → length_octets n ≡ n ∷ []
+pub length_octets-low : (n : ℕ) → n < 128 → length_octets n ≡ n ∷ []
 unfolding length_octets
-length_text_low n l = rw (lt-ltb n 128 l) refl
+length_octets-low n l = rw (lt-ltb n 128 l) refl
 
-pub length_text_high : (n : ℕ) → 128 ≤ n → length_octets n ≡ (128 + length (digits_of 256 n)) ∷ digits_of 256 n
+pub length_octets-high : (n : ℕ) → 128 ≤ n → length_octets n ≡ (128 + length (digits_of 256 n)) ∷ digits_of 256 n
 unfolding length_octets
-length_text_high n l = rw (le-ltb n 128 l) refl
+length_octets-high n l = rw (le-ltb n 128 l) refl
 
-pub length_text_is : (n : ℕ) → AreLengthOctets (length_octets n) n
-length_text_is n = ⊎_elim
-    (λ (l : n < 128). inl (l, length_text_low n l))
-    (λ (l : 128 ≤ n). inr (digits_of 256 n, l, digits_shortest n, length_text_high n l)) (cases_lt n 128)
+pub AreLengthOctets-length_octets : (n : ℕ) → AreLengthOctets (length_octets n) n
+AreLengthOctets-length_octets n = ⊎_elim
+    (λ (l : n < 128). inl (l, length_octets-low n l))
+    (λ (l : 128 ≤ n). inr (digits_of 256 n, l, digits_shortest n, length_octets-high n l)) (cases_lt n 128)
 
-pub length_text_only : (octets : List ℕ) (n : ℕ) → AreLengthOctets octets n → octets ≡ length_octets n
-length_text_only octets n (inl is) = is.1 ∙ sym (length_text_low n is.0)
-length_text_only octets n (inr is) =
+pub AreLengthOctets-only : (octets : List ℕ) (n : ℕ) → AreLengthOctets octets n → octets ≡ length_octets n
+AreLengthOctets-only octets n (inl is) = is.1 ∙ sym (length_octets-low n is.0)
+AreLengthOctets-only octets n (inr is) =
     let same = shortest_only is.0 n is.2 in
-    is.3 ∙ ap (λ (l : List ℕ). (128 + length l) ∷ l) same ∙ sym (length_text_high n is.1)
+    is.3 ∙ ap (λ (l : List ℕ). (128 + length l) ∷ l) same ∙ sym (length_octets-high n is.1)
 
 some_digits : (n : ℕ) → 128 ≤ n → 0 < length (digits_of 256 n)
 some_digits n l = ⊎_elim
@@ -151,13 +151,13 @@ length_ok_high n rest l small =
     let left : drop (length t) (t ++ rest) ≡ rest = drop_at t rest (length t) refl in
     let first : get_or (t ++ rest) 0 0 ≡ get_or t 0 0 = get_or_append_left t rest 0 0 some in
     let value : number (take (length t) (t ++ rest)) ≡ n = ap number same ∙ number_of_digits n in
-    rw (length_text_high n l) (whole_form t rest some (few_octets n small)
+    rw (length_octets-high n l) (whole_form t rest some (few_octets n small)
     ∙ length_found (length t) (t ++ rest) (omega (arith, length-append t rest)) (λ (e : get_or (t ++ rest) 0 0 ≡ 0). omega (arith, leads_digits n some, first)) (rw value l)
     ∙ rw (value, left) refl)
 
 pub length_ok : (n : ℕ) (rest : List ℕ) → n < 2 ^ 32 → leading_length (length_octets n ++ rest) ≡ Ok (n, rest)
 length_ok n rest small = ⊎_elim
-    (λ (l : n < 128). rw (length_text_low n l) (length_low (n ∷ rest) (omega arith) l))
+    (λ (l : n < 128). rw (length_octets-low n l) (length_low (n ∷ rest) (omega arith) l))
     (λ (l : 128 ≤ n). length_ok_high n rest l small) (cases_lt n 128)
 
 -- octets that aren't the fewest of a number of 128 or more
@@ -168,7 +168,7 @@ waste t is some apart = ⊎_elim
     (λ (l : number t < 128). inr l)
     (λ (l : 128 ≤ number t).
     let back : digits_of 256 (number t) ≡ t = ap (digits_of 256) (sym (number_by_digits t)) ∙ digits_back 256 t (lit≤ tt) is (λ (w : 0 < length t). omega arith) in
-    absurd (apart (number t) (ap (λ (s : List ℕ). (128 + length s) ∷ s) (sym back) ∙ sym (length_text_high (number t) l)))) (cases_lt (number t) 128)) (cases_eq (get_or t 0 0) 0)
+    absurd (apart (number t) (ap (λ (s : List ℕ). (128 + length s) ∷ s) (sym back) ∙ sym (length_octets-high (number t) l)))) (cases_lt (number t) 128)) (cases_eq (get_or t 0 0) 0)
 
 bad_form : (t rest : List ℕ) → IsOctets t → 1 ≤ length t → length t ≤ 4 → ((n : ℕ) → (128 + length t) ∷ t ≡ length_octets n → ⊥) → leading_length ((128 + length t) ∷ (t ++ rest)) ≡ Err InvalidLength
 bad_form t rest is some few apart =
@@ -191,7 +191,7 @@ pub length_only : (octets : List ℕ) (answer : LengthFront) → IsOctets octets
 length_only octets (Ok found) is a = rw a.1 (length_ok found.0 found.1 a.0)
 length_only octets (Err InvalidLength) is (inl (first, rest, bad, e)) = rw e (length_first (first ∷ rest) (omega arith) bad)
 length_only octets (Err InvalidLength) is (inr (t, rest, some, few, apart, e)) =
-    rw e (bad_form t rest (IsOctets-front t rest (subst IsOctets e is).1) some few apart)
+    rw e (bad_form t rest (IsOctets-prefix t rest (subst IsOctets e is).1) some few apart)
 length_only octets (Err (ShortData needed)) is (inl (e, one)) = rw (e, one) (length_none [] refl)
 length_only octets (Err (ShortData needed)) is (inr (t, some, few, e)) = rw e (open_form t needed some few)
 length_only octets (Err _) is a = absurd a
@@ -207,7 +207,7 @@ many_digits n big = ⊎_elim
 
 pub length_big : (n : ℕ) (rest : List ℕ) → 2 ^ 32 ≤ n → leading_length (length_octets n ++ rest) ≡ Err InvalidLength
 length_big n rest big =
-    rw (length_text_high n (omega arith)) (length_first ((128 + length (digits_of 256 n)) ∷ (digits_of 256 n ++ rest)) (omega arith) (inr (omega (arith, many_digits n big))))
+    rw (length_octets-high n (omega arith)) (length_first ((128 + length (digits_of 256 n)) ∷ (digits_of 256 n ++ rest)) (omega arith) (inr (omega (arith, many_digits n big))))
 
 -- ---- all octets have a result
 tail_same : {a b : ℕ} {s t : List ℕ} → a ∷ s ≡ b ∷ t → s ≡ t
@@ -219,8 +219,8 @@ no_digits t n some l (inr e) same = omega (arith, ap number same, number_of_digi
 
 no_text : (t : List ℕ) → 0 < length t → (get_or t 0 0 ≡ 0) ⊎ (number t < 128) → (n : ℕ) → (128 + length t) ∷ t ≡ length_octets n → ⊥
 no_text t some bad n e = ⊎_elim
-    (λ (l : n < 128). omega (arith, ap length (e ∙ length_text_low n l)))
-    (λ (l : 128 ≤ n). no_digits t n some l bad (tail_same (e ∙ length_text_high n l))) (cases_lt n 128)
+    (λ (l : n < 128). omega (arith, ap length (e ∙ length_octets-low n l)))
+    (λ (l : 128 ≤ n). no_digits t n some l bad (tail_same (e ∙ length_octets-high n l))) (cases_lt n 128)
 
 whole_count : (k n : ℕ) → n < k → n + (k - n) ≡ k
 whole_count k n l = omega arith
@@ -230,7 +230,7 @@ found_is k t after is some few e lead l =
     let back : digits_of 256 (number t) ≡ t = ap (digits_of 256) (sym (number_by_digits t)) ∙ digits_back 256 t (lit≤ tt) is (λ (w : 0 < length t). omega arith) in
     let below : number t < 256 ^ length t = number_lt t is in
     let most : 256 ^ length t ≤ 256 ^ 4 = pow-le-pow_right {n = 256} (lit< tt) {i = length t} {j = 4} (omega arith) in
-    (omega arith, rw (length_text_high (number t) l, back, e) refl)
+    (omega arith, rw (length_octets-high (number t) l, back, e) refl)
 
 good_or_bad : (a b : ℕ) → ((a ≡ 0) ⊎ (b < 128)) ⊎ ((a ≡ 0 → ⊥) × (128 ≤ b))
 good_or_bad a b = ⊎_elim
@@ -253,7 +253,7 @@ long_is_all k t rest after is some few front l e whole back =
 long_is : (k : ℕ) (rest : List ℕ) → IsOctets rest → 1 ≤ k → k ≤ 4 → IsLeadingLength ((128 + k) ∷ rest) (long_length k rest)
 long_is k rest is some few = ⊎_elim
     (λ (l : length rest < k). rw (lt-ltb (length rest) k l) (inr (rest, omega arith, omega arith, rw (whole_count k (length rest) (omega arith)) refl)))
-    (λ (l : k ≤ length rest). long_is_all k (take k rest) rest (drop k rest) (IsOctets-front (take k rest) (drop k rest) (rw (take-append-drop k rest) is)) some few refl l (length-take-le k rest l) (sym (take-append-drop k rest)) refl) (cases_lt (length rest) k)
+    (λ (l : k ≤ length rest). long_is_all k (take k rest) rest (drop k rest) (IsOctets-prefix (take k rest) (drop k rest) (rw (take-append-drop k rest) is)) some few refl l (length-take-le k rest l) (sym (take-append-drop k rest)) refl) (cases_lt (length rest) k)
 
 long_at : (first k : ℕ) (after : List ℕ) → 128 + k ≡ first → IsLeadingLength ((128 + k) ∷ after) (long_length k after) → IsLeadingLength (first ∷ after) (long_length k after)
 long_at first k after e is = subst (λ (x : ℕ). IsLeadingLength (x ∷ after) (long_length k after)) e is
@@ -261,7 +261,7 @@ long_at first k after e is = subst (λ (x : ℕ). IsLeadingLength (x ∷ after) 
 length_is_of : (first : ℕ) (after : List ℕ) → first < 256 → IsOctets after → IsLeadingLength (first ∷ after) (leading_length (first ∷ after))
 unfolding leading_length
 length_is_of first after small is = ⊎_elim
-    (λ (l : first < 128). rw (lt-ltb first 128 l) (omega arith, rw (length_text_low first l) refl))
+    (λ (l : first < 128). rw (lt-ltb first 128 l) (omega arith, rw (length_octets-low first l) refl))
     (λ (l : 128 ≤ first). ⊎_elim
     (λ (e : first ≡ 128). rw (le-ltb first 128 l, eq-eqb first 128 e) (inl (first, after, inl e, refl)))
     (λ (n : first ≡ 128 → ⊥). ⊎_elim
@@ -294,8 +294,8 @@ write_end n i octets l small some in_octets place whole =
     let count : 9 - i ≡ length (digits_of 256 n) = omega arith in
     let few : length (digits_of 256 n) < 128 = omega (arith, few_digits n small) in
     let top : bit_or 128 (9 - i) ≡ 128 + length (digits_of 256 n) = rw count (numeral_or 127 (length (digits_of 256 n)) refl few) in
-    rw (drop-set octets (i - 1) (bit_or 128 (9 - i)), same, top, whole) (sym (length_text_high n l))
+    rw (drop-set octets (i - 1) (bit_or 128 (9 - i)), same, top, whole) (sym (length_octets-high n l))
 
-pub appended : {T E : Type 0} (r : Result T E) (new old xs ys : List ℕ) → new ≡ (if is_ok r then old ++ xs else old) → xs ≡ ys → OnOk r (new ≡ old ++ ys)
-appended (Ok x) new old xs ys e same = e ∙ ap (λ (s : List ℕ). old ++ s) same
-appended (Err x) new old xs ys e same = tt
+pub OnOk-append : {T E : Type 0} (r : Result T E) (new old xs ys : List ℕ) → new ≡ (if is_ok r then old ++ xs else old) → xs ≡ ys → OnOk r (new ≡ old ++ ys)
+OnOk-append (Ok x) new old xs ys e same = e ∙ ap (λ (s : List ℕ). old ++ s) same
+OnOk-append (Err x) new old xs ys e same = tt

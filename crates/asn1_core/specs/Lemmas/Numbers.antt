@@ -160,10 +160,10 @@ split_more x xs a b (inl o) = inl ((a, b), o)
 split_more x xs a b (inr ([], rest, f, e)) = absurd f
 split_more x xs a b (inr (y ∷ ys, rest, f, e)) = inr (x ∷ y ∷ ys, rest, (a, b, f), ap (λ (l : List ℕ). x ∷ l) e)
 
-pub split_text : (octets : List ℕ) → IsOctets octets → Split octets
-split_text [] is = inl tt
-split_text (x ∷ xs) is =
-    ⊎_elim (λ (h : x < 128). inr (x ∷ [], xs, h, refl)) (λ (h : 128 ≤ x). split_more x xs h is.0 (split_text xs is.1)) (cases_lt x 128)
+pub IsOctets-Split : (octets : List ℕ) → IsOctets octets → Split octets
+IsOctets-Split [] is = inl tt
+IsOctets-Split (x ∷ xs) is =
+    ⊎_elim (λ (h : x < 128). inr (x ∷ [], xs, h, refl)) (λ (h : 128 ≤ x). split_more x xs h is.0 (IsOctets-Split xs is.1)) (cases_lt x 128)
 
 open_fine : (t : List ℕ) → IsOpen t → ¬ BeginsWithZero t → length t < 19 → ¬ IsMalformed t
 open_fine t o z h (inl (p, inl q)) = z q
@@ -201,7 +201,7 @@ number_some_of octets (inr (t, rest, f, e)) = at_finished octets t rest e (fault
 
 -- all octets have a result
 pub number_some : (octets : List ℕ) → IsOctets octets → (answer : Front) × IsLeadingNumber octets answer
-number_some octets is = number_some_of octets (split_text octets is)
+number_some octets is = number_some_of octets (IsOctets-Split octets is)
 
 -- and the function returns it
 pub number_is : (octets : List ℕ) → IsOctets octets → IsLeadingNumber octets (leading_number octets)
@@ -214,9 +214,9 @@ number_is octets is =
 mod_small : (x : ℕ) → x < 128 → x % 128 ≡ x
 mod_small x b = omega arith
 
-zero_push : (t : List ℕ) (x : ℕ) → ¬ BeginsWithZero t → x < 128 → ¬ BeginsWithZero (t ++ x ∷ [])
-zero_push [] x z b e = omega arith
-zero_push (y ∷ ys) x z b e = z e
+not_BeginsWithZero-push : (t : List ℕ) (x : ℕ) → ¬ BeginsWithZero t → x < 128 → ¬ BeginsWithZero (t ++ x ∷ [])
+not_BeginsWithZero-push [] x z b e = omega arith
+not_BeginsWithZero-push (y ∷ ys) x z b e = z e
 
 few_small : (t : List ℕ) → length t < 18 → 2 ^ 121 ≤ digits_number t → ⊥
 few_small t h big =
@@ -233,53 +233,53 @@ big_fault t x o l b big = ⊎_elim
     (λ (h : x < 128). inr (finished_push t x o h, inr (rw (digits_push t x) (omega arith))))
     (λ (h : 128 ≤ x). inl (open_push t x o h b, inr (omega (arith, length_push t x, big_many t big)))) (cases_lt x 128)
 
-pub front_big_step : (t : List ℕ) (x : ℕ) (rest : List ℕ) → IsOpen t → length t < 19 → x < 256 → 2 ^ 121 ≤ digits_number t → leading_number (t ++ x ∷ rest) ≡ Err InvalidValue
-front_big_step t x rest o l b big =
+pub leading_number-big_step : (t : List ℕ) (x : ℕ) (rest : List ℕ) → IsOpen t → length t < 19 → x < 256 → 2 ^ 121 ≤ digits_number t → leading_number (t ++ x ∷ rest) ≡ Err InvalidValue
+leading_number-big_step t x rest o l b big =
     let e : t ++ x ∷ rest ≡ (t ++ x ∷ []) ++ rest = sym (append_assoc t (x ∷ []) rest) in
     rw e (number_bad (t ++ x ∷ []) rest (big_fault t x o l b big))
 
-pub exit_done : (t : List ℕ) (x : ℕ) (rest : List ℕ) → IsOpen t → ¬ BeginsWithZero t → x < 128 → digits_number t < 2 ^ 121 → leading_number (t ++ x ∷ rest) ≡ Ok (digits_number t * 128 + x, rest)
-exit_done t x rest o z b small =
+pub leading_number-last_octet : (t : List ℕ) (x : ℕ) (rest : List ℕ) → IsOpen t → ¬ BeginsWithZero t → x < 128 → digits_number t < 2 ^ 121 → leading_number (t ++ x ∷ rest) ≡ Ok (digits_number t * 128 + x, rest)
+leading_number-last_octet t x rest o z b small =
     let e : t ++ x ∷ rest ≡ (t ++ x ∷ []) ++ rest = sym (append_assoc t (x ∷ []) rest) in
     let value : digits_number (t ++ x ∷ []) ≡ digits_number t * 128 + x = digits_push t x ∙ rw (mod_small x b) refl in
-    rw e (number_ok (t ++ x ∷ []) rest (digits_number t * 128 + x) (record { finished = finished_push t x o b; shortest = zero_push t x z b; value = value; small = omega arith }))
+    rw e (number_ok (t ++ x ∷ []) rest (digits_number t * 128 + x) (record { finished = finished_push t x o b; shortest = not_BeginsWithZero-push t x z b; value = value; small = omega arith }))
 
-pub exit_full : (t rest : List ℕ) → IsOpen t → 19 ≤ length t → leading_number (t ++ rest) ≡ Err InvalidValue
-exit_full t rest o l = number_bad t rest (inl (o, inr l))
+pub leading_number-nineteen_open : (t rest : List ℕ) → IsOpen t → 19 ≤ length t → leading_number (t ++ rest) ≡ Err InvalidValue
+leading_number-nineteen_open t rest o l = number_bad t rest (inl (o, inr l))
 
 pub exit_short : (t : List ℕ) → IsOpen t → ¬ BeginsWithZero t → length t < 19 → leading_number t ≡ Err (ShortData 1)
 exit_short t o z l = number_short t o (open_fine t o z l)
 
 -- ---- the encoding of a number
 
-pub length-number_text : (n : ℕ) → length (number_octets n) ≡ length (digits_of 128 (n / 128)) + 1
+pub length-number_octets : (n : ℕ) → length (number_octets n) ≡ length (digits_of 128 (n / 128)) + 1
 unfolding number_octets
-length-number_text n = rw (length_push, length-map) refl
+length-number_octets n = rw (length_push, length-map) refl
 
 pub few_digits : (n : ℕ) → n < 2 ^ 128 → length (digits_of 128 (n / 128)) ≤ 18
 few_digits n small = length-digits_of-le 128 18 (n / 128) (omega arith) (omega arith)
 
 -- ---- the same exits, at the index i of the octets
-at_place : (octets : List ℕ) (i : ℕ) → i < length octets → octets ≡ take i octets ++ get_or octets i 0 ∷ drop (i + 1) octets
-at_place octets i l = sym (take-append-drop i octets) ∙ ap (λ (s : List ℕ). take i octets ++ s) (drop_more octets i 0 l)
+append-take-get_or-drop : (octets : List ℕ) (i : ℕ) → i < length octets → octets ≡ take i octets ++ get_or octets i 0 ∷ drop (i + 1) octets
+append-take-get_or-drop octets i l = sym (take-append-drop i octets) ∙ ap (λ (s : List ℕ). take i octets ++ s) (drop_more octets i 0 l)
 
 length_front : (octets : List ℕ) (i : ℕ) → i ≤ length octets → length (take i octets) ≡ i
 length_front octets i l = length-take-le i octets l
 
 pub read_big : (octets : List ℕ) (i : ℕ) → i < length octets → IsOpen (take i octets) → i < 19 → get_or octets i 0 < 256 → 2 ^ 121 ≤ digits_number (take i octets) → leading_number octets ≡ Err InvalidValue
 read_big octets i l o few octet big =
-    ap leading_number (at_place octets i l) ∙ front_big_step (take i octets) (get_or octets i 0) (drop (i + 1) octets) o (omega (arith, length_front octets i)) octet big
+    ap leading_number (append-take-get_or-drop octets i l) ∙ leading_number-big_step (take i octets) (get_or octets i 0) (drop (i + 1) octets) o (omega (arith, length_front octets i)) octet big
 
 pub read_zero : (octets : List ℕ) (i : ℕ) → i ≡ 0 → get_or octets i 0 ≡ 128 → leading_number octets ≡ Err InvalidValue
 read_zero octets i e z = front_zero octets (ap (λ (k : ℕ). get_or octets k 0) (sym e) ∙ z)
 
 pub read_done : (octets : List ℕ) (i : ℕ) → i < length octets → IsOpen (take i octets) → ¬ BeginsWithZero (take i octets) → get_or octets i 0 < 128 → digits_number (take i octets) < 2 ^ 121 → leading_number octets ≡ Ok (digits_number (take i octets) * 128 + get_or octets i 0, drop (i + 1) octets)
 read_done octets i l o z octet small =
-    ap leading_number (at_place octets i l) ∙ exit_done (take i octets) (get_or octets i 0) (drop (i + 1) octets) o z octet small
+    ap leading_number (append-take-get_or-drop octets i l) ∙ leading_number-last_octet (take i octets) (get_or octets i 0) (drop (i + 1) octets) o z octet small
 
 pub read_full : (octets : List ℕ) (i : ℕ) → i ≤ length octets → IsOpen (take i octets) → 19 ≤ i → leading_number octets ≡ Err InvalidValue
 read_full octets i l o many =
-    ap leading_number (sym (take-append-drop i octets)) ∙ exit_full (take i octets) (drop i octets) o (omega (arith, length_front octets i))
+    ap leading_number (sym (take-append-drop i octets)) ∙ leading_number-nineteen_open (take i octets) (drop i octets) o (omega (arith, length_front octets i))
 
 pub read_short : (octets : List ℕ) (i : ℕ) → i ≡ length octets → IsOpen (take i octets) → ¬ BeginsWithZero (take i octets) → i < 19 → leading_number octets ≡ Err (ShortData 1)
 read_short octets i e o z few =
@@ -315,8 +315,8 @@ topped digit = 128 + digit
 pub write_start : (n k : ℕ) (old : List ℕ) → k ≡ length (number_octets n) → k ≤ length old → map topped (digits_of 128 (n / 128)) ++ drop (k - 1) (set old (k - 1) (n % 128)) ≡ number_octets n ++ drop k old
 unfolding number_octets
 write_start n k old e l =
-    let some : k - 1 + 1 ≡ k = omega (arith, length-number_text n) in
-    let in_it : k - 1 < length old = omega (arith, length-number_text n) in
+    let some : k - 1 + 1 ≡ k = omega (arith, length-number_octets n) in
+    let in_it : k - 1 < length old = omega (arith, length-number_octets n) in
     rw (drop-set old (k - 1) (n % 128), some, append_assoc) refl
 
 pub digits_some : (n : ℕ) → 0 < length (digits_of 128 n) → 0 < n
@@ -331,4 +331,4 @@ write_step rest i octets e some l =
     rw (drop-set octets (i - 1) (128 + rest % 128), same, digits_of_step 128 rest (lit≤ tt) more, map_push, append_assoc) refl
 
 pub few_octets : (n : ℕ) → n < 2 ^ 32 → length (number_octets n) ≤ 5
-few_octets n small = omega (arith, length-number_text n, length-digits_of-le 128 4 (n / 128) (lit≤ tt) (omega arith))
+few_octets n small = omega (arith, length-number_octets n, length-digits_of-le 128 4 (n / 128) (lit≤ tt) (omega arith))

@@ -25,22 +25,22 @@ framed_ok (Ok y) x e = cc
 framed_ok (Err kind) x e = absurd cc
 
 -- a test with one result
-pub chosen : {A : Type 0} (b : Bool) (x y z : A) → (if b then x else y) ≡ z → ((b ≡ true) × (x ≡ z)) ⊎ ((b ≡ false) × (y ≡ z))
-chosen true x y z e = inl (refl, e)
-chosen false x y z e = inr (refl, e)
+pub if-cases : {A : Type 0} (b : Bool) (x y z : A) → (if b then x else y) ≡ z → ((b ≡ true) × (x ≡ z)) ⊎ ((b ≡ false) × (y ≡ z))
+if-cases true x y z e = inl (refl, e)
+if-cases false x y z e = inr (refl, e)
 
 -- a test with an error in its second branch
-pub passed : {A : Type 0} (b : Bool) (x : Result A ReadError) (d : ReadError) (y : A) → (if b then x else Err d) ≡ Ok y → (b ≡ true) × (x ≡ Ok y)
-passed true x d y e = (refl, e)
-passed false x d y e = absurd cc
+pub if_ok-is : {A : Type 0} (b : Bool) (x : Result A ReadError) (d : ReadError) (y : A) → (if b then x else Err d) ≡ Ok y → (b ≡ true) × (x ≡ Ok y)
+if_ok-is true x d y e = (refl, e)
+if_ok-is false x d y e = absurd cc
 
 no_place : (e : ReadError) → e.places ≡ [] → read_error e.kind ≡ e
 no_place e none = ap (λ (places : List Place). record { kind = e.kind; places = places }) (sym none)
 
 -- what framing returned is what a read returns
-pub given : {V A : Type 0} (view : V → A) (r : Result V ReadError) (answer : Result A ParseErrorKind) → ReturnsPlain view r answer → Returns view (λ places. ⊥) r (framed answer)
-given view (Ok v) answer e = rw e refl
-given view (Err f) answer e = inl (rw (e.0, no_place f e.1) refl)
+pub Returns-framed : {V A : Type 0} (view : V → A) (r : Result V ReadError) (answer : Result A ParseErrorKind) → ReturnsPlain view r answer → Returns view (λ places. ⊥) r (framed answer)
+Returns-framed view (Ok v) answer e = rw e refl
+Returns-framed view (Err f) answer e = inl (rw (e.0, no_place f e.1) refl)
 
 -- if reading the element with an expected tag gives an error, the simple type gives the same
 other_tag : {M : Type 0} (b : Bool) (tag : Tag) (found : List ℕ × List ℕ) (read : Result (M × List ℕ) ReadError) (kind : ParseErrorKind) →

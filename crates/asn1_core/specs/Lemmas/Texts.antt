@@ -2,9 +2,9 @@
 use Rattle.std.proofs.Common.{ℕ, suc, ◌<◌, List, [], ◌∷◌, ◌++◌, get_or}
 use Rattle.asn1_core.specs.Base256.{IsOctets}
 
-pub IsOctets-front : (a b : List ℕ) → IsOctets (a ++ b) → IsOctets a
-IsOctets-front [] b is = tt
-IsOctets-front (x ∷ xs) b is = (is.0, IsOctets-front xs b is.1)
+pub IsOctets-prefix : (a b : List ℕ) → IsOctets (a ++ b) → IsOctets a
+IsOctets-prefix [] b is = tt
+IsOctets-prefix (x ∷ xs) b is = (is.0, IsOctets-prefix xs b is.1)
 
 pub IsOctets-rest : (a b : List ℕ) → IsOctets (a ++ b) → IsOctets b
 IsOctets-rest [] b is = is

@@ -26,13 +26,13 @@ signed_consumes c m is e =
 pub signed_read_back : (m : ℤ) → Unit {0} → read_integer (integer_content m) ≡ Ok m
 signed_read_back m v = read_integer_ok (integer_content m) (content_shortest m) ∙ ap Ok (content_value m)
 
-kept : (z : ℤ) → pos 0 ≤ℤ z → not_negative z ≡ Ok z
-kept z h =
+not_negative-ok : (z : ℤ) → pos 0 ≤ℤ z → not_negative z ≡ Ok z
+not_negative-ok z h =
     let test : int_lt z (pos 0) ≡ false = grind (arith, ints) in
     rw test refl
 
-refused : (z : ℤ) → z <ℤ pos 0 → not_negative z ≡ Err (read_error InvalidValue)
-refused z h =
+not_negative-err : (z : ℤ) → z <ℤ pos 0 → not_negative z ≡ Err (read_error InvalidValue)
+not_negative-err z h =
     let test : int_lt z (pos 0) ≡ true = grind (arith, ints) in
     rw test refl
 
@@ -51,7 +51,7 @@ unsigned_consumes c m is e =
 
 pub unsigned_read_back : (m : ℤ) → pos 0 ≤ℤ m → read_unsigned (integer_content m) ≡ Ok m
 unfolding read_unsigned
-unsigned_read_back m v = rw (signed_read_back m tt) (kept m v)
+unsigned_read_back m v = rw (signed_read_back m tt) (not_negative-ok m v)
 
 pub unsigned_errors : (c : List ℕ) → IfErr (read_unsigned c) IsOfInput
 unfolding read_unsigned
@@ -78,7 +78,7 @@ read_signed_err c is none =
 
 pub read_unsigned_ok : (c : List ℕ) → IsUnsigned c → read_unsigned c ≡ Ok (signed_number c)
 unfolding read_unsigned
-read_unsigned_ok c h = rw (read_signed_ok c h.0) (kept (signed_number c) h.1)
+read_unsigned_ok c h = rw (read_signed_ok c h.0) (not_negative-ok (signed_number c) h.1)
 
 pub read_unsigned_err : (c : List ℕ) → IsOctets c → (IsUnsigned c → ⊥) → read_unsigned c ≡ Err (read_error InvalidValue)
 unfolding read_unsigned
@@ -87,7 +87,7 @@ read_unsigned_err c is none =
       | inl e ↦
           let signed = signed_by_test c is e in
           let under : signed_number c <ℤ pos 0 = by_lt_z (signed_number c) (pos 0) (λ h. h) (λ h. absurd (none (signed, h))) in
-          rw (read_integer_ok c e) (refused (signed_number c) under)
+          rw (read_integer_ok c e) (not_negative-err (signed_number c) under)
       | inr e ↦ rw (read_signed_err c is (λ h. both_ways (is_minimal c) e (test_by_signed c h))) refl
     ]
 

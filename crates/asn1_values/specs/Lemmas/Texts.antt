@@ -9,13 +9,13 @@ use Rattle.asn1_core.specs.declared.parser.ParseErrorKind.TheVariants.{InvalidVa
 use Rattle.asn1_core.specs.ReadError.{ReadError, read_error, IsOfInput}
 use Rattle.asn1_core.specs.Base256.{IsOctets}
 use Rattle.asn1_core.specs.Lemmas.Faults.{passed_errors}
-use Rattle.asn1_core.specs.Lemmas.Results.{ok_is, passed}
+use Rattle.asn1_core.specs.Lemmas.Results.{ok_is, if_ok-is}
 use Rattle.asn1_values.specs.Texts.{IsTextOf, read_text, is_printable, is_printable_text, is_ia5_text, is_visible_text, is_utf8_text}
 use Rattle.std.proofs.Common.{◌≡◌, ◌∙◌, ℕ, zero, suc, ◌+◌, ◌-◌, ◌<◌, ◌≤◌, ◌/◌, ◌%◌, ◌^◌, Bool, true, false, if◌then◌else◌, not, ◌&&◌, ◌||◌, eqb, nat_eq, codes, List, [], ◌∷◌, Ok, Err, IfErr, IsUtf8, IsAscii, MatchBool, refl, sym, ap, subst, inl, inr, arith}
 
 pub text_consumes : (rule : List ℕ → Bool) (c t : List ℕ) → IsOctets c → read_text rule c ≡ Ok t → (c ≡ t) × IsTextOf rule t
 text_consumes rule c t is e =
-    let p = passed (rule c) (Ok c) _ t e in
+    let p = if_ok-is (rule c) (Ok c) _ t e in
     let same : c ≡ t = ok_is _ _ p.1 in (same, subst (IsTextOf rule) same p.0)
 
 pub text_read_back : (rule : List ℕ → Bool) (t : List ℕ) → IsTextOf rule t → read_text rule t ≡ Ok t

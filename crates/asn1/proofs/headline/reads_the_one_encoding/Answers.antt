@@ -6,7 +6,7 @@ use Rattle.asn1_core.specs.ReadError.{ReadError}
 use Rattle.asn1_core.specs.Reading.{Returns, whole}
 use Rattle.asn1_core.specs.Der.{Der}
 use Rattle.asn1_core.specs.Lemmas.Texts.{IsOctets-from_reads}
-use Rattle.asn1_core.specs.Lemmas.Wholes.{stands-nil, whole_is}
+use Rattle.asn1_core.specs.Lemmas.Wholes.{begins_accepted-nil, whole_is}
 use Rattle.asn1.specs.Headline.{Encodes}
 use Rattle.asn1.proofs.headline.reads_the_one_encoding.Goals as goal
 
@@ -43,7 +43,7 @@ module _ {V : Type 0} (d : Der V) (octets : List ℕ) where
   read_back : (m : d.Meaning) → d.lawful → Encodes d m octets → d.read octets ≡ Ok (m, [])
   read_back m lawful h =
       ap d.read (h.is ∙ sym (append-nil (d.encoding m)))
-      ∙ d.laws.read_back m [] lawful h.valid h.allowed h.fits (λ e. stands-nil d.accepts)
+      ∙ d.laws.read_back m [] lawful h.valid h.allowed h.fits (λ e. begins_accepted-nil d.accepts)
 
   one : d.lawful → (m n : d.Meaning) → Encodes d m octets → Encodes d n octets → m ≡ n
   one lawful m n h k = ap (λ r. value_or m r) (sym (read_back m lawful h) ∙ read_back n lawful k)

@@ -1,11 +1,11 @@
 use Rattle.asn1.specs.Fields.{first_name, other_names}
-use Rattle.asn1.proofs.ReadRows.{one_field_more, one_item_more, same_front}
+use Rattle.asn1.proofs.ReadRows.{one_field_more, one_item_more, seen_front-id_read}
 use Rattle.asn1.proofs.laws_wrappers.rows_behind_items_are_read.Goals as goal
 
 pub returns-clause-last_value : goal.returns-clause-last_value
 returns-clause-last_value g c = record {
   stands_for = λ m. m;
-  item = same_front g.C.DefinedField.both.item.read;
+  item = seen_front-id_read g.C.DefinedField.both.item.read;
   item_runs_out = λ octets places. (λ out. out, λ out. out);
   fields = λ names m octets result. (λ h. h, λ h. h);
 }
@@ -17,7 +17,7 @@ returns-clause-value g c same =
     let b = g.R.RowReadable.list in
     record {
       stands_for = λ m. m;
-      item = same_front both.item.read;
+      item = seen_front-id_read both.item.read;
       item_runs_out = λ octets places. (λ out. out, λ out. out);
       fields = λ names m octets result.
           let others = other_names names in (
@@ -52,10 +52,10 @@ returns-clause-item g c same names octets result =
     let a = g.B.RowBehind.behind in
     let b = g.B.RowBehindReadable.behind in
     let others = other_names names in (
-      one_item_more _ a.meaning b.meaning (first_name names) a.item.read (λ m. m) same.stands_for a.item.read b.item.read (same_front a.item.read) same.item
+      one_item_more _ a.meaning b.meaning (first_name names) a.item.read (λ m. m) same.stands_for a.item.read b.item.read (seen_front-id_read a.item.read) same.item
           a.item.runs_out b.item.runs_out (λ t places. (same.item_runs_out t places).0) (a.fields.read others) (a.fields.runs_out others) (b.fields.read others) (b.fields.runs_out others)
           (λ m t r. (same.fields others m t r).0) octets result,
-      one_item_more _ b.meaning a.meaning (first_name names) a.item.read same.stands_for (λ m. m) b.item.read a.item.read same.item (same_front a.item.read)
+      one_item_more _ b.meaning a.meaning (first_name names) a.item.read same.stands_for (λ m. m) b.item.read a.item.read same.item (seen_front-id_read a.item.read)
           b.item.runs_out a.item.runs_out (λ t places. (same.item_runs_out t places).1) (b.fields.read others) (b.fields.runs_out others) (a.fields.read others) (a.fields.runs_out others)
           (λ m t r. (same.fields others m t r).1) octets result,
     )

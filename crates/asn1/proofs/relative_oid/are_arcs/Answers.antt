@@ -1,14 +1,14 @@
 use Rattle.std.proofs.Common.{◌∙◌, sym, ap}
 use Rattle.std.specs.Prelude.{is_some}
-use Rattle.asn1_values.specs.Lemmas.Identifier.{has_front, joined_step, numbers_end, numbers_nil, some_by, empty_by}
+use Rattle.asn1_values.specs.Lemmas.Identifier.{leading_number-HasFront, joined_step, numbers_end, numbers_nil, some_by, empty_by}
 use Rattle.asn1.proofs.relative_oid.are_arcs.Goals as goal
 
 pub loop-rest-smaller : goal.loop-rest-smaller
-loop-rest-smaller c = (has_front c.loop-rest.rest.now _ c.in-Ok.after.now c.loop-rest.invariant.octets c.in-Ok.ensures).shorter
+loop-rest-smaller c = (leading_number-HasFront c.loop-rest.rest.now _ c.in-Ok.after.now c.loop-rest.invariant.octets c.in-Ok.ensures).shorter
 
 pub loop-rest-preserved : goal.loop-rest-preserved
 loop-rest-preserved c = record {
-  octets = (has_front c.loop-rest.rest.now _ c.in-Ok.after.now c.loop-rest.invariant.octets c.in-Ok.ensures).octets;
+  octets = (leading_number-HasFront c.loop-rest.rest.now _ c.in-Ok.after.now c.loop-rest.invariant.octets c.in-Ok.ensures).octets;
   same = joined_step c.loop-rest.rest.now _ c.in-Ok.after.now c.loop-rest.invariant.octets (some_by _ _ c.is_empty.ensures c.loop-rest-test.true) c.in-Ok.ensures ∙ c.loop-rest.invariant.same;
 }
 

@@ -4,7 +4,7 @@ use Rattle.asn1.specs.Element.{Element}
 use Rattle.asn1.specs.Tlv.{stripped}
 use Rattle.asn1_c.specs.declared.errors.Asn1Error.{Asn1Error}
 use Rattle.asn1_c.specs.Errors.{told}
-use Rattle.asn1_c.proofs.Told.{not_short, short_told, leaves_more, element_within}
+use Rattle.asn1_c.proofs.Told.{not_short, told-ShortData, leaves_more, element_within}
 use Rattle.asn1_c.proofs.elements.asn1_strip_tlv.Goals as goal
 
 number : (error : Asn1Error) (r : Result (Element × List ℕ) ParseErrorKind) → error ≡ told r → error.number ≡ (told r).number
@@ -23,5 +23,5 @@ pub returns-clause-fewer : goal.returns-clause-fewer
 returns-clause-fewer c = λ more is six few.
     let answer = stripped c.strip_tlv-found.result in
     let told_is = c.tell.ensures.error in
-    let short = short_told answer (sym (number c.tell.new.error answer told_is) ∙ six) in
+    let short = told-ShortData answer (sym (number c.tell.new.error answer told_is) ∙ six) in
     c.strip_tlv-found.ensures.fewer more ((told answer).needed) is short (subst (λ (it : Asn1Error). length more < it.needed) told_is few)

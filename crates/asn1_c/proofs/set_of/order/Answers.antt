@@ -1,13 +1,13 @@
 use Rattle.std.proofs.Common.{Err, refl, sym, ◌∙◌}
 use Rattle.asn1.specs.Tlv.{element_of}
-use Rattle.asn1_c.proofs.InOrder.{shorter, none_done, more_done, all_done}
+use Rattle.asn1_c.proofs.InOrder.{length-remaining-lt, none_done, more_done, all_done}
 use Rattle.asn1_c.proofs.set_of.order.Goals as goal
 
 pub loop-element-init : goal.loop-element-init
 loop-element-init c = none_done c.args.octets.now c.args.buffer.now c.requires.elements.0 c.requires.elements.1
 
 pub loop-element-smaller : goal.loop-element-smaller
-loop-element-smaller c = shorter _ _ _ c.in-Ok.ensures.grammar
+loop-element-smaller c = length-remaining-lt _ _ _ c.in-Ok.ensures.grammar
 
 pub loop-element-preserved : goal.loop-element-preserved
 loop-element-preserved c =

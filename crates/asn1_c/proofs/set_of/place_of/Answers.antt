@@ -3,12 +3,12 @@ use Rattle.std.specs.Cmp.Lexicographic.{slice_cmp}
 use Rattle.std.specs.Ordering.{is_lt, nat_cmp}
 use Rattle.asn1.specs.Element.{element_encoding}
 use Rattle.asn1.specs.Tlv.{element_of}
-use Rattle.asn1_c.proofs.InOrder.{shorter, passes_more, place_here, place_last, place_counted}
+use Rattle.asn1_c.proofs.InOrder.{length-remaining-lt, passes_more, concat-place_encoding_here, concat-place_encoding_last, append-take_drop}
 use Rattle.asn1_c.proofs.set_of.place_of.Goals as goal
 use Rattle.asn1_c.proofs.set_of.place_of.Goals.{in-Ok+then-not-is_lt, in_default}
 
 pub loop-element-smaller : goal.loop-element-smaller
-loop-element-smaller c = shorter _ _ _ c.in-Ok.ensures.grammar
+loop-element-smaller c = length-remaining-lt _ _ _ c.in-Ok.ensures.grammar
 
 pub loop-element-preserved : goal.loop-element-preserved
 loop-element-preserved c =
@@ -24,10 +24,10 @@ returns-clause-place c =
     let rest = c.loop-element.rest.now in
     let front = c.loop-element.invariant.0 in
     let p = c.loop-element.invariant.1 in
-    let counted = place_counted listed octets front rest _ p.whole refl in
+    let counted = append-take_drop listed octets front rest _ p.whole refl in
     elim c.match-strip_tlv.branch [
       | in-Ok+then-not-is_lt w ↦
           let less = ap is_lt (ap (λ t. slice_cmp nat_cmp t octets) (sym w.full_data.ensures.whole) ∙ sym w.cmp.ensures) ∙ sym w.is_lt.ensures ∙ w.if-not-is_lt.true in
-          λ encodings are. place_here listed octets front rest w.in-Ok.after.now (element_of w.in-Ok.element) p w.in-Ok.ensures.grammar less encodings are ∙ counted
-      | in_default w ↦ λ encodings are. place_last listed octets front rest (Err w.in_default.field-0.kind) w.in_default.field-0.kind p w.in_default.ensures.only refl encodings are ∙ counted
+          λ encodings are. concat-place_encoding_here listed octets front rest w.in-Ok.after.now (element_of w.in-Ok.element) p w.in-Ok.ensures.grammar less encodings are ∙ counted
+      | in_default w ↦ λ encodings are. concat-place_encoding_last listed octets front rest (Err w.in_default.field-0.kind) w.in_default.field-0.kind p w.in_default.ensures.only refl encodings are ∙ counted
     ]

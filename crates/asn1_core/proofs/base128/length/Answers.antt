@@ -1,7 +1,7 @@
 use Rattle.std.proofs.Common.{◌≡◌, length, ap, arith}
 use Rattle.std.specs.Int.Digits.{digits_of}
 use Rattle.std.proofs.lemmas.Int.Digits.{length-digits_of_step}
-use Rattle.asn1_core.specs.Lemmas.Numbers.{length-number_text, few_digits}
+use Rattle.asn1_core.specs.Lemmas.Numbers.{length-number_octets, few_digits}
 use Rattle.asn1_core.proofs.base128.length.Goals as goal
 
 pub overflow_add-count : goal.overflow_add-count
@@ -15,7 +15,7 @@ returns c =
     let done : c.loop-rest.rest ≡ 0 = omega arith in
     let none = ap (λ k. length (digits_of 128 k)) done in
     record {
-      encoding = omega (arith, none, length-number_text c.args.n);
+      encoding = omega (arith, none, length-number_octets c.args.n);
       some = omega (arith, none);
       most = omega (arith, none, few_digits c.args.n (omega arith));
     }

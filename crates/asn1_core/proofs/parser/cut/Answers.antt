@@ -5,7 +5,7 @@ use Rattle.asn1_core.specs.declared.tag.Tag.{Tag}
 use Rattle.asn1_core.specs.Base256.{IsOctets}
 use Rattle.asn1_core.specs.Element.{leading_content, leading_element, element, element_encoding}
 use Rattle.asn1_core.specs.Lemmas.Texts.{IsOctets-from_reads}
-use Rattle.asn1_core.specs.Lemmas.Elements.{front_ok_is, cut_whole}
+use Rattle.asn1_core.specs.Lemmas.Elements.{leading_element-ok_is, cut_whole}
 use Rattle.asn1_core.proofs.parser.cut.Goals as goal
 
 -- the element that was cut off, and the octets that it was cut from
@@ -13,7 +13,7 @@ found : (octets : List ℕ) (tag : Tag) (n : ℕ) (behind content rest : List �
 found octets tag n behind content rest header enough c r = rw (c, r) (header ∙ rw (le-ltb (length behind) n enough) refl)
 
 parts : (octets : List ℕ) (tag : Tag) (content rest : List ℕ) → IsOctets octets → leading_element octets ≡ Ok (element tag content, rest) → octets ≡ element_encoding (element tag content) ++ rest
-parts octets tag content rest is same = (front_ok_is octets (element tag content) rest is same).1
+parts octets tag content rest is same = (leading_element-ok_is octets (element tag content) rest is same).1
 
 pub slice_bounds-full_data-count : goal.slice_bounds-full_data-count
 slice_bounds-full_data-count c =

@@ -8,7 +8,7 @@ use Rattle.asn1_core.specs.ReadError.{framed, ReturnsKind}
 use Rattle.asn1_core.specs.Tlv.{element_of, stripped}
 use Rattle.asn1_core.specs.Laws.{IsShort, with_more}
 use Rattle.asn1_core.specs.Lemmas.Texts.{IsOctets-from_reads, IsOctets-both}
-use Rattle.asn1_core.specs.Lemmas.Elements.{ElementFront, front_is, front_only}
+use Rattle.asn1_core.specs.Lemmas.Elements.{ElementFront, IsLeadingElement-leading_element, leading_element-only}
 use Rattle.asn1_core.proofs.Stands.{answers_stand, fewer_are_short}
 use Rattle.asn1_core.proofs.parser.strip_tlv.Goals as goal
 
@@ -24,10 +24,10 @@ is_text : (c : goal.After-kind_as_error) → IsOctets c.args.data.now
 is_text c = IsOctets-from_reads c.args.data.now (λ i. omega (arith, c.type_inv.data i))
 
 pub returns-clause-grammar : goal.returns-clause-grammar
-returns-clause-grammar c = subst (λ (a : ElementFront). IsLeadingElement c.args.data.now a) (answer c) (front_is c.args.data.now (is_text c))
+returns-clause-grammar c = subst (λ (a : ElementFront). IsLeadingElement c.args.data.now a) (answer c) (IsLeadingElement-leading_element c.args.data.now (is_text c))
 
 pub returns-clause-only : goal.returns-clause-only
-returns-clause-only c = λ a is. sym (answer c) ∙ front_only c.args.data.now a (is_text c) is
+returns-clause-only c = λ a is. sym (answer c) ∙ leading_element-only c.args.data.now a (is_text c) is
 
 pub returns-clause-stays : goal.returns-clause-stays
 returns-clause-stays c = λ more is long.

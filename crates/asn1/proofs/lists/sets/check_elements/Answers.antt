@@ -7,16 +7,16 @@ use Rattle.asn1_core.specs.Reading.{framed_element}
 use Rattle.asn1_core.specs.Tag.{tag_less}
 use Rattle.asn1_core.specs.Tlv.{element_of}
 use Rattle.asn1_core.specs.Lemmas.Texts.{IsOctets-from_reads}
-use Rattle.asn1_core.proofs.TagOrder.{element_tag_in_front}
+use Rattle.asn1_core.proofs.TagOrder.{tag_at_start-element_encoding}
 use Rattle.asn1.specs.Sets.{set_item, element_behind, with_text}
-use Rattle.asn1.specs.Lemmas.ListItems.{refused_exit}
-use Rattle.asn1.specs.Lemmas.SetItems.{element_law, set_item_is, set_item_behind, checked_step, nothing_in_front, behind_refusal}
+use Rattle.asn1.specs.Lemmas.ListItems.{Returns-refused}
+use Rattle.asn1.specs.Lemmas.SetItems.{element_law, set_item_is, set_item-element_behind, checked_step, tag_at_start-nil, IsErrorOf-element_behind}
 use Rattle.asn1.proofs.lists.sets.check_elements.Goals as goal
 
 pub elements-init : goal.elements-init
 elements-init c = record {
   before = [];
-  tag = nothing_in_front;
+  tag = tag_at_start-nil;
   same = search rules;
   octets = rw c.new-parser.ensures (IsOctets-from_reads c.args.content.now (λ i. omega (arith, c.shared_slice_known-1.given i)));
   room = search rules;
@@ -31,7 +31,7 @@ elements-smaller c =
     let after = c.read_behind.new.parser in
     let read : element_behind c.elements.last i rest ≡ Ok (e, after) = c.in_ok-tlv.ensures.answers in
     let found : set_item tag_less framed_element inv.before i rest ≡ Ok (e, element_encoding e, after) =
-    set_item_behind inv.before i rest inv.octets
+    set_item-element_behind inv.before i rest inv.octets
     ∙ ap (λ (last : Option Tag). element_behind last i rest >>= with_text) inv.tag
     ∙ ap (λ (r : Result (Element × List ℕ) ReadError). r >>= with_text) read in
     (set_item_is tag_less framed_element element_encoding IsReadable element_law inv.before i rest (e, element_encoding e, after) inv.octets found).shorter
@@ -45,7 +45,7 @@ elements-preserved c =
     let after = c.read_behind.new.parser in
     let read : element_behind c.elements.last i rest ≡ Ok (e, after) = c.in_ok-tlv.ensures.answers in
     let found : set_item tag_less framed_element inv.before i rest ≡ Ok (e, element_encoding e, after) =
-    set_item_behind inv.before i rest inv.octets
+    set_item-element_behind inv.before i rest inv.octets
     ∙ ap (λ (last : Option Tag). element_behind last i rest >>= with_text) inv.tag
     ∙ ap (λ (r : Result (Element × List ℕ) ReadError). r >>= with_text) read in
     let some : rest ≡ [] → ⊥ = λ z. eqb-false _ _ (sym c.is_empty.ensures ∙ c.elements-test.true) (ap length z) in
@@ -53,7 +53,7 @@ elements-preserved c =
     let shorter : length after < length rest = is.shorter in
     record {
       before = element_encoding e;
-      tag = element_tag_in_front e is.good.tag ∙ ap Some (sym c.tag.ensures);
+      tag = tag_at_start-element_encoding e is.good.tag ∙ ap Some (sym c.tag.ensures);
       same = sym (checked_step tag_less framed_element element_encoding IsReadable element_law inv.before i rest (e, element_encoding e, after) some inv.octets found) ∙ inv.same;
       octets = is.octets;
       room = omega (arith, inv.room);
@@ -64,4 +64,4 @@ returns-in_err-tlv c =
     let rest = c.elements.parser in
     let inv = c.elements.invariant in
     let some : rest ≡ [] → ⊥ = λ z. eqb-false _ _ (sym c.is_empty.ensures ∙ c.elements-test.true) (ap length z) in
-    refused_exit _ (λ places. ⊥) _ _ _ c.from_residual.ensures.1 (behind_refusal inv.before c.elements.last c.elements.index rest _ _ some inv.octets inv.tag inv.same c.in_err-tlv.ensures.answers)
+    Returns-refused _ (λ places. ⊥) _ _ _ c.from_residual.ensures.1 (IsErrorOf-element_behind inv.before c.elements.last c.elements.index rest _ _ some inv.octets inv.tag inv.same c.in_err-tlv.ensures.answers)

@@ -1,5 +1,5 @@
 use Rattle.asn1_values.specs.Lemmas.Identifier.{empty_by, some_by}
-use Rattle.asn1.specs.Lemmas.Relative.{form_rest, split, split_last}
+use Rattle.asn1.specs.Lemmas.Relative.{form_rest, IsRelativeForm-IsSplit, split_last}
 use Rattle.asn1.proofs.relative_oid.RelativeOid.split_first.Goals as goal
 
 pub returns-then-is_empty : goal.returns-then-is_empty
@@ -11,4 +11,4 @@ invariant_of-result c = record {
 }
 
 pub returns : goal.returns
-returns c = (split c.args.self.now.octets.now _ _ c.args.self.now.is_content c.first_arc-arc.ensures).arcs
+returns c = (IsRelativeForm-IsSplit c.args.self.now.octets.now _ _ c.args.self.now.is_content c.first_arc-arc.ensures).arcs

@@ -1,14 +1,14 @@
 use Rattle.std.proofs.Common.{rules, ◌++◌, codes, decimal}
 use Rattle.std.proofs.Output.{has_written_append, has_written_of_eq}
-use Rattle.asn1_values.specs.Lemmas.Identifier.{has_front, some_by, empty_by}
-use Rattle.asn1_values.proofs.Dotted.{front_numbers, shown_more, shown_all}
-use Rattle.asn1.specs.Lemmas.Relative.{split, arcs_first}
+use Rattle.asn1_values.specs.Lemmas.Identifier.{leading_number-HasFront, some_by, empty_by}
+use Rattle.asn1_values.proofs.Dotted.{identifier_numbers-cons, shown_more, shown_all}
+use Rattle.asn1.specs.Lemmas.Relative.{IsRelativeForm-IsSplit, arcs_first}
 use Rattle.asn1.proofs.relative_oid.RelativeOidDisplay.fmt.Goals as goal
 
 pub loop-rest-init : goal.loop-rest-init
 loop-rest-init g c =
     let form = c.args.self.now.is_content in
-    let found = split c.args.self.now.octets.now _ _ form c.first_arc-arc.ensures in
+    let found = IsRelativeForm-IsSplit c.args.self.now.octets.now _ _ form c.first_arc-arc.ensures in
     record {
       octets = found.octets;
       cuts = found.cuts;
@@ -19,7 +19,7 @@ pub first_arc-arc-requires-in-loop-rest-clause-arcs : goal.first_arc-arc-require
 first_arc-arc-requires-in-loop-rest-clause-arcs g c = c.loop-rest.invariant.cuts
 
 pub loop-rest-smaller : goal.loop-rest-smaller
-loop-rest-smaller g c = (has_front c.loop-rest.rest.now _ c.first_arc-arc-in-loop-rest.result.1.now c.loop-rest.invariant.octets c.first_arc-arc-in-loop-rest.ensures).shorter
+loop-rest-smaller g c = (leading_number-HasFront c.loop-rest.rest.now _ c.first_arc-arc-in-loop-rest.result.1.now c.loop-rest.invariant.octets c.first_arc-arc-in-loop-rest.ensures).shorter
 
 pub loop-rest-preserved : goal.loop-rest-preserved
 loop-rest-preserved g c =
@@ -27,8 +27,8 @@ loop-rest-preserved g c =
     let rest = c.first_arc-arc-in-loop-rest.result.1.now in
     let some = some_by _ _ c.is_empty.ensures c.loop-rest-test.true in
     record {
-      octets = (has_front c.loop-rest.rest.now _ rest inv.octets c.first_arc-arc-in-loop-rest.ensures).octets;
-      cuts = (front_numbers c.loop-rest.rest.now _ rest inv.octets some c.first_arc-arc-in-loop-rest.ensures inv.cuts).0;
+      octets = (leading_number-HasFront c.loop-rest.rest.now _ rest inv.octets c.first_arc-arc-in-loop-rest.ensures).octets;
+      cuts = (identifier_numbers-cons c.loop-rest.rest.now _ rest inv.octets some c.first_arc-arc-in-loop-rest.ensures inv.cuts).0;
       shown = λ p. let w = inv.shown p in (w.0 ++ (codes "." ++ decimal c.first_arc-arc-in-loop-rest.result.0), has_written_append _ _ _ _ _ _ w.1 (search rules), shown_more c.loop-rest.rest.now _ rest w.0 _ inv.octets some c.first_arc-arc-in-loop-rest.ensures inv.cuts w.2);
     }
 

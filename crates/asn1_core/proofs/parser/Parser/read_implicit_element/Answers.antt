@@ -5,8 +5,8 @@ use Rattle.asn1_core.specs.Reading.{simple, simple_out}
 use Rattle.asn1_core.specs.Lemmas.Contents.{simple_consumes, simple_read}
 use Rattle.asn1_core.specs.Lemmas.Elements.{element_some}
 use Rattle.asn1_core.specs.Lemmas.Faults.{simple_errors}
-use Rattle.asn1_core.proofs.Inside.{taken, shorter, returns_as}
-use Rattle.asn1_core.specs.Lemmas.Wholes.{of_text}
+use Rattle.asn1_core.proofs.Inside.{Returns-consumed, length-remaining-lt, returns_as}
+use Rattle.asn1_core.specs.Lemmas.Wholes.{IfErr-Returns}
 use Rattle.asn1_core.proofs.parser.Parser.read_implicit_element.Goals as goal
 
 pub returns-clause-found : goal.returns-clause-found
@@ -15,7 +15,7 @@ returns-clause-found g c =
     let k = d.content in
     let tag = implicit_tag_of c.args.tag k.tag in
     let good : d.Meaning → Type 0 = λ m. k.valid m × k.allowed m in
-    taken d.meaning _ (λ m. element_encoding (element tag (k.encoding m))) good (simple tag k.read)
+    Returns-consumed d.meaning _ (λ m. element_encoding (element tag (k.encoding m))) good (simple tag k.read)
     (simple_consumes tag k.encoding good k.read d.laws.of_content.consumes) c.args.self.now _ _ c.are_octets.ensures c.read_implicit.ensures.answers
 
 pub returns-clause-only : goal.returns-clause-only
@@ -31,7 +31,7 @@ returns-clause-progress g c =
     let d = g.T.Asn1Type.der in
     let k = d.content in
     let tag = implicit_tag_of c.args.tag k.tag in
-    shorter d.meaning (λ m. element_encoding (element tag (k.encoding m))) (λ m. k.valid m × k.allowed m) c.args.self.now _ c.read_implicit.result (λ m good none. element_some (element tag (k.encoding m)) none) (returns-clause-found g c)
+    length-remaining-lt d.meaning (λ m. element_encoding (element tag (k.encoding m))) (λ m. k.valid m × k.allowed m) c.args.self.now _ c.read_implicit.result (λ m good none. element_some (element tag (k.encoding m)) none) (returns-clause-found g c)
 
 pub returns-clause-no_memory_error : goal.returns-clause-no_memory_error
 returns-clause-no_memory_error g c none =
@@ -39,4 +39,4 @@ returns-clause-no_memory_error g c none =
     let k = d.content in
     let tag = implicit_tag_of c.args.tag k.tag in
     let t = c.args.self.now in
-    of_text _ (simple_out tag k.runs_out t) c.read_implicit.result (simple tag k.read t) c.read_implicit.ensures.answers (simple_errors tag k.read d.laws.of_content.errors t) (λ places out. none (d.laws.as_memory (d.laws.of_content.memory _ places out.3)))
+    IfErr-Returns _ (simple_out tag k.runs_out t) c.read_implicit.result (simple tag k.read t) c.read_implicit.ensures.answers (simple_errors tag k.read d.laws.of_content.errors t) (λ places out. none (d.laws.as_memory (d.laws.of_content.memory _ places out.3)))

@@ -5,7 +5,7 @@ use Rattle.std.proofs.lemmas.Int.{ints, to_z-of_z}
 use Rattle.asn1_core.specs.declared.parser.ParseErrorKind.TheVariants.{InvalidValue}
 use Rattle.asn1_core.specs.ReadError.{read_error}
 use Rattle.asn1_core.specs.Lemmas.Texts.{IsOctets-from_reads}
-use Rattle.asn1_core.proofs.Integers.{refused_content, beyond_refused, answered_number, long_refused}
+use Rattle.asn1_core.proofs.Integers.{refused_content, beyond_refused, read_sized-ok, long_refused}
 use Rattle.asn1_core.proofs.types.integers.read.Goals as goal
 use Rattle.asn1_core.proofs.types.integers.read.Goals.{then-number-low-via-then-number-low, then-number-low-via-else-number-low+then-number-high}
 
@@ -40,4 +40,4 @@ returns-clause-exact c =
     let number = c.signed_number-number.result in
     let shortest = sym c.is_integer_content.ensures ∙ c.if-not-is_integer_content.false in
     let fits_number : FitsSigned w128 number = record { sfits = c.signed_number-number.type_inv } in
-    simp to_z-of_z (answered_number c.args.low c.args.high c.args.octets.now number shortest c.signed_number-number.ensures (omega (arith, ints)) (omega (arith, ints)))
+    simp to_z-of_z (read_sized-ok c.args.low c.args.high c.args.octets.now number shortest c.signed_number-number.ensures (omega (arith, ints)) (omega (arith, ints)))

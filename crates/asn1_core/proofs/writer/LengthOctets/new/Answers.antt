@@ -2,7 +2,7 @@ use Rattle.std.proofs.Common.{◌≡◌, ◌-◌, ◌++◌, length, drop, sym, a
 use Rattle.std.specs.Int.Digits.{digits_of}
 use Rattle.std.proofs.lemmas.Int.Digits.{length-digits_of_step}
 use Rattle.std.proofs.lemmas.List.{length-set}
-use Rattle.asn1_core.specs.Lemmas.Lengths.{length_text_low, few_digits, write_step, write_end, low_eight}
+use Rattle.asn1_core.specs.Lemmas.Lengths.{length_octets-low, few_digits, write_step, write_end, low_eight}
 use Rattle.asn1_core.proofs.writer.LengthOctets.new.Goals as goal
 
 pub overflow_sub-start : goal.overflow_sub-start
@@ -28,7 +28,7 @@ overflow_sub-start-2 c =
     omega (arith, few_digits c.args.n (omega arith), none)
 
 pub returns-then-n-lt128-clause-encoding : goal.returns-then-n-lt128-clause-encoding
-returns-then-n-lt128-clause-encoding c = rw (length_text_low c.args.n c.if-n-lt128.true) refl
+returns-then-n-lt128-clause-encoding c = rw (length_octets-low c.args.n c.if-n-lt128.true) refl
 
 pub returns-clause-encoding : goal.returns-clause-encoding
 returns-clause-encoding c =

@@ -4,8 +4,8 @@ use Rattle.std.proofs.lemmas.Int.Digits.{length-digits_of_step}
 use Rattle.std.proofs.lemmas.List.{length-append, length-replicate, length-set, nil_from_length, set_split, take-set-le, take-take}
 use Rattle.asn1_core.specs.Length.{length_octets}
 use Rattle.asn1_core.specs.Buffer.{Buffer}
-use Rattle.asn1_core.specs.Lemmas.Lengths.{length_text_high, write_step, low_eight}
-use Rattle.asn1_core.proofs.Patch.{moved_is, moved_tail, moved_front, some_number, top_of}
+use Rattle.asn1_core.specs.Lemmas.Lengths.{length_octets-high, write_step, low_eight}
+use Rattle.asn1_core.proofs.Patch.{moved_is, moved_tail, take-moved, some_number, top_of}
 use Rattle.asn1_core.proofs.writer.WriteBuf.patch_long_length.Goals as goal
 
 -- a prefix of a prefix
@@ -14,7 +14,7 @@ shorter xs n = take-take (n - 1) n xs (omega arith)
 
 -- the length octets of a long length except the first
 more_octets : (n m : ℕ) → 128 ≤ n → m ≡ length (length_octets n) → m ≡ length (digits_of 256 n) + 1
-more_octets n m l e = omega (arith, e, ap length (length_text_high n l))
+more_octets n m l e = omega (arith, e, ap length (length_octets-high n l))
 
 pub overflow_sub-more : goal.overflow_sub-more
 overflow_sub-more c =
@@ -81,7 +81,7 @@ returns-clause-ok c =
     let behind : drop start now ≡ digits_of 256 n ++ drop start xs =
     ap (λ (k : ℕ). drop k now) (sym place) ∙ ap (λ (t : List ℕ). t ++ drop c.loop-place.place now) (sym done) ∙ inv.whole ∙ ap (λ (t : List ℕ). digits_of 256 n ++ t) (moved_tail xs start more low within _ _ big m) in
     let front : take (start - 1) now ≡ take (start - 1) xs =
-    sym (shorter now start) ∙ ap (take (start - 1)) inv.front ∙ shorter moved start ∙ moved_front xs start more low within _ _ big m in
+    sym (shorter now start) ∙ ap (take (start - 1)) inv.front ∙ shorter moved start ∙ take-moved xs start more low within _ _ big m in
     let next : suc (start - 1) ≡ start = omega (arith, low) in
     let octets : bit_or 128 more ∷ digits_of 256 n ≡ length_octets (length xs - start) = rw count (top_of n large small) ∙ ap (λ (k : ℕ). length_octets (k - start)) ll in
     let inside : start - 1 < length now = omega (arith, inv.size, ll, long) in

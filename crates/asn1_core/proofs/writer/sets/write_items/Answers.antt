@@ -3,7 +3,7 @@ use Rattle.std.proofs.lemmas.List.{length-drop, take_all}
 use Rattle.asn1_core.specs.SetSteps.{first_number}
 use Rattle.asn1_core.specs.declared.writer.sets.Span.{Span}
 use Rattle.asn1_core.specs.Listing.{AnyNames}
-use Rattle.asn1_core.proofs.Bodies.{keeps_front_by, keeps_front_on}
+use Rattle.asn1_core.proofs.Bodies.{KeepsPrefix-append, KeepsPrefix-trans}
 use Rattle.asn1_core.specs.Lemmas.Items.{names_at, exit_names, refuses_more, each_at}
 use Rattle.asn1_core.proofs.Noted.{notes_more}
 use Rattle.asn1_core.proofs.writer.sets.write_items.Goals as goal
@@ -33,6 +33,6 @@ loop-item-preserved g c =
     let a = c.in_ok-write_element.ensures.ok in
     record {
       same_buffer = c.in_ok-write_element.ensures.same_buffer ∙ c.loop-item.invariant.same_buffer;
-      front = keeps_front_on c.loop-item.invariant.front (keeps_front_by a.encoding a.joined);
+      front = KeepsPrefix-trans c.loop-item.invariant.front (KeepsPrefix-append a.encoding a.joined);
       notes = rw pushed (notes_more (λ v. d.encodings (d.meaning v)) c.args.items.now c.loop-item.item-index c.item-item.result old new c.loop-item.spans.items span c.loop-item-test.true c.item-item.is c.loop-item.invariant.notes a at size first);
     }

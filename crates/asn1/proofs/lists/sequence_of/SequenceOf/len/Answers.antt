@@ -2,7 +2,7 @@ use Rattle.std.proofs.Common.{◌≤◌, sym, subst}
 use Rattle.asn1_core.specs.Lemmas.Items.{each_both}
 use Rattle.asn1_core.specs.Lemmas.Texts.{IsOctets-from_reads}
 use Rattle.asn1.specs.Lists.{left}
-use Rattle.asn1.specs.Lemmas.ListItems.{left_counted, left_is}
+use Rattle.asn1.specs.Lemmas.ListItems.{length-left, flat_map-left}
 use Rattle.asn1.proofs.lists.sequence_of.SequenceOf.len.Goals as goal
 
 pub returns-clause-allowed : goal.returns-clause-allowed
@@ -11,8 +11,8 @@ returns-clause-allowed g c low high =
     let self = c.args.self.now in
     let content = self.content.now in
     let is = IsOctets-from_reads content self.are_octets in
-    let items = left_is d.read d.encoding (λ m. d.valid m × d.allowed m) d.laws.consumes content self.count is self.are_items in
-    let counted = sym (left_counted d.read content self.count self.are_items) in (
+    let items = flat_map-left d.read d.encoding (λ m. d.valid m × d.allowed m) d.laws.consumes content self.count is self.are_items in
+    let counted = sym (length-left d.read content self.count self.are_items) in (
       (each_both d.valid d.allowed (left d.read content) items.1).1,
       (subst (λ n. g.row.MINIMUM_LEN ≤ n) counted low, λ bound. subst (λ n. n ≤ g.row.MAXIMUM_LEN) counted high),
     )

@@ -2,7 +2,7 @@ use Rattle.std.proofs.Common.{rules, ◌∙◌, arith, subst, map, inr}
 use Rattle.std.proofs.lemmas.List.{take_all}
 use Rattle.asn1_core.specs.Buffer.{Appends}
 use Rattle.asn1_core.specs.Listing.{Joins, AnyNames}
-use Rattle.asn1_core.specs.Lemmas.Items.{joined_more, names_at, exit_names, refuses_more, each_at, appends_map}
+use Rattle.asn1_core.specs.Lemmas.Items.{Appends-Joins_take, names_at, exit_names, refuses_more, each_at, appends_map}
 use Rattle.asn1.proofs.lists.writers.SequenceOfWriterSimpleAsn1Writable.write_data.Goals as goal
 
 pub write_element-requires : goal.write_element-requires
@@ -17,7 +17,7 @@ returns-in_err-write_element-clause-error g c =
 pub loop-item-preserved : goal.loop-item-preserved
 loop-item-preserved g c =
     let d = g.T.Asn1Type.der in
-    (c.in_ok-write_element.ensures.same_buffer ∙ c.loop-item.invariant.0, joined_more (λ v. d.encodings (d.meaning v)) c.args.self.now.items.now c.loop-item.item-index c.item-item.result _ _ _ c.loop-item-test.true c.item-item.is c.loop-item.invariant.1 c.in_ok-write_element.ensures.ok)
+    (c.in_ok-write_element.ensures.same_buffer ∙ c.loop-item.invariant.0, Appends-Joins_take (λ v. d.encodings (d.meaning v)) c.args.self.now.items.now c.loop-item.item-index c.item-item.result _ _ _ c.loop-item-test.true c.item-item.is c.loop-item.invariant.1 c.in_ok-write_element.ensures.ok)
 
 pub returns-clause-ok : goal.returns-clause-ok
 returns-clause-ok g c =
