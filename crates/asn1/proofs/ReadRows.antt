@@ -4,27 +4,27 @@ use Rattle.asn1_core.specs.declared.parser.Place.{Place}
 use Rattle.asn1_core.specs.Element.{◌>>=◌}
 use Rattle.asn1_core.specs.ReadError.{ReadError}
 use Rattle.asn1_core.specs.Reading.{Returns, IsErrorOf}
-use Rattle.asn1_core.specs.Lemmas.Results.{ok_is}
+use Rattle.asn1_core.specs.Lemmas.Results.{done-injective}
 use Rattle.asn1.specs.FieldReads.{field_out, others_out, field_read, item_read, behind_out}
 use Rattle.asn1.specs.ItemsAndValues.{seen_front, seen_front-id as is_same}
 
-pair_ok : {K M : Type 0} (k l : K) (r : Result M ReadError) (n : M)
+bind_pair-ok : {K M : Type 0} (k l : K) (r : Result M ReadError) (n : M)
     → ◌≡◌ {A = Result (K × M) ReadError} (r >>= λ m. Ok (k, m)) (Ok (l, n)) → (r ≡ Ok n) × (k ≡ l)
-pair_ok {K} {M} k l (Ok m) n e =
-    let same = ok_is (k, m) (l, n) e in
+bind_pair-ok {K} {M} k l (Ok m) n e =
+    let same = done-injective (k, m) (l, n) e in
     (ap (λ (x : K × M). Ok x.1) same, ap (λ (x : K × M). x.0) same)
-pair_ok k l (Err f) n e = absurd cc
+bind_pair-ok k l (Err f) n e = absurd cc
 
-pair_err : {K M : Type 0} (k : K) (r : Result M ReadError) (f : ReadError)
+bind_pair-err : {K M : Type 0} (k : K) (r : Result M ReadError) (f : ReadError)
     → ◌≡◌ {A = Result (K × M) ReadError} (r >>= λ m. Ok (k, m)) (Err f) → r ≡ Err f
-pair_err k (Ok m) f e = absurd cc
-pair_err k (Err g) f e = cc
+bind_pair-err k (Ok m) f e = absurd cc
+bind_pair-err k (Err g) f e = cc
 
-no_value : {A : Type 0} (f : ReadError) (x : A) → ◌≡◌ {A = Result A ReadError} (Err f) (Ok x) → ⊥
-no_value f x e = absurd cc
+Err-ne-Ok : {A : Type 0} (f : ReadError) (x : A) → ◌≡◌ {A = Result A ReadError} (Err f) (Ok x) → ⊥
+Err-ne-Ok f x e = absurd cc
 
-same_error : {A B : Type 0} (f g : ReadError) → ◌≡◌ {A = Result A ReadError} (Err f) (Err g) → ◌≡◌ {A = Result B ReadError} (Err f) (Err g)
-same_error f g e = cc
+Err-at_other_type : {A B : Type 0} (f g : ReadError) → ◌≡◌ {A = Result A ReadError} (Err f) (Err g) → ◌≡◌ {A = Result B ReadError} (Err f) (Err g)
+Err-at_other_type f g e = cc
 
 pub seen_front-id_read : {M : Type 0} (read : List ℕ → Result (M × List ℕ) ReadError) (t : List ℕ) → read t ≡ seen_front (λ m. m) (read t)
 seen_front-id_read read t = is_same (read t)
@@ -47,19 +47,19 @@ module _ {U W K M N : Type 0} (first : W → K) (rest : W → U) (one : U → M)
       → Returns (λ w. (first w, one (rest w))) (Out out1 c) result (field_read name read read1 c)
       → Returns (λ w. (first w, other (rest w))) (Out out2 c) result (field_read name read read2 c)
   Returns-field_read c (Ok x) e (Ok w) h =
-      let was = pair_ok x.0 (first w) (read1 x.1) (one (rest w)) (rw e at h) in
+      let was = bind_pair-ok x.0 (first w) (read1 x.1) (one (rest w)) (rw e at h) in
       let is : read2 x.1 ≡ Ok (other (rest w)) = same x.1 (Ok (rest w)) was.0 in
       rw (e, is) (ap (λ (k : K). Ok (k, other (rest w))) was.1)
-  Returns-field_read c (Ok x) e (Err f) (inl h) = IsErrorOf-field_read c x f e (same x.1 (Err f) (inl (pair_err x.0 (read1 x.1) f (rw e at h))))
+  Returns-field_read c (Ok x) e (Err f) (inl h) = IsErrorOf-field_read c x f e (same x.1 (Err f) (inl (bind_pair-err x.0 (read1 x.1) f (rw e at h))))
   Returns-field_read c r e (Err f) (inr (k, inl o)) = inr (k, inl o)
   Returns-field_read c r e (Err f) (inr (k, inr (x, is, o))) = IsErrorOf-field_read c x f is (same x.1 (Err f) (inr (k, o)))
   Returns-field_read c (Err g) e (Ok w) h = absurd cc
-  Returns-field_read c (Err g) e (Err f) (inl h) = inl (rw e (same_error _ f (rw e at h)))
+  Returns-field_read c (Err g) e (Err f) (inl h) = inl (rw e (Err-at_other_type _ f (rw e at h)))
 
-  pub one_field_more : (c : List ℕ) (result : Result W ReadError)
+  pub Returns-field_read_more : (c : List ℕ) (result : Result W ReadError)
       → Returns (λ w. (first w, one (rest w))) (Out out1 c) result (field_read name read read1 c)
       → Returns (λ w. (first w, other (rest w))) (Out out2 c) result (field_read name read read2 c)
-  one_field_more c result h = Returns-field_read c (read c) refl result h
+  Returns-field_read_more c result h = Returns-field_read c (read c) refl result h
 
 -- an item, which two statements map to what they say of it, and the fields after it
 module _ {U W K I J M N : Type 0} (rest : W → U) (one : U → M) (other : U → N)
@@ -78,29 +78,29 @@ module _ {U W K I J M N : Type 0} (rest : W → U) (one : U → M) (other : U �
   abbrev Out2 : List ℕ → List Place → Type 0
   Out2 c places = field_out name item_out2 c places ⊎ behind_out item2 out2 c places
 
-  item_refused : (c : List ℕ) (x : K × List ℕ) (f : ReadError) → item2 c ≡ Ok (s2 x.0, x.1)
+  IsErrorOf-item_read : (c : List ℕ) (x : K × List ℕ) (f : ReadError) → item2 c ≡ Ok (s2 x.0, x.1)
       → Returns {V = U} other (out2 (s2 x.0) x.1) (Err f) (read2 (s2 x.0) x.1) → IsErrorOf (Out2 c) (item_read name item2 read2 c) f
-  item_refused c x f e (inl q) = inl (rw (e, q) refl)
-  item_refused c x f e (inr o) = inr (o.0, inr ((s2 x.0, x.1), e, o.1))
+  IsErrorOf-item_read c x f e (inl q) = inl (rw (e, q) refl)
+  IsErrorOf-item_read c x f e (inr o) = inr (o.0, inr ((s2 x.0, x.1), e, o.1))
 
-  ran_out : (r : Result (K × List ℕ) ReadError) (y : I × List ℕ) → seen_front s1 r ≡ Ok y → (out : I → List ℕ → Type 0)
+  seen_front-ok_is : (r : Result (K × List ℕ) ReadError) (y : I × List ℕ) → seen_front s1 r ≡ Ok y → (out : I → List ℕ → Type 0)
       → out y.0 y.1 → (x : K × List ℕ) × (r ≡ Ok x) × out (s1 x.0) x.1
-  ran_out (Ok x) y e out o = (x, refl, rw (← ok_is (s1 x.0, x.1) y e) at o)
-  ran_out (Err f) y e out o = absurd cc
+  seen_front-ok_is (Ok x) y e out o = (x, refl, rw (← done-injective (s1 x.0, x.1) y e) at o)
+  seen_front-ok_is (Err f) y e out o = absurd cc
 
-  item_answered : (c : List ℕ) (r : Result (K × List ℕ) ReadError) → item1 c ≡ seen_front s1 r → item2 c ≡ seen_front s2 r
+  Returns-item_read : (c : List ℕ) (r : Result (K × List ℕ) ReadError) → item1 c ≡ seen_front s1 r → item2 c ≡ seen_front s2 r
       → (result : Result W ReadError) → Returns (λ w. one (rest w)) (Out1 c) result (item_read name item1 read1 c)
       → Returns (λ w. other (rest w)) (Out2 c) result (item_read name item2 read2 c)
-  item_answered c (Ok x) e e2 (Ok w) h = rw e2 (same x.0 x.1 (Ok (rest w)) (rw e at h))
-  item_answered c (Ok x) e e2 (Err f) (inl h) = item_refused c x f e2 (same x.0 x.1 (Err f) (inl (rw e at h)))
-  item_answered c r e e2 (Err f) (inr (k, inl (inner, o, is))) = inr (k, inl (inner, outs c inner o, is))
-  item_answered c r e e2 (Err f) (inr (k, inr (y, is, o))) =
-      let x = ran_out r y (sym e ∙ is) (λ i t. out1 i t f.places) o in
-      item_refused c x.0 f (e2 ∙ ap (seen_front s2) x.1) (same x.0.0 x.0.1 (Err f) (inr (k, x.2)))
-  item_answered c (Err g) e e2 (Ok w) h = absurd (no_value _ _ (rw e at h))
-  item_answered c (Err g) e e2 (Err f) (inl h) = inl (rw e2 (same_error _ f (rw e at h)))
+  Returns-item_read c (Ok x) e e2 (Ok w) h = rw e2 (same x.0 x.1 (Ok (rest w)) (rw e at h))
+  Returns-item_read c (Ok x) e e2 (Err f) (inl h) = IsErrorOf-item_read c x f e2 (same x.0 x.1 (Err f) (inl (rw e at h)))
+  Returns-item_read c r e e2 (Err f) (inr (k, inl (inner, o, is))) = inr (k, inl (inner, outs c inner o, is))
+  Returns-item_read c r e e2 (Err f) (inr (k, inr (y, is, o))) =
+      let x = seen_front-ok_is r y (sym e ∙ is) (λ i t. out1 i t f.places) o in
+      IsErrorOf-item_read c x.0 f (e2 ∙ ap (seen_front s2) x.1) (same x.0.0 x.0.1 (Err f) (inr (k, x.2)))
+  Returns-item_read c (Err g) e e2 (Ok w) h = absurd (Err-ne-Ok _ _ (rw e at h))
+  Returns-item_read c (Err g) e e2 (Err f) (inl h) = inl (rw e2 (Err-at_other_type _ f (rw e at h)))
 
-  pub one_item_more : (c : List ℕ) (result : Result W ReadError)
+  pub Returns-item_read_more : (c : List ℕ) (result : Result W ReadError)
       → Returns (λ w. one (rest w)) (Out1 c) result (item_read name item1 read1 c)
       → Returns (λ w. other (rest w)) (Out2 c) result (item_read name item2 read2 c)
-  one_item_more c result h = item_answered c (read c) (is1 c) (is2 c) result h
+  Returns-item_read_more c result h = Returns-item_read c (read c) (is1 c) (is2 c) result h

@@ -12,5 +12,5 @@ others (m ∷ ms) = ms
 pub cons-injective_head : {M : Type 0} (m n : M) (ms ns : List M) → (m ∷ ms) ≡ (n ∷ ns) → m ≡ n
 cons-injective_head m n ms ns e = ap (head_or m) e
 
-pub same_others : {M : Type 0} (m n : M) (ms ns : List M) → (m ∷ ms) ≡ (n ∷ ns) → ms ≡ ns
-same_others m n ms ns e = ap others e
+pub cons-injective_tail : {M : Type 0} (m n : M) (ms ns : List M) → (m ∷ ms) ≡ (n ∷ ns) → ms ≡ ns
+cons-injective_tail m n ms ns e = ap others e

@@ -27,54 +27,54 @@ record Ordered (done : List ℕ) (last : Option Tag) : Type 0 where
   pub is : done ≡ flat_map element_encoding elements
   pub ends : last ≡ last_tag elements
 
-joined_more : (es : List Element) (e : Element) → flat_map element_encoding (es ++ e ∷ []) ≡ flat_map element_encoding es ++ element_encoding e
-joined_more [] e = append-nil (element_encoding e)
-joined_more (f ∷ es) e = ap (λ (t : List ℕ). element_encoding f ++ t) (joined_more es e) ∙ sym (append_assoc (element_encoding f) (flat_map element_encoding es) (element_encoding e))
+flat_map-push : (es : List Element) (e : Element) → flat_map element_encoding (es ++ e ∷ []) ≡ flat_map element_encoding es ++ element_encoding e
+flat_map-push [] e = append-nil (element_encoding e)
+flat_map-push (f ∷ es) e = ap (λ (t : List ℕ). element_encoding f ++ t) (flat_map-push es e) ∙ sym (append_assoc (element_encoding f) (flat_map element_encoding es) (element_encoding e))
 
-small_more : (es : List Element) (e : Element) → AllByRecursion (λ x. x.tag.value < 2 ^ 32) es → e.tag.value < 2 ^ 32 → AllByRecursion (λ x. x.tag.value < 2 ^ 32) (es ++ e ∷ [])
-small_more [] e h small = (small, tt)
-small_more (f ∷ es) e h small = (h.0, small_more es e h.1 small)
+small_tags-push : (es : List Element) (e : Element) → AllByRecursion (λ x. x.tag.value < 2 ^ 32) es → e.tag.value < 2 ^ 32 → AllByRecursion (λ x. x.tag.value < 2 ^ 32) (es ++ e ∷ [])
+small_tags-push [] e h small = (small, tt)
+small_tags-push (f ∷ es) e h small = (h.0, small_tags-push es e h.1 small)
 
-ends_more : (es : List Element) (e : Element) → last_tag (es ++ e ∷ []) ≡ Some e.tag
-ends_more [] e = refl
-ends_more (f ∷ []) e = refl
-ends_more (f ∷ g ∷ es) e = ends_more (g ∷ es) e
+last_tag-push : (es : List Element) (e : Element) → last_tag (es ++ e ∷ []) ≡ Some e.tag
+last_tag-push [] e = refl
+last_tag-push (f ∷ []) e = refl
+last_tag-push (f ∷ g ∷ es) e = last_tag-push (g ∷ es) e
 
-not_before : (a b : Tag) → before_tag (Some a) (Some b) ≡ false → IsTagBefore a b → ⊥
-not_before a b apart before = let e = (tag_order_is_answered a b).1 before in cc
+before_tag-false : (a b : Tag) → before_tag (Some a) (Some b) ≡ false → IsTagBefore a b → ⊥
+before_tag-false a b apart before = let e = (tag_order_is_answered a b).1 before in cc
 
-tags_more : (es : List Element) (e : Element) → TagsInOrder es → before_tag (Some e.tag) (last_tag es) ≡ false → TagsInOrder (es ++ e ∷ [])
-tags_more [] e h apart = tt
-tags_more (f ∷ []) e h apart = (not_before e.tag f.tag apart, tt)
-tags_more (f ∷ g ∷ es) e h apart = (h.0, tags_more (g ∷ es) e h.1 apart)
+TagsInOrder-push : (es : List Element) (e : Element) → TagsInOrder es → before_tag (Some e.tag) (last_tag es) ≡ false → TagsInOrder (es ++ e ∷ [])
+TagsInOrder-push [] e h apart = tt
+TagsInOrder-push (f ∷ []) e h apart = (before_tag-false e.tag f.tag apart, tt)
+TagsInOrder-push (f ∷ g ∷ es) e h apart = (h.0, TagsInOrder-push (g ∷ es) e h.1 apart)
 
-ordered_elements : (done : List ℕ) (last : Option Tag) → OrderedElements done last → Ordered done last
-ordered_elements _ _ no_element = record { elements = []; small = tt; ordered = tt; is = refl; ends = refl }
-ordered_elements _ _ (one_more {done} {last} e before small apart) =
-    let h = ordered_elements done last before in
+OrderedElements-Ordered : (done : List ℕ) (last : Option Tag) → OrderedElements done last → Ordered done last
+OrderedElements-Ordered _ _ no_element = record { elements = []; small = tt; ordered = tt; is = refl; ends = refl }
+OrderedElements-Ordered _ _ (one_more {done} {last} e before small apart) =
+    let h = OrderedElements-Ordered done last before in
     record {
       elements = h.elements ++ e ∷ [];
-      small = small_more h.elements e h.small small;
-      ordered = tags_more h.elements e h.ordered (subst (λ (t : Option Tag). before_tag (Some e.tag) t ≡ false) h.ends apart);
-      is = ap (λ (t : List ℕ). t ++ element_encoding e) h.is ∙ sym (joined_more h.elements e);
-      ends = sym (ends_more h.elements e);
+      small = small_tags-push h.elements e h.small small;
+      ordered = TagsInOrder-push h.elements e h.ordered (subst (λ (t : Option Tag). before_tag (Some e.tag) t ≡ false) h.ends apart);
+      is = ap (λ (t : List ℕ). t ++ element_encoding e) h.is ∙ sym (flat_map-push h.elements e);
+      ends = sym (last_tag-push h.elements e);
     }
 
-content_most : (e : Element) → length e.content ≤ length (element_encoding e)
+length-content-le : (e : Element) → length e.content ≤ length (element_encoding e)
 unfolding element_encoding
-content_most e = omega (arith, length-append (identifier_octets e.tag) (length_octets (length e.content) ++ e.content), length-append (length_octets (length e.content)) e.content)
+length-content-le e = omega (arith, length-append (identifier_octets e.tag) (length_octets (length e.content) ++ e.content), length-append (length_octets (length e.content)) e.content)
 
-readable_all : (es : List Element) → AllByRecursion (λ e. e.tag.value < 2 ^ 32) es → length (flat_map element_encoding es) < 2 ^ 32 → AllByRecursion IsReadable es
-readable_all [] h short = tt
-readable_all (e ∷ es) h short =
+AllByRecursion-IsReadable : (es : List Element) → AllByRecursion (λ e. e.tag.value < 2 ^ 32) es → length (flat_map element_encoding es) < 2 ^ 32 → AllByRecursion IsReadable es
+AllByRecursion-IsReadable [] h short = tt
+AllByRecursion-IsReadable (e ∷ es) h short =
     let both = length-append (element_encoding e) (flat_map element_encoding es) in
-    let most = content_most e in
-    (record { tag = h.0; content = omega (arith, both, most, short) }, readable_all es h.1 (omega (arith, both, short)))
+    let most = length-content-le e in
+    (record { tag = h.0; content = omega (arith, both, most, short) }, AllByRecursion-IsReadable es h.1 (omega (arith, both, short)))
 
-is_set_content : (done : List ℕ) (last : Option Tag) → OrderedElements done last → length done < 2 ^ 32 → IsSetContent done
-is_set_content done last ordered short =
-    let h = ordered_elements done last ordered in
-    record { elements = h.elements; readable = readable_all h.elements h.small (subst (λ (t : List ℕ). length t < 2 ^ 32) h.is short); ordered = h.ordered; is = h.is }
+OrderedElements-IsSetContent : (done : List ℕ) (last : Option Tag) → OrderedElements done last → length done < 2 ^ 32 → IsSetContent done
+OrderedElements-IsSetContent done last ordered short =
+    let h = OrderedElements-Ordered done last ordered in
+    record { elements = h.elements; readable = AllByRecursion-IsReadable h.elements h.small (subst (λ (t : List ℕ). length t < 2 ^ 32) h.is short); ordered = h.ordered; is = h.is }
 
 pub writes_sets : {F E : Type 0} (calls : Once F (MutBor SetState × Unit {0}) (Result (Unit {0}) E × (MutBor SetState × Unit {0}))) → WritesSets calls
-writes_sets calls f content may short = is_set_content content may.left.now.last may.ordered short
+writes_sets calls f content may short = OrderedElements-IsSetContent content may.left.now.last may.ordered short

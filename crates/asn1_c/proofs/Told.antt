@@ -13,21 +13,21 @@ use Rattle.asn1_c.specs.Errors.{told}
 use Rattle.asn1_c.specs.Elements.{Leaves}
 
 -- A result is `ShortData` only if its number says so.
-pub not_short : {A : Type 0} (r : Result A ParseErrorKind) → ¬ ((told r).number ≡ 6) → ¬ IsShort r
-not_short (Ok x) other short = short
-not_short (Err InvalidValue) other short = short
-not_short (Err InvalidTag) other short = short
-not_short (Err InvalidLength) other short = short
-not_short (Err (InvalidSize min max actual)) other short = short
-not_short (Err (UnexpectedTag actual)) other short = short
-not_short (Err (ShortData needed)) other short = other refl
-not_short (Err IntegerOverflow) other short = short
-not_short (Err ExtraData) other short = short
-not_short (Err InvalidSetOrdering) other short = short
-not_short (Err EncodedDefault) other short = short
-not_short (Err OidTooLong) other short = short
-not_short (Err UnknownDefinedBy) other short = short
-not_short (Err AllocationError) other short = short
+pub told-not_IsShort : {A : Type 0} (r : Result A ParseErrorKind) → ¬ ((told r).number ≡ 6) → ¬ IsShort r
+told-not_IsShort (Ok x) other short = short
+told-not_IsShort (Err InvalidValue) other short = short
+told-not_IsShort (Err InvalidTag) other short = short
+told-not_IsShort (Err InvalidLength) other short = short
+told-not_IsShort (Err (InvalidSize min max actual)) other short = short
+told-not_IsShort (Err (UnexpectedTag actual)) other short = short
+told-not_IsShort (Err (ShortData needed)) other short = other refl
+told-not_IsShort (Err IntegerOverflow) other short = short
+told-not_IsShort (Err ExtraData) other short = short
+told-not_IsShort (Err InvalidSetOrdering) other short = short
+told-not_IsShort (Err EncodedDefault) other short = short
+told-not_IsShort (Err OidTooLong) other short = short
+told-not_IsShort (Err UnknownDefinedBy) other short = short
+told-not_IsShort (Err AllocationError) other short = short
 
 -- If the number says so, it is.
 pub told-ShortData : {A : Type 0} (r : Result A ParseErrorKind) → (told r).number ≡ 6 → r ≡ Err (ShortData (told r).needed)
@@ -47,20 +47,20 @@ told-ShortData (Err UnknownDefinedBy) six = absurd (omega (arith, six))
 told-ShortData (Err AllocationError) six = absurd (omega (arith, six))
 
 -- No error has the number 0.
-pub some_number : (kind : ParseErrorKind) {P : Type 0} → (told {A = Unit {0}} (Err kind)).number ≡ 0 → P
-some_number InvalidValue none = absurd (omega (arith, none))
-some_number InvalidTag none = absurd (omega (arith, none))
-some_number InvalidLength none = absurd (omega (arith, none))
-some_number (InvalidSize min max actual) none = absurd (omega (arith, none))
-some_number (UnexpectedTag actual) none = absurd (omega (arith, none))
-some_number (ShortData needed) none = absurd (omega (arith, none))
-some_number IntegerOverflow none = absurd (omega (arith, none))
-some_number ExtraData none = absurd (omega (arith, none))
-some_number InvalidSetOrdering none = absurd (omega (arith, none))
-some_number EncodedDefault none = absurd (omega (arith, none))
-some_number OidTooLong none = absurd (omega (arith, none))
-some_number UnknownDefinedBy none = absurd (omega (arith, none))
-some_number AllocationError none = absurd (omega (arith, none))
+pub told-number_not_zero : (kind : ParseErrorKind) {P : Type 0} → (told {A = Unit {0}} (Err kind)).number ≡ 0 → P
+told-number_not_zero InvalidValue none = absurd (omega (arith, none))
+told-number_not_zero InvalidTag none = absurd (omega (arith, none))
+told-number_not_zero InvalidLength none = absurd (omega (arith, none))
+told-number_not_zero (InvalidSize min max actual) none = absurd (omega (arith, none))
+told-number_not_zero (UnexpectedTag actual) none = absurd (omega (arith, none))
+told-number_not_zero (ShortData needed) none = absurd (omega (arith, none))
+told-number_not_zero IntegerOverflow none = absurd (omega (arith, none))
+told-number_not_zero ExtraData none = absurd (omega (arith, none))
+told-number_not_zero InvalidSetOrdering none = absurd (omega (arith, none))
+told-number_not_zero EncodedDefault none = absurd (omega (arith, none))
+told-number_not_zero OidTooLong none = absurd (omega (arith, none))
+told-number_not_zero UnknownDefinedBy none = absurd (omega (arith, none))
+told-number_not_zero AllocationError none = absurd (omega (arith, none))
 
 -- Header and contents octets of an element together.
 header_and_contents : (e : Element) → (length (element_encoding e) - length e.content) + length e.content ≡ length (element_encoding e)
@@ -69,16 +69,16 @@ header_and_contents e = omega (arith, length-append (identifier_octets e.tag) (l
 
 module _ (old new : Asn1Element) (found : Asn1Error) where
   -- What is told stays the same with more remaining octets.
-  pub leaves_more : (answer : Result (Element × List ℕ) ParseErrorKind) (more : List ℕ) → Leaves old new found answer → Leaves old new found (with_more answer more)
-  leaves_more (Ok x) more l = record { element = l.element; error = l.error }
-  leaves_more (Err kind) more l = record { element = l.element; error = l.error }
+  pub Leaves-with_more : (answer : Result (Element × List ℕ) ParseErrorKind) (more : List ℕ) → Leaves old new found answer → Leaves old new found (with_more answer more)
+  Leaves-with_more (Ok x) more l = record { element = l.element; error = l.error }
+  Leaves-with_more (Err kind) more l = record { element = l.element; error = l.error }
 
   -- An element is within the octets.
-  pub element_within : (octets : List ℕ) (answer : Result (Element × List ℕ) ParseErrorKind) → IsLeadingElement octets answer → Leaves old new found answer → found.number ≡ 0
+  pub Leaves-length-le : (octets : List ℕ) (answer : Result (Element × List ℕ) ParseErrorKind) → IsLeadingElement octets answer → Leaves old new found answer → found.number ≡ 0
       → new.header_length + new.contents_length ≤ length octets
-  element_within octets (Ok x) is l none =
+  Leaves-length-le octets (Ok x) is l none =
       let whole = ap length is.1 ∙ length-append (element_encoding x.0) x.1 in
       let header = ap (λ (e : Asn1Element). e.header_length) l.element in
       let contents = ap (λ (e : Asn1Element). e.contents_length) l.element in
       omega (arith, whole, header, contents, header_and_contents x.0)
-  element_within octets (Err kind) is l none = some_number kind (ap (λ (e : Asn1Error). e.number) (sym l.error) ∙ none)
+  Leaves-length-le octets (Err kind) is l none = told-number_not_zero kind (ap (λ (e : Asn1Error). e.number) (sym l.error) ∙ none)

@@ -12,39 +12,39 @@ use Rattle.std.specs.Ordering.{is_lt, nat_cmp, ordering_then}
 use Rattle.std.specs.declared.cmp.Ordering.{Ordering}
 use Rattle.std.specs.Cmp.Lexicographic.{slice_cmp}
 use Rattle.asn1_core.specs.declared.writer.sets.Span.{Span}
-use Rattle.asn1_core.specs.Lemmas.Listing.{less_once}
+use Rattle.asn1_core.specs.Lemmas.Listing.{encoding_less-asymm}
 use Rattle.asn1_core.specs.SetSteps.{part_of, first_number, span_cmp, IsBefore, NotesFirst}
-use Rattle.asn1_core.specs.Lemmas.Lengths.{number_lt}
-use Rattle.asn1_core.specs.Lemmas.Texts.{IsOctets-both}
-use Rattle.asn1_core.proofs.Ordered.{less_below, less_same}
-use Rattle.asn1_core.specs.Lemmas.Facts.{zeros_are_octets}
+use Rattle.asn1_core.specs.Lemmas.Lengths.{number-lt}
+use Rattle.asn1_core.specs.Lemmas.Texts.{IsOctets-append}
+use Rattle.asn1_core.proofs.Ordered.{encoding_less-cons_below, encoding_less-cons_same}
+use Rattle.asn1_core.specs.Lemmas.Facts.{IsOctets-replicate_zero}
 
-zeros_number : (n : ℕ) → number (replicate n 0) ≡ 0
-zeros_number zero = refl
-zeros_number (suc n) = omega (arith, zeros_number n)
+number-replicate_zero : (n : ℕ) → number (replicate n 0) ≡ 0
+number-replicate_zero zero = refl
+number-replicate_zero (suc n) = omega (arith, number-replicate_zero n)
 
-take_text : (k : ℕ) (t : List ℕ) → IsOctets t → IsOctets (take k t)
-take_text zero t is = tt
-take_text (suc k) [] is = tt
-take_text (suc k) (x ∷ xs) is = (is.0, take_text k xs is.1)
+IsOctets-take : (k : ℕ) (t : List ℕ) → IsOctets t → IsOctets (take k t)
+IsOctets-take zero t is = tt
+IsOctets-take (suc k) [] is = tt
+IsOctets-take (suc k) (x ∷ xs) is = (is.0, IsOctets-take k xs is.1)
 
 -- the first k octets of an encoding with n zeros after it
 abbrev firsts : ℕ → ℕ → List ℕ → List ℕ
 firsts n k t = take k (t ++ replicate n 0)
 
-firsts_length : (n k : ℕ) (t : List ℕ) → k ≤ n → length (firsts n k t) ≡ k
-firsts_length n k t h = length-take-le k (t ++ replicate n 0) (omega (arith, length-append t (replicate n 0), length-replicate {A = ℕ} n 0))
+length-firsts : (n k : ℕ) (t : List ℕ) → k ≤ n → length (firsts n k t) ≡ k
+length-firsts n k t h = length-take-le k (t ++ replicate n 0) (omega (arith, length-append t (replicate n 0), length-replicate {A = ℕ} n 0))
 
-firsts_below : (n k : ℕ) (t : List ℕ) → IsOctets t → k ≤ n → number (firsts n k t) < 256 ^ k
-firsts_below n k t is h =
-    subst (λ (m : ℕ). number (firsts n k t) < 256 ^ m) (firsts_length n k t h)
-    (number_lt (firsts n k t) (take_text k (t ++ replicate n 0) (IsOctets-both t (replicate n 0) is (zeros_are_octets n))))
+number-firsts-lt : (n k : ℕ) (t : List ℕ) → IsOctets t → k ≤ n → number (firsts n k t) < 256 ^ k
+number-firsts-lt n k t is h =
+    subst (λ (m : ℕ). number (firsts n k t) < 256 ^ m) (length-firsts n k t h)
+    (number-lt (firsts n k t) (IsOctets-take k (t ++ replicate n 0) (IsOctets-append t (replicate n 0) is (IsOctets-replicate_zero n))))
 
-firsts_none : (n k : ℕ) → k ≤ n → number (firsts n k []) ≡ 0
-firsts_none n k h = ap number (take-replicate {X = ℕ} k n 0 h) ∙ zeros_number k
+number-firsts_nil : (n k : ℕ) → k ≤ n → number (firsts n k []) ≡ 0
+number-firsts_nil n k h = ap number (take-replicate {X = ℕ} k n 0 h) ∙ number-replicate_zero k
 
-firsts_more : (n k x : ℕ) (xs : List ℕ) → k ≤ n → number (firsts n (suc k) (x ∷ xs)) ≡ x * 256 ^ k + number (firsts n k xs)
-firsts_more n k x xs h = ap (λ (m : ℕ). x * 256 ^ m + number (firsts n k xs)) (firsts_length n k xs h)
+number-firsts_cons : (n k x : ℕ) (xs : List ℕ) → k ≤ n → number (firsts n (suc k) (x ∷ xs)) ≡ x * 256 ^ k + number (firsts n k xs)
+number-firsts_cons n k x xs h = ap (λ (m : ℕ). x * 256 ^ m + number (firsts n k xs)) (length-firsts n k xs h)
 
 -- the leading number decides
 decided : {A : Type 0} (x y p r s : ℕ) → x * p + r < y * p + s → r < p → s < p → (x < y → A) → (x ≡ y → r < s → A) → A
@@ -55,18 +55,18 @@ decided x y p r s less hr hs below same = ⊎_elim
     (λ (n : x ≡ y → ⊥). let over : y * p + s < p * x = mul-add-lt y p s x (omega arith) hs in absurd (omega (arith, over, less))) (cases_eq x y))
     (cases_lt x y)
 
-firsts_less : (n k : ℕ) (a b : List ℕ) → IsOctets a → IsOctets b → k ≤ n → number (firsts n k a) < number (firsts n k b) → encoding_less a b ≡ true
-firsts_less n zero a b f g h less = absurd (omega (arith, less))
-firsts_less n (suc k) a [] f g h less = absurd (omega (arith, less, firsts_none n (suc k) h))
-firsts_less n (suc k) [] (y ∷ ys) f g h less = refl
-firsts_less n (suc k) (x ∷ xs) (y ∷ ys) f g h less =
+encoding_less-firsts : (n k : ℕ) (a b : List ℕ) → IsOctets a → IsOctets b → k ≤ n → number (firsts n k a) < number (firsts n k b) → encoding_less a b ≡ true
+encoding_less-firsts n zero a b f g h less = absurd (omega (arith, less))
+encoding_less-firsts n (suc k) a [] f g h less = absurd (omega (arith, less, number-firsts_nil n (suc k) h))
+encoding_less-firsts n (suc k) [] (y ∷ ys) f g h less = refl
+encoding_less-firsts n (suc k) (x ∷ xs) (y ∷ ys) f g h less =
     let l : k ≤ n = omega (arith, h) in
-    decided x y (256 ^ k) (number (firsts n k xs)) (number (firsts n k ys)) (omega (arith, less, firsts_more n k x xs l, firsts_more n k y ys l)) (firsts_below n k xs f.1 l) (firsts_below n k ys g.1 l)
-    (less_below x y xs ys)
-    (λ e rest. less_same x y xs ys e ∙ firsts_less n k xs ys f.1 g.1 l rest)
+    decided x y (256 ^ k) (number (firsts n k xs)) (number (firsts n k ys)) (omega (arith, less, number-firsts_cons n k x xs l, number-firsts_cons n k y ys l)) (number-firsts-lt n k xs f.1 l) (number-firsts-lt n k ys g.1 l)
+    (encoding_less-cons_below x y xs ys)
+    (λ e rest. encoding_less-cons_same x y xs ys e ∙ encoding_less-firsts n k xs ys f.1 g.1 l rest)
 
-pub first_less : (a b : List ℕ) → IsOctets a → IsOctets b → first_number a < first_number b → encoding_less a b ≡ true
-first_less a b f g less = firsts_less 8 8 a b f g (omega arith) less
+pub encoding_less-first_number : (a b : List ℕ) → IsOctets a → IsOctets b → first_number a < first_number b → encoding_less a b ≡ true
+encoding_less-first_number a b f g less = encoding_less-firsts 8 8 a b f g (omega arith) less
 
 -- all of the octets are taken, and what they lack from the octets after them
 take_past : (t r : List ℕ) (n : ℕ) → length t ≤ n → take n (t ++ r) ≡ t ++ take (n - length t) r
@@ -96,39 +96,39 @@ append-drop_zeros t ys count e f = filled_firsts 8 t ys count e f
 
 -- ---- spans
 
-less_first : (m n : ℕ) (o : Ordering) → m < n → is_lt (ordering_then (nat_cmp m n) o) ≡ true
-less_first m n o h = rw (lt-ltb m n h) refl
+ordering_then-less : (m n : ℕ) (o : Ordering) → m < n → is_lt (ordering_then (nat_cmp m n) o) ≡ true
+ordering_then-less m n o h = rw (lt-ltb m n h) refl
 
-same_first : (m n : ℕ) (o : Ordering) → m ≡ n → ordering_then (nat_cmp m n) o ≡ o
-same_first m n o e = rw (le-ltb m n (omega arith), eq-eqb m n e) refl
+ordering_then-same : (m n : ℕ) (o : Ordering) → m ≡ n → ordering_then (nat_cmp m n) o ≡ o
+ordering_then-same m n o e = rw (le-ltb m n (omega arith), eq-eqb m n e) refl
 
-drop_text : (k : ℕ) (t : List ℕ) → IsOctets t → IsOctets (drop k t)
-drop_text zero t is = is
-drop_text (suc k) [] is = tt
-drop_text (suc k) (x ∷ xs) is = drop_text k xs is.1
+IsOctets-drop : (k : ℕ) (t : List ℕ) → IsOctets t → IsOctets (drop k t)
+IsOctets-drop zero t is = is
+IsOctets-drop (suc k) [] is = tt
+IsOctets-drop (suc k) (x ∷ xs) is = IsOctets-drop k xs is.1
 
-either_text : (b : Bool) (t : List ℕ) → IsOctets t → IsOctets (if b then t else [])
-either_text true t is = is
-either_text false t is = tt
+IsOctets-if : (b : Bool) (t : List ℕ) → IsOctets t → IsOctets (if b then t else [])
+IsOctets-if true t is = is
+IsOctets-if false t is = tt
 
-part_text : (octets : List ℕ) (s : Span) → IsOctets octets → IsOctets (part_of octets s)
-part_text octets s is = either_text (nat_le (s.from + s.len) (length octets)) _ (take_text s.len (drop s.from octets) (drop_text s.from octets is))
+IsOctets-part_of : (octets : List ℕ) (s : Span) → IsOctets octets → IsOctets (part_of octets s)
+IsOctets-part_of octets s is = IsOctets-if (nat_le (s.from + s.len) (length octets)) _ (IsOctets-take s.len (drop s.from octets) (IsOctets-drop s.from octets is))
 
 -- spans that don't compare as less aren't before one another
-not_before : (octets : List ℕ) (a b : Span) → IsOctets octets → NotesFirst octets a → NotesFirst octets b → is_lt (span_cmp octets a b) ≡ false → IsBefore octets a b ≡ false
-not_before octets a b is fa fb e =
-    let ta = part_text octets a is in
-    let tb = part_text octets b is in
+IsBefore-span_cmp : (octets : List ℕ) (a b : Span) → IsOctets octets → NotesFirst octets a → NotesFirst octets b → is_lt (span_cmp octets a b) ≡ false → IsBefore octets a b ≡ false
+IsBefore-span_cmp octets a b is fa fb e =
+    let ta = IsOctets-part_of octets a is in
+    let tb = IsOctets-part_of octets b is in
     let o = slice_cmp nat_cmp (part_of octets a) (part_of octets b) in
     let na : a.first ≡ first_number (part_of octets a) = fa.first in
     let nb : b.first ≡ first_number (part_of octets b) = fb.first in
     ⊎_elim
-    (λ (l : a.first < b.first). absurd (let f : is_lt (span_cmp octets a b) ≡ true = less_first a.first b.first o l in cc))
+    (λ (l : a.first < b.first). absurd (let f : is_lt (span_cmp octets a b) ≡ true = ordering_then-less a.first b.first o l in cc))
     (λ (l : b.first ≤ a.first). ⊎_elim
-    (λ (s : a.first ≡ b.first). ap is_lt (sym (same_first a.first b.first o s)) ∙ e)
-    (λ (n : a.first ≡ b.first → ⊥). less_once (part_of octets b) (part_of octets a) (first_less (part_of octets b) (part_of octets a) tb ta (omega (arith, na, nb)))) (cases_eq a.first b.first))
+    (λ (s : a.first ≡ b.first). ap is_lt (sym (ordering_then-same a.first b.first o s)) ∙ e)
+    (λ (n : a.first ≡ b.first → ⊥). encoding_less-asymm (part_of octets b) (part_of octets a) (encoding_less-first_number (part_of octets b) (part_of octets a) tb ta (omega (arith, na, nb)))) (cases_eq a.first b.first))
     (cases_lt a.first b.first)
 
 pub sorted_spans : (octets : List ℕ) (ss : List Span) → IsOctets octets → All (NotesFirst octets) ss → IsSortedBy (λ a b. is_lt (span_cmp octets a b)) ss → IsSortedBy (IsBefore octets) ss
 sorted_spans octets ss is each s k d low high =
-    not_before octets (get_or ss (k + 1) d) (get_or ss k d) is (each (k + 1) d high) (each k d (omega arith)) (s k d low high)
+    IsBefore-span_cmp octets (get_or ss (k + 1) d) (get_or ss k d) is (each (k + 1) d high) (each k d (omega arith)) (s k d low high)

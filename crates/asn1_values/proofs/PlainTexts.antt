@@ -8,44 +8,44 @@ use Rattle.std.proofs.lemmas.Str.Parse.{digit_from_value, without_leading_plus_n
 use Rattle.std.proofs.lemmas.Bool.{cases_lt, lt-ltb, le-ltb}
 use Rattle.std.proofs.lemmas.List.{append-nil, append_assoc, append_cancel_left, length-append}
 use Rattle.asn1_values.specs.Identifier.{arcs, dotted_text, parts_of, read_dotted, IsPart, IsDotted, IsIdentifierText, IsPlainPart, IsPlainText}
-use Rattle.asn1_values.proofs.IdentifierText.{IsNumeralModel-read_on, read_on, parts_whole, parts_of-dot}
-use Rattle.asn1_values.proofs.DottedTexts.{part_no_dot, read_dotted-some_is}
-use Rattle.asn1_values.proofs.Shown.{no_dot, no_plus}
+use Rattle.asn1_values.proofs.IdentifierText.{IsNumeralModel-read_on, read_on, parts_of-no_dot, parts_of-dot}
+use Rattle.asn1_values.proofs.DottedTexts.{IsPart-no_dot, read_dotted-some_is}
+use Rattle.asn1_values.proofs.Shown.{decimal-no_dot, decimal-no_plus}
 
 -- ---- digits without a needless zero are those of their number
 
-grown : (n : ℕ) (ds : List ℕ) → n ≤ read_on n ds
-grown n [] = omega arith
-grown n (c ∷ cs) = let h = grown (10 * n + (c - 48)) cs in omega (arith, h)
+read_on-ge : (n : ℕ) (ds : List ℕ) → n ≤ read_on n ds
+read_on-ge n [] = omega arith
+read_on-ge n (c ∷ cs) = let h = read_on-ge (10 * n + (c - 48)) cs in omega (arith, h)
 
-digits_behind : (n : ℕ) (ds : List ℕ) → AllDigits 10 ds → 0 < n → read_on n ds < 10 ^ 64 → decimal (read_on n ds) ≡ decimal n ++ ds
-digits_behind n [] all some small = sym (append-nil (decimal n))
-digits_behind n (c ∷ cs) all some small =
+decimal-read_on : (n : ℕ) (ds : List ℕ) → AllDigits 10 ds → 0 < n → read_on n ds < 10 ^ 64 → decimal (read_on n ds) ≡ decimal n ++ ds
+decimal-read_on n [] all some small = sym (append-nil (decimal n))
+decimal-read_on n (c ∷ cs) all some small =
     let m = 10 * n + (c - 48) in
     let range = digit_from_value c all.0 in
-    let least = grown m cs in
+    let least = read_on-ge m cs in
     let front : m / 10 ≡ n = omega (arith, range) in
     let last : 48 + m % 10 ≡ c = omega (arith, range) in
     let step : decimal m ≡ decimal n ++ (c ∷ []) = decimal_step_wide m (omega (arith, some)) (omega (arith, least, small)) ∙ rw (front, last) refl in
-    digits_behind m cs all.1 (omega (arith, some)) small ∙ ap (λ (t : List ℕ). t ++ cs) step ∙ append_assoc (decimal n) (c ∷ []) cs
+    decimal-read_on m cs all.1 (omega (arith, some)) small ∙ ap (λ (t : List ℕ). t ++ cs) step ∙ append_assoc (decimal n) (c ∷ []) cs
 
-zero_text : decimal 0 ≡ 48 ∷ []
-zero_text = decimal_digit 0 (omega arith)
+decimal-zero : decimal 0 ≡ 48 ∷ []
+decimal-zero = decimal_digit 0 (omega arith)
 
-plain_digits : (t : List ℕ) → IsNumeral 10 t → (get_or t 0 0 ≡ 48 → length t ≡ 1) → read_on 0 t < 10 ^ 64 → decimal (read_on 0 t) ≡ t
-plain_digits [] is plain small = absurd (omega (arith, is.0))
-plain_digits (c ∷ []) is plain small =
+decimal-read_on_zero : (t : List ℕ) → IsNumeral 10 t → (get_or t 0 0 ≡ 48 → length t ≡ 1) → read_on 0 t < 10 ^ 64 → decimal (read_on 0 t) ≡ t
+decimal-read_on_zero [] is plain small = absurd (omega (arith, is.0))
+decimal-read_on_zero (c ∷ []) is plain small =
     let range = digit_from_value c is.1.0 in
     let value : 10 * 0 + (c - 48) ≡ c - 48 = omega arith in
     let same : 48 + (c - 48) ≡ c = omega (arith, range) in
     ap decimal value ∙ decimal_digit (c - 48) (omega (arith, range)) ∙ ap (λ (k : ℕ). k ∷ []) same
-plain_digits (c ∷ d ∷ ds) is plain small =
+decimal-read_on_zero (c ∷ d ∷ ds) is plain small =
     let range = digit_from_value c is.1.0 in
     let some : c ≡ 48 → ⊥ = λ e. let h = plain e in omega (arith, h) in
     let value : 10 * 0 + (c - 48) ≡ c - 48 = omega arith in
     let same : 48 + (c - 48) ≡ c = omega (arith, range) in
     let more : 0 < 10 * 0 + (c - 48) = ⊎_elim (λ (e : c < 49). absurd (some (omega (arith, e, range)))) (λ (h : 49 ≤ c). omega (arith, h)) (cases_lt c 49) in
-    digits_behind (10 * 0 + (c - 48)) (d ∷ ds) is.1.1 more small
+    decimal-read_on (10 * 0 + (c - 48)) (d ∷ ds) is.1.1 more small
     ∙ ap (λ (t : List ℕ). t ++ d ∷ ds) (ap decimal value ∙ decimal_digit (c - 48) (omega (arith, range)) ∙ ap (λ (k : ℕ). k ∷ []) same)
 
 -- ---- a number's digits have no needless zero
@@ -67,57 +67,57 @@ decimal_is_led = decimal_by_steps_wide IsLed
 
 decimal_is_plain : (n : ℕ) → n < 2 ^ 128 → IsPlainPart (decimal n)
 decimal_is_plain n small = (
-  no_plus n small,
-  λ e. let z = (decimal_is_led n (omega (arith, small))).0 e in ap length (ap decimal z ∙ zero_text),
+  decimal-no_plus n small,
+  λ e. let z = (decimal_is_led n (omega (arith, small))).0 e in ap length (ap decimal z ∙ decimal-zero),
 )
 
 -- ---- parts
 
-part_shown : (t : List ℕ) (n : ℕ) → IsPart t n → IsPlainPart t → decimal n ≡ t
-part_shown t n is plain =
+IsPlainPart-decimal : (t : List ℕ) (n : ℕ) → IsPart t n → IsPlainPart t → decimal n ≡ t
+IsPlainPart-decimal t n is plain =
     let whole = without_leading_plus_none t plain.0 in
     let digits = subst (λ (l : List ℕ). IsNumeral 10 l) whole is.digits in
     let value : read_on 0 t ≡ n = IsNumeralModel-read_on.same t digits.1 ∙ ap (digits_value 10) (sym whole) ∙ is.value in
     let small = is.small in
-    sym (ap decimal value) ∙ plain_digits t digits plain.1 (omega (arith, value, small))
+    sym (ap decimal value) ∙ decimal-read_on_zero t digits plain.1 (omega (arith, value, small))
 
-part_plain : (t : List ℕ) (n : ℕ) → IsPart t n → decimal n ≡ t → IsPlainPart t
-part_plain t n is e = subst IsPlainPart e (decimal_is_plain n is.small)
+decimal-IsPlainPart : (t : List ℕ) (n : ℕ) → IsPart t n → decimal n ≡ t → IsPlainPart t
+decimal-IsPlainPart t n is e = subst IsPlainPart e (decimal_is_plain n is.small)
 
 -- ---- dotted forms
 
 abbrev joined : List ℕ → List ℕ
 joined ns = join_by decimal (codes ".") ns
 
-dotted_shown : (ns t : List ℕ) → IsDotted t ns → IsPlainText t → joined ns ≡ t
-dotted_shown [] t is plain = absurd is
-dotted_shown (n ∷ []) t is plain =
-    let parts = parts_whole t (part_no_dot t n is) in
-    append-nil (decimal n) ∙ part_shown t n is (subst (AllByRecursion IsPlainPart) parts plain).0
-dotted_shown (n ∷ m ∷ ns) t is plain =
-    let parts = ap parts_of is.3 ∙ parts_of-dot is.0 is.1 (part_no_dot is.0 n is.2) in
+IsPlainText-joined : (ns t : List ℕ) → IsDotted t ns → IsPlainText t → joined ns ≡ t
+IsPlainText-joined [] t is plain = absurd is
+IsPlainText-joined (n ∷ []) t is plain =
+    let parts = parts_of-no_dot t (IsPart-no_dot t n is) in
+    append-nil (decimal n) ∙ IsPlainPart-decimal t n is (subst (AllByRecursion IsPlainPart) parts plain).0
+IsPlainText-joined (n ∷ m ∷ ns) t is plain =
+    let parts = ap parts_of is.3 ∙ parts_of-dot is.0 is.1 (IsPart-no_dot is.0 n is.2) in
     let each = subst (AllByRecursion IsPlainPart) parts plain in
-    ap (λ (l : List ℕ). l ++ 46 ∷ joined (m ∷ ns)) (part_shown is.0 n is.2 each.0)
-    ∙ ap (λ (l : List ℕ). is.0 ++ 46 ∷ l) (dotted_shown (m ∷ ns) is.1 is.4 each.1) ∙ sym is.3
+    ap (λ (l : List ℕ). l ++ 46 ∷ joined (m ∷ ns)) (IsPlainPart-decimal is.0 n is.2 each.0)
+    ∙ ap (λ (l : List ℕ). is.0 ++ 46 ∷ l) (IsPlainText-joined (m ∷ ns) is.1 is.4 each.1) ∙ sym is.3
 
-dotted_plain : (ns t : List ℕ) → IsDotted t ns → joined ns ≡ t → IsPlainText t
-dotted_plain [] t is e = absurd is
-dotted_plain (n ∷ []) t is e =
-    subst (AllByRecursion IsPlainPart) (sym (parts_whole t (part_no_dot t n is))) (part_plain t n is (sym (append-nil (decimal n)) ∙ e), tt)
-dotted_plain (n ∷ m ∷ ns) t is e =
+joined-IsPlainText : (ns t : List ℕ) → IsDotted t ns → joined ns ≡ t → IsPlainText t
+joined-IsPlainText [] t is e = absurd is
+joined-IsPlainText (n ∷ []) t is e =
+    subst (AllByRecursion IsPlainPart) (sym (parts_of-no_dot t (IsPart-no_dot t n is))) (decimal-IsPlainPart t n is (sym (append-nil (decimal n)) ∙ e), tt)
+joined-IsPlainText (n ∷ m ∷ ns) t is e =
     let small = is.2.small in
-    let left : parts_of (joined (n ∷ m ∷ ns)) ≡ decimal n ∷ parts_of (joined (m ∷ ns)) = parts_of-dot (decimal n) (joined (m ∷ ns)) (no_dot n small) in
-    let right : parts_of t ≡ is.0 ∷ parts_of is.1 = ap parts_of is.3 ∙ parts_of-dot is.0 is.1 (part_no_dot is.0 n is.2) in
+    let left : parts_of (joined (n ∷ m ∷ ns)) ≡ decimal n ∷ parts_of (joined (m ∷ ns)) = parts_of-dot (decimal n) (joined (m ∷ ns)) (decimal-no_dot n small) in
+    let right : parts_of t ≡ is.0 ∷ parts_of is.1 = ap parts_of is.3 ∙ parts_of-dot is.0 is.1 (IsPart-no_dot is.0 n is.2) in
     let both : decimal n ∷ parts_of (joined (m ∷ ns)) ≡ is.0 ∷ parts_of is.1 = sym left ∙ ap parts_of e ∙ right in
     let front : decimal n ≡ is.0 = cc in
     let behind : 46 ∷ joined (m ∷ ns) ≡ 46 ∷ is.1 = append_cancel_left is.0 (46 ∷ joined (m ∷ ns)) (46 ∷ is.1) (ap (λ (l : List ℕ). l ++ 46 ∷ joined (m ∷ ns)) (sym front) ∙ e ∙ is.3) in
     let rest : joined (m ∷ ns) ≡ is.1 = cc in
-    subst (AllByRecursion IsPlainPart) (sym right) (part_plain is.0 n is.2 front, dotted_plain (m ∷ ns) is.1 is.4 rest)
+    subst (AllByRecursion IsPlainPart) (sym right) (decimal-IsPlainPart is.0 n is.2 front, joined-IsPlainText (m ∷ ns) is.1 is.4 rest)
 
 -- ---- identifiers
 
-arcs_are : (a b : ℕ) (others : List ℕ) → a ≤ 2 → (a < 2 → b < 40) → arcs ((40 * a + b) ∷ others) ≡ a ∷ b ∷ others
-arcs_are a b others high low = ⊎_elim
+arcs-first_two : (a b : ℕ) (others : List ℕ) → a ≤ 2 → (a < 2 → b < 40) → arcs ((40 * a + b) ∷ others) ≡ a ∷ b ∷ others
+arcs-first_two a b others high low = ⊎_elim
     (λ (h : a < 2).
     let l = low h in
     let quotient : (40 * a + b) / 40 ≡ a = omega (arith, l) in
@@ -128,14 +128,14 @@ arcs_are a b others high low = ⊎_elim
     let rest : 40 * a + b - 80 ≡ b = omega (arith, two) in
     rw (le-ltb (40 * a + b) 80 (omega (arith, h)), rest, two) refl) (cases_lt a 2)
 
-text_is : (t numbers : List ℕ) (is : IsIdentifierText t numbers) → dotted_text numbers ≡ joined (is.first ∷ is.second ∷ is.others)
+dotted_text-joined : (t numbers : List ℕ) (is : IsIdentifierText t numbers) → dotted_text numbers ≡ joined (is.first ∷ is.second ∷ is.others)
 unfolding dotted_text
-text_is t numbers is = ap (λ (l : List ℕ). joined (arcs l)) (sym is.are) ∙ ap joined (arcs_are is.first is.second is.others is.high is.low)
+dotted_text-joined t numbers is = ap (λ (l : List ℕ). joined (arcs l)) (sym is.are) ∙ ap joined (arcs-first_two is.first is.second is.others is.high is.low)
 
-pub shown_read_back : (t numbers : List ℕ) → read_dotted t ≡ Some numbers → (dotted_text numbers ≡ t) ↔ IsPlainText t
-shown_read_back t numbers e =
+pub dotted_text-IsPlainText : (t numbers : List ℕ) → read_dotted t ≡ Some numbers → (dotted_text numbers ≡ t) ↔ IsPlainText t
+dotted_text-IsPlainText t numbers e =
     let is = read_dotted-some_is t numbers e in
-    let octets = text_is t numbers is in (
-      (λ same. dotted_plain (is.first ∷ is.second ∷ is.others) t is.dotted (sym octets ∙ same)),
-      λ plain. octets ∙ dotted_shown (is.first ∷ is.second ∷ is.others) t is.dotted plain,
+    let octets = dotted_text-joined t numbers is in (
+      (λ same. joined-IsPlainText (is.first ∷ is.second ∷ is.others) t is.dotted (sym octets ∙ same)),
+      λ plain. octets ∙ IsPlainText-joined (is.first ∷ is.second ∷ is.others) t is.dotted plain,
     )

@@ -37,8 +37,8 @@ bad_lines_are_bad line none = bad line (request_of line) none refl
 answer-is : (line : List ℕ) (word : Word) (octets : List ℕ) → IsRequest line word octets → answer line ≡ answer_read octets (reading word octets)
 answer-is line word octets is = ap answer_to (request_of-is line word octets is)
 
-octets_are_text : (hex octets : List ℕ) → decode_of hex ≡ Ok octets → IsOctets octets
-octets_are_text hex octets e = IsOctets-from_reads octets (decode_of-ok hex octets e).3
+decode_of-IsOctets : (hex octets : List ℕ) → decode_of hex ≡ Ok octets → IsOctets octets
+decode_of-IsOctets hex octets e = IsOctets-from_reads octets (decode_of-ok hex octets e).3
 
 abbrev IsMeaning : Word → Type 0
 IsMeaning word = (type_of word).der.Meaning
@@ -70,7 +70,7 @@ pub values_are_ok : ValuesAreOk
 values_are_ok line word octets is = (
   λ (v : IsValueEncoding word octets). answer-is line word octets is ∙ ap (answer_read octets) (reading-value word octets v),
   λ (e : answer line ≡ codes "ok " ++ encode_lower octets).
-      value-ok word octets (reading word octets) (octets_are_text is.hex octets is.decoded) refl (sym (answer-is line word octets is) ∙ e),
+      value-ok word octets (reading word octets) (decode_of-IsOctets is.hex octets is.decoded) refl (sym (answer-is line word octets is) ∙ e),
 )
 
 pub faults_are_err : FaultsAreErr
@@ -81,7 +81,7 @@ faults_are_err line word octets fault is e = answer-is line word octets is ∙ a
 read-ok : (line : List ℕ) (word : Word) (octets : List ℕ) (read : Result (IsMeaning word) ReadError) → IsRequest line word octets →
     reading word octets ≡ read → is_ok read ≡ true → IsOkLine line
 read-ok line word octets (Ok value) is same e =
-    record { word = word; octets = octets; request = is; value = value-reading word octets value (octets_are_text is.hex octets is.decoded) same }
+    record { word = word; octets = octets; request = is; value = value-reading word octets value (decode_of-IsOctets is.hex octets is.decoded) same }
 read-ok line word octets (Err fault) is same e = absurd (false≢true e)
 
 asks-ok : (line : List ℕ) (asks : Option (Word × List ℕ)) → request_of line ≡ asks → is_ok_to asks ≡ true → IsOkLine line

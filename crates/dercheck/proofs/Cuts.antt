@@ -59,14 +59,14 @@ split_once-nowhere octet (next ∷ octets) most = ⊎_elim
 abbrev found_at : ℕ → List ℕ → Option ℕ
 found_at octet octets = position (λ next. eqb next octet) octets
 
-pub some_is : {A : Type 0} (x y : A) → ◌≡◌ {A = Option A} (Some x) (Some y) → x ≡ y
-some_is x y e = cc
+pub Some-injective : {A : Type 0} (x y : A) → ◌≡◌ {A = Option A} (Some x) (Some y) → x ≡ y
+Some-injective x y e = cc
 
 -- the input is cut at the index that `position` finds
 pub split_once-found : (octet : ℕ) (octets : List ℕ) (at : ℕ) → found_at octet octets ≡ Some at → split_once octet octets ≡ Some (take at octets, drop (at + 1) octets)
 split_once-found octet octets at found = ⊎_elim
     (λ (less : place octet octets < length octets).
-    let same : place octet octets ≡ at = some_is _ _ (rw (lt-ltb _ _ less) at found) in
+    let same : place octet octets ≡ at = Some-injective _ _ (rw (lt-ltb _ _ less) at found) in
     split_once-place octet octets less ∙ rw (same, add-one) refl)
     (λ (most : length octets ≤ place octet octets). let no : None ≡ Some at = rw (le-ltb _ _ most) at found in absurd cc)
     (cases_lt (place octet octets) (length octets))
@@ -86,14 +86,14 @@ joined_later : (octet next : ℕ) (octets : List ℕ) (parts : List ℕ × List 
     with_octet next rest ≡ Some parts → IsJoined octet (next ∷ octets) parts
 joined_later octet next octets parts None law e = let no : None ≡ Some parts = e in absurd cc
 joined_later octet next octets parts (Some inner) law e =
-    let same : (next ∷ inner.0, inner.1) ≡ parts = some_is _ _ e in
+    let same : (next ∷ inner.0, inner.1) ≡ parts = Some-injective _ _ e in
     rw (← same) (ap (λ (xs : List ℕ). next ∷ xs) (law inner refl))
 
 pub split_once-is : (octet : ℕ) (octets : List ℕ) (parts : List ℕ × List ℕ) → split_once octet octets ≡ Some parts → IsJoined octet octets parts
 split_once-is octet [] parts e = let no : None ≡ Some parts = sym (split_once-none octet) ∙ e in absurd cc
 split_once-is octet (next ∷ octets) parts e = ⊎_elim
     (λ (here : next ≡ octet).
-    let same : ([], octets) ≡ parts = some_is _ _ (sym (split_once-here octet next octets here) ∙ e) in
+    let same : ([], octets) ≡ parts = Some-injective _ _ (sym (split_once-here octet next octets here) ∙ e) in
     rw (← same, here) refl)
     (λ (later : next ≢ octet).
     joined_later octet next octets parts (split_once octet octets) (split_once-is octet octets) (sym (split_once-later octet next octets later) ∙ e))
@@ -139,7 +139,7 @@ first_later : (next : ℕ) (octets : List ℕ) (parts : List ℕ × List ℕ) (r
     with_octet next rest ≡ Some parts → IsFirst (next ∷ octets) parts
 first_later next octets parts None apart law e = let no : None ≡ Some parts = e in absurd cc
 first_later next octets parts (Some inner) apart law e =
-    let same : (next ∷ inner.0, inner.1) ≡ parts = some_is _ _ e in
+    let same : (next ∷ inner.0, inner.1) ≡ parts = Some-injective _ _ e in
     lines_of-more next octets apart ∙ ap (in_first_line next) (law inner refl) ∙ rw (← same) refl
 
 -- the first line is what is before the first line feed, and the other lines are those of what is after it
@@ -147,7 +147,7 @@ pub lines_of-cut : (octets : List ℕ) (parts : List ℕ × List ℕ) → split_
 lines_of-cut [] parts e = let no : None ≡ Some parts = sym (split_once-none 10) ∙ e in absurd cc
 lines_of-cut (next ∷ octets) parts e = ⊎_elim
     (λ (here : next ≡ 10).
-    let same : ([], octets) ≡ parts = some_is _ _ (sym (split_once-here 10 next octets here) ∙ e) in
+    let same : ([], octets) ≡ parts = Some-injective _ _ (sym (split_once-here 10 next octets here) ∙ e) in
     rw (here, ← same) (lines_of-feed octets))
     (λ (later : next ≢ 10).
     first_later next octets parts (split_once 10 octets) later (lines_of-cut octets) (sym (split_once-later 10 next octets later) ∙ e))

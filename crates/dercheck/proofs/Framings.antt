@@ -27,28 +27,28 @@ pub err_at : (a : ElementFront) (kind : ParseErrorKind) → a ≡ Err kind → I
 err_at a kind e = rw e refl
 
 -- no element, and remaining octets
-pub framing_none : (octets : List ℕ) → IsErr (leading_element octets) → IsFraming octets [] octets
-framing_none octets stops = record { readable = tt; whole = refl; stops = stops }
+pub IsFraming-nil : (octets : List ℕ) → IsErr (leading_element octets) → IsFraming octets [] octets
+IsFraming-nil octets stops = record { readable = tt; whole = refl; stops = stops }
 
-pub framing_short : (octets : List ℕ) → IsUnfinished octets → IsFraming octets [] octets
-framing_short octets short = framing_none octets (err_from_short (leading_element octets) short)
+pub IsFraming-unfinished : (octets : List ℕ) → IsUnfinished octets → IsFraming octets [] octets
+IsFraming-unfinished octets short = IsFraming-nil octets (err_from_short (leading_element octets) short)
 
 -- one element, and no remaining octets
-pub framing_one : (octets : List ℕ) (e : Element) → IsReadable e → octets ≡ element_encoding e → IsFraming octets (e ∷ []) []
-framing_one octets e readable same = record {
+pub IsFraming-one_element : (octets : List ℕ) (e : Element) → IsReadable e → octets ≡ element_encoding e → IsFraming octets (e ∷ []) []
+IsFraming-one_element octets e readable same = record {
   readable = (readable, tt);
   whole = same ∙ sym (append-nil (element_encoding e)) ∙ sym (append-nil (element_encoding e ++ []));
   stops = err_at (leading_element []) (ShortData 1) leading_element-empty;
 }
 
-all_append : (es fs : List Element) → AllByRecursion IsReadable es → AllByRecursion IsReadable fs → AllByRecursion IsReadable (es ++ fs)
-all_append [] fs a b = b
-all_append (e ∷ es) fs a b = (a.0, all_append es fs a.1 b)
+AllByRecursion-append : (es fs : List Element) → AllByRecursion IsReadable es → AllByRecursion IsReadable fs → AllByRecursion IsReadable (es ++ fs)
+AllByRecursion-append [] fs a b = b
+AllByRecursion-append (e ∷ es) fs a b = (a.0, AllByRecursion-append es fs a.1 b)
 
 -- the framing of the remaining octets and of more after them continues the first framing
-pub framing_join : (a b : List ℕ) (es fs : List Element) (p r : List ℕ) → IsFraming a es p → IsFraming (p ++ b) fs r → IsFraming (a ++ b) (es ++ fs) r
-framing_join a b es fs p r first next = record {
-  readable = all_append es fs first.readable next.readable;
+pub IsFraming-append : (a b : List ℕ) (es fs : List Element) (p r : List ℕ) → IsFraming a es p → IsFraming (p ++ b) fs r → IsFraming (a ++ b) (es ++ fs) r
+IsFraming-append a b es fs p r first next = record {
+  readable = AllByRecursion-append es fs first.readable next.readable;
   whole =
       ap (λ (l : List ℕ). l ++ b) first.whole
       ∙ append_assoc (flat_map element_encoding es) p b
@@ -58,25 +58,25 @@ framing_join a b es fs p r first next = record {
   stops = next.stops;
 }
 
-pub lines_join : (es fs : List Element) (r : List ℕ) → lines (es ++ fs) r ≡ flat_map element_line es ++ lines fs r
-lines_join es fs r = ap (λ (l : List ℕ). l ++ end_line r) (flat_map-append element_line es fs) ∙ append_assoc (flat_map element_line es) (flat_map element_line fs) (end_line r)
+pub lines-append : (es fs : List Element) (r : List ℕ) → lines (es ++ fs) r ≡ flat_map element_line es ++ lines fs r
+lines-append es fs r = ap (λ (l : List ℕ). l ++ end_line r) (flat_map-append element_line es fs) ∙ append_assoc (flat_map element_line es) (flat_map element_line fs) (end_line r)
 
 -- ---- any octets have a framing
 
-some_text : (e : Element) → IsReadable e → 0 < length (element_encoding e)
-some_text e readable = has_octets (element_encoding e) (λ (nothing : element_encoding e ≡ []).
+element_encoding-nonempty : (e : Element) → IsReadable e → 0 < length (element_encoding e)
+element_encoding-nonempty e readable = has_octets (element_encoding e) (λ (nothing : element_encoding e ≡ []).
     let whole : leading_element (element_encoding e) ≡ Ok (e, []) = sym (ap leading_element (append-nil (element_encoding e))) ∙ element_ok e [] readable in
     let none : leading_element (element_encoding e) ≡ Err (ShortData 1) = ap leading_element nothing ∙ leading_element-empty in
     absurd cc)
 
 framing_by : (n : ℕ) (octets : List ℕ) (a : ElementFront) → length octets ≤ n → IsOctets octets → leading_element octets ≡ a → (es : List Element) × (rest : List ℕ) × IsFraming octets es rest
-framing_by n octets (Err kind) few is e = ([], octets, framing_none octets (err_at (leading_element octets) kind e))
+framing_by n octets (Err kind) few is e = ([], octets, IsFraming-nil octets (err_at (leading_element octets) kind e))
 framing_by zero octets (Ok (found, rest)) few is e =
     let parts = front_ok_is octets found rest is e in
-    absurd (omega (arith, ap length parts.1, length-append (element_encoding found) rest, some_text found parts.0))
+    absurd (omega (arith, ap length parts.1, length-append (element_encoding found) rest, element_encoding-nonempty found parts.0))
 framing_by (suc n) octets (Ok (found, rest)) few is e =
     let parts = front_ok_is octets found rest is e in
-    let fewer : length rest ≤ n = omega (arith, ap length parts.1, length-append (element_encoding found) rest, some_text found parts.0) in
+    let fewer : length rest ≤ n = omega (arith, ap length parts.1, length-append (element_encoding found) rest, element_encoding-nonempty found parts.0) in
     let (es, last, framing) = framing_by n rest (leading_element rest) fewer (IsOctets-rest (element_encoding found) rest (subst IsOctets parts.1 is)) refl in (
       found ∷ es,
       last,

@@ -18,19 +18,19 @@ use Rattle.asn1.specs.Lemmas.Elements.{front_tag, front_length, front_short, fro
 use Rattle.dercheck.specs.Frames.{further, HoldsLength, IsSplit, Needs, IsOpen, IsWhole}
 
 -- the first length octet says how many there are
-pub further_of : (n : ℕ) (behind : List ℕ) → further (length_octets n ++ behind) + 1 ≡ length (length_octets n)
-further_of n behind = ⊎_elim
+pub further-length_octets : (n : ℕ) (behind : List ℕ) → further (length_octets n ++ behind) + 1 ≡ length (length_octets n)
+further-length_octets n behind = ⊎_elim
     (λ (l : n < 128). rw (length_text_low n l) (omega arith))
     (λ (l : 128 ≤ n). rw (length_text_high n l) (omega arith)) (cases_lt n 128)
 
-few_tag : (tag : Tag) → tag_number tag < 2 ^ 32 → length (identifier_octets tag) ≤ 6
-few_tag tag small = ⊎_elim
+length-identifier_octets-le_6 : (tag : Tag) → tag_number tag < 2 ^ 32 → length (identifier_octets tag) ≤ 6
+length-identifier_octets-le_6 tag small = ⊎_elim
     (λ (l : tag_number tag < 31). rw (short_text tag (omega arith)) (omega arith))
     (λ (l : 31 ≤ tag_number tag). rw (long_text tag l) (omega (arith, few_octets (tag_number tag) small))) (cases_lt (tag_number tag) 31)
 
-pub long_kind : (kind : ParseErrorKind) → ((x : ℕ) → kind ≡ ShortData x → ⊥) → ¬ IsShort {A = Element × List ℕ} (Err kind)
-long_kind (ShortData x) apart short = apart x refl
-long_kind _ apart short = short
+pub not_IsShort-Err : (kind : ParseErrorKind) → ((x : ℕ) → kind ≡ ShortData x → ⊥) → ¬ IsShort {A = Element × List ℕ} (Err kind)
+not_IsShort-Err (ShortData x) apart short = apart x refl
+not_IsShort-Err _ apart short = short
 
 needs_kind : (octets : List ℕ) (needed : ℕ) (kind : ParseErrorKind) → Needs octets needed → leading_element octets ≡ Err kind → kind ≡ ShortData needed
 needs_kind octets needed kind (inl e) f = cc
@@ -44,11 +44,11 @@ needs_none octets needed found (inl e) f = absurd cc
 needs_none octets needed found (inr (x, e, zero)) f = zero
 
 -- the tag that octets begin with, and the octets after it
-pub tag_parts : (octets : List ℕ) (tag : Tag) (after : List ℕ) → IsOctets octets → leading_tag octets ≡ Ok (tag, after) → (tag_number tag < 2 ^ 32) × (octets ≡ identifier_octets tag ++ after)
-tag_parts octets tag after is found = subst (λ (r : TagFront). IsLeadingTag octets r) found (tag_is octets is)
+pub leading_tag-ok_is : (octets : List ℕ) (tag : Tag) (after : List ℕ) → IsOctets octets → leading_tag octets ≡ Ok (tag, after) → (tag_number tag < 2 ^ 32) × (octets ≡ identifier_octets tag ++ after)
+leading_tag-ok_is octets tag after is found = subst (λ (r : TagFront). IsLeadingTag octets r) found (tag_is octets is)
 
-text_after : (octets : List ℕ) (tag : Tag) (after : List ℕ) → IsOctets octets → octets ≡ identifier_octets tag ++ after → IsOctets after
-text_after octets tag after is e = IsOctets-rest (identifier_octets tag) after (subst IsOctets e is)
+IsOctets-after_tag : (octets : List ℕ) (tag : Tag) (after : List ℕ) → IsOctets octets → octets ≡ identifier_octets tag ++ after → IsOctets after
+IsOctets-after_tag octets tag after is e = IsOctets-rest (identifier_octets tag) after (subst IsOctets e is)
 
 -- ---- an unfinished header
 
@@ -56,7 +56,7 @@ open_length : (octets : List ℕ) (needed : ℕ) (tag : Tag) (after : List ℕ) 
     → leading_tag octets ≡ Ok (tag, after) → (tag_number tag < 2 ^ 32) × (octets ≡ identifier_octets tag ++ after) → ¬ HoldsLength after
     → leading_length after ≡ r → IsLeadingLength after r → IsOpen octets needed
 open_length octets needed tag after (Ok (n, behind)) needs found parts none e is =
-    absurd (none (rw is.1 (omega (arith, further_of n behind, length-append (length_octets n) behind))))
+    absurd (none (rw is.1 (omega (arith, further-length_octets n behind, length-append (length_octets n) behind))))
 open_length octets needed tag after (Err InvalidLength) needs found parts none e is =
     let same = needs_kind octets needed InvalidLength needs (front_length octets tag after InvalidLength found e) in absurd cc
 open_length octets needed tag after (Err (ShortData k)) needs found parts none e (inl (nothing, one)) =
@@ -64,7 +64,7 @@ open_length octets needed tag after (Err (ShortData k)) needs found parts none e
     let same : needed ≡ k = needs_count octets needed k needs short in
     record {
       short = rw same short;
-      few = omega (arith, few_tag tag parts.0, ap length parts.1, length-append (identifier_octets tag) after, ap length nothing);
+      few = omega (arith, length-identifier_octets-le_6 tag parts.0, ap length parts.1, length-append (identifier_octets tag) after, ap length nothing);
       some = omega arith;
     }
 open_length octets needed tag after (Err (ShortData k)) needs found parts none e (inr (some, one, few, text)) =
@@ -72,7 +72,7 @@ open_length octets needed tag after (Err (ShortData k)) needs found parts none e
     let same : needed ≡ k = needs_count octets needed k needs short in
     record {
       short = rw same short;
-      few = omega (arith, few_tag tag parts.0, ap length parts.1, length-append (identifier_octets tag) after, ap length text);
+      few = omega (arith, length-identifier_octets-le_6 tag parts.0, ap length parts.1, length-append (identifier_octets tag) after, ap length text);
       some = omega arith;
     }
 open_length octets needed tag after (Err _) needs found parts none e is = absurd is
@@ -81,7 +81,7 @@ open_tag : (octets : List ℕ) (needed : ℕ) (r : TagFront) → IsOctets octets
     → ((tag : Tag) → (after : List ℕ) → leading_tag octets ≡ Ok (tag, after) → ¬ HoldsLength after)
     → leading_tag octets ≡ r → IsLeadingTag octets r → IsOpen octets needed
 open_tag octets needed (Ok (tag, after)) text needs none e is =
-    open_length octets needed tag after (leading_length after) needs e is (none tag after e) refl (length_is after (text_after octets tag after text is.1))
+    open_length octets needed tag after (leading_length after) needs e is (none tag after e) refl (length_is after (IsOctets-after_tag octets tag after text is.1))
 open_tag octets needed (Err InvalidTag) text needs none e is =
     let same = needs_kind octets needed InvalidTag needs (front_tag octets InvalidTag e) in absurd cc
 open_tag octets needed (Err (ShortData k)) text needs none e (inl (nothing, one)) =
@@ -115,14 +115,14 @@ whole_length octets needed tag_count count s (Ok (n, behind)) needs parts e is =
     let after_count = ap length is.1 in
     let tag_size : tag_count ≡ length (identifier_octets s.tag) = omega (arith, ap length parts.1, length-append (identifier_octets s.tag) s.after, s.tag_octets) in
     let first : further s.after ≡ further (length_octets n ++ behind) = ap further is.1 in
-    let size : count ≡ length behind = omega (arith, further_of n behind, s.content_octets, first) in
+    let size : count ≡ length behind = omega (arith, further-length_octets n behind, s.content_octets, first) in
     record {
       tag = s.tag;
       n = n;
       content = behind;
       begun = record { tag_small = parts.0; length_small = is.0; encoded = parts.1 ∙ ap (λ (l : List ℕ). identifier_octets s.tag ++ l) is.1 };
       tag_octets = ap (take tag_count) parts.1 ∙ take_at (identifier_octets s.tag) s.after tag_count (sym tag_size);
-      few = omega (arith, few_tag s.tag parts.0);
+      few = omega (arith, length-identifier_octets-le_6 s.tag parts.0);
       within = omega (arith, s.tag_octets);
       missing = missing_of octets needed s.tag s.after n behind needs s.found e;
       all = omega arith;
@@ -138,5 +138,5 @@ whole_length octets needed tag_count count s (Err _) needs parts e is = absurd i
 
 pub header_whole : (octets : List ℕ) (needed tag_count count : ℕ) → IsOctets octets → Needs octets needed → IsSplit octets tag_count count → IsWhole octets tag_count (needed + count) needed
 header_whole octets needed tag_count count text needs s =
-    let parts = tag_parts octets s.tag s.after text s.found in
-    whole_length octets needed tag_count count s (leading_length s.after) needs parts refl (length_is s.after (text_after octets s.tag s.after text parts.1))
+    let parts = leading_tag-ok_is octets s.tag s.after text s.found in
+    whole_length octets needed tag_count count s (leading_length s.after) needs parts refl (length_is s.after (IsOctets-after_tag octets s.tag s.after text parts.1))

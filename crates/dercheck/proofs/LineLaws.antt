@@ -12,8 +12,8 @@ Lines = List (List ℕ)
 
 -- ---- the lines are lines
 
-behind_feed : (octets : List ℕ) (lines : Lines) → AreLines octets lines → AreLines (10 ∷ octets) ([] ∷ lines)
-behind_feed octets lines are = record {
+AreLines-feed : (octets : List ℕ) (lines : Lines) → AreLines octets lines → AreLines (10 ∷ octets) ([] ∷ lines)
+AreLines-feed octets lines are = record {
   apart = (tt, are.apart);
   whole = ⊎_elim
       (λ (e : octets ≡ ended lines). inl (ap (λ (xs : List ℕ). 10 ∷ xs) e))
@@ -27,8 +27,8 @@ behind_feed octets lines are = record {
       are.whole;
 }
 
-no_front : (front : Lines) (last : List ℕ) → [] ≡ front ++ last ∷ [] → ⊥
-no_front front last e = omega (arith, ap length e, length-append front (last ∷ []))
+nil-ne-push : (front : Lines) (last : List ℕ) → [] ≡ front ++ last ∷ [] → ⊥
+nil-ne-push front last e = omega (arith, ap length e, length-append front (last ∷ []))
 
 lacks_more : (octet : ℕ) (octets line : List ℕ) (lines front : Lines) (last : List ℕ) → line ∷ lines ≡ front ++ last ∷ [] → last ≢ [] →
     octets ≡ ended front ++ last → LacksLast (octet ∷ octets) ((octet ∷ line) ∷ lines)
@@ -47,15 +47,15 @@ lacks_more octet octets line lines (first ∷ front) last are some is = record {
   is = ap (λ (xs : List ℕ). octet ∷ xs) is;
 }
 
-behind_octet : (octet : ℕ) (octets : List ℕ) (lines : Lines) → octet ≢ 10 → AreLines octets lines → AreLines (octet ∷ octets) (in_first_line octet lines)
-behind_octet octet octets [] other are = record {
+AreLines-octet : (octet : ℕ) (octets : List ℕ) (lines : Lines) → octet ≢ 10 → AreLines octets lines → AreLines (octet ∷ octets) (in_first_line octet lines)
+AreLines-octet octet octets [] other are = record {
   apart = ((other, tt), tt);
   whole = ⊎_elim
       (λ (e : octets ≡ ended []). inr (record { front = []; last = octet ∷ []; are = refl; some = λ no. cc no; is = ap (λ (xs : List ℕ). octet ∷ xs) e }))
-      (λ (l : LacksLast octets []). absurd (no_front l.front l.last l.are))
+      (λ (l : LacksLast octets []). absurd (nil-ne-push l.front l.last l.are))
       are.whole;
 }
-behind_octet octet octets (line ∷ lines) other are = record {
+AreLines-octet octet octets (line ∷ lines) other are = record {
   apart = ((other, are.apart.0), are.apart.1);
   whole = ⊎_elim
       (λ (e : octets ≡ ended (line ∷ lines)). inl (ap (λ (xs : List ℕ). octet ∷ xs) e))
@@ -63,43 +63,43 @@ behind_octet octet octets (line ∷ lines) other are = record {
       are.whole;
 }
 
-are_lines : (octets : List ℕ) → AreLines octets (lines_of octets)
-are_lines [] = rw lines_of-none (record { apart = tt; whole = inl refl })
-are_lines (octet ∷ octets) = ⊎_elim
-    (λ (here : octet ≡ 10). rw (here, lines_of-feed octets) (behind_feed octets (lines_of octets) (are_lines octets)))
-    (λ (later : octet ≢ 10). rw (lines_of-more octet octets later) (behind_octet octet octets (lines_of octets) later (are_lines octets)))
+AreLines-lines_of : (octets : List ℕ) → AreLines octets (lines_of octets)
+AreLines-lines_of [] = rw lines_of-none (record { apart = tt; whole = inl refl })
+AreLines-lines_of (octet ∷ octets) = ⊎_elim
+    (λ (here : octet ≡ 10). rw (here, lines_of-feed octets) (AreLines-feed octets (lines_of octets) (AreLines-lines_of octets)))
+    (λ (later : octet ≢ 10). rw (lines_of-more octet octets later) (AreLines-octet octet octets (lines_of octets) later (AreLines-lines_of octets)))
     (cases_eq octet 10)
 
 -- ---- and no others
 
-ended_first : (line : List ℕ) (lines : Lines) (rest : List ℕ) → ended (line ∷ lines) ++ rest ≡ line ++ 10 ∷ (ended lines ++ rest)
-ended_first line lines rest =
+ended-cons : (line : List ℕ) (lines : Lines) (rest : List ℕ) → ended (line ∷ lines) ++ rest ≡ line ++ 10 ∷ (ended lines ++ rest)
+ended-cons line lines rest =
     append_assoc (line ++ 10 ∷ []) (ended lines) rest ∙ append_assoc line (10 ∷ []) (ended lines ++ rest)
 
 lines_of-ended : (lines : Lines) (rest : List ℕ) → AllByRecursion (HasNone 10) lines → lines_of (ended lines ++ rest) ≡ lines ++ lines_of rest
 lines_of-ended [] rest apart = refl
 lines_of-ended (line ∷ lines) rest apart =
-    ap lines_of (ended_first line lines rest) ∙ lines_of-line line (ended lines ++ rest) apart.0
+    ap lines_of (ended-cons line lines rest) ∙ lines_of-line line (ended lines ++ rest) apart.0
     ∙ ap (λ (ls : Lines). line ∷ ls) (lines_of-ended lines rest apart.1)
 
 apart_parts : (front : Lines) (last : List ℕ) → AllByRecursion (HasNone 10) (front ++ last ∷ []) → AllByRecursion (HasNone 10) front × HasNone 10 last
 apart_parts [] last all = (tt, all.0)
 apart_parts (line ∷ front) last all = let rest = apart_parts front last all.1 in ((all.0, rest.0), rest.1)
 
-one_line : (line : List ℕ) → line ≢ [] → HasNone 10 line → lines_of line ≡ line ∷ []
-one_line [] some none = absurd (some refl)
-one_line (octet ∷ line) some none = lines_of-last octet line none
+lines_of-one_line : (line : List ℕ) → line ≢ [] → HasNone 10 line → lines_of line ≡ line ∷ []
+lines_of-one_line [] some none = absurd (some refl)
+lines_of-one_line (octet ∷ line) some none = lines_of-last octet line none
 
-lines_are : (octets : List ℕ) (lines : Lines) → AreLines octets lines → lines_of octets ≡ lines
-lines_are octets lines are = ⊎_elim
+lines_of-AreLines : (octets : List ℕ) (lines : Lines) → AreLines octets lines → lines_of octets ≡ lines
+lines_of-AreLines octets lines are = ⊎_elim
     (λ (e : octets ≡ ended lines).
     ap lines_of (e ∙ sym (append-nil (ended lines))) ∙ lines_of-ended lines [] are.apart
     ∙ ap (λ (ls : Lines). lines ++ ls) lines_of-none ∙ append-nil lines)
     (λ (l : LacksLast octets lines).
     let parts = apart_parts l.front l.last (subst (AllByRecursion (HasNone 10)) l.are are.apart) in
     ap lines_of l.is ∙ lines_of-ended l.front l.last parts.0
-    ∙ ap (λ (ls : Lines). l.front ++ ls) (one_line l.last l.some parts.1) ∙ sym l.are)
+    ∙ ap (λ (ls : Lines). l.front ++ ls) (lines_of-one_line l.last l.some parts.1) ∙ sym l.are)
     are.whole
 
 pub lines_are_right : LinesAreRight
-lines_are_right octets lines = (lines_are octets lines, λ e. subst (AreLines octets) e (are_lines octets))
+lines_are_right octets lines = (lines_of-AreLines octets lines, λ e. subst (AreLines octets) e (AreLines-lines_of octets))

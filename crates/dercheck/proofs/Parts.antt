@@ -7,8 +7,8 @@ use Rattle.std.proofs.KnownBytes.{Appends-trans}
 use Rattle.dercheck.specs.Streams.{AppendsInPart}
 
 -- a prefix of octets is a prefix of more octets
-pub in_part_of_more : (a b : Option (List ℕ)) (xs ys : List ℕ) → AppendsInPart a b xs → AppendsInPart a b (xs ++ ys)
-in_part_of_more a b xs ys (n, is) =
+pub AppendsInPart-append : (a b : Option (List ℕ)) (xs ys : List ℕ) → AppendsInPart a b xs → AppendsInPart a b (xs ++ ys)
+AppendsInPart-append a b xs ys (n, is) =
     let few : min n (length xs) ≤ length xs = omega arith in
     (min n (length xs), subst (Appends a b) (sym (take-append-le (min n (length xs)) xs ys few ∙ take_min n xs)) is)
 

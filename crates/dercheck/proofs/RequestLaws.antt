@@ -12,7 +12,7 @@ use Rattle.dercheck.specs.declared.words.TheConstants.Word.{ALL}
 use Rattle.dercheck.specs.Lines.{split_once}
 use Rattle.dercheck.specs.Requests.{word_text, word_of, IsRequest, asked, asked_by, request_of}
 use Rattle.dercheck.specs.Laws.{RequestsAreRight}
-use Rattle.dercheck.proofs.Cuts.{split_once-append, split_once-is, HasNone-missing, some_is}
+use Rattle.dercheck.proofs.Cuts.{split_once-append, split_once-is, HasNone-missing, Some-injective}
 
 -- ---- the words
 
@@ -29,7 +29,7 @@ uncut _ = refl
 find-Some : {X : Type 0} (test : X → Bool) (xs : List X) (y : X) → find test xs ≡ Some y → test y ≡ true
 find-Some test [] y e = let no : None ≡ Some y = e in absurd cc
 find-Some {X} test (x ∷ xs) y e = ⊎_elim
-    (λ (passes : test x ≡ true). let same : x ≡ y = some_is _ _ (rw passes at e) in ap test (sym same) ∙ passes)
+    (λ (passes : test x ≡ true). let same : x ≡ y = Some-injective _ _ (rw passes at e) in ap test (sym same) ∙ passes)
     (λ (fails : test x ≡ false). find-Some test xs y (rw fails at e))
     (cases_Bool (test x))
 
@@ -45,7 +45,7 @@ Request = Word × List ℕ
 asked_is : (found : Option Word) (decoded : Result (List ℕ) FromHexError) (word : Word) (octets : List ℕ) →
     asked found decoded ≡ Some (word, octets) → (found ≡ Some word) × (decoded ≡ Ok octets)
 asked_is (Some w) (Ok o) word octets e =
-    let same : (w, o) ≡ (word, octets) = some_is _ _ e in
+    let same : (w, o) ≡ (word, octets) = Some-injective _ _ e in
     (ap (λ (r : Request). Some r.0) same, ap (λ (r : Request). Ok r.1) same)
 asked_is (Some w) (Err error) word octets e = let no : ◌≡◌ {A = Option Request} None (Some (word, octets)) = e in absurd cc
 asked_is None decoded word octets e = let no : ◌≡◌ {A = Option Request} None (Some (word, octets)) = e in absurd cc

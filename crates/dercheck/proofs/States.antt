@@ -14,9 +14,9 @@ use Rattle.dercheck.specs.Frames.{IsBegun}
 use Rattle.asn1.specs.Lemmas.Digits.{last_of}
 
 -- if octets are too short, one octet more leaves nothing after an element
-nothing_behind : (octets : List ℕ) (octet needed : ℕ) (e : Element) (rest : List ℕ) → IsReadable e → leading_element octets ≡ Err (ShortData needed) → octets ++ octet ∷ [] ≡ element_encoding e ++ rest → rest ≡ []
-nothing_behind octets octet needed e [] readable short same = refl
-nothing_behind octets octet needed e (x ∷ xs) readable short same =
+remaining-nil : (octets : List ℕ) (octet needed : ℕ) (e : Element) (rest : List ℕ) → IsReadable e → leading_element octets ≡ Err (ShortData needed) → octets ++ octet ∷ [] ≡ element_encoding e ++ rest → rest ≡ []
+remaining-nil octets octet needed e [] readable short same = refl
+remaining-nil octets octet needed e (x ∷ xs) readable short same =
     let parts = last_of x xs in
     let joined : octets ++ octet ∷ [] ≡ (element_encoding e ++ parts.0) ++ parts.1 ∷ [] = same ∙ ap (λ (l : List ℕ). element_encoding e ++ l) parts.2 ∙ sym (append_assoc (element_encoding e) parts.0 (parts.1 ∷ [])) in
     let before = same_from_push octets (element_encoding e ++ parts.0) octet parts.1 joined in
@@ -63,8 +63,8 @@ begun_short octets tag n content needed begun missing some =
     ∙ ap (λ (m : ℕ). Err (ShortData m)) k
 
 -- more octets are more contents octets
-pub begun_more : (text : List ℕ) (tag : Tag) (n : ℕ) (content octets : List ℕ) → IsBegun text tag n content → IsBegun (text ++ octets) tag n (content ++ octets)
-begun_more text tag n content octets begun = record {
+pub IsBegun-append : (text : List ℕ) (tag : Tag) (n : ℕ) (content octets : List ℕ) → IsBegun text tag n content → IsBegun (text ++ octets) tag n (content ++ octets)
+IsBegun-append text tag n content octets begun = record {
   tag_small = begun.tag_small;
   length_small = begun.length_small;
   encoded =
@@ -79,10 +79,10 @@ pub whole_within : (octets : List ℕ) (octet short : ℕ) (tag : Tag) (n : ℕ)
 whole_within octets octet short tag n content is_short begun = ⊎_elim
     (λ (l : n < length content).
     let parts = begun_element (octets ++ octet ∷ []) tag n content begun (omega arith) in
-    let none = nothing_behind octets octet short (element_with tag (take n content)) (drop n content) parts.0 is_short parts.1 in
+    let none = remaining-nil octets octet short (element_with tag (take n content)) (drop n content) parts.0 is_short parts.1 in
     omega (arith, ap length none, length-drop n content))
     (λ (l : length content ≤ n). l) (cases_lt n (length content))
 
 -- one octet more of the header is kept
-pub kept_more : (text octets : List ℕ) (count octet : ℕ) → count < length octets → text ≡ take count octets → text ++ octet ∷ [] ≡ take (count + 1) (set octets count octet)
-kept_more text octets count octet room e = ap (λ (l : List ℕ). l ++ octet ∷ []) e ∙ sym (take_more_set octets count octet room)
+pub take-set_next : (text octets : List ℕ) (count octet : ℕ) → count < length octets → text ≡ take count octets → text ++ octet ∷ [] ≡ take (count + 1) (set octets count octet)
+take-set_next text octets count octet room e = ap (λ (l : List ℕ). l ++ octet ∷ []) e ∙ sym (take_more_set octets count octet room)

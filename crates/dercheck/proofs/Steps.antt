@@ -21,8 +21,8 @@ use Rattle.dercheck.specs.Frames.{IsFraming, IsUnfinished, line_of, element_line
 use Rattle.dercheck.specs.declared.answers.Fault.{Fault}
 use Rattle.dercheck.specs.declared.pending.Pending.{Pending}
 use Rattle.dercheck.specs.declared.pending.Progress.TheVariants.{GoesOn, Completes, Fails}
-use Rattle.dercheck.proofs.Parts.{in_part_of_more, AppendsInPart-after_Appends}
-use Rattle.dercheck.proofs.Framings.{err_at, framing_short, framing_one, framing_join, lines_join, leading_element-empty}
+use Rattle.dercheck.proofs.Parts.{AppendsInPart-append, AppendsInPart-after_Appends}
+use Rattle.dercheck.proofs.Framings.{err_at, IsFraming-unfinished, IsFraming-one_element, IsFraming-append, lines-append, leading_element-empty}
 use Rattle.dercheck.proofs.States.{begun_short}
 
 -- what is pending is too short, by `needed`
@@ -42,7 +42,7 @@ pub Taken-nil : (p : Pending) (octets before : List ℕ) → Stands p octets →
 Taken-nil p octets before stands = record {
   elements = [];
   rest = octets;
-  framing = rw (append-nil octets) (framing_short octets (Stands-IsUnfinished p octets stands));
+  framing = rw (append-nil octets) (IsFraming-unfinished octets (Stands-IsUnfinished p octets stands));
   stands = stands;
   made_lines = sym (append-nil before);
 }
@@ -82,7 +82,7 @@ Taken-Completes p q s a octets before made made' taken step fresh line =
     record {
       elements = taken.elements ++ is.element ∷ [];
       rest = [];
-      framing = framing_join a octets taken.elements (is.element ∷ []) taken.rest [] taken.framing (framing_one (taken.rest ++ octets) is.element is.readable is.whole);
+      framing = IsFraming-append a octets taken.elements (is.element ∷ []) taken.rest [] taken.framing (IsFraming-one_element (taken.rest ++ octets) is.element is.readable is.whole);
       stands = fresh;
       made_lines = line
           ∙ ap (λ (l : List ℕ). l ++ line_of (take q.count q.octets) q.content_length) taken.made_lines
@@ -91,14 +91,14 @@ Taken-Completes p q s a octets before made made' taken step fresh line =
           ∙ ap (λ (l : List ℕ). before ++ l) (sym (lines_push taken.elements is.element));
     }
 
-answer_fault : (kind : ParseErrorKind) → ¬ IsShort {A = Element × List ℕ} (Err kind) → answer_line (Err kind) ≡ fault_line kind
-answer_fault (ShortData needed) long = absurd (long tt)
-answer_fault _ long = refl
+answer_line-fault_line : (kind : ParseErrorKind) → ¬ IsShort {A = Element × List ℕ} (Err kind) → answer_line (Err kind) ≡ fault_line kind
+answer_line-fault_line (ShortData needed) long = absurd (long tt)
+answer_line-fault_line _ long = refl
 
 -- the line of remaining octets that hold an error
 fault_end : (octets : List ℕ) (kind : ParseErrorKind) → leading_element octets ≡ Err kind → ¬ IsShort (leading_element octets) → end_line octets ≡ fault_line kind
 fault_end [] kind e long = absurd (long (short_at (leading_element []) 1 leading_element-empty))
-fault_end (x ∷ xs) kind e long = ap answer_line e ∙ answer_fault kind (subst (λ (a : ElementFront). ¬ IsShort a) e long)
+fault_end (x ∷ xs) kind e long = ap answer_line e ∙ answer_line-fault_line kind (subst (λ (a : ElementFront). ¬ IsShort a) e long)
 
 -- remaining octets that hold an error, whatever follows them
 fault_more : (octets more : List ℕ) (kind : ParseErrorKind) → IsFault octets kind → IsOctets more → ¬ IsUnfinished (octets ++ more)
@@ -134,9 +134,9 @@ IsOctets-drop_rest all done rest n e is =
 
 -- ---- the line at the end
 
-pub end_of : (octets : List ℕ) (needed : ℕ) → 0 < length octets → leading_element octets ≡ Err (ShortData needed) → end_line octets ≡ codes "short " ++ decimal needed ++ codes "\n"
-end_of [] needed some e = absurd (omega arith)
-end_of (x ∷ xs) needed some e = ap answer_line e
+pub end_line-short : (octets : List ℕ) (needed : ℕ) → 0 < length octets → leading_element octets ≡ Err (ShortData needed) → end_line octets ≡ codes "short " ++ decimal needed ++ codes "\n"
+end_line-short [] needed some e = absurd (omega arith)
+end_line-short (x ∷ xs) needed some e = ap answer_line e
 
 -- something is pending if an octet is kept, and else nothing
 pub Stands-nonempty : (p : Pending) (octets : List ℕ) → Stands p octets → ¬ (p.count ≡ 0) → 0 < length octets
@@ -151,7 +151,7 @@ framed_none p left held stands = record {
   elements = [];
   rest = [];
   read = Consumes-nil left;
-  framing = framing_short [] (Stands-IsUnfinished p [] stands);
+  framing = IsFraming-unfinished [] (Stands-IsUnfinished p [] stands);
   stands = stands;
   sent = [];
   written = Appends-nil held;
@@ -165,7 +165,7 @@ lines_more sent kept made es fs rest before more =
     ap (λ (l : List ℕ). sent ++ l) more
     ∙ sym (append_assoc sent kept (lines fs rest))
     ∙ ap (λ (l : List ℕ). l ++ lines fs rest) before
-    ∙ sym (lines_join es fs rest)
+    ∙ sym (lines-append es fs rest)
 
 pub framed_more : (p q : Pending) (l0 l1 l2 h0 h1 : Option (List ℕ)) (octets kept made : List ℕ) → FramedTo p l0 l1 h0 h1 kept → Consumes l1 l2 octets
     → ((text : List ℕ) → Stands p text → Taken q (text ++ octets) kept made) → FramedTo q l0 l2 h0 h1 made
@@ -176,7 +176,7 @@ framed_more p q l0 l1 l2 h0 h1 octets kept made framed read takes =
       elements = framed.elements ++ taken.elements;
       rest = taken.rest;
       read = Consumes-trans l0 l1 l2 framed.octets octets framed.read read;
-      framing = framing_join framed.octets octets framed.elements taken.elements framed.rest taken.rest framed.framing taken.framing;
+      framing = IsFraming-append framed.octets octets framed.elements taken.elements framed.rest taken.rest framed.framing taken.framing;
       stands = taken.stands;
       sent = framed.sent;
       written = framed.written;
@@ -224,7 +224,7 @@ framed_fault p l0 l1 l2 h0 h1 h2 octets kept made framed read few takes put =
       elements = framed.elements ++ taken.elements;
       rest = taken.rest;
       read = Consumes-trans l0 l1 l2 framed.octets octets framed.read read;
-      framing = framing_join framed.octets octets framed.elements taken.elements framed.rest taken.rest framed.framing taken.framing;
+      framing = IsFraming-append framed.octets octets framed.elements taken.elements framed.rest taken.rest framed.framing taken.framing;
       ends = inr (taken.long, (framed.octets, octets, refl, few, (framed.elements, framed.rest, framed.framing, Stands-IsUnfinished p framed.rest framed.stands)));
       written = subst (Appends h0 h2) (lines_more framed.sent kept made framed.elements taken.elements taken.rest framed.made_lines taken.made_lines)
           (Appends-trans h0 h1 h2 framed.sent made framed.written put);
@@ -244,7 +244,7 @@ framed_in_part p q l0 l1 l2 h0 h1 h2 octets kept made true framed read takes fau
       rest = more.rest;
       read = more.read;
       framing = more.framing;
-      written = in_part_of_more h0 h2 (flat_map element_line more.elements) (end_line more.rest)
+      written = AppendsInPart-append h0 h2 (flat_map element_line more.elements) (end_line more.rest)
           (subst (AppendsInPart h0 h2) more.made_lines (AppendsInPart-after_Appends h0 h1 h2 more.sent made more.written put));
     }
 framed_in_part p q l0 l1 l2 h0 h1 h2 octets kept made false framed read takes faults put =
@@ -254,7 +254,7 @@ framed_in_part p q l0 l1 l2 h0 h1 h2 octets kept made false framed read takes fa
       elements = framed.elements ++ taken.elements;
       rest = taken.rest;
       read = Consumes-trans l0 l1 l2 framed.octets octets framed.read read;
-      framing = framing_join framed.octets octets framed.elements taken.elements framed.rest taken.rest framed.framing taken.framing;
+      framing = IsFraming-append framed.octets octets framed.elements taken.elements framed.rest taken.rest framed.framing taken.framing;
       written = subst (AppendsInPart h0 h2) (lines_more framed.sent kept made framed.elements taken.elements taken.rest framed.made_lines taken.made_lines)
           (AppendsInPart-after_Appends h0 h1 h2 framed.sent made framed.written put);
     }

@@ -8,12 +8,12 @@ use Rattle.asn1_core.specs.Reading.{Fits, begins_accepted}
 use Rattle.asn1_core.specs.Encoding.{Encoding}
 use Rattle.asn1_core.specs.EncodingLaws.{EncodingLaws}
 use Rattle.asn1_core.specs.LawsOf.Encodings.{no_content_laws, no_content_errors}
-use Rattle.asn1_core.specs.Lemmas.Elements.{element_some}
-use Rattle.asn1_core.specs.Lemmas.Options.{element_in}
-use Rattle.asn1_core.specs.Lemmas.Wholes.{fits_inside, one_value}
+use Rattle.asn1_core.specs.Lemmas.Elements.{element_encoding-not_nil}
+use Rattle.asn1_core.specs.Lemmas.Options.{IsOneElement-not_empty}
+use Rattle.asn1_core.specs.Lemmas.Wholes.{Fits-short, one_value}
 use Rattle.asn1.specs.Alternatives.{choice_read}
 use Rattle.asn1.specs.Choices.{Alternatives, AlternativesLaws, only, or, none, choice_encoding}
-use Rattle.asn1.specs.Lemmas.Choices.{only_consumes, only_read_back, only_errors, or_consumes, or_read_back, or_errors, or_nothing_or_element, or_accepted, or_one, or_has, or_at_most_one, or_both, or_pair, or_weaker, or_all, or_memory, choice_consumes, choice_read_back, choice_errors}
+use Rattle.asn1.specs.Lemmas.Choices.{only_consumes, only_read_back, only_errors, or_consumes, or_read_back, or_errors, or_nothing_or_element, or_accepted, or_one_encoding, or_has_encoding, or_at_most_one, or_both, or_pair, or_weaker, or_all, or_memory, choice_consumes, choice_read_back, choice_errors}
 
 pub only_laws : {A : Type 0} {d : Encoding A} → EncodingLaws d → AlternativesLaws (only d)
 only_laws {d = d} ld = record {
@@ -22,7 +22,7 @@ only_laws {d = d} ld = record {
   at_most_one = ld.at_most_one;
   no_closures = ld.no_closures;
   consumes = only_consumes d.accepts d.encoding (λ m. d.valid m × d.allowed m) d.read ld.consumes;
-  nothing_or_element = λ m l v. element_in (ld.nothing_or_element m l.0 v) (ld.not_empty m l.0 l.1 v);
+  nothing_or_element = λ m l v. IsOneElement-not_empty (ld.nothing_or_element m l.0 v) (ld.not_empty m l.0 l.1 v);
   accepted = ld.accepted;
   read_back = λ m e l v a readable same. only_read_back d.accepts d.encoding (λ x. d.valid x × d.allowed x) d.read m e same readable (ld.accepted m e v same) (ld.read_back m [] l.0 v a);
   unbounded = ld.unbounded;
@@ -32,14 +32,14 @@ only_laws {d = d} ld = record {
 
 pub or_laws : {A N : Type 0} {d : Encoding A} {c : Alternatives N} → EncodingLaws d → AlternativesLaws c → AlternativesLaws (or d c)
 or_laws {d = d} {c = c} ld lc = record {
-  one_encoding = λ p. or_one d.encoding d.valid c.encoding c.valid d.encodings c.encodings (ld.one_encoding p.0) (lc.one_encoding p.1);
-  has_encoding = λ p. or_has d.encoding d.valid c.encoding c.valid d.encodings c.encodings (ld.has_encoding p.0) (lc.has_encoding p.1);
+  one_encoding = λ p. or_one_encoding d.encoding d.valid c.encoding c.valid d.encodings c.encodings (ld.one_encoding p.0) (lc.one_encoding p.1);
+  has_encoding = λ p. or_has_encoding d.encoding d.valid c.encoding c.valid d.encodings c.encodings (ld.has_encoding p.0) (lc.has_encoding p.1);
   at_most_one = or_at_most_one d.encodings c.encodings ld.at_most_one lc.at_most_one;
   no_closures = λ p. or_all d.closures c.closures (ld.no_closures p.0) (lc.no_closures p.1);
   consumes = λ e m is h.
       let got = or_consumes d.accepts d.encoding (λ x. d.valid x × d.allowed x) d.read c.accepts c.encoding (λ x. c.valid x × c.allowed x) c.read ld.consumes lc.consumes e m is h in
       (got.0, or_both d.valid d.allowed c.valid c.allowed m got.1);
-  nothing_or_element = λ m l v. or_nothing_or_element d.encoding d.valid c.encoding c.valid (λ x w. element_in (ld.nothing_or_element x l.0 w) (ld.not_empty x l.0 l.1 w)) (λ x w. lc.nothing_or_element x l.2 w) m v;
+  nothing_or_element = λ m l v. or_nothing_or_element d.encoding d.valid c.encoding c.valid (λ x w. IsOneElement-not_empty (ld.nothing_or_element x l.0 w) (ld.not_empty x l.0 l.1 w)) (λ x w. lc.nothing_or_element x l.2 w) m v;
   accepted = or_accepted d.encoding d.valid c.encoding c.valid d.accepts c.accepts ld.accepted lc.accepted;
   read_back = λ m e l v a readable same. or_read_back d.accepts d.encoding (λ x. d.valid x × d.allowed x) d.read c.accepts c.encoding (λ x. c.valid x × c.allowed x) c.read l.3 m e same readable (or_pair d.valid d.allowed c.valid c.allowed m v a)
       (λ x w. ld.accepted x e w.0) (λ x w. ld.read_back x [] l.0 w.0 w.1) (λ x w. lc.accepted x e w.0) (λ x w. lc.read_back x e l.2 w.0 w.1 readable);
@@ -83,10 +83,10 @@ choice_laws {c = c} lc = record {
   consumes = choice_consumes c.encoding (λ x. c.valid x × c.allowed x) c.read lc.consumes;
   nothing_or_element = λ m l v. inr (lc.nothing_or_element m l v);
   accepted = lc.accepted;
-  not_empty = λ m l i v e. let one = lc.nothing_or_element m l v in element_some one.element (sym one.is ∙ e);
+  not_empty = λ m l i v e. let one = lc.nothing_or_element m l v in element_encoding-not_nil one.element (sym one.is ∙ e);
   read_back = choice_type_read_back c lc;
   one_value = choice_type_one_value c lc;
-  short_fits = λ m l v. fits_inside (c.encoding m) (inr (lc.nothing_or_element m l v));
+  short_fits = λ m l v. Fits-short (c.encoding m) (inr (lc.nothing_or_element m l v));
   unbounded = lc.unbounded;
   memory = λ t places out. lc.memory out.0.0 places out.2;
   begins_with_element = λ t places out. (out.0, out.1);

@@ -8,21 +8,21 @@ use Rattle.asn1_core.specs.Element.{element, element_encoding}
 use Rattle.asn1_core.specs.Encoding.{Encoding}
 use Rattle.asn1_core.specs.EncodingLaws.{EncodingLaws}
 use Rattle.asn1_core.specs.DefinedBy.{DefinedEncoding, DefinedLaws}
-use Rattle.asn1_core.specs.Lemmas.Elements.{element_some}
-use Rattle.asn1_core.specs.Lemmas.Contents.{simple_consumes, simple_nothing_or_element, simple_accepted, simple_read_back, one_element}
-use Rattle.asn1_core.specs.Lemmas.Options.{element_in}
+use Rattle.asn1_core.specs.Lemmas.Elements.{element_encoding-not_nil}
+use Rattle.asn1_core.specs.Lemmas.Contents.{simple_consumes, simple_nothing_or_element, simple_accepted, simple_read_back, element_one_encoding}
+use Rattle.asn1_core.specs.Lemmas.Options.{IsOneElement-not_empty}
 use Rattle.asn1_core.specs.Lemmas.Faults.{simple_errors}
 use Rattle.asn1.specs.DefinedReads.{Known, element_read}
 use Rattle.asn1.specs.DefinedEncodings.{variant_encoding, or_variant_encoding, any_variant_encoding, inside_encoding}
 use Rattle.asn1.specs.Lemmas.Defined.{element_consumes, element_read_back, element_errors}
 use Rattle.asn1.specs.Lemmas.Variants.{variant_consumes, variant_read_back, variant_accepted, variant_errors, variant_element_or_apart, or_variant_consumes, or_variant_element_or_apart, or_variant_read_back, or_variant_accepted, or_variant_nothing_or_element, or_variant_not_empty, or_variant_errors, or_variant_both, or_variant_pair, or_variant_memory, or_variant_leading_element, any_consumes, any_read_back, any_errors}
-use Rattle.asn1.specs.Lemmas.Choices.{or_one, or_has, or_all, or_weaker}
+use Rattle.asn1.specs.Lemmas.Choices.{or_one_encoding, or_has_encoding, or_all, or_weaker}
 
-pub known_itself : (numbers : List ℕ) → bytes_eq numbers numbers ≡ true
-known_itself numbers = (bytes_eq-Decides numbers numbers).1 refl
+pub bytes_eq-refl : (numbers : List ℕ) → bytes_eq numbers numbers ≡ true
+bytes_eq-refl numbers = (bytes_eq-Decides numbers numbers).1 refl
 
-pub known_alone : (numbers n : List ℕ) → bytes_eq n numbers ≡ true → numbers ≡ n
-known_alone numbers n same = sym ((bytes_eq-Decides n numbers).0 same)
+pub bytes_eq-is : (numbers n : List ℕ) → bytes_eq n numbers ≡ true → numbers ≡ n
+bytes_eq-is numbers n same = sym ((bytes_eq-Decides n numbers).0 same)
 
 pub variant_laws : {I A : Type 0} (k : Known I) {d : Encoding A} → EncodingLaws d → DefinedLaws (variant_encoding k d)
 variant_laws k {d = d} ld = record {
@@ -43,8 +43,8 @@ variant_laws k {d = d} ld = record {
 
 pub or_variant_laws : {I A N : Type 0} (k : Known I) {d : Encoding A} {others : DefinedEncoding I N} → EncodingLaws d → DefinedLaws others → DefinedLaws (or_variant_encoding k d others)
 or_variant_laws k {d = d} {others = others} ld lo = record {
-  one_encoding = λ p. or_one d.encoding d.valid others.encoding others.valid d.encodings others.encodings (ld.one_encoding p.0) (lo.one_encoding p.1);
-  has_encoding = λ p. or_has d.encoding d.valid others.encoding (λ n. others.valid n × (k.is (others.item n) ≡ false)) d.encodings others.encodings (ld.has_encoding p.0) (λ n v. lo.has_encoding p.1 n v.0);
+  one_encoding = λ p. or_one_encoding d.encoding d.valid others.encoding others.valid d.encodings others.encodings (ld.one_encoding p.0) (lo.one_encoding p.1);
+  has_encoding = λ p. or_has_encoding d.encoding d.valid others.encoding (λ n. others.valid n × (k.is (others.item n) ≡ false)) d.encodings others.encodings (ld.has_encoding p.0) (λ n v. lo.has_encoding p.1 n v.0);
   no_closures = λ p. or_all d.closures others.closures (ld.no_closures p.0) (lo.no_closures p.1);
   consumes = λ i t rest m is e.
       let got = or_variant_consumes k d.encoding others.encoding others.item (λ m. d.valid m × d.allowed m) (λ n. others.valid n × others.allowed n) d.read others.read ld.consumes lo.consumes i t rest m is e in
@@ -80,16 +80,16 @@ any_variant_laws {d = d} ld = record {
 
 pub defined_inside_laws : {I M : Type 0} (tag : Tag) {d : DefinedEncoding I M} → DefinedLaws d → DefinedLaws (inside_encoding tag d)
 defined_inside_laws tag {d = d} ld = record {
-  one_encoding = λ p m. one_element tag (d.encodings m) (d.encoding m) (ld.one_encoding p m);
+  one_encoding = λ p m. element_one_encoding tag (d.encodings m) (d.encoding m) (ld.one_encoding p m);
   has_encoding = λ p m v. record { content = d.encoding m; is_content = ld.has_encoding p m v; is = refl };
   no_closures = ld.no_closures;
   consumes = λ i. simple_consumes tag d.encoding (λ m. (d.item m ≡ i) × (d.valid m × d.allowed m)) (element_read (d.read i)) (element_consumes d.encoding (d.read i) (λ m. (d.item m ≡ i) × (d.valid m × d.allowed m)) (ld.consumes i));
   nothing_or_element = λ m l v. simple_nothing_or_element tag (d.encoding m) l.2;
   accepted = λ m e v same. simple_accepted tag (d.encoding m) e same;
-  not_empty = λ m l i v e. element_some (element tag (d.encoding m)) e;
+  not_empty = λ m l i v e. element_encoding-not_nil (element tag (d.encoding m)) e;
   told = λ starts is_told m v. inl tt;
   read_back = λ m rest l v a fits none. simple_read_back tag d.encoding (element_read (d.read (d.item m))) m rest l.2
-      (element_read_back d.encoding (d.read (d.item m)) (d.accepts (d.item m)) m (element_in (ld.nothing_or_element m l.0 v) (ld.not_empty m l.0 (l.1 (d.item m)) v)) (ld.read_back m [] l.0 v a)) fits;
+      (element_read_back d.encoding (d.read (d.item m)) (d.accepts (d.item m)) m (IsOneElement-not_empty (ld.nothing_or_element m l.0 v) (ld.not_empty m l.0 (l.1 (d.item m)) v)) (ld.read_back m [] l.0 v a)) fits;
   unbounded = ld.unbounded;
   memory = λ i t places out. ld.memory i (element_encoding out.3.0) places out.3.2;
   begins_with_element = λ i t places out. (out.0, out.1);

@@ -13,18 +13,18 @@ use Rattle.asn1_core.specs.LawsOf.Encodings.{simple_laws}
 use Rattle.asn1.specs.Tagged.{retagged}
 use Rattle.asn1.specs.LawsOf.Tagged.{retagged_laws}
 use Rattle.asn1_core.specs.DefinedBy.{DefinedEncoding, DefinedLaws}
-use Rattle.asn1_core.specs.Lemmas.Options.{element_in}
+use Rattle.asn1_core.specs.Lemmas.Options.{IsOneElement-not_empty}
 use Rattle.asn1_core.specs.Lemmas.Wholes.{begins_accepted-nil}
 use Rattle.asn1.specs.FieldReads.{Both, field_out, others_out, last_read, field_read, item_read, behind_out}
 use Rattle.asn1.specs.Fields.{first_name, other_names, Fields, FieldsLaws, FieldsBy, FieldsByLaws, last, field, no_fields, value_last, value_field, between, with_item, sequence}
-use Rattle.asn1.specs.Lemmas.Fields.{last_consumes, last_read_back, last_errors, field_consumes, field_read_back, field_faults_all, last_apart, field_apart, begins_accepted-nil_append, both_one_encoding, both_has, field_memory, item_consumes, item_read_back, item_errors, item_memory, first_apart}
+use Rattle.asn1.specs.Lemmas.Fields.{last_consumes, last_read_back, last_errors, field_consumes, field_read_back, field_faults_all, begins_accepted-last, begins_accepted-append, begins_accepted-nil_append, both_one_encoding, both_has_encoding, field_memory, item_consumes, item_read_back, item_errors, item_memory, begins_accepted-first_element}
 
 module _ {A : Type 0} (d : Encoding A) (ld : EncodingLaws d) where
   pub last_law_consumes : (names : List (List ℕ)) (c : List ℕ) (m : A) → IsOctets c → last_read (first_name names) d.read c ≡ Ok m → (c ≡ d.encoding m) × (d.valid m × d.allowed m)
   last_law_consumes names = last_consumes (first_name names) d.encoding d.read (λ m. d.valid m × d.allowed m) ld.consumes
 
   pub last_law_apart : (m : A) → d.lawful → d.valid m → (asked : Tag → Bool) → ((tag : Tag) → d.accepts tag ≡ true → asked tag ≡ false) → begins_accepted asked (d.encoding m) ≡ false
-  last_law_apart m l v = last_apart d.accepts (d.encoding m) (λ tag. d.accepts tag ≡ true) (ld.nothing_or_element m l v) (λ e. ld.accepted m e v)
+  last_law_apart m l v = begins_accepted-last d.accepts (d.encoding m) (λ tag. d.accepts tag ≡ true) (ld.nothing_or_element m l v) (λ e. ld.accepted m e v)
 
   pub last_law_read_back : (names : List (List ℕ)) (m : A) → d.lawful → d.valid m → d.allowed m → length (d.encoding m) < 2 ^ 32 → last_read (first_name names) d.read (d.encoding m) ≡ Ok m
   last_law_read_back names m l v a s = last_read_back (first_name names) d.encoding d.read d.accepts m (ld.nothing_or_element m l v) (ld.read_back m [] l v a) s
@@ -47,7 +47,7 @@ module _ {A : Type 0} (d : Encoding A) (ld : EncodingLaws d) where
 
     pub field_law_apart : (m : A × N) → d.lawful × others.lawful × (d.is_element ⊎ ((tag : Tag) → others.starts tag → d.accepts tag ≡ false)) → d.valid m.0 × others.valid m.1 → (asked : Tag → Bool) →
         ((tag : Tag) → (d.accepts tag ≡ true) ⊎ ((d.is_element → ⊥) × others.starts tag) → asked tag ≡ false) → begins_accepted asked (d.encoding m.0 ++ others.encoding m.1) ≡ false
-    field_law_apart m l v asked free = field_apart (d.encoding m.0) (others.encoding m.1) (λ tag. (d.accepts tag ≡ true) ⊎ ((d.is_element → ⊥) × others.starts tag)) others.starts (ld.nothing_or_element m.0 l.0 v.0)
+    field_law_apart m l v asked free = begins_accepted-append (d.encoding m.0) (others.encoding m.1) (λ tag. (d.accepts tag ≡ true) ⊎ ((d.is_element → ⊥) × others.starts tag)) others.starts (ld.nothing_or_element m.0 l.0 v.0)
         (λ e same. inl (ld.accepted m.0 e v.0 same)) (λ none tag o. inr (λ i. ld.not_empty m.0 l.0 i v.0 none, o)) asked free (lo.apart m.1 l.1 v.1 asked)
 
     pub field_law_read_back : (names : List (List ℕ)) (m : A × N) → d.lawful × others.lawful × (d.is_element ⊎ ((tag : Tag) → others.starts tag → d.accepts tag ≡ false)) → d.valid m.0 × others.valid m.1 →
@@ -80,7 +80,7 @@ last_laws {d = d} ld = record {
 pub field_laws : {A N : Type 0} {d : Encoding A} {others : Fields N} → EncodingLaws d → FieldsLaws others → FieldsLaws (field d others)
 field_laws {d = d} {others = others} ld lo = record {
   one_encoding = field_law_one_encoding d ld others lo;
-  has_encoding = λ p m v. both_has (d.encoding m.0) (others.encoding m.1) (d.encodings m.0) (others.encodings m.1) (ld.has_encoding p.0 m.0 v.0) (lo.has_encoding p.1 m.1 v.1);
+  has_encoding = λ p m v. both_has_encoding (d.encoding m.0) (others.encoding m.1) (d.encodings m.0) (others.encodings m.1) (ld.has_encoding p.0 m.0 v.0) (lo.has_encoding p.1 m.1 v.1);
   no_closures = λ p m. (ld.no_closures p.0 m.0, lo.no_closures p.1 m.1);
   consumes = field_law_consumes d ld others lo;
   apart = field_law_apart d ld others lo;
@@ -126,7 +126,7 @@ module _ {I A : Type 0} (by : DefinedEncoding I A) (lby : DefinedLaws by) where
   value_last_law_consumes names i = last_consumes (first_name names) by.encoding (by.read i) (λ m. (by.item m ≡ i) × (by.valid m × by.allowed m)) (lby.consumes i)
 
   pub value_last_law_apart : (m : A) → by.lawful → by.valid m → (asked : Tag → Bool) → ((tag : Tag) → by.accepts (by.item m) tag ≡ true → asked tag ≡ false) → begins_accepted asked (by.encoding m) ≡ false
-  value_last_law_apart m l v = last_apart (by.accepts (by.item m)) (by.encoding m) (λ tag. by.accepts (by.item m) tag ≡ true) (lby.nothing_or_element m l v) (λ e. lby.accepted m e v)
+  value_last_law_apart m l v = begins_accepted-last (by.accepts (by.item m)) (by.encoding m) (λ tag. by.accepts (by.item m) tag ≡ true) (lby.nothing_or_element m l v) (λ e. lby.accepted m e v)
 
   pub value_last_law_read_back : (names : List (List ℕ)) (m : A) → by.lawful → by.valid m → by.allowed m → length (by.encoding m) < 2 ^ 32 → last_read (first_name names) (by.read (by.item m)) (by.encoding m) ≡ Ok m
   value_last_law_read_back names m l v a s = last_read_back (first_name names) by.encoding (by.read (by.item m)) (by.accepts (by.item m)) m (lby.nothing_or_element m l v) (lby.read_back m [] l v a) s
@@ -149,7 +149,7 @@ module _ {I A : Type 0} (by : DefinedEncoding I A) (lby : DefinedLaws by) where
 
     pub value_law_apart : (m : A × N) → by.lawful × others.lawful × by.is_told others.starts → by.valid m.0 × others.valid m.1 → (asked : Tag → Bool) →
         ((tag : Tag) → (by.accepts (by.item m.0) tag ≡ true) ⊎ ((by.is_element (by.item m.0) → ⊥) × others.starts tag) → asked tag ≡ false) → begins_accepted asked (by.encoding m.0 ++ others.encoding m.1) ≡ false
-    value_law_apart m l v asked free = field_apart (by.encoding m.0) (others.encoding m.1) (λ tag. (by.accepts (by.item m.0) tag ≡ true) ⊎ ((by.is_element (by.item m.0) → ⊥) × others.starts tag)) others.starts (lby.nothing_or_element m.0 l.0 v.0)
+    value_law_apart m l v asked free = begins_accepted-append (by.encoding m.0) (others.encoding m.1) (λ tag. (by.accepts (by.item m.0) tag ≡ true) ⊎ ((by.is_element (by.item m.0) → ⊥) × others.starts tag)) others.starts (lby.nothing_or_element m.0 l.0 v.0)
         (λ e same. inl (lby.accepted m.0 e v.0 same)) (λ none tag o. inr (λ i. lby.not_empty m.0 l.0 i v.0 none, o)) asked free (lo.apart m.1 l.1 v.1 asked)
 
     pub value_law_read_back : (names : List (List ℕ)) (m : A × N) → by.lawful × others.lawful × by.is_told others.starts → by.valid m.0 × others.valid m.1 →
@@ -182,7 +182,7 @@ value_last_laws {by = by} lby = record {
 pub value_field_laws : {I A N : Type 0} {by : DefinedEncoding I A} {others : Fields N} → DefinedLaws by → FieldsLaws others → FieldsByLaws (value_field by others)
 value_field_laws {by = by} {others = others} lby lo = record {
   one_encoding = value_law_one_encoding by lby others lo;
-  has_encoding = λ p m v. both_has (by.encoding m.0) (others.encoding m.1) (by.encodings m.0) (others.encodings m.1) (lby.has_encoding p.0 m.0 v.0) (lo.has_encoding p.1 m.1 v.1);
+  has_encoding = λ p m v. both_has_encoding (by.encoding m.0) (others.encoding m.1) (by.encodings m.0) (others.encodings m.1) (lby.has_encoding p.0 m.0 v.0) (lo.has_encoding p.1 m.1 v.1);
   no_closures = λ p m. (lby.no_closures p.0 m.0, lo.no_closures p.1 m.1);
   consumes = value_law_consumes by lby others lo;
   apart = value_law_apart by lby others lo;
@@ -204,7 +204,7 @@ module _ {I A M : Type 0} (d : Encoding A) (behind : FieldsBy I M) (ld : Encodin
 
   pub between_law_apart : (m : A × M) → d.lawful × behind.lawful × (d.is_element ⊎ ((i : I) (tag : Tag) → behind.starts i tag → d.accepts tag ≡ false)) → d.valid m.0 × behind.valid m.1 → (asked : Tag → Bool) →
       ((tag : Tag) → (d.accepts tag ≡ true) ⊎ ((d.is_element → ⊥) × behind.starts (behind.item m.1) tag) → asked tag ≡ false) → begins_accepted asked (d.encoding m.0 ++ behind.encoding m.1) ≡ false
-  between_law_apart m l v asked free = field_apart (d.encoding m.0) (behind.encoding m.1) (λ tag. (d.accepts tag ≡ true) ⊎ ((d.is_element → ⊥) × behind.starts (behind.item m.1) tag)) (behind.starts (behind.item m.1)) (ld.nothing_or_element m.0 l.0 v.0)
+  between_law_apart m l v asked free = begins_accepted-append (d.encoding m.0) (behind.encoding m.1) (λ tag. (d.accepts tag ≡ true) ⊎ ((d.is_element → ⊥) × behind.starts (behind.item m.1) tag)) (behind.starts (behind.item m.1)) (ld.nothing_or_element m.0 l.0 v.0)
       (λ e same. inl (ld.accepted m.0 e v.0 same)) (λ none tag o. inr (λ i. ld.not_empty m.0 l.0 i v.0 none, o)) asked free (lb.apart m.1 l.1 v.1 asked)
 
   pub between_law_read_back : (names : List (List ℕ)) (m : A × M) → d.lawful × behind.lawful × (d.is_element ⊎ ((i : I) (tag : Tag) → behind.starts i tag → d.accepts tag ≡ false)) → d.valid m.0 × behind.valid m.1 →
@@ -224,7 +224,7 @@ module _ {I A M : Type 0} (d : Encoding A) (behind : FieldsBy I M) (ld : Encodin
 pub between_laws : {I A M : Type 0} {d : Encoding A} {behind : FieldsBy I M} → EncodingLaws d → FieldsByLaws behind → FieldsByLaws (between d behind)
 between_laws {d = d} {behind = behind} ld lb = record {
   one_encoding = between_law_one_encoding d behind ld lb;
-  has_encoding = λ p m v. both_has (d.encoding m.0) (behind.encoding m.1) (d.encodings m.0) (behind.encodings m.1) (ld.has_encoding p.0 m.0 v.0) (lb.has_encoding p.1 m.1 v.1);
+  has_encoding = λ p m v. both_has_encoding (d.encoding m.0) (behind.encoding m.1) (d.encodings m.0) (behind.encodings m.1) (ld.has_encoding p.0 m.0 v.0) (lb.has_encoding p.1 m.1 v.1);
   no_closures = λ p m. (ld.no_closures p.0 m.0, lb.no_closures p.1 m.1);
   consumes = between_law_consumes d behind ld lb;
   apart = between_law_apart d behind ld lb;
@@ -247,8 +247,8 @@ module _ {A M : Type 0} (d : Encoding A) (behind : FieldsBy A M) (ld : EncodingL
   pub item_law_apart : (m : M) → d.lawful × d.is_element × behind.lawful → d.valid (behind.item m) × behind.valid m → (asked : Tag → Bool) → ((tag : Tag) → d.accepts tag ≡ true → asked tag ≡ false) →
       begins_accepted asked (d.encoding (behind.item m) ++ behind.encoding m) ≡ false
   item_law_apart m l v asked free =
-      let one = element_in (ld.nothing_or_element (behind.item m) l.0 v.0) (ld.not_empty (behind.item m) l.0 l.1 v.0) in
-      first_apart (d.encoding (behind.item m)) (behind.encoding m) (λ tag. d.accepts tag ≡ true) one (ld.accepted (behind.item m) one.element v.0 one.is) asked free
+      let one = IsOneElement-not_empty (ld.nothing_or_element (behind.item m) l.0 v.0) (ld.not_empty (behind.item m) l.0 l.1 v.0) in
+      begins_accepted-first_element (d.encoding (behind.item m)) (behind.encoding m) (λ tag. d.accepts tag ≡ true) one (ld.accepted (behind.item m) one.element v.0 one.is) asked free
 
   pub item_law_read_back : (names : List (List ℕ)) (m : M) → d.lawful × d.is_element × behind.lawful → d.valid (behind.item m) × behind.valid m → d.allowed (behind.item m) × behind.allowed m →
       length (d.encoding (behind.item m) ++ behind.encoding m) < 2 ^ 32 → item_read (first_name names) d.read (behind.read (other_names names)) (d.encoding (behind.item m) ++ behind.encoding m) ≡ Ok m
@@ -267,7 +267,7 @@ module _ {A M : Type 0} (d : Encoding A) (behind : FieldsBy A M) (ld : EncodingL
 pub with_item_laws : {A M : Type 0} {d : Encoding A} {behind : FieldsBy A M} → EncodingLaws d → FieldsByLaws behind → FieldsLaws (with_item d behind)
 with_item_laws {d = d} {behind = behind} ld lb = record {
   one_encoding = item_law_one_encoding d behind ld lb;
-  has_encoding = λ p m v. both_has (d.encoding (behind.item m)) (behind.encoding m) (d.encodings (behind.item m)) (behind.encodings m) (ld.has_encoding p.0 (behind.item m) v.0) (lb.has_encoding p.1 m v.1);
+  has_encoding = λ p m v. both_has_encoding (d.encoding (behind.item m)) (behind.encoding m) (d.encodings (behind.item m)) (behind.encodings m) (ld.has_encoding p.0 (behind.item m) v.0) (lb.has_encoding p.1 m v.1);
   no_closures = λ p m. (ld.no_closures p.0 (behind.item m), lb.no_closures p.1 m);
   consumes = item_law_consumes d behind ld lb;
   apart = item_law_apart d behind ld lb;

@@ -104,13 +104,13 @@ impl<A, K: FieldWritable<A>, KR, R: RowWritable<KR, Error = K::Error>> RowWritab
 
     ghost length_known = { λ row. K.length_known row.value.now × R.length_known row.rest };
 
-    #[tactic(auto, using(crate::proofs::FieldSteps::in_turn))]
+    #[tactic(auto, using(crate::proofs::FieldSteps::appends_both))]
     fn write(&self, dest: &mut WriteBuf) -> Result<(), K::Error> {
         K::write_plain(self.value, &mut Writer::new(dest))?;
         self.rest.write(dest)
     }
 
-    #[tactic(auto, using(crate::proofs::FieldSteps::sum_known))]
+    #[tactic(auto, using(crate::proofs::FieldSteps::gives_length_both))]
     fn length(&self) -> Option<usize> {
         sum(K::plain_length(self.value), self.rest.length())
     }

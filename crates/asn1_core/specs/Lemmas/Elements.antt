@@ -9,9 +9,9 @@ use Rattle.asn1_core.specs.Base256.{IsOctets}
 use Rattle.asn1_core.specs.Tag.{identifier_octets, leading_tag, IsLeadingTag}
 use Rattle.asn1_core.specs.Length.{length_octets, leading_length, IsLeadingLength}
 use Rattle.asn1_core.specs.Element.{Element, element_encoding, IsReadable, IsLeadingElement, leading_content, leading_element}
-use Rattle.asn1_core.specs.Lemmas.Tags.{TagFront, tag_ok, tag_only, tag_is, tag_has_octets, tag_some}
-use Rattle.asn1_core.specs.Lemmas.Lengths.{LengthFront, length_ok, length_only, length_is, length_big}
-use Rattle.asn1_core.specs.Lemmas.Texts.{IsOctets-rest}
+use Rattle.asn1_core.specs.Lemmas.Tags.{TagFront, leading_tag-identifier_octets, leading_tag-only, IsLeadingTag-leading_tag, identifier_octets-nonempty, identifier_octets-not_nil}
+use Rattle.asn1_core.specs.Lemmas.Lengths.{LengthFront, leading_length-length_octets, leading_length-only, IsLeadingLength-leading_length, leading_length-too_big}
+use Rattle.asn1_core.specs.Lemmas.Texts.{IsOctets-suffix}
 
 abbrev pub ElementFront : Type 0
 ElementFront = Result (Element × List ℕ) ParseErrorKind
@@ -42,25 +42,25 @@ element_encoding-append e rest =
     append_assoc (identifier_octets e.tag) (length_octets (length e.content) ++ e.content) rest
     ∙ ap (λ (l : List ℕ). identifier_octets e.tag ++ l) (append_assoc (length_octets (length e.content)) e.content rest)
 
-pub element_ok : (e : Element) (rest : List ℕ) → IsReadable e → leading_element (element_encoding e ++ rest) ≡ Ok (e, rest)
-element_ok e rest is =
+pub leading_element-element_encoding : (e : Element) (rest : List ℕ) → IsReadable e → leading_element (element_encoding e ++ rest) ≡ Ok (e, rest)
+leading_element-element_encoding e rest is =
     let same : take (length e.content) (e.content ++ rest) ≡ e.content = take_at e.content rest (length e.content) refl in
     let left : drop (length e.content) (e.content ++ rest) ≡ rest = drop_at e.content rest (length e.content) refl in
     ap leading_element (element_encoding-append e rest)
     ∙ leading_element-found (identifier_octets e.tag ++ (length_octets (length e.content) ++ (e.content ++ rest))) e.tag (length_octets (length e.content) ++ (e.content ++ rest)) (length e.content) (e.content ++ rest)
-    (tag_ok e.tag (length_octets (length e.content) ++ (e.content ++ rest)) is.tag)
-    (length_ok (length e.content) (e.content ++ rest) is.content)
+    (leading_tag-identifier_octets e.tag (length_octets (length e.content) ++ (e.content ++ rest)) is.tag)
+    (leading_length-length_octets (length e.content) (e.content ++ rest) is.content)
     (omega (arith, length-append e.content rest))
     ∙ rw (same, left) refl
 
 -- octets have only one result
 pub leading_element-only : (octets : List ℕ) (answer : ElementFront) → IsOctets octets → IsLeadingElement octets answer → leading_element octets ≡ answer
-leading_element-only octets (Ok found) is a = rw a.1 (element_ok found.0 found.1 a.0)
-leading_element-only octets (Err kind) is (inl a) = leading_element-tag_err octets kind (tag_only octets (Err kind) a)
+leading_element-only octets (Ok found) is a = rw a.1 (leading_element-element_encoding found.0 found.1 a.0)
+leading_element-only octets (Err kind) is (inl a) = leading_element-tag_err octets kind (leading_tag-only octets (Err kind) a)
 leading_element-only octets (Err kind) is (inr (inl (tag, after, t, l))) =
-    leading_element-length_err octets tag after kind (tag_only octets (Ok (tag, after)) t) (length_only after (Err kind) (IsOctets-rest (identifier_octets tag) after (subst IsOctets t.1 is)) l)
+    leading_element-length_err octets tag after kind (leading_tag-only octets (Ok (tag, after)) t) (leading_length-only after (Err kind) (IsOctets-suffix (identifier_octets tag) after (subst IsOctets t.1 is)) l)
 leading_element-only octets (Err kind) is (inr (inr (tag, after, n, content, t, l, fewer, e))) =
-    rw e (leading_element-short octets tag after n content (tag_only octets (Ok (tag, after)) t) (length_only after (Ok (n, content)) (IsOctets-rest (identifier_octets tag) after (subst IsOctets t.1 is)) l) fewer)
+    rw e (leading_element-short octets tag after n content (leading_tag-only octets (Ok (tag, after)) t) (leading_length-only after (Ok (n, content)) (IsOctets-suffix (identifier_octets tag) after (subst IsOctets t.1 is)) l) fewer)
 
 -- all octets have a result
 whole : (octets : List ℕ) (tag : Tag) (after : List ℕ) (n : ℕ) (rest : List ℕ) → octets ≡ identifier_octets tag ++ after → after ≡ length_octets n ++ rest → length (take n rest) ≡ n → octets ≡ element_encoding (record { tag = tag; content = take n rest }) ++ drop n rest
@@ -81,11 +81,11 @@ after_tag octets tag after (Ok found) t l = content_is octets tag after found.0 
 after_tag octets tag after (Err kind) t l = (Err kind, inr (inl (tag, after, t, l)))
 
 with_tag : (octets : List ℕ) (r : TagFront) → IsOctets octets → IsLeadingTag octets r → (answer : ElementFront) × IsLeadingElement octets answer
-with_tag octets (Ok found) is t = after_tag octets found.0 found.1 (leading_length found.1) t (length_is found.1 (IsOctets-rest (identifier_octets found.0) found.1 (subst IsOctets t.1 is)))
+with_tag octets (Ok found) is t = after_tag octets found.0 found.1 (leading_length found.1) t (IsLeadingLength-leading_length found.1 (IsOctets-suffix (identifier_octets found.0) found.1 (subst IsOctets t.1 is)))
 with_tag octets (Err kind) is t = (Err kind, inl t)
 
 pub IsLeadingElement-some : (octets : List ℕ) → IsOctets octets → (answer : ElementFront) × IsLeadingElement octets answer
-IsLeadingElement-some octets is = with_tag octets (leading_tag octets) is (tag_is octets is)
+IsLeadingElement-some octets is = with_tag octets (leading_tag octets) is (IsLeadingTag-leading_tag octets is)
 
 pub IsLeadingElement-leading_element : (octets : List ℕ) → IsOctets octets → IsLeadingElement octets (leading_element octets)
 IsLeadingElement-leading_element octets is =
@@ -95,46 +95,46 @@ IsLeadingElement-leading_element octets is =
 pub leading_element-ok_is : (octets : List ℕ) (e : Element) (rest : List ℕ) → IsOctets octets → leading_element octets ≡ Ok (e, rest) → IsReadable e × (octets ≡ element_encoding e ++ rest)
 leading_element-ok_is octets e rest is same = subst (λ (a : ElementFront). IsLeadingElement octets a) same (IsLeadingElement-leading_element octets is)
 
-pub cut_whole : (octets whole rest : List ℕ) → octets ≡ whole ++ rest → take (length octets - length rest) octets ≡ whole
-cut_whole octets whole rest e =
+pub take-of_append : (octets whole rest : List ℕ) → octets ≡ whole ++ rest → take (length octets - length rest) octets ≡ whole
+take-of_append octets whole rest e =
     let size : length octets - length rest ≡ length whole = omega (arith, ap length e, length-append whole rest) in
     rw (size, e) (take_at whole rest (length whole) refl)
 
 -- ---- what follows from the encoding of an element
 
-no_fault : (f : Element) (rest : List ℕ) → ◌≡◌ {A = ElementFront} (Ok (f, rest)) (Err InvalidLength) → ⊥
-no_fault f rest same = cc
+Ok-ne-Err : (f : Element) (rest : List ℕ) → ◌≡◌ {A = ElementFront} (Ok (f, rest)) (Err InvalidLength) → ⊥
+Ok-ne-Err f rest same = cc
 
 -- too many contents octets are rejected
 pub leading_element-too_long : (e : Element) (rest : List ℕ) → e.tag.value < 2 ^ 32 → 2 ^ 32 ≤ length e.content → leading_element (element_encoding e ++ rest) ≡ Err InvalidLength
 leading_element-too_long e rest tag long =
     ap leading_element (element_encoding-append e rest)
     ∙ leading_element-length_err (identifier_octets e.tag ++ (length_octets (length e.content) ++ (e.content ++ rest))) e.tag (length_octets (length e.content) ++ (e.content ++ rest)) InvalidLength
-    (tag_ok e.tag (length_octets (length e.content) ++ (e.content ++ rest)) tag)
-    (length_big (length e.content) (e.content ++ rest) long)
+    (leading_tag-identifier_octets e.tag (length_octets (length e.content) ++ (e.content ++ rest)) tag)
+    (leading_length-too_big (length e.content) (e.content ++ rest) long)
 
 -- an element with a readable tag and the encoding of a readable element is readable
-pub readable_as : (e f : Element) → e.tag.value < 2 ^ 32 → IsReadable f → element_encoding e ≡ element_encoding f → IsReadable e
-readable_as e f tag is same = ⊎_elim
+pub IsReadable-same_encoding : (e f : Element) → e.tag.value < 2 ^ 32 → IsReadable f → element_encoding e ≡ element_encoding f → IsReadable e
+IsReadable-same_encoding e f tag is same = ⊎_elim
     (λ (l : length e.content < 2 ^ 32). record { tag = tag; content = l })
     (λ (l : 2 ^ 32 ≤ length e.content).
     let a : leading_element (element_encoding e ++ []) ≡ Err InvalidLength = leading_element-too_long e [] tag l in
-    let b : leading_element (element_encoding f ++ []) ≡ Ok (f, []) = element_ok f [] is in
-    absurd (no_fault f [] (sym b ∙ ap (λ (t : List ℕ). leading_element (t ++ [])) (sym same) ∙ a)))
+    let b : leading_element (element_encoding f ++ []) ≡ Ok (f, []) = leading_element-element_encoding f [] is in
+    absurd (Ok-ne-Err f [] (sym b ∙ ap (λ (t : List ℕ). leading_element (t ++ [])) (sym same) ∙ a)))
     (cases_lt (length e.content) (2 ^ 32))
 
 -- the encoding of an element isn't empty
-pub element_some : (e : Element) → element_encoding e ≡ [] → ⊥
+pub element_encoding-not_nil : (e : Element) → element_encoding e ≡ [] → ⊥
 unfolding element_encoding
-element_some e none = tag_some e.tag (length_octets (length e.content) ++ e.content) none
+element_encoding-not_nil e none = identifier_octets-not_nil e.tag (length_octets (length e.content) ++ e.content) none
 
 -- the contents octets are shorter than the encoding of their element
-pub content_less : (e : Element) → length e.content < length (element_encoding e)
+pub length-content-lt : (e : Element) → length e.content < length (element_encoding e)
 unfolding element_encoding
-content_less e =
-    let some : 0 < length (identifier_octets e.tag) = tag_has_octets e.tag in
+length-content-lt e =
+    let some : 0 < length (identifier_octets e.tag) = identifier_octets-nonempty e.tag in
     omega (arith, length-append (identifier_octets e.tag) (length_octets (length e.content) ++ e.content), length-append (length_octets (length e.content)) e.content)
 
-pub element_octets : (e : Element) → IsOctets (element_encoding e) → IsOctets e.content
+pub IsOctets-element_content : (e : Element) → IsOctets (element_encoding e) → IsOctets e.content
 unfolding element_encoding
-element_octets e is = IsOctets-rest (length_octets (length e.content)) e.content (IsOctets-rest (identifier_octets e.tag) (length_octets (length e.content) ++ e.content) is)
+IsOctets-element_content e is = IsOctets-suffix (length_octets (length e.content)) e.content (IsOctets-suffix (identifier_octets e.tag) (length_octets (length e.content) ++ e.content) is)

@@ -9,12 +9,12 @@ not_both b holds fails = absurd cc
 pub Some-injective : {T : Type 0} (a b : T) → Some a ≡ Some b → a ≡ b
 Some-injective a b e = cc
 
-pub same_heads : (x y : ℕ) (xs ys : List ℕ) → x ∷ xs ≡ y ∷ ys → (x ≡ y) × (xs ≡ ys)
-same_heads x y xs ys e = (cc, cc)
+pub cons-injective : (x y : ℕ) (xs ys : List ℕ) → x ∷ xs ≡ y ∷ ys → (x ≡ y) × (xs ≡ ys)
+cons-injective x y xs ys e = (cc, cc)
 
-pub has_octets : (t : List ℕ) → (t ≡ [] → ⊥) → 0 < length t
-has_octets [] none = absurd (none refl)
-has_octets (x ∷ xs) none = omega arith
+pub length-positive : (t : List ℕ) → (t ≡ [] → ⊥) → 0 < length t
+length-positive [] none = absurd (none refl)
+length-positive (x ∷ xs) none = omega arith
 
 pub not_nil : (t : List ℕ) → 0 < length t → t ≡ [] → ⊥
 not_nil t some none = omega (arith, some, ap length none)
@@ -23,11 +23,11 @@ pub take-length : (t : List ℕ) → take (length t) t ≡ t
 take-length [] = refl
 take-length (x ∷ xs) = ap (λ ys. x ∷ ys) (take-length xs)
 
-pub octet_at : (t : List ℕ) → IsOctets t → (k : ℕ) → get_or t k 0 < 256
-octet_at [] is k = lit< tt
-octet_at (x ∷ xs) is zero = is.0
-octet_at (x ∷ xs) is (suc k) = octet_at xs is.1 k
+pub get_or-IsOctets : (t : List ℕ) → IsOctets t → (k : ℕ) → get_or t k 0 < 256
+get_or-IsOctets [] is k = lit< tt
+get_or-IsOctets (x ∷ xs) is zero = is.0
+get_or-IsOctets (x ∷ xs) is (suc k) = get_or-IsOctets xs is.1 k
 
-pub zeros_are_octets : (n : ℕ) → IsOctets (replicate n 0)
-zeros_are_octets zero = tt
-zeros_are_octets (suc n) = (lit< tt, zeros_are_octets n)
+pub IsOctets-replicate_zero : (n : ℕ) → IsOctets (replicate n 0)
+IsOctets-replicate_zero zero = tt
+IsOctets-replicate_zero (suc n) = (lit< tt, IsOctets-replicate_zero n)

@@ -11,36 +11,36 @@ use Rattle.asn1_core.specs.Base256.{IsOctets, number, signed_number}
 use Rattle.asn1_core.specs.Integer.{IsIntegerContent, nine_bits, is_minimal, with_sign, turned, integer_content, read_integer, below, within_range, read_sized, unless_zero}
 use Rattle.asn1_core.specs.Element.{◌>>=◌}
 use Rattle.asn1_core.specs.ReadError.{ReadError, read_error, IsOfInput}
-use Rattle.asn1_core.specs.Lemmas.Digits.{digits_back, number_by_digits, Leads}
-use Rattle.asn1_core.specs.Lemmas.Results.{done, ok_is, if_ok-is, bind_ok}
+use Rattle.asn1_core.specs.Lemmas.Digits.{digits_of-number_from_digits, number_from_digits_256, Leads}
+use Rattle.asn1_core.specs.Lemmas.Results.{done, done-injective, if_ok-is, bind_ok}
 use Rattle.asn1_core.specs.Lemmas.Faults.{bind_errors, passed_errors, missed_errors}
 use Rattle.asn1_core.specs.declared.parser.ParseErrorKind.TheVariants.{AllocationError, InvalidValue, IntegerOverflow}
-use Rattle.asn1_core.specs.Lemmas.Lengths.{leads_digits}
+use Rattle.asn1_core.specs.Lemmas.Lengths.{Leads-digits_of}
 
 -- ---- each bit inverted
 
-pub turned_length : (c : List ℕ) → length (turned c) ≡ length c
-turned_length c = length-map c (λ x. 255 - x)
+pub length-turned : (c : List ℕ) → length (turned c) ≡ length c
+length-turned c = length-map c (λ x. 255 - x)
 
 pub IsOctets-turned : (c : List ℕ) → IsOctets (turned c)
 IsOctets-turned [] = tt
 IsOctets-turned (x ∷ xs) = (omega arith, IsOctets-turned xs)
 
-pub turned_twice : (c : List ℕ) → IsOctets c → turned (turned c) ≡ c
-turned_twice [] is = refl
-turned_twice (x ∷ xs) is =
+pub turned-turned : (c : List ℕ) → IsOctets c → turned (turned c) ≡ c
+turned-turned [] is = refl
+turned-turned (x ∷ xs) is =
     let head : 255 - (255 - x) ≡ x = omega (arith, is.0) in
-    rw (head, turned_twice xs is.1) refl
+    rw (head, turned-turned xs is.1) refl
 
 parts_of : (a b p : ℕ) → a + b ≡ 255 → a * p + b * p ≡ 255 * p
 parts_of a b p e = sym (add-mul a b p) ∙ ap (λ (k : ℕ). k * p) e
 
-pub turned_number : (c : List ℕ) → IsOctets c → number (turned c) + number c + 1 ≡ 256 ^ length c
-turned_number [] is = refl
-turned_number (x ∷ xs) is =
-    let rest : number (turned xs) + number xs + 1 ≡ 256 ^ length xs = turned_number xs is.1 in
+pub number-turned : (c : List ℕ) → IsOctets c → number (turned c) + number c + 1 ≡ 256 ^ length c
+number-turned [] is = refl
+number-turned (x ∷ xs) is =
+    let rest : number (turned xs) + number xs + 1 ≡ 256 ^ length xs = number-turned xs is.1 in
     let sum : (255 - x) * 256 ^ length xs + x * 256 ^ length xs ≡ 255 * 256 ^ length xs = parts_of (255 - x) x (256 ^ length xs) (omega (arith, is.0)) in
-    rw (pow-suc 256 (length xs), turned_length xs) (omega (arith, rest, sum))
+    rw (pow-suc 256 (length xs), length-turned xs) (omega (arith, rest, sum))
 
 pub turned_low : (c : List ℕ) → IsOctets c → 128 ≤ get_or c 0 0 → get_or (turned c) 0 0 < 128
 turned_low [] is h = absurd (omega arith)
@@ -52,14 +52,14 @@ number-zero_cons c = omega arith
 
 -- ---- the signed number, by the top bit
 
-pub signed_low : (c : List ℕ) → get_or c 0 0 < 128 → signed_number c ≡ pos (number c)
-signed_low c h = rw (lt-leb 128 (get_or c 0 0) h) refl
+pub signed_number-low : (c : List ℕ) → get_or c 0 0 < 128 → signed_number c ≡ pos (number c)
+signed_number-low c h = rw (lt-leb 128 (get_or c 0 0) h) refl
 
 less : (a b p : ℕ) → b + a + 1 ≡ p → pos a -ℤ pos p ≡ negsuc b
 less a b p e = omega (arith, ints)
 
-pub signed_high : (c : List ℕ) → IsOctets c → 128 ≤ get_or c 0 0 → signed_number c ≡ negsuc (number (turned c))
-signed_high c is h = rw (le-leb 128 (get_or c 0 0) h) (less (number c) (number (turned c)) (256 ^ length c) (turned_number c is))
+pub signed_number-high : (c : List ℕ) → IsOctets c → 128 ≤ get_or c 0 0 → signed_number c ≡ negsuc (number (turned c))
+signed_number-high c is h = rw (le-leb 128 (get_or c 0 0) h) (less (number c) (number (turned c)) (256 ^ length c) (number-turned c is))
 
 -- ---- the first nine bits
 
@@ -78,10 +78,10 @@ longer_nine x y ys e =
       | inr h ↦ inr (eqb-true _ _ h)
     ]
 
-pub turned_shortest : (c : List ℕ) → IsOctets c → is_minimal c ≡ true → is_minimal (turned c) ≡ true
-turned_shortest [] is e = e
-turned_shortest (x ∷ []) is e = refl
-turned_shortest (x ∷ y ∷ ys) is e =
+pub is_minimal-turned : (c : List ℕ) → IsOctets c → is_minimal c ≡ true → is_minimal (turned c) ≡ true
+is_minimal-turned [] is e = e
+is_minimal-turned (x ∷ []) is e = refl
+is_minimal-turned (x ∷ y ∷ ys) is e =
     let h = shortest_nine x y ys e in
     let low : 0 < nine_bits x y = omega (arith, h.0) in
     let high : nine_bits x y < 511 = omega (arith, h.1, is.0, is.1.0) in
@@ -93,20 +93,20 @@ same_low x y ys e h =
     let first : x < 128 = omega arith in
     rw (lt-leb 128 x first, lt-leb 128 y h, e) (ap pos (number-zero_cons (y ∷ ys)))
 
-pub fewer_same : (x y : ℕ) (ys : List ℕ) → IsOctets (x ∷ y ∷ ys) → is_minimal (x ∷ y ∷ ys) ≡ false → signed_number (x ∷ y ∷ ys) ≡ signed_number (y ∷ ys)
-fewer_same x y ys is e =
+pub signed_number-not_minimal : (x y : ℕ) (ys : List ℕ) → IsOctets (x ∷ y ∷ ys) → is_minimal (x ∷ y ∷ ys) ≡ false → signed_number (x ∷ y ∷ ys) ≡ signed_number (y ∷ ys)
+signed_number-not_minimal x y ys is e =
     elim (longer_nine x y ys e) [
       | inl h ↦ same_low x y ys (omega arith) (omega arith)
       | inr h ↦
           let first : 255 - x ≡ 0 = omega (arith, is.0, is.1.0) in
           let same : number (turned (x ∷ y ∷ ys)) ≡ number (turned (y ∷ ys)) = rw first (number-zero_cons (turned (y ∷ ys))) in
-          signed_high (x ∷ y ∷ ys) is (omega (arith, is.0, is.1.0)) ∙ ap negsuc same ∙ sym (signed_high (y ∷ ys) is.1 (omega (arith, is.0, is.1.0)))
+          signed_number-high (x ∷ y ∷ ys) is (omega (arith, is.0, is.1.0)) ∙ ap negsuc same ∙ sym (signed_number-high (y ∷ ys) is.1 (omega (arith, is.0, is.1.0)))
     ]
 
 -- ---- numbers that aren't negative
 
-digits_same : (c : List ℕ) → IsOctets c → Leads c → digits_of 256 (number c) ≡ c
-digits_same c is leads = ap (digits_of 256) (sym (number_by_digits c)) ∙ digits_back 256 c (lit≤ tt) is leads
+digits_of-number : (c : List ℕ) → IsOctets c → Leads c → digits_of 256 (number c) ≡ c
+digits_of-number c is leads = ap (digits_of 256) (sym (number_from_digits_256 c)) ∙ digits_of-number_from_digits 256 c (lit≤ tt) is leads
 
 with_sign_low : (x : ℕ) (xs : List ℕ) → x < 128 → with_sign (x ∷ xs) ≡ x ∷ xs
 with_sign_low x xs h = rw (lt-leb 128 x h) refl
@@ -119,10 +119,10 @@ sign_only [] is e h = absurd cc
 sign_only (zero ∷ []) is e h = refl
 sign_only (zero ∷ y ∷ ys) is e h =
     let high : 128 ≤ y = omega (arith, (shortest_nine zero y ys e).0) in
-    let same : digits_of 256 (number (zero ∷ y ∷ ys)) ≡ y ∷ ys = ap (digits_of 256) (number-zero_cons (y ∷ ys)) ∙ digits_same (y ∷ ys) is.1 (λ l. omega arith) in
+    let same : digits_of 256 (number (zero ∷ y ∷ ys)) ≡ y ∷ ys = ap (digits_of 256) (number-zero_cons (y ∷ ys)) ∙ digits_of-number (y ∷ ys) is.1 (λ l. omega arith) in
     rw same (sym (with_sign_high y ys high))
 sign_only (suc x ∷ xs) is e h =
-    rw (digits_same (suc x ∷ xs) is (λ l. omega arith)) (sym (with_sign_low (suc x) xs h))
+    rw (digits_of-number (suc x ∷ xs) is (λ l. omega arith)) (sym (with_sign_low (suc x) xs h))
 
 -- digits after a sign
 record IsSigned (s : List ℕ) (n : ℕ) : Type 0 where
@@ -146,18 +146,18 @@ signed_is (x ∷ xs) n is leads e =
     ]
 
 signed_digits : (n : ℕ) → IsSigned (with_sign (digits_of 256 n)) n
-signed_digits n = signed_is (digits_of 256 n) n (all_below_base_digits_of 256 n (lit≤ tt)) (leads_digits n) (sym (number_by_digits (digits_of 256 n)) ∙ number_digits_of 256 n (lit≤ tt))
+signed_digits n = signed_is (digits_of 256 n) n (all_below_base_digits_of 256 n (lit≤ tt)) (Leads-digits_of n) (sym (number_from_digits_256 (digits_of 256 n)) ∙ number_digits_of 256 n (lit≤ tt))
 
 -- ---- every number
 
 -- octets of which none is superfluous are the contents octets of their number
-pub content_only : (c : List ℕ) → IsOctets c → is_minimal c ≡ true → c ≡ integer_content (signed_number c)
+pub integer_content-only : (c : List ℕ) → IsOctets c → is_minimal c ≡ true → c ≡ integer_content (signed_number c)
 unfolding integer_content
-content_only c is e =
+integer_content-only c is e =
     elim (cases_lt (get_or c 0 0) 128) [
-      | inl h ↦ sign_only c is e h ∙ ap integer_content (sym (signed_low c h))
+      | inl h ↦ sign_only c is e h ∙ ap integer_content (sym (signed_number-low c h))
       | inr h ↦
-          sym (turned_twice c is) ∙ ap turned (sign_only (turned c) (IsOctets-turned c) (turned_shortest c is e) (turned_low c is h)) ∙ ap integer_content (sym (signed_high c is h))
+          sym (turned-turned c is) ∙ ap turned (sign_only (turned c) (IsOctets-turned c) (is_minimal-turned c is e) (turned_low c is h)) ∙ ap integer_content (sym (signed_number-high c is h))
     ]
 
 pub IsOctets-integer_content : (z : ℤ) → IsOctets (integer_content z)
@@ -165,26 +165,26 @@ unfolding integer_content
 IsOctets-integer_content (pos n) = (signed_digits n).octets
 IsOctets-integer_content (negsuc n) = IsOctets-turned (with_sign (digits_of 256 n))
 
-pub content_shortest : (z : ℤ) → is_minimal (integer_content z) ≡ true
+pub is_minimal-integer_content : (z : ℤ) → is_minimal (integer_content z) ≡ true
 unfolding integer_content
-content_shortest (pos n) = (signed_digits n).shortest
-content_shortest (negsuc n) = turned_shortest (with_sign (digits_of 256 n)) (signed_digits n).octets (signed_digits n).shortest
+is_minimal-integer_content (pos n) = (signed_digits n).shortest
+is_minimal-integer_content (negsuc n) = is_minimal-turned (with_sign (digits_of 256 n)) (signed_digits n).octets (signed_digits n).shortest
 
 turned_high : (s : List ℕ) → 0 < length s → get_or s 0 0 < 128 → 128 ≤ get_or (turned s) 0 0
 turned_high [] l h = absurd (omega arith)
 turned_high (x ∷ xs) l h = omega arith
 
-shortest_some : (c : List ℕ) → is_minimal c ≡ true → 0 < length c
-shortest_some [] e = absurd cc
-shortest_some (x ∷ xs) e = omega arith
+is_minimal-nonempty : (c : List ℕ) → is_minimal c ≡ true → 0 < length c
+is_minimal-nonempty [] e = absurd cc
+is_minimal-nonempty (x ∷ xs) e = omega arith
 
-pub content_value : (z : ℤ) → signed_number (integer_content z) ≡ z
+pub signed_number-integer_content : (z : ℤ) → signed_number (integer_content z) ≡ z
 unfolding integer_content
-content_value (pos n) = let s = signed_digits n in signed_low (with_sign (digits_of 256 n)) s.low ∙ ap pos s.value
-content_value (negsuc n) =
+signed_number-integer_content (pos n) = let s = signed_digits n in signed_number-low (with_sign (digits_of 256 n)) s.low ∙ ap pos s.value
+signed_number-integer_content (negsuc n) =
     let s = signed_digits n in
     let ds = with_sign (digits_of 256 n) in
-    signed_high (turned ds) (IsOctets-turned ds) (turned_high ds (shortest_some ds s.shortest) s.low) ∙ ap (λ (t : List ℕ). negsuc (number t)) (turned_twice ds s.octets) ∙ ap negsuc s.value
+    signed_number-high (turned ds) (IsOctets-turned ds) (turned_high ds (is_minimal-nonempty ds s.shortest) s.low) ∙ ap (λ (t : List ℕ). negsuc (number t)) (turned-turned ds s.octets) ∙ ap negsuc s.value
 
 -- ---- contents octets, and no fewer octets
 
@@ -204,40 +204,40 @@ shortened (x ∷ y ∷ ys) is l =
       | inl e ↦ record { encoding = x ∷ y ∷ ys; octets = is; shortest = e; same = refl; fewer = omega arith }
       | inr e ↦
           let s = shortened (y ∷ ys) is.1 (omega arith) in
-          record { encoding = s.encoding; octets = s.octets; shortest = s.shortest; same = s.same ∙ sym (fewer_same x y ys is e); fewer = omega (arith, s.fewer) }
+          record { encoding = s.encoding; octets = s.octets; shortest = s.shortest; same = s.same ∙ sym (signed_number-not_minimal x y ys is e); fewer = omega (arith, s.fewer) }
     ]
 
-pub is_content : (c : List ℕ) → IsOctets c → is_minimal c ≡ true → IsIntegerContent c (signed_number c)
-is_content c is e = record {
+pub is_minimal-IsIntegerContent : (c : List ℕ) → IsOctets c → is_minimal c ≡ true → IsIntegerContent c (signed_number c)
+is_minimal-IsIntegerContent c is e = record {
   octets = is;
-  some = shortest_some c e;
+  some = is_minimal-nonempty c e;
   value = refl;
   shortest = λ t octets some fewer same.
       let s = shortened t octets some in
-      let one : s.encoding ≡ c = content_only s.encoding s.octets s.shortest ∙ ap integer_content (s.same ∙ same) ∙ sym (content_only c is e) in
+      let one : s.encoding ≡ c = integer_content-only s.encoding s.octets s.shortest ∙ ap integer_content (s.same ∙ same) ∙ sym (integer_content-only c is e) in
       omega (arith, s.fewer, fewer, ap length one);
 }
 
-pub content_is : (z : ℤ) → IsIntegerContent (integer_content z) z
-content_is z = subst (λ (x : ℤ). IsIntegerContent (integer_content z) x) (content_value z) (is_content (integer_content z) (IsOctets-integer_content z) (content_shortest z))
+pub IsIntegerContent-integer_content : (z : ℤ) → IsIntegerContent (integer_content z) z
+IsIntegerContent-integer_content z = subst (λ (x : ℤ). IsIntegerContent (integer_content z) x) (signed_number-integer_content z) (is_minimal-IsIntegerContent (integer_content z) (IsOctets-integer_content z) (is_minimal-integer_content z))
 
-pub is_content_shortest : (c : List ℕ) (z : ℤ) → IsIntegerContent c z → is_minimal c ≡ true
-is_content_shortest [] z is = absurd (omega (arith, is.some))
-is_content_shortest (x ∷ []) z is = refl
-is_content_shortest (x ∷ y ∷ ys) z is =
+pub IsIntegerContent-is_minimal : (c : List ℕ) (z : ℤ) → IsIntegerContent c z → is_minimal c ≡ true
+IsIntegerContent-is_minimal [] z is = absurd (omega (arith, is.some))
+IsIntegerContent-is_minimal (x ∷ []) z is = refl
+IsIntegerContent-is_minimal (x ∷ y ∷ ys) z is =
     elim (cases_Bool (is_minimal (x ∷ y ∷ ys))) [
       | inl e ↦ e
-      | inr e ↦ absurd (is.shortest (y ∷ ys) is.octets.1 (omega arith) (omega arith) (sym (fewer_same x y ys is.octets e) ∙ is.value))
+      | inr e ↦ absurd (is.shortest (y ∷ ys) is.octets.1 (omega arith) (omega arith) (sym (signed_number-not_minimal x y ys is.octets e) ∙ is.value))
     ]
 
 pub IsIntegerContent-only : (c : List ℕ) (z : ℤ) → IsIntegerContent c z → c ≡ integer_content z
-IsIntegerContent-only c z is = content_only c is.octets (is_content_shortest c z is) ∙ ap integer_content is.value
+IsIntegerContent-only c z is = integer_content-only c is.octets (IsIntegerContent-is_minimal c z is) ∙ ap integer_content is.value
 
 pub nine_bits_tell : (x y : ℕ) (ys : List ℕ) → IsOctets (x ∷ y ∷ ys) → (is_minimal (x ∷ y ∷ ys) ≡ false) ↔ (signed_number (x ∷ y ∷ ys) ≡ signed_number (y ∷ ys))
 nine_bits_tell x y ys is = (
-  fewer_same x y ys is,
+  signed_number-not_minimal x y ys is,
   λ same. elim (cases_Bool (is_minimal (x ∷ y ∷ ys))) [
-    | inl e ↦ absurd ((is_content (x ∷ y ∷ ys) is e).shortest (y ∷ ys) is.1 (omega arith) (omega arith) (sym same))
+    | inl e ↦ absurd ((is_minimal-IsIntegerContent (x ∷ y ∷ ys) is e).shortest (y ∷ ys) is.1 (omega arith) (omega arith) (sym same))
     | inr e ↦ e
   ],
 )
@@ -252,12 +252,12 @@ pub read_integer_is : (c : List ℕ) (z : ℤ) → read_integer c ≡ Ok z → (
 unfolding read_integer
 read_integer_is c z e =
     let p = if_ok-is (is_minimal c) (Ok (signed_number c)) _ z e in
-    (p.0, ok_is (signed_number c) z p.1)
+    (p.0, done-injective (signed_number c) z p.1)
 
 pub reads_contents_alone : (c : List ℕ) (z : ℤ) → IsOctets c → (read_integer c ≡ Ok z) ↔ IsIntegerContent c z
 reads_contents_alone c z is = (
-  (λ e. let p = read_integer_is c z e in subst (λ (x : ℤ). IsIntegerContent c x) p.1 (is_content c is p.0)),
-  λ h. read_integer_ok c (is_content_shortest c z h) ∙ ap Ok h.value,
+  (λ e. let p = read_integer_is c z e in subst (λ (x : ℤ). IsIntegerContent c x) p.1 (is_minimal-IsIntegerContent c is p.0)),
+  λ h. read_integer_ok c (IsIntegerContent-is_minimal c z h) ∙ ap Ok h.value,
 )
 
 -- ---- numbers of a range
@@ -267,50 +267,50 @@ pub if_err-ok : {A : Type 0} (b : Bool) (d : ReadError) (x : Result A ReadError)
 if_err-ok true d x y e = absurd cc
 if_err-ok false d x y e = (refl, e)
 
-pub range_ok : (low high z : ℤ) → low ≤ℤ z → z ≤ℤ high → within_range low high z ≡ Ok z
-range_ok low high z a b =
+pub within_range-ok : (low high z : ℤ) → low ≤ℤ z → z ≤ℤ high → within_range low high z ≡ Ok z
+within_range-ok low high z a b =
     let above : int_lt z low ≡ false = grind (arith, ints) in
     let below_high : int_lt high z ≡ false = grind (arith, ints) in
     rw (above, below_high) refl
 
-pub range_below : (low high z : ℤ) → z <ℤ low → within_range low high z ≡ Err (read_error (below low))
-range_below low high z a =
+pub within_range-below : (low high z : ℤ) → z <ℤ low → within_range low high z ≡ Err (read_error (below low))
+within_range-below low high z a =
     let test : int_lt z low ≡ true = grind (arith, ints) in
     rw test refl
 
-pub range_above : (low high z : ℤ) → low ≤ℤ z → high <ℤ z → within_range low high z ≡ Err (read_error IntegerOverflow)
-range_above low high z a b =
+pub within_range-above : (low high z : ℤ) → low ≤ℤ z → high <ℤ z → within_range low high z ≡ Err (read_error IntegerOverflow)
+within_range-above low high z a b =
     let above : int_lt z low ≡ false = grind (arith, ints) in
     let over : int_lt high z ≡ true = grind (arith, ints) in
     rw (above, over) refl
 
-range_consumes : (low high z m : ℤ) → within_range low high z ≡ Ok m → (z ≡ m) × ((low ≤ℤ m) × (m ≤ℤ high))
-range_consumes low high z m e =
+within_range-ok_is : (low high z m : ℤ) → within_range low high z ≡ Ok m → (z ≡ m) × ((low ≤ℤ m) × (m ≤ℤ high))
+within_range-ok_is low high z m e =
     let first = if_err-ok (int_lt z low) (read_error (below low)) _ m e in
     let second = if_err-ok (int_lt high z) (read_error IntegerOverflow) (Ok z) m first.1 in
-    let same : z ≡ m = ok_is z m second.1 in
+    let same : z ≡ m = done-injective z m second.1 in
     let above : low ≤ℤ z = let h = first.0 in omega (arith, ints) in
     let under : z ≤ℤ high = let h = second.0 in omega (arith, ints) in
     (same, subst (λ (x : ℤ). (low ≤ℤ x) × (x ≤ℤ high)) same (above, under))
 
-pub sized_ok : (low high : ℤ) (c : List ℕ) (r : Result ℤ ReadError) → is_minimal c ≡ true → within_range low high (signed_number c) ≡ r → read_sized low high c ≡ r
+pub read_sized-minimal : (low high : ℤ) (c : List ℕ) (r : Result ℤ ReadError) → is_minimal c ≡ true → within_range low high (signed_number c) ≡ r → read_sized low high c ≡ r
 unfolding read_sized
-sized_ok low high c r e f = rw (read_integer_ok c e) f
+read_sized-minimal low high c r e f = rw (read_integer_ok c e) f
 
-pub sized_refused : (low high : ℤ) (c : List ℕ) → is_minimal c ≡ false → read_sized low high c ≡ Err (read_error InvalidValue)
+pub read_sized-not_minimal : (low high : ℤ) (c : List ℕ) → is_minimal c ≡ false → read_sized low high c ≡ Err (read_error InvalidValue)
 unfolding read_sized read_integer
-sized_refused low high c e = rw e refl
+read_sized-not_minimal low high c e = rw e refl
 
 pub sized_consumes : (low high : ℤ) (c : List ℕ) (m : ℤ) → IsOctets c → read_sized low high c ≡ Ok m → (c ≡ integer_content m) × ((low ≤ℤ m) × (m ≤ℤ high))
 unfolding read_sized
 sized_consumes low high c m is e =
     let p = bind_ok (read_integer c) (within_range low high) m e in
     let q = read_integer_is c p.0 p.1 in
-    let r = range_consumes low high p.0 m p.2 in
-    (content_only c is q.0 ∙ ap integer_content (q.1 ∙ r.0), r.1)
+    let r = within_range-ok_is low high p.0 m p.2 in
+    (integer_content-only c is q.0 ∙ ap integer_content (q.1 ∙ r.0), r.1)
 
 pub sized_read_back : (low high : ℤ) (m : ℤ) → (low ≤ℤ m) × (m ≤ℤ high) → read_sized low high (integer_content m) ≡ Ok m
-sized_read_back low high m range = sized_ok low high (integer_content m) (Ok m) (content_shortest m) (ap (within_range low high) (content_value m) ∙ range_ok low high m range.0 range.1)
+sized_read_back low high m range = read_sized-minimal low high (integer_content m) (Ok m) (is_minimal-integer_content m) (ap (within_range low high) (signed_number-integer_content m) ∙ within_range-ok low high m range.0 range.1)
 
 -- ---- no error is `AllocationError`
 
@@ -336,8 +336,8 @@ negative_number n e = cc
 
 unless_zero_is : (z m : ℤ) → unless_zero z ≡ Ok m → (z ≡ m) × (m ≡ pos 0 → ⊥)
 unless_zero_is (pos zero) m e = absurd cc
-unless_zero_is (pos (suc n)) m e = let same : pos (suc n) ≡ m = ok_is _ _ e in (same, λ none. absurd (some_number n (same ∙ none)))
-unless_zero_is (negsuc n) m e = let same : negsuc n ≡ m = ok_is _ _ e in (same, λ none. absurd (negative_number n (same ∙ none)))
+unless_zero_is (pos (suc n)) m e = let same : pos (suc n) ≡ m = done-injective _ _ e in (same, λ none. absurd (some_number n (same ∙ none)))
+unless_zero_is (negsuc n) m e = let same : negsuc n ≡ m = done-injective _ _ e in (same, λ none. absurd (negative_number n (same ∙ none)))
 
 kept_unless_zero : (m : ℤ) → (m ≡ pos 0 → ⊥) → unless_zero m ≡ Ok m
 kept_unless_zero (pos zero) some = absurd (some refl)

@@ -5,11 +5,11 @@ use Rattle.asn1_core.specs.declared.parser.ParseErrorKind.TheVariants.{InvalidVa
 use Rattle.asn1_core.specs.Base256.{IsOctets}
 use Rattle.asn1_core.specs.ReadError.{IsOfInput}
 use Rattle.asn1_core.specs.Octets.{read_octets, read_sized_octets, read_null}
-use Rattle.asn1_core.specs.Lemmas.Results.{ok_is, if_ok-is}
+use Rattle.asn1_core.specs.Lemmas.Results.{done-injective, if_ok-is}
 use Rattle.asn1_core.specs.Lemmas.Faults.{passed_errors}
 
 pub octets_consumes : (c octets : List ℕ) → IsOctets c → read_octets c ≡ Ok octets → (c ≡ octets) × IsOctets octets
-octets_consumes c octets is e = let same : c ≡ octets = ok_is c octets e in (same, subst IsOctets same is)
+octets_consumes c octets is e = let same : c ≡ octets = done-injective c octets e in (same, subst IsOctets same is)
 
 pub sized_octets_consumes : (size : ℕ) (c octets : List ℕ) → IsOctets c → read_sized_octets size c ≡ Ok octets → (c ≡ octets) × (IsOctets octets × (length octets ≡ size))
 sized_octets_consumes size c octets is e =

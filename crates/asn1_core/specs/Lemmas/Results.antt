@@ -13,8 +13,8 @@ use Rattle.asn1_core.specs.Reading.{Returns, expected, simple, content_of, expec
 abbrev pub done : {A : Type 0} → A → Result A ReadError
 done x = Ok x
 
-pub ok_is : {A : Type 0} (x y : A) → done x ≡ done y → x ≡ y
-ok_is x y e = cc
+pub done-injective : {A : Type 0} (x y : A) → done x ≡ done y → x ≡ y
+done-injective x y e = cc
 
 pub bind_ok : {A B : Type 0} (r : Result A ReadError) (f : A → Result B ReadError) (y : B) → (r >>= f) ≡ Ok y → (x : A) × (r ≡ Ok x) × (f x ≡ Ok y)
 bind_ok (Ok x) f y e = (x, refl, e)
@@ -34,13 +34,13 @@ pub if_ok-is : {A : Type 0} (b : Bool) (x : Result A ReadError) (d : ReadError) 
 if_ok-is true x d y e = (refl, e)
 if_ok-is false x d y e = absurd cc
 
-no_place : (e : ReadError) → e.places ≡ [] → read_error e.kind ≡ e
-no_place e none = ap (λ (places : List Place). record { kind = e.kind; places = places }) (sym none)
+read_error-kind : (e : ReadError) → e.places ≡ [] → read_error e.kind ≡ e
+read_error-kind e none = ap (λ (places : List Place). record { kind = e.kind; places = places }) (sym none)
 
 -- what framing returned is what a read returns
 pub Returns-framed : {V A : Type 0} (view : V → A) (r : Result V ReadError) (answer : Result A ParseErrorKind) → ReturnsPlain view r answer → Returns view (λ places. ⊥) r (framed answer)
 Returns-framed view (Ok v) answer e = rw e refl
-Returns-framed view (Err f) answer e = inl (rw (e.0, no_place f e.1) refl)
+Returns-framed view (Err f) answer e = inl (rw (e.0, read_error-kind f e.1) refl)
 
 -- if reading the element with an expected tag gives an error, the simple type gives the same
 other_tag : {M : Type 0} (b : Bool) (tag : Tag) (found : List ℕ × List ℕ) (read : Result (M × List ℕ) ReadError) (kind : ParseErrorKind) →

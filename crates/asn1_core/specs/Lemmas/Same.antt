@@ -17,9 +17,9 @@ tag_of_kind : Tag → ParseErrorKind → Tag
 tag_of_kind t (UnexpectedTag u) = u
 tag_of_kind t _ = t
 
-unexpected : (a b : Tag) → UnexpectedTag a ≡ UnexpectedTag b → a ≡ b
+UnexpectedTag-injective : (a b : Tag) → UnexpectedTag a ≡ UnexpectedTag b → a ≡ b
 unfolding tag_of_kind
-unexpected a b e = ap (tag_of_kind a) e
+UnexpectedTag-injective a b e = ap (tag_of_kind a) e
 
 size_same : (a b c x y z : ℕ) → ((eqb a x && eqb b y) && eqb c z) ≡ true → InvalidSize a b c ≡ InvalidSize x y z
 size_same a b c x y z e =
@@ -35,7 +35,7 @@ kind_eq-decides InvalidValue InvalidValue = (λ e. refl, λ e. refl)
 kind_eq-decides InvalidTag InvalidTag = (λ e. refl, λ e. refl)
 kind_eq-decides InvalidLength InvalidLength = (λ e. refl, λ e. refl)
 kind_eq-decides (InvalidSize a b c) (InvalidSize x y z) = (λ e. size_same a b c x y z e, λ e. let i : a ≡ x = cc in let j : b ≡ y = cc in let k : c ≡ z = cc in and_from _ _ (and_from _ _ (eq-eqb a x i) (eq-eqb b y j)) (eq-eqb c z k))
-kind_eq-decides (UnexpectedTag a) (UnexpectedTag b) = (λ e. ap (λ (t : Tag). UnexpectedTag t) (tag_eq-is a b e), λ e. ap (λ (t : Tag). tag_eq a t) (sym (unexpected a b e)) ∙ tag_eq-refl a)
+kind_eq-decides (UnexpectedTag a) (UnexpectedTag b) = (λ e. ap (λ (t : Tag). UnexpectedTag t) (tag_eq-is a b e), λ e. ap (λ (t : Tag). tag_eq a t) (sym (UnexpectedTag-injective a b e)) ∙ tag_eq-refl a)
 kind_eq-decides (ShortData n) (ShortData m) = (λ e. let i : n ≡ m = eqb-true n m e in rw i refl, λ e. let i : n ≡ m = cc in eq-eqb n m i)
 kind_eq-decides IntegerOverflow IntegerOverflow = (λ e. refl, λ e. refl)
 kind_eq-decides ExtraData ExtraData = (λ e. refl, λ e. refl)

@@ -6,13 +6,13 @@ pub IsOctets-prefix : (a b : List ℕ) → IsOctets (a ++ b) → IsOctets a
 IsOctets-prefix [] b is = tt
 IsOctets-prefix (x ∷ xs) b is = (is.0, IsOctets-prefix xs b is.1)
 
-pub IsOctets-rest : (a b : List ℕ) → IsOctets (a ++ b) → IsOctets b
-IsOctets-rest [] b is = is
-IsOctets-rest (x ∷ xs) b is = IsOctets-rest xs b is.1
+pub IsOctets-suffix : (a b : List ℕ) → IsOctets (a ++ b) → IsOctets b
+IsOctets-suffix [] b is = is
+IsOctets-suffix (x ∷ xs) b is = IsOctets-suffix xs b is.1
 
-pub IsOctets-both : (a b : List ℕ) → IsOctets a → IsOctets b → IsOctets (a ++ b)
-IsOctets-both [] b f g = g
-IsOctets-both (x ∷ xs) b f g = (f.0, IsOctets-both xs b f.1 g)
+pub IsOctets-append : (a b : List ℕ) → IsOctets a → IsOctets b → IsOctets (a ++ b)
+IsOctets-append [] b f g = g
+IsOctets-append (x ∷ xs) b f g = (f.0, IsOctets-append xs b f.1 g)
 
 -- Octets that are each below 256, as a slice of them is known to be.
 pub IsOctets-from_reads : (octets : List ℕ) → ((i : ℕ) → get_or octets i 0 < 256) → IsOctets octets

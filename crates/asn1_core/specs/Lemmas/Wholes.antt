@@ -10,12 +10,12 @@ use Rattle.asn1_core.specs.Length.{length_octets}
 use Rattle.asn1_core.specs.Element.{element_encoding}
 use Rattle.asn1_core.specs.ReadError.{ReadError, IsOfInput}
 use Rattle.asn1_core.specs.Reading.{begins_accepted, Returns, IsErrorOf, PassesOn, Consumes, Fits, IsOneElement, all_taken, whole}
-use Rattle.asn1_core.specs.Lemmas.Tags.{tag_none, tag_ok}
-use Rattle.asn1_core.specs.Lemmas.Elements.{content_less, element_encoding-append}
-use Rattle.asn1_core.specs.Lemmas.Results.{ok_is, bind_ok}
+use Rattle.asn1_core.specs.Lemmas.Tags.{leading_tag-empty, leading_tag-identifier_octets}
+use Rattle.asn1_core.specs.Lemmas.Elements.{length-content-lt, element_encoding-append}
+use Rattle.asn1_core.specs.Lemmas.Results.{done-injective, bind_ok}
 
 pub all_taken-ok_is : {M : Type 0} (m x : M) (rest : List ℕ) → all_taken m rest ≡ Ok x → (rest ≡ []) × (m ≡ x)
-all_taken-ok_is m x [] e = (refl, ok_is _ _ e)
+all_taken-ok_is m x [] e = (refl, done-injective _ _ e)
 all_taken-ok_is m x (octet ∷ octets) e = absurd cc
 
 abbrev gave : {M : Type 0} → M → List ℕ → Result (M × List ℕ) ReadError
@@ -23,20 +23,20 @@ gave m rest = Ok (m, rest)
 
 -- empty input begins with no accepted tag
 pub begins_accepted-nil : (accepts : Tag → Bool) → begins_accepted accepts [] ≡ false
-begins_accepted-nil accepts = rw (tag_none [] refl) refl
+begins_accepted-nil accepts = rw (leading_tag-empty [] refl) refl
 
 -- octets begin with an element with an accepted tag
 pub begins_accepted-element : (accepts : Tag → Bool) (octets rest : List ℕ) (one : IsOneElement octets) → accepts one.element.tag ≡ true → begins_accepted accepts (octets ++ rest) ≡ true
 begins_accepted-element accepts octets rest one a =
     let e = one.element in
     let at : octets ++ rest ≡ identifier_octets e.tag ++ (length_octets (length e.content) ++ (e.content ++ rest)) = ap (λ (t : List ℕ). t ++ rest) one.is ∙ element_encoding-append e rest in
-    rw (at, tag_ok e.tag (length_octets (length e.content) ++ (e.content ++ rest)) one.readable) a
+    rw (at, leading_tag-identifier_octets e.tag (length_octets (length e.content) ++ (e.content ++ rest)) one.readable) a
 
 -- what is read to its end is an encoding
-pub whole_is : {M : Type 0} (encoding : M → List ℕ) (valid : M → Type 0) (read : List ℕ → Result (M × List ℕ) ReadError) →
+pub whole-consumes : {M : Type 0} (encoding : M → List ℕ) (valid : M → Type 0) (read : List ℕ → Result (M × List ℕ) ReadError) →
     ((t rest : List ℕ) (m : M) → IsOctets t → read t ≡ Ok (m, rest) → Consumes t (encoding m) rest × valid m) →
     (t : List ℕ) (m : M) → IsOctets t → whole (read t) ≡ Ok m → Consumes t (encoding m) [] × valid m
-whole_is {M} encoding valid read law t m is e =
+whole-consumes {M} encoding valid read law t m is e =
     let p = bind_ok (read t) (λ x. all_taken x.0 x.1) m e in
     let q = all_taken-ok_is p.0.0 m p.0.1 p.2 in
     law t [] m is (p.1 ∙ (ap (λ (x : M). gave x p.0.1) q.1 ∙ ap (λ (r : List ℕ). gave m r) q.0))
@@ -48,7 +48,7 @@ pub one_value : {M : Type 0} (accepts : Tag → Bool) (encoding : M → List ℕ
 one_value {M} accepts encoding read good law m n p q fits same =
     let first = law m p fits (λ e. begins_accepted-nil accepts) in
     let second = law n q (subst Fits same fits) (λ e. begins_accepted-nil accepts) in
-    ap (λ (x : M × List ℕ). x.0) (ok_is (m, []) (n, []) (sym first ∙ (ap (λ (t : List ℕ). read (t ++ [])) same ∙ second)))
+    ap (λ (x : M × List ℕ). x.0) (done-injective (m, []) (n, []) (sym first ∙ (ap (λ (t : List ℕ). read (t ++ [])) same ∙ second)))
 
 -- and an encoding is read to its end
 pub whole_read_back : {M : Type 0} (encoding : M → List ℕ) (read : List ℕ → Result (M × List ℕ) ReadError) (m : M) (t : List ℕ) →
@@ -61,16 +61,16 @@ pub Returns-whole_ok : {V M : Type 0} (view : V → M) (out : List Place → Typ
     (t : List ℕ) (result : Result V ReadError) → IsOctets t → Returns view out result (whole (read t)) →
     IfOk result (λ v. (t ≡ encoding (view v)) × valid (view v))
 Returns-whole_ok view out encoding valid read law t (Ok v) is e =
-    let w = whole_is encoding valid read law t (view v) is e in
+    let w = whole-consumes encoding valid read law t (view v) is e in
     (w.0.is ∙ append-nil (encoding (view v)), w.1)
 Returns-whole_ok view out encoding valid read law t (Err f) is e = tt
 
 -- an encoding that is empty or one element fits, if it is within contents octets that can be read
-pub fits_inside : (octets : List ℕ) → (octets ≡ []) ⊎ IsOneElement octets → length octets < 2 ^ 32 → Fits octets
-fits_inside octets (inl none) small = inl none
-fits_inside octets (inr a) small =
+pub Fits-short : (octets : List ℕ) → (octets ≡ []) ⊎ IsOneElement octets → length octets < 2 ^ 32 → Fits octets
+Fits-short octets (inl none) small = inl none
+Fits-short octets (inr a) small =
     let same : length octets ≡ length (element_encoding a.element) = ap length a.is in
-    inr (a.element, record { tag = a.readable; content = omega (arith, content_less a.element) }, a.is)
+    inr (a.element, record { tag = a.readable; content = omega (arith, length-content-lt a.element) }, a.is)
 
 IsErrorOf-whole : {M : Type 0} (out : List Place → Type 0) (read : Result (M × List ℕ) ReadError) (e : ReadError) → IsErrorOf out read e → IsErrorOf out (whole read) e
 IsErrorOf-whole out read e (inl is) = inl (rw is refl)

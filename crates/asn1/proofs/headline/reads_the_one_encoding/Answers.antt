@@ -6,7 +6,7 @@ use Rattle.asn1_core.specs.ReadError.{ReadError}
 use Rattle.asn1_core.specs.Reading.{Returns, whole}
 use Rattle.asn1_core.specs.Der.{Der}
 use Rattle.asn1_core.specs.Lemmas.Texts.{IsOctets-from_reads}
-use Rattle.asn1_core.specs.Lemmas.Wholes.{begins_accepted-nil, whole_is}
+use Rattle.asn1_core.specs.Lemmas.Wholes.{begins_accepted-nil, whole-consumes}
 use Rattle.asn1.specs.Headline.{Encodes}
 use Rattle.asn1.proofs.headline.reads_the_one_encoding.Goals as goal
 
@@ -20,7 +20,7 @@ module _ {V : Type 0} (d : Der V) (octets : List ℕ) where
 
   encodes : (m : d.Meaning) → IsOctets octets → whole (d.read octets) ≡ Ok m → Encodes d m octets
   encodes m is e =
-      let h = whole_is d.encoding (λ x. d.valid x × d.allowed x) d.read d.laws.consumes octets m is e in
+      let h = whole-consumes d.encoding (λ x. d.valid x × d.allowed x) d.read d.laws.consumes octets m is e in
       record { is = h.0.is ∙ append-nil (d.encoding m); valid = h.1.0; allowed = h.1.1; fits = h.0.one }
 
   found : (result : Result V ReadError) → IsOctets octets → Read result → IfOk result (λ v. Encodes d (d.meaning v) octets)

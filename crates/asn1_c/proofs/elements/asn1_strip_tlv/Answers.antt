@@ -4,20 +4,20 @@ use Rattle.asn1.specs.Element.{Element}
 use Rattle.asn1.specs.Tlv.{stripped}
 use Rattle.asn1_c.specs.declared.errors.Asn1Error.{Asn1Error}
 use Rattle.asn1_c.specs.Errors.{told}
-use Rattle.asn1_c.proofs.Told.{not_short, told-ShortData, leaves_more, element_within}
+use Rattle.asn1_c.proofs.Told.{told-not_IsShort, told-ShortData, Leaves-with_more, Leaves-length-le}
 use Rattle.asn1_c.proofs.elements.asn1_strip_tlv.Goals as goal
 
 number : (error : Asn1Error) (r : Result (Element × List ℕ) ParseErrorKind) → error ≡ told r → error.number ≡ (told r).number
 number error r e = ap (λ (it : Asn1Error). it.number) e
 
 pub returns-clause-within : goal.returns-clause-within
-returns-clause-within c = λ none. element_within c.args.element.now c.tell.new.element c.tell.new.error c.args.octets.now (stripped c.strip_tlv-found.result) c.strip_tlv-found.ensures.grammar c.tell.ensures none
+returns-clause-within c = λ none. Leaves-length-le c.args.element.now c.tell.new.element c.tell.new.error c.args.octets.now (stripped c.strip_tlv-found.result) c.strip_tlv-found.ensures.grammar c.tell.ensures none
 
 pub returns-clause-stays : goal.returns-clause-stays
 returns-clause-stays c = λ more is other.
     let answer = stripped c.strip_tlv-found.result in
-    let same = c.strip_tlv-found.ensures.stays more is (not_short answer (λ six. other (number c.tell.new.error answer c.tell.ensures.error ∙ six))) in
-    rw same (leaves_more c.args.element.now c.tell.new.element c.tell.new.error answer more c.tell.ensures)
+    let same = c.strip_tlv-found.ensures.stays more is (told-not_IsShort answer (λ six. other (number c.tell.new.error answer c.tell.ensures.error ∙ six))) in
+    rw same (Leaves-with_more c.args.element.now c.tell.new.element c.tell.new.error answer more c.tell.ensures)
 
 pub returns-clause-fewer : goal.returns-clause-fewer
 returns-clause-fewer c = λ more is six few.

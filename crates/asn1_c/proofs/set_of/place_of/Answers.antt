@@ -3,7 +3,7 @@ use Rattle.std.specs.Cmp.Lexicographic.{slice_cmp}
 use Rattle.std.specs.Ordering.{is_lt, nat_cmp}
 use Rattle.asn1.specs.Element.{element_encoding}
 use Rattle.asn1.specs.Tlv.{element_of}
-use Rattle.asn1_c.proofs.InOrder.{length-remaining-lt, passes_more, concat-place_encoding_here, concat-place_encoding_last, append-take_drop}
+use Rattle.asn1_c.proofs.InOrder.{length-remaining-lt, IsPassed-push, concat-place_encoding_here, concat-place_encoding_last, append-take_drop}
 use Rattle.asn1_c.proofs.set_of.place_of.Goals as goal
 use Rattle.asn1_c.proofs.set_of.place_of.Goals.{in-Ok+then-not-is_lt, in_default}
 
@@ -15,7 +15,7 @@ loop-element-preserved c =
     let front = c.loop-element.invariant.0 in
     let e = element_of c.in-Ok.element in
     let less = ap is_lt (ap (λ t. slice_cmp nat_cmp t c.args.text.now) (sym c.full_data.ensures.whole) ∙ sym c.cmp.ensures) ∙ sym c.is_lt.ensures ∙ c.if-not-is_lt.false in
-    (front ++ element_encoding e, passes_more c.args.listed.now c.args.text.now front c.loop-element.rest.now c.in-Ok.after.now e c.loop-element.invariant.1 c.in-Ok.ensures.grammar less)
+    (front ++ element_encoding e, IsPassed-push c.args.listed.now c.args.text.now front c.loop-element.rest.now c.in-Ok.after.now e c.loop-element.invariant.1 c.in-Ok.ensures.grammar less)
 
 pub returns-clause-place : goal.returns-clause-place
 returns-clause-place c =

@@ -1,13 +1,13 @@
-use Rattle.asn1_core.specs.Lemmas.Numbers.{number_is, number_only}
-use Rattle.asn1_core.specs.Lemmas.Tags.{tag_is, tag_only}
-use Rattle.asn1_core.specs.Lemmas.Lengths.{length_is, length_only}
+use Rattle.asn1_core.specs.Lemmas.Numbers.{IsLeadingNumber-leading_number, leading_number-only}
+use Rattle.asn1_core.specs.Lemmas.Tags.{IsLeadingTag-leading_tag, leading_tag-only}
+use Rattle.asn1_core.specs.Lemmas.Lengths.{IsLeadingLength-leading_length, leading_length-only}
 use Rattle.asn1_core.specs.Lemmas.Elements.{IsLeadingElement-leading_element, leading_element-only}
 use Rattle.asn1_core.proofs.laws.one_answer.Goals as goal
 
 pub returns : goal.returns
 returns c = record {
-  numbers = (number_is, λ octets answer is a. number_only octets answer a);
-  tags = (tag_is, λ octets answer is a. tag_only octets answer a);
-  lengths = (length_is, length_only);
+  numbers = (IsLeadingNumber-leading_number, λ octets answer is a. leading_number-only octets answer a);
+  tags = (IsLeadingTag-leading_tag, λ octets answer is a. leading_tag-only octets answer a);
+  lengths = (IsLeadingLength-leading_length, leading_length-only);
   elements = (IsLeadingElement-leading_element, leading_element-only);
 }

@@ -6,7 +6,7 @@ use Rattle.asn1_core.specs.Tag.{leading_tag}
 use Rattle.asn1_core.specs.Length.{length_octets, leading_length}
 use Rattle.asn1_core.specs.Element.{element_encoding, leading_element}
 use Rattle.asn1_core.specs.Laws.{LeadingElements, Tags, Lengths, Booleans, Places}
-use Rattle.asn1_core.specs.Lemmas.Digits.{Leads, digits_back, number_by_digits}
+use Rattle.asn1_core.specs.Lemmas.Digits.{Leads, digits_of-number_from_digits, number_from_digits_256}
 use Rattle.asn1_core.specs.Lemmas.NumberTexts.{AreNumberOctets-only}
 use Rattle.asn1_core.specs.Lemmas.Lengths.{length_octets-low, length_octets-high}
 use Rattle.asn1_core.proofs.laws.worked_examples.Goals as goal
@@ -38,7 +38,7 @@ tags = record {
 -- the length octets of a long length, by the octets of its number
 long_is : (octets : List ℕ) (n : ℕ) → 128 ≤ n → IsOctets octets → Leads octets → number octets ≡ n → length_octets n ≡ (128 + length octets) ∷ octets
 long_is octets n long is leads value =
-    let same : digits_of 256 n ≡ octets = ap (digits_of 256) (sym (number_by_digits octets ∙ value)) ∙ digits_back 256 octets (lit≤ tt) is leads in
+    let same : digits_of 256 n ≡ octets = ap (digits_of 256) (sym (number_from_digits_256 octets ∙ value)) ∙ digits_of-number_from_digits 256 octets (lit≤ tt) is leads in
     length_octets-high n long ∙ ap (λ (s : List ℕ). (128 + length s) ∷ s) same
 
 lengths : Lengths

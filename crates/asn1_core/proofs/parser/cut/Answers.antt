@@ -5,7 +5,7 @@ use Rattle.asn1_core.specs.declared.tag.Tag.{Tag}
 use Rattle.asn1_core.specs.Base256.{IsOctets}
 use Rattle.asn1_core.specs.Element.{leading_content, leading_element, element, element_encoding}
 use Rattle.asn1_core.specs.Lemmas.Texts.{IsOctets-from_reads}
-use Rattle.asn1_core.specs.Lemmas.Elements.{leading_element-ok_is, cut_whole}
+use Rattle.asn1_core.specs.Lemmas.Elements.{leading_element-ok_is, take-of_append}
 use Rattle.asn1_core.proofs.parser.cut.Goals as goal
 
 -- the element that was cut off, and the octets that it was cut from
@@ -25,7 +25,7 @@ pub invariant_of-result : goal.invariant_of-result
 invariant_of-result c =
     let f = found c.args.octets.now c.args.tag c.args.n c.args.rest.now _ _ c.requires.header c.requires.enough c.split_at.ensures.front c.split_at.ensures.back in
     let p = parts c.args.octets.now c.args.tag c.split_at.result.0.now c.split_at.result.1.now (IsOctets-from_reads _ (λ i. omega (arith, c.type_inv.octets i))) f in
-    record { is_whole = cut_whole c.args.octets.now _ c.split_at.result.1.now p }
+    record { is_whole = take-of_append c.args.octets.now _ c.split_at.result.1.now p }
 
 pub returns-clause-answer : goal.returns-clause-answer
 returns-clause-answer c = found c.args.octets.now c.args.tag c.args.n c.args.rest.now _ _ c.requires.header c.requires.enough c.split_at.ensures.front c.split_at.ensures.back
@@ -34,4 +34,4 @@ pub returns-clause-parts : goal.returns-clause-parts
 returns-clause-parts c =
     let f = found c.args.octets.now c.args.tag c.args.n c.args.rest.now _ _ c.requires.header c.requires.enough c.split_at.ensures.front c.split_at.ensures.back in
     let p = parts c.args.octets.now c.args.tag c.split_at.result.0.now c.split_at.result.1.now (IsOctets-from_reads _ (λ i. omega (arith, c.type_inv.octets i))) f in
-    p ∙ ap (λ (s : List ℕ). s ++ c.split_at.result.1.now) (sym (cut_whole c.args.octets.now _ c.split_at.result.1.now p))
+    p ∙ ap (λ (s : List ℕ). s ++ c.split_at.result.1.now) (sym (take-of_append c.args.octets.now _ c.split_at.result.1.now p))

@@ -7,7 +7,7 @@ use Rattle.asn1_core.specs.Element.{Element, IsLeadingElement, leading_element}
 use Rattle.asn1_core.specs.ReadError.{framed, ReturnsKind}
 use Rattle.asn1_core.specs.Tlv.{element_of, stripped}
 use Rattle.asn1_core.specs.Laws.{IsShort, with_more}
-use Rattle.asn1_core.specs.Lemmas.Texts.{IsOctets-from_reads, IsOctets-both}
+use Rattle.asn1_core.specs.Lemmas.Texts.{IsOctets-from_reads, IsOctets-append}
 use Rattle.asn1_core.specs.Lemmas.Elements.{ElementFront, IsLeadingElement-leading_element, leading_element-only}
 use Rattle.asn1_core.proofs.Stands.{answers_stand, fewer_are_short}
 use Rattle.asn1_core.proofs.parser.strip_tlv.Goals as goal
@@ -31,9 +31,9 @@ returns-clause-only c = λ a is. sym (answer c) ∙ leading_element-only c.args.
 
 pub returns-clause-stays : goal.returns-clause-stays
 returns-clause-stays c = λ more is long.
-    answers_stand c.args.data.now more (IsOctets-both c.args.data.now more (is_text c) is) (subst (λ (a : ElementFront). ¬ IsShort a) (sym (answer c)) long)
+    answers_stand c.args.data.now more (IsOctets-append c.args.data.now more (is_text c) is) (subst (λ (a : ElementFront). ¬ IsShort a) (sym (answer c)) long)
     ∙ ap (λ (a : ElementFront). with_more a more) (answer c)
 
 pub returns-clause-fewer : goal.returns-clause-fewer
 returns-clause-fewer c = λ more needed is short few.
-    fewer_are_short c.args.data.now more needed (IsOctets-both c.args.data.now more (is_text c) is) (answer c ∙ short) few
+    fewer_are_short c.args.data.now more needed (IsOctets-append c.args.data.now more (is_text c) is) (answer c ∙ short) few

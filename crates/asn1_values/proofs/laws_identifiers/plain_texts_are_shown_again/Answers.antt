@@ -1,5 +1,5 @@
-use Rattle.asn1_values.proofs.PlainTexts.{shown_read_back}
+use Rattle.asn1_values.proofs.PlainTexts.{dotted_text-IsPlainText}
 use Rattle.asn1_values.proofs.laws_identifiers.plain_texts_are_shown_again.Goals as goal
 
 pub returns : goal.returns
-returns c = shown_read_back
+returns c = dotted_text-IsPlainText

@@ -10,7 +10,7 @@ use Rattle.asn1_core.specs.Lemmas.Texts.{IsOctets-from_reads}
 use Rattle.asn1_core.proofs.TagOrder.{tag_at_start-element_encoding}
 use Rattle.asn1.specs.Sets.{set_item, element_behind, with_text}
 use Rattle.asn1.specs.Lemmas.ListItems.{Returns-refused}
-use Rattle.asn1.specs.Lemmas.SetItems.{element_law, set_item_is, set_item-element_behind, checked_step, tag_at_start-nil, IsErrorOf-element_behind}
+use Rattle.asn1.specs.Lemmas.SetItems.{framed_element-consumes, set_item_is, set_item-element_behind, checked_step, tag_at_start-nil, IsErrorOf-element_behind}
 use Rattle.asn1.proofs.lists.sets.check_elements.Goals as goal
 
 pub elements-init : goal.elements-init
@@ -34,7 +34,7 @@ elements-smaller c =
     set_item-element_behind inv.before i rest inv.octets
     ∙ ap (λ (last : Option Tag). element_behind last i rest >>= with_text) inv.tag
     ∙ ap (λ (r : Result (Element × List ℕ) ReadError). r >>= with_text) read in
-    (set_item_is tag_less framed_element element_encoding IsReadable element_law inv.before i rest (e, element_encoding e, after) inv.octets found).shorter
+    (set_item_is tag_less framed_element element_encoding IsReadable framed_element-consumes inv.before i rest (e, element_encoding e, after) inv.octets found).shorter
 
 pub elements-preserved : goal.elements-preserved
 elements-preserved c =
@@ -49,12 +49,12 @@ elements-preserved c =
     ∙ ap (λ (last : Option Tag). element_behind last i rest >>= with_text) inv.tag
     ∙ ap (λ (r : Result (Element × List ℕ) ReadError). r >>= with_text) read in
     let some : rest ≡ [] → ⊥ = λ z. eqb-false _ _ (sym c.is_empty.ensures ∙ c.elements-test.true) (ap length z) in
-    let is = set_item_is tag_less framed_element element_encoding IsReadable element_law inv.before i rest (e, element_encoding e, after) inv.octets found in
+    let is = set_item_is tag_less framed_element element_encoding IsReadable framed_element-consumes inv.before i rest (e, element_encoding e, after) inv.octets found in
     let shorter : length after < length rest = is.shorter in
     record {
       before = element_encoding e;
       tag = tag_at_start-element_encoding e is.good.tag ∙ ap Some (sym c.tag.ensures);
-      same = sym (checked_step tag_less framed_element element_encoding IsReadable element_law inv.before i rest (e, element_encoding e, after) some inv.octets found) ∙ inv.same;
+      same = sym (checked_step tag_less framed_element element_encoding IsReadable framed_element-consumes inv.before i rest (e, element_encoding e, after) some inv.octets found) ∙ inv.same;
       octets = is.octets;
       room = omega (arith, inv.room);
     }

@@ -3,9 +3,9 @@ use Rattle.asn1_core.specs.Tag.{explicit_tag_of}
 use Rattle.asn1_core.specs.Element.{element, element_encoding}
 use Rattle.asn1_core.specs.Reading.{simple, simple_out, whole}
 use Rattle.asn1_core.specs.Lemmas.Contents.{simple_consumes, simple_read}
-use Rattle.asn1_core.specs.Lemmas.Elements.{element_some}
+use Rattle.asn1_core.specs.Lemmas.Elements.{element_encoding-not_nil}
 use Rattle.asn1_core.specs.Lemmas.Faults.{simple_errors, whole_errors}
-use Rattle.asn1_core.proofs.Inside.{inside_consumes, inside_read_back, Returns-consumed, length-remaining-lt, returns_as}
+use Rattle.asn1_core.proofs.Inside.{inside_consumes, inside_read_back, Returns-consumed, length-remaining-lt, Returns-ReturnsValue}
 use Rattle.asn1_core.specs.Lemmas.Wholes.{IfErr-Returns}
 use Rattle.asn1_core.proofs.parser.Parser.read_explicit_element.Goals as goal
 
@@ -21,14 +21,14 @@ pub returns-clause-only : goal.returns-clause-only
 returns-clause-only g c m rest lawful valid allowed short is =
     let d = g.T.Asn1Type.der in
     let tag = explicit_tag_of c.args.tag in
-    returns_as d _ c.read_explicit.result _ m rest (simple tag (λ (o : List ℕ). whole (d.read o)) c.args.self.now) c.read_explicit.ensures.answers
+    Returns-ReturnsValue d _ c.read_explicit.result _ m rest (simple tag (λ (o : List ℕ). whole (d.read o)) c.args.self.now) c.read_explicit.ensures.answers
     (simple_read tag d.encoding (λ (o : List ℕ). whole (d.read o)) m c.args.self.now rest (omega arith) short (inside_read_back d.accepts d.encoding d.read m (d.laws.nothing_or_element m lawful valid) (d.laws.read_back m [] lawful valid allowed) short) is)
 
 pub returns-clause-progress : goal.returns-clause-progress
 returns-clause-progress g c =
     let d = g.T.Asn1Type.der in
     let tag = explicit_tag_of c.args.tag in
-    length-remaining-lt d.meaning (λ m. element_encoding (element tag (d.encoding m))) (λ m. d.valid m × d.allowed m) c.args.self.now _ c.read_explicit.result (λ m good none. element_some (element tag (d.encoding m)) none) (returns-clause-found g c)
+    length-remaining-lt d.meaning (λ m. element_encoding (element tag (d.encoding m))) (λ m. d.valid m × d.allowed m) c.args.self.now _ c.read_explicit.result (λ m good none. element_encoding-not_nil (element tag (d.encoding m)) none) (returns-clause-found g c)
 
 pub returns-clause-no_memory_error : goal.returns-clause-no_memory_error
 returns-clause-no_memory_error g c none =

@@ -1,7 +1,7 @@
-use Rattle.asn1.proofs.DefaultSteps.{known_is}
+use Rattle.asn1.proofs.DefaultSteps.{equal_or_same_encoding_false}
 use Rattle.asn1.proofs.fields.plain.DefaultedWraps.known_plain.Goals as goal
 
 pub returns : goal.returns
 returns g c =
     let d = g.T.Asn1Type.der in
-    known_is d.meaning d.encoding g.T.PartialEq.eq d.valid _ _ (g.met.T.MeaningEq.tells c.args.value.now g.D.DefaultValue.default) c.known.ensures
+    equal_or_same_encoding_false d.meaning d.encoding g.T.PartialEq.eq d.valid _ _ (g.met.T.MeaningEq.tells c.args.value.now g.D.DefaultValue.default) c.known.ensures

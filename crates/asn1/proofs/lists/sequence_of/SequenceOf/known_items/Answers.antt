@@ -1,4 +1,4 @@
-use Rattle.asn1_core.specs.Lemmas.Items.{each_both}
+use Rattle.asn1_core.specs.Lemmas.Items.{AllByRecursion-both}
 use Rattle.asn1_core.specs.Lemmas.Texts.{IsOctets-from_reads}
 use Rattle.asn1.specs.Lists.{left}
 use Rattle.asn1.specs.Lemmas.ListItems.{flat_map-left}
@@ -11,4 +11,4 @@ returns g c =
     let content = self.content.now in
     let is = IsOctets-from_reads content self.are_octets in
     let items = flat_map-left d.read d.encoding (λ m. d.valid m × d.allowed m) d.laws.consumes content self.count is self.are_items in
-    (each_both d.valid d.allowed (left d.read content) items.1).1
+    (AllByRecursion-both d.valid d.allowed (left d.read content) items.1).1

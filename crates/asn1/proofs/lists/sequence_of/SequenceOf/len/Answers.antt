@@ -1,5 +1,5 @@
 use Rattle.std.proofs.Common.{◌≤◌, sym, subst}
-use Rattle.asn1_core.specs.Lemmas.Items.{each_both}
+use Rattle.asn1_core.specs.Lemmas.Items.{AllByRecursion-both}
 use Rattle.asn1_core.specs.Lemmas.Texts.{IsOctets-from_reads}
 use Rattle.asn1.specs.Lists.{left}
 use Rattle.asn1.specs.Lemmas.ListItems.{length-left, flat_map-left}
@@ -13,6 +13,6 @@ returns-clause-allowed g c low high =
     let is = IsOctets-from_reads content self.are_octets in
     let items = flat_map-left d.read d.encoding (λ m. d.valid m × d.allowed m) d.laws.consumes content self.count is self.are_items in
     let counted = sym (length-left d.read content self.count self.are_items) in (
-      (each_both d.valid d.allowed (left d.read content) items.1).1,
+      (AllByRecursion-both d.valid d.allowed (left d.read content) items.1).1,
       (subst (λ n. g.row.MINIMUM_LEN ≤ n) counted low, λ bound. subst (λ n. n ≤ g.row.MAXIMUM_LEN) counted high),
     )

@@ -1,5 +1,5 @@
 use Rattle.asn1_core.specs.Listing.{encoding_less}
-use Rattle.asn1_core.specs.Lemmas.Items.{each_both}
+use Rattle.asn1_core.specs.Lemmas.Items.{AllByRecursion-both}
 use Rattle.asn1_core.specs.Lemmas.Texts.{IsOctets-from_reads}
 use Rattle.asn1.specs.Sets.{set_left}
 use Rattle.asn1.specs.Lemmas.SetItems.{set_left_is}
@@ -12,4 +12,4 @@ returns g c =
     let content = self.content.now in
     let is = IsOctets-from_reads content self.are_octets in
     let items = set_left_is encoding_less d.read d.encoding (λ m. d.valid m × d.allowed m) d.laws.consumes content is self.are_ordered in
-    (each_both d.valid d.allowed (set_left encoding_less d.read content) items.1).1
+    (AllByRecursion-both d.valid d.allowed (set_left encoding_less d.read content) items.1).1

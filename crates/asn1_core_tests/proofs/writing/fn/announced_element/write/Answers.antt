@@ -1,10 +1,10 @@
 use Rattle.std.proofs.Common.{rules, ◌≡◌, Some, length, ap, refl}
-use Rattle.asn1_core.proofs.Bodies.{announced_by, KeepsPrefix-result}
+use Rattle.asn1_core.proofs.Bodies.{KnowsLength-Announces, KeepsPrefix-result}
 use Rattle.asn1_core_tests.proofs.writing.fn.announced_element.write.Goals as goal
 
 pub write_tlv-requires : goal.write_tlv-requires
 write_tlv-requires c = record {
   callable = search rules;
   front = λ old r new h. KeepsPrefix-result r c.captures.octets.now old.bytes new.bytes (search rules) (search rules);
-  announced = announced_by _ _ (λ t. t ≡ c.captures.octets.now) (λ old new h. record { encoding = c.captures.octets.now; is_one = refl; joined = search rules }) (Some (length c.captures.octets.now)) (λ t e. ap length e);
+  announced = KnowsLength-Announces _ _ (λ t. t ≡ c.captures.octets.now) (λ old new h. record { encoding = c.captures.octets.now; is_one = refl; joined = search rules }) (Some (length c.captures.octets.now)) (λ t e. ap length e);
 }
