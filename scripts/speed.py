@@ -11,13 +11,9 @@ COUNTED, FAILED = 1_000, 2**64 - 1
 PAGE, HEAD = TOP / "docs/DECISIONS.md", "| What | Port, {} |"
 
 
-def run(*words, **more):
-    subprocess.run([str(word) for word in words], check=True, **more)
-
-
 def port():
     """The port's library as one that can be loaded."""
-    run(TOP / "scripts/link_c", "speed")
+    subprocess.run([TOP / "scripts/link_c", "speed"], check=True)
     return CRATES / "speed/out/libspeed.so"
 
 
@@ -61,7 +57,7 @@ def cost_of(dump, shared):
 def counts(shared, folder):
     """The name of each workload, and for one of it what `cost_of` returns."""
     flags = ["--quiet", "--tool=callgrind", "--dump-before=getppid", f"--callgrind-out-file={folder}/dump"]
-    run("valgrind", *flags, sys.executable, __file__, shared)
+    subprocess.run(["valgrind", *flags, sys.executable, __file__, shared], check=True)
     for number, work in enumerate(workloads(COUNTED), 2):
         taken = cost_of(Path(folder, f"dump.{number}").read_text(), shared)
         yield work.name, [round(count / work.times, 2) for count in taken]

@@ -27,10 +27,6 @@ def sequence(*parts):
     return element(0x30, b"".join(parts))
 
 
-def set_of(parts):
-    return element(0x31, b"".join(sorted(parts)))
-
-
 def changed(octets, at, octet):
     return octets[:at] + bytes([octet]) + octets[at:][1:]
 
@@ -92,7 +88,7 @@ def workloads(count):
     for length in (10, 1000):
         walked, lists = f"{length} numbers, read, walked", count // length
         yield many(f"`SequenceOf` {walked}", 12, lambda: sequence(*chosen.integers(length)), lists)
-        yield many(f"`SetOf` {walked}", 13, lambda: set_of(chosen.integers(length)), lists)
+        yield many(f"`SetOf` {walked}", 13, lambda: element(0x31, b"".join(sorted(chosen.integers(length)))), lists)
 
     yield many("`bool`, rejected", 14, lambda: element(1, b"\x01"))
     yield many("`u64`, rejected", 15, lambda: element(2, b"\x00\x01"))
