@@ -60,7 +60,8 @@ pub struct ScopedPdu<'a> {
     /// contextName.
     pub context_name: &'a [u8],
     /// data.
-    pub data: Pdus<'a>,
+    #[name("data")]
+    pub pdus: Pdus<'a>,
 }
 
 /// PDUs (RFC 3416, 3).

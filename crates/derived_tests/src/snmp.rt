@@ -1,5 +1,5 @@
 //! SNMPv3 messages (RFC 3412, RFC 3414, RFC 3416).
-// Printed by tools/derive from declarations/snmp.rs, with the sum b93a12da.
+// Printed by tools/derive from declarations/snmp.rs, with the sum a521c71e.
 
 ghost use Rattle.std.specs.Prelude.{◌≡◌, ◌∷◌, [], IsTrue, OnErr, IfOk};
 ghost use Rattle.asn1.specs.AlternativeLists.{after12, choice, alternative1, alternative2, alternative3, alternative4};
@@ -326,18 +326,23 @@ pub struct ScopedPdu<'a> {
     /// contextName.
     pub context_name: &'a [u8],
     /// data.
-    pub data: Pdus<'a>,
+    pub pdus: Pdus<'a>,
+}
+
+impl<'a> ScopedPdu<'a> {
+    /// The fields that have another name in ASN.1 than theirs with capitals, as errors name them, with that name.
+    pub const NAMES: &'static [(&'static str, &'static str)] = &[("ScopedPdu::pdus", "data")];
 }
 
 type ScopedPduFields<'a> = Fields3<&'a [u8], &'a [u8], Pdus<'a>>;
 
 impl<'a> Asn1Type for ScopedPdu<'a> {
-    ghost der = { structure (λ v. fields3 v.context_engine_id v.context_name v.data)
+    ghost der = { structure (λ v. fields3 v.context_engine_id v.context_name v.pdus)
         ⟦<ScopedPduFields<'a> as Row>⟧.list (field_names "ScopedPdu" ("context_engine_id" ∷
-        "context_name" ∷ "data" ∷ [])) };
+        "context_name" ∷ "pdus" ∷ [])) };
 
     fn known(&self) {
-        known_fields!(self; context_engine_id, context_name, data)
+        known_fields!(self; context_engine_id, context_name, pdus)
     }
 }
 
@@ -354,7 +359,7 @@ impl<'a> SimpleAsn1Readable<'a> for ScopedPdu<'a> {
         ensures { ReadsContents ⟦<ScopedPdu<'a> as Asn1Type>⟧.der «data».entry.now result }
     {
         read_fields!(ScopedPduFields<'a>, alloc, data => ScopedPdu;
-            context_engine_id, context_name, data)
+            context_engine_id, context_name, pdus)
     }
 }
 
@@ -369,11 +374,11 @@ impl<'a> SimpleAsn1Writable for ScopedPdu<'a> {
     }
 
     fn write_data(&self, dest: &mut WriteBuf) -> WriteResult<()> {
-        write_fields!(self, dest; context_engine_id, context_name, data)
+        write_fields!(self, dest; context_engine_id, context_name, pdus)
     }
 
     fn data_length(&self) -> Option<usize> {
-        fields_length!(self; context_engine_id, context_name, data)
+        fields_length!(self; context_engine_id, context_name, pdus)
     }
 
     fn writes_as_read() -> bool

@@ -65,7 +65,7 @@ const VALUES: [(&str, i128); 13] = [
 /// The PDU of a message that isn't encrypted.
 fn pdu_of<'b, 'a>(message: &'b SnmpV3Message<'a>) -> Result<&'b Pdus<'a>, Fail> {
     match &message.msg_data {
-        ScopedPduData::Plaintext(scoped) => Ok(&scoped.data),
+        ScopedPduData::Plaintext(scoped) => Ok(&scoped.pdus),
         ScopedPduData::EncryptedPdu(_) => Err(Fail::new(format_args!("it is encrypted"))),
     }
 }
