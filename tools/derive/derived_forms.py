@@ -18,7 +18,7 @@ ANSWER = "\npub {0} : goal.{0}\n{2}{0} c = {1}\n"
 IDENTIFIER_USES = """use Rattle.std.proofs.Common.{refl, sym}
 use Rattle.asn1.specs.Base128.{leading_number}
 use Rattle.asn1.specs.Identifier.{numbers_in, read_identifier}
-use Rattle.asn1.specs.Lemmas.Results.{ok_is}
+use Rattle.asn1.specs.Lemmas.Results.{done-injective}
 """
 # Where the names are from that the proof of a large choice's law uses; and the most alternatives of which the search
 # proves it.
@@ -31,7 +31,7 @@ LAW_USES = {
 MOST_SEARCHED = 6
 COMPUTED = "unfolding read_identifier numbers_in leading_number\n"
 IDENTIFIER_ANSWERS = ANSWER.format("known_identifier-requires", "refl", COMPUTED)
-IDENTIFIER_ANSWERS += ANSWER.format("returns", "sym (ok_is _ _ c.known_identifier.ensures)", COMPUTED)
+IDENTIFIER_ANSWERS += ANSWER.format("returns", "sym (done-injective _ _ c.known_identifier.ensures)", COMPUTED)
 
 
 def quoted(type, trait="Asn1Type"):

@@ -10,8 +10,8 @@ use Rattle.asn1.specs.declared.ParseErrorKind.{ParseErrorKind}
 use Rattle.asn1.specs.Element.{Element, element_encoding, IsLeadingElement}
 use Rattle.std.specs.List.{concat, AllByRecursion}
 use Rattle.asn1.specs.Listing.{encoding_less, IsElementEncoding, occurrences, SameEncodings, listing, place_encoding, EachEncoding, Joins}
-use Rattle.asn1.specs.Lemmas.Elements.{element_some, content_less}
-use Rattle.asn1.specs.Lemmas.Listing.{listing_is, listing_joins, each_same}
+use Rattle.asn1.specs.Lemmas.Elements.{element_encoding-not_nil, length-content-lt}
+use Rattle.asn1.specs.Lemmas.Listing.{IsListing-listing, listing_joins, AllByRecursion-SameEncodings}
 use Rattle.asn1.proofs.Stands.{elements_are_apart}
 use Rattle.asn1_c.specs.SetOf.{AreElements, IsSetOf, LeavesSetOf, StopsAt}
 use Rattle.asn1_c.specs.declared.errors.Asn1Error.{Asn1Error}
@@ -37,11 +37,11 @@ IsFramed-after_element octets rest e (Some kind) is s =
 
 -- An element has an octet.
 pub length-remaining-lt : (octets rest : List ℕ) (e : Element) → IsLeadingElement octets (Ok (e, rest)) → length rest < length octets
-length-remaining-lt octets rest e is = omega (arith, ap length is.1, length-append (element_encoding e) rest, content_less e)
+length-remaining-lt octets rest e is = omega (arith, ap length is.1, length-append (element_encoding e) rest, length-content-lt e)
 
 -- The first of the elements is what the octets begin with.
 pub AreElements-cons : (octets rest : List ℕ) (e : Element) (encodings : List (List ℕ)) → IsLeadingElement octets (Ok (e, rest)) → AreElements octets encodings → (others : List (List ℕ)) × (encodings ≡ element_encoding e ∷ others) × AreElements rest others
-AreElements-cons octets rest e [] is a = absurd (none (element_encoding e) rest (sym is.1 ∙ a.joined) (element_some e))
+AreElements-cons octets rest e [] is a = absurd (none (element_encoding e) rest (sym is.1 ∙ a.joined) (element_encoding-not_nil e))
   where
     none : (t rest : List ℕ) → t ++ rest ≡ [] → (t ≡ [] → ⊥) → ⊥
     none [] rest same some = some refl
@@ -186,7 +186,7 @@ module _ (octets rest after old new text : List ℕ) (count : ℕ) (e : Element)
       let part : length (take (count + length text) old) ≡ count + length text = length-take-le (count + length text) old within in
       let before : take (length (take (count + length text) old) - length text) (take (count + length text) old) ≡ take count old =
       take-take (length (take (count + length text) old) - length text) (count + length text) old (omega (arith, part)) ∙ ap (λ n. take n old) (omega (arith, part)) in
-      let listed : AreElements (take (length (take (count + length text) old) - length text) (take (count + length text) old)) (listing p.done) = record { each = each_same IsElementEncoding p.done (listing p.done) (listing_is p.done).same p.each; joined = before ∙ p.listed } in
+      let listed : AreElements (take (length (take (count + length text) old) - length text) (take (count + length text) old)) (listing p.done) = record { each = AllByRecursion-SameEncodings IsElementEncoding p.done (listing p.done) (IsListing-listing p.done).same p.each; joined = before ∙ p.listed } in
       record {
         done = element_encoding e ∷ p.done;
         each = ((e, is.0, refl), p.each);
@@ -208,7 +208,7 @@ IsPartlyDone-IsSetOf octets rest buffer count answer kind p room only err =
       encodings = whole.0;
       elements = whole.1;
       listed = listing p.done;
-      listing = record { same = λ t. whole.2 t ∙ (listing_is p.done).same t; sorted = (listing_is p.done).sorted };
+      listing = record { same = λ t. whole.2 t ∙ (IsListing-listing p.done).same t; sorted = (IsListing-listing p.done).sorted };
       is = sym (take_all count buffer (omega (arith, p.counted, ap length empty, room))) ∙ p.listed;
     }
 
@@ -237,7 +237,7 @@ module _ (octets old : List ℕ) where
 
   pub LeavesSetOf-too_small : (encodings : List (List ℕ)) (new : List ℕ) (found : Asn1Error) → AreElements octets encodings → length old < length octets → new ≡ old → found ≡ without_details buffer_too_small → LeavesSetOf octets old new (length octets) found
   LeavesSetOf-too_small encodings new found a room left told =
-      let s : IsSetOf octets (concat (listing encodings)) = record { encodings = encodings; elements = a; listed = listing encodings; listing = listing_is encodings; is = refl } in
+      let s : IsSetOf octets (concat (listing encodings)) = record { encodings = encodings; elements = a; listed = listing encodings; listing = IsListing-listing encodings; is = refl } in
       let size = length-IsSetOf octets (concat (listing encodings)) s in
       let few : leb (length (concat (listing encodings))) (length old) ≡ false = lt-leb (length (concat (listing encodings))) (length old) (omega (arith, size, room)) in
       inl (concat (listing encodings), s, (left ∙ sym (rw few refl), sym size), told ∙ sym (rw few refl))

@@ -8,7 +8,7 @@ use Rattle.hex.proofs.HexLemmas.{decode_of-ok}
 use Rattle.asn1.specs.Base256.{IsOctets}
 use Rattle.asn1.specs.ReadError.{ReadError}
 use Rattle.asn1.specs.Lemmas.Texts.{IsOctets-from_reads}
-use Rattle.asn1.specs.Lemmas.Wholes.{stands-nil, whole_is, whole_read_back}
+use Rattle.asn1.specs.Lemmas.Wholes.{begins_accepted-nil, whole-consumes, whole_read_back}
 use Rattle.dercheck.specs.declared.words.Word.{Word}
 use Rattle.dercheck.specs.declared.words.Word.TheVariants as words
 use Rattle.dercheck.specs.Replies.{kind_text, is_ok_line, is_ok_to, answer, answer_to, answer_read, reading}
@@ -46,12 +46,12 @@ IsMeaning word = (type_of word).der.Meaning
 reading-value : (word : Word) (octets : List ℕ) (v : IsValueEncoding word octets) → reading word octets ≡ Ok v.value
 reading-value word octets v =
     let d = (type_of word).der in
-    whole_read_back d.encoding d.read v.value octets (d.laws.read_back v.value [] (lawful word) v.encodes.valid v.encodes.allowed v.encodes.fits (λ e. stands-nil d.accepts)) v.encodes.is
+    whole_read_back d.encoding d.read v.value octets (d.laws.read_back v.value [] (lawful word) v.encodes.valid v.encodes.allowed v.encodes.fits (λ e. begins_accepted-nil d.accepts)) v.encodes.is
 
 value-reading : (word : Word) (octets : List ℕ) (value : IsMeaning word) → IsOctets octets → reading word octets ≡ Ok value → IsValueEncoding word octets
 value-reading word octets value text e =
     let d = (type_of word).der in
-    let found = whole_is d.encoding (λ m. d.valid m × d.allowed m) d.read d.laws.consumes octets value text e in
+    let found = whole-consumes d.encoding (λ m. d.valid m × d.allowed m) d.read d.laws.consumes octets value text e in
     record {
       value = value;
       encodes = record { is = found.0.is ∙ append-nil (d.encoding value); valid = found.1.0; allowed = found.1.1; fits = found.0.one };

@@ -9,15 +9,15 @@ use Rattle.asn1.specs.declared.ParseErrorKind.TheVariants.{ShortData}
 use Rattle.asn1.specs.Base256.{IsOctets}
 use Rattle.asn1.specs.Element.{Element, element_encoding, IsReadable, leading_element}
 use Rattle.asn1.specs.Laws.{IsShort}
-use Rattle.asn1.specs.Lemmas.Tags.{tag_none}
-use Rattle.asn1.specs.Lemmas.Texts.{IsOctets-rest}
-use Rattle.asn1.specs.Lemmas.Elements.{ElementFront, element_ok, front_tag, front_ok_is}
+use Rattle.asn1.specs.Lemmas.Tags.{leading_tag-empty}
+use Rattle.asn1.specs.Lemmas.Texts.{IsOctets-suffix}
+use Rattle.asn1.specs.Lemmas.Elements.{ElementFront, leading_element-element_encoding, leading_element-tag_err, leading_element-ok_is}
 use Rattle.asn1.proofs.Stands.{elements_are_apart}
 use Rattle.dercheck.specs.Frames.{IsFraming, IsUnfinished, EachTextHasAFraming, TextsHaveOneFraming, element_line, end_line, lines}
-use Rattle.asn1.specs.Lemmas.Facts.{has_octets}
+use Rattle.asn1.specs.Lemmas.Facts.{length-positive}
 
 pub leading_element-empty : leading_element [] ≡ Err (ShortData 1)
-leading_element-empty = front_tag [] (ShortData 1) (tag_none [] refl)
+leading_element-empty = leading_element-tag_err [] (ShortData 1) (leading_tag-empty [] refl)
 
 err_from_short : (a : ElementFront) → IsShort a → IsErr a
 err_from_short (Ok found) short = absurd short
@@ -64,20 +64,20 @@ lines-append es fs r = ap (λ (l : List ℕ). l ++ end_line r) (flat_map-append 
 -- ---- any octets have a framing
 
 element_encoding-nonempty : (e : Element) → IsReadable e → 0 < length (element_encoding e)
-element_encoding-nonempty e readable = has_octets (element_encoding e) (λ (nothing : element_encoding e ≡ []).
-    let whole : leading_element (element_encoding e) ≡ Ok (e, []) = sym (ap leading_element (append-nil (element_encoding e))) ∙ element_ok e [] readable in
+element_encoding-nonempty e readable = length-positive (element_encoding e) (λ (nothing : element_encoding e ≡ []).
+    let whole : leading_element (element_encoding e) ≡ Ok (e, []) = sym (ap leading_element (append-nil (element_encoding e))) ∙ leading_element-element_encoding e [] readable in
     let none : leading_element (element_encoding e) ≡ Err (ShortData 1) = ap leading_element nothing ∙ leading_element-empty in
     absurd cc)
 
 framing_by : (n : ℕ) (octets : List ℕ) (a : ElementFront) → length octets ≤ n → IsOctets octets → leading_element octets ≡ a → (es : List Element) × (rest : List ℕ) × IsFraming octets es rest
 framing_by n octets (Err kind) few is e = ([], octets, IsFraming-nil octets (err_at (leading_element octets) kind e))
 framing_by zero octets (Ok (found, rest)) few is e =
-    let parts = front_ok_is octets found rest is e in
+    let parts = leading_element-ok_is octets found rest is e in
     absurd (omega (arith, ap length parts.1, length-append (element_encoding found) rest, element_encoding-nonempty found parts.0))
 framing_by (suc n) octets (Ok (found, rest)) few is e =
-    let parts = front_ok_is octets found rest is e in
+    let parts = leading_element-ok_is octets found rest is e in
     let fewer : length rest ≤ n = omega (arith, ap length parts.1, length-append (element_encoding found) rest, element_encoding-nonempty found parts.0) in
-    let (es, last, framing) = framing_by n rest (leading_element rest) fewer (IsOctets-rest (element_encoding found) rest (subst IsOctets parts.1 is)) refl in (
+    let (es, last, framing) = framing_by n rest (leading_element rest) fewer (IsOctets-suffix (element_encoding found) rest (subst IsOctets parts.1 is)) refl in (
       found ∷ es,
       last,
       record {
@@ -94,7 +94,7 @@ framing_some octets is = framing_by (length octets) octets (leading_element octe
 
 stops_at : (e : Element) (rest octets : List ℕ) → IsReadable e → octets ≡ element_encoding e ++ rest → IsErr (leading_element octets) → ⊥
 stops_at e rest octets readable same stops =
-    let found : leading_element octets ≡ Ok (e, rest) = ap leading_element same ∙ element_ok e rest readable in
+    let found : leading_element octets ≡ Ok (e, rest) = ap leading_element same ∙ leading_element-element_encoding e rest readable in
     let bad : IsErr {T = Element × List ℕ} {E = ParseErrorKind} (Ok (e, rest)) = subst (λ (a : ElementFront). IsErr a) found stops in
     cc
 

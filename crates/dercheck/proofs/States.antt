@@ -7,20 +7,20 @@ use Rattle.asn1.specs.declared.Tag.{Tag}
 use Rattle.asn1.specs.Tag.{identifier_octets}
 use Rattle.asn1.specs.Length.{length_octets}
 use Rattle.asn1.specs.Element.{Element, element_encoding, IsReadable, leading_element}
-use Rattle.asn1.specs.Lemmas.Tags.{tag_ok}
-use Rattle.asn1.specs.Lemmas.Lengths.{length_ok}
-use Rattle.asn1.specs.Lemmas.Elements.{element_ok, front_short, regroup}
+use Rattle.asn1.specs.Lemmas.Tags.{leading_tag-identifier_octets}
+use Rattle.asn1.specs.Lemmas.Lengths.{leading_length-length_octets}
+use Rattle.asn1.specs.Lemmas.Elements.{leading_element-element_encoding, leading_element-short, element_encoding-append}
 use Rattle.dercheck.specs.Frames.{IsBegun}
-use Rattle.asn1.specs.Lemmas.Digits.{last_of}
+use Rattle.asn1.specs.Lemmas.Digits.{cons-as_push}
 
 -- if octets are too short, one octet more leaves nothing after an element
 remaining-nil : (octets : List ℕ) (octet needed : ℕ) (e : Element) (rest : List ℕ) → IsReadable e → leading_element octets ≡ Err (ShortData needed) → octets ++ octet ∷ [] ≡ element_encoding e ++ rest → rest ≡ []
 remaining-nil octets octet needed e [] readable short same = refl
 remaining-nil octets octet needed e (x ∷ xs) readable short same =
-    let parts = last_of x xs in
+    let parts = cons-as_push x xs in
     let joined : octets ++ octet ∷ [] ≡ (element_encoding e ++ parts.0) ++ parts.1 ∷ [] = same ∙ ap (λ (l : List ℕ). element_encoding e ++ l) parts.2 ∙ sym (append_assoc (element_encoding e) parts.0 (parts.1 ∷ [])) in
     let before = same_from_push octets (element_encoding e ++ parts.0) octet parts.1 joined in
-    let found : leading_element octets ≡ Ok (e, parts.0) = ap leading_element before.0 ∙ element_ok e parts.0 readable in
+    let found : leading_element octets ≡ Ok (e, parts.0) = ap leading_element before.0 ∙ leading_element-element_encoding e parts.0 readable in
     absurd cc
 
 abbrev pub element_with : Tag → List ℕ → Element
@@ -36,7 +36,7 @@ begun_element octets tag n content begun all =
       begun.encoded
           ∙ ap (λ (l : List ℕ). identifier_octets tag ++ (length_octets n ++ l)) (sym (take-append-drop n content))
           ∙ ap (λ (k : ℕ). identifier_octets tag ++ (length_octets k ++ (take n content ++ drop n content))) (sym size)
-          ∙ sym (regroup e (drop n content)),
+          ∙ sym (element_encoding-append e (drop n content)),
     )
 
 -- if no contents octets are missing, the octets are an element
@@ -48,7 +48,7 @@ begun_whole octets tag n content begun all =
       begun.encoded
           ∙ ap (λ (k : ℕ). identifier_octets tag ++ (length_octets k ++ content)) all
           ∙ ap (λ (l : List ℕ). identifier_octets tag ++ (length_octets (length content) ++ l)) (sym (append-nil content))
-          ∙ sym (regroup e [])
+          ∙ sym (element_encoding-append e [])
           ∙ append-nil (element_encoding e),
     )
 
@@ -58,8 +58,8 @@ pub begun_short : (octets : List ℕ) (tag : Tag) (n : ℕ) (content : List ℕ)
 begun_short octets tag n content needed begun missing some =
     let k : n - length content ≡ needed = omega arith in
     ap leading_element begun.encoded
-    ∙ front_short (identifier_octets tag ++ (length_octets n ++ content)) tag (length_octets n ++ content) n content
-    (tag_ok tag (length_octets n ++ content) begun.tag_small) (length_ok n content begun.length_small) (omega arith)
+    ∙ leading_element-short (identifier_octets tag ++ (length_octets n ++ content)) tag (length_octets n ++ content) n content
+    (leading_tag-identifier_octets tag (length_octets n ++ content) begun.tag_small) (leading_length-length_octets n content begun.length_small) (omega arith)
     ∙ ap (λ (m : ℕ). Err (ShortData m)) k
 
 -- more octets are more contents octets

@@ -11,8 +11,8 @@ use Rattle.asn1.specs.declared.ParseErrorKind.TheVariants.{ShortData}
 use Rattle.asn1.specs.Base256.{IsOctets}
 use Rattle.asn1.specs.Tag.{identifier_octets}
 use Rattle.asn1.specs.Length.{length_octets}
-use Rattle.asn1.specs.Lemmas.Tags.{tag_has_octets}
-use Rattle.asn1.specs.Lemmas.Texts.{IsOctets-rest}
+use Rattle.asn1.specs.Lemmas.Tags.{identifier_octets-nonempty}
+use Rattle.asn1.specs.Lemmas.Texts.{IsOctets-suffix}
 use Rattle.asn1.specs.Element.{Element, element_encoding, leading_element}
 use Rattle.asn1.specs.Laws.{IsShort}
 use Rattle.asn1.specs.Lemmas.Elements.{ElementFront}
@@ -130,7 +130,7 @@ append-take-drop_rest octets all done rest n e =
 
 pub IsOctets-drop_rest : (all done rest : List ℕ) (n : ℕ) → done ++ rest ≡ all → IsOctets all → IsOctets (drop n rest)
 IsOctets-drop_rest all done rest n e is =
-    IsOctets-rest (take n rest) (drop n rest) (subst IsOctets (sym (take-append-drop n rest)) (IsOctets-rest done rest (subst IsOctets (sym e) is)))
+    IsOctets-suffix (take n rest) (drop n rest) (subst IsOctets (sym (take-append-drop n rest)) (IsOctets-suffix done rest (subst IsOctets (sym e) is)))
 
 -- ---- the line at the end
 
@@ -141,7 +141,7 @@ end_line-short (x ∷ xs) needed some e = ap answer_line e
 -- something is pending if an octet is kept, and else nothing
 pub Stands-nonempty : (p : Pending) (octets : List ℕ) → Stands p octets → ¬ (p.count ≡ 0) → 0 < length octets
 Stands-nonempty p octets (inl h) some = omega (arith, ap length h.kept, length-take p.count p.octets, p.size, p.few)
-Stands-nonempty p octets (inr h) some = omega (arith, ap length h.begun.encoded, length-append (identifier_octets h.tag) (length_octets p.content_length ++ h.content), tag_has_octets h.tag)
+Stands-nonempty p octets (inr h) some = omega (arith, ap length h.begun.encoded, length-append (identifier_octets h.tag) (length_octets p.content_length ++ h.content), identifier_octets-nonempty h.tag)
 
 -- ---- the whole stream
 
