@@ -13,10 +13,31 @@ other number = implicit_tag_of number (universal 0)
 
 -- The law of each field, of those after it, and that none of these begins with a tag that the field accepts.
 pub returns : goal.returns
-returns c =
-    (((search rules, (search rules, (search rules, (search rules, (search rules, search rules,
-      inr (tags_differ (other 5) (other 4) refl)),
-      inr (λ tag. by_cases (tags_differ (other 4) (other 3) refl tag) (λ o. tags_differ (other 5) (other 3) refl tag o.1))),
-      inr (λ tag. by_cases (tags_differ (other 3) (other 2) refl tag) (λ o. by_cases (tags_differ (other 4) (other 2) refl tag) (λ o. tags_differ (other 5) (other 2) refl tag o.1) o.1))),
-      inr (λ tag. by_cases (tags_differ (other 2) (other 1) refl tag) (λ o. by_cases (tags_differ (other 3) (other 1) refl tag) (λ o. by_cases (tags_differ (other 4) (other 1) refl tag) (λ o. tags_differ (other 5) (other 1) refl tag o.1) o.1) o.1))),
-      inr (λ tag. by_cases (tags_differ (other 1) (explicit_tag_of 0) refl tag) (λ o. by_cases (tags_differ (other 2) (explicit_tag_of 0) refl tag) (λ o. by_cases (tags_differ (other 3) (explicit_tag_of 0) refl tag) (λ o. by_cases (tags_differ (other 4) (explicit_tag_of 0) refl tag) (λ o. tags_differ (other 5) (explicit_tag_of 0) refl tag o.1) o.1) o.1) o.1))), search rules), search rules, search rules)
+returns c = (
+  (
+    (
+      search rules,
+      (
+        search rules,
+        (
+          search rules,
+          (
+            search rules,
+            (
+              search rules,
+              search rules,
+              inr (tags_differ (other 5) (other 4) refl),
+            ),
+            inr (λ tag. by_cases (tags_differ (other 4) (other 3) refl tag) (λ o. tags_differ (other 5) (other 3) refl tag o.1)),
+          ),
+          inr (λ tag. by_cases (tags_differ (other 3) (other 2) refl tag) (λ o. by_cases (tags_differ (other 4) (other 2) refl tag) (λ o. tags_differ (other 5) (other 2) refl tag o.1) o.1)),
+        ),
+        inr (λ tag. by_cases (tags_differ (other 2) (other 1) refl tag) (λ o. by_cases (tags_differ (other 3) (other 1) refl tag) (λ o. by_cases (tags_differ (other 4) (other 1) refl tag) (λ o. tags_differ (other 5) (other 1) refl tag o.1) o.1) o.1)),
+      ),
+      inr (λ tag. by_cases (tags_differ (other 1) (explicit_tag_of 0) refl tag) (λ o. by_cases (tags_differ (other 2) (explicit_tag_of 0) refl tag) (λ o. by_cases (tags_differ (other 3) (explicit_tag_of 0) refl tag) (λ o. by_cases (tags_differ (other 4) (explicit_tag_of 0) refl tag) (λ o. tags_differ (other 5) (explicit_tag_of 0) refl tag o.1) o.1) o.1) o.1)),
+    ),
+    search rules,
+  ),
+  search rules,
+  search rules,
+)
