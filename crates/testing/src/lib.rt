@@ -20,6 +20,20 @@ use std::fmt::{Debug, Display};
 use std::hash::{DefaultHasher, Hash, Hasher};
 use std::test::Fail;
 
+/// The failure of a value that isn't the one wanted: it shows both.
+fn differs<L: Debug, R: Debug>(left: &L, right: &R) -> Fail {
+    Fail::new(format_args!("{left:?} isn't {right:?}"))
+}
+
+/// The same of a row of a table.
+fn differs_at<W: Debug, L: Debug, R: Debug>(
+    row: &W,
+    left: &L,
+    right: &R,
+) -> Fail {
+    Fail::new(format_args!("at {row:?}: {left:?} isn't {right:?}"))
+}
+
 /// Both values are equal, or the failure shows both.
 pub fn same<T: PartialEq + Debug + Copy>(left: T, right: T) -> Result<(), Fail>
     ensures { IfOk result (λ _. T.eq left right ≡ true) }
@@ -27,7 +41,7 @@ pub fn same<T: PartialEq + Debug + Copy>(left: T, right: T) -> Result<(), Fail>
     if left == right {
         return Ok(());
     }
-    Err(Fail::new(format_args!("{left:?} isn't {right:?}")))
+    Err(differs(&left, &right))
 }
 
 /// The same for values that own something, such as results that may hold an error.
@@ -37,7 +51,7 @@ pub fn same_owned<T: PartialEq + Debug + Drop>(left: T, right: T) -> Result<(), 
     if left == right {
         return Ok(());
     }
-    Err(Fail::new(format_args!("{left:?} isn't {right:?}")))
+    Err(differs(&left, &right))
 }
 
 /// Both values are equal, or the failure shows both, and the row of a table that they come from.
@@ -51,14 +65,14 @@ pub fn same_at<R: Debug + Copy, T: PartialEq + Debug + Copy>(
     if left == right {
         return Ok(());
     }
-    Err(Fail::new(format_args!("at {row:?}: {left:?} isn't {right:?}")))
+    Err(differs_at(&row, &left, &right))
 }
 
 /// The values of each row are equal, or the failure shows both of the first row where they aren't, and its index.
 pub fn all_same<T: PartialEq + Debug>(rows: &[(T, T)]) -> Result<(), Fail> {
     for (index, (left, right)) in rows.iter().enumerate() {
         if *left != *right {
-            return Err(Fail::new(format_args!("row {index}: {left:?} isn't {right:?}")));
+            return Err(differs_at(&index, left, right));
         }
     }
     Ok(())
@@ -119,7 +133,7 @@ pub fn are_refused<'a, T: Asn1Readable<'a>>(
     for (octets, kind) in rows {
         let found = refused::<T>(alloc, octets);
         if found != Some(*kind) {
-            return Err(Fail::new(format_args!("{octets:?}: {found:?} isn't {kind:?}")));
+            return Err(differs_at(octets, &found, kind));
         }
     }
     Ok(())
@@ -133,7 +147,7 @@ pub fn are_refused_with<'a, T: Asn1Readable<'a>>(
     for (octets, error) in rows {
         let found = error_of(parse_single::<T>(alloc, octets));
         if found.as_ref() != Some(error) {
-            return Err(Fail::new(format_args!("{octets:?}: {found:?} isn't {error:?}")));
+            return Err(differs_at(octets, &found, error));
         }
     }
     Ok(())
