@@ -20,15 +20,16 @@ use Rattle.asn1.specs.Base128.{leading_number}
 use Rattle.asn1.specs.Identifier.{numbers_in, read_identifier}
 use Rattle.asn1.specs.Lemmas.Results.{done-injective}
 """
-# Where the names are from that the proof of a large choice's law uses; and the most alternatives of which the search
-# proves it.
+# Where the names are from that the proofs of a large choice use; the most alternatives of which the search proves the
+# law; and the most of a choice whose bodies go by positions, of which each names all alternatives.
 LAW_USES = {
-    "std.proofs.Common": "arith false refl rules true",
+    "std.proofs.Common": "arith false inr refl rules true",
     "asn1.specs.Lemmas.Fields": "no_other_accepts tags_differ",
     "asn1.specs.Tag": "explicit_tag_of implicit_tag_of universal universal_constructed",
     "asn1.specs.Tagged": "application_tag private_tag",
+    "asn1.specs.Lemmas.Variants": "OnErr-KeepsPrefix",
 }
-MOST_SEARCHED = 6
+MOST_SEARCHED, MOST_BY_POSITION = 6, 4
 COMPUTED = "unfolding read_identifier numbers_in leading_number\n"
 IDENTIFIER_ANSWERS = ANSWER.format("known_identifier-requires", "refl", COMPUTED)
 IDENTIFIER_ANSWERS += ANSWER.format("returns", "sym (done-injective _ _ c.known_identifier.ensures)", COMPUTED)
@@ -92,9 +93,9 @@ class Form:
         generics = f"<{self.life}>" if "'" in head else ""
         return f"\nimpl{generics} {head} {{\n{text}\n}}\n"
 
-    def list_in_macro(self, what, words, of=""):
-        """The macro that has the list of the fields or the variants, if the list is too long to stand in each body."""
-        self.words, is_long = f"{of}{words}", len(of + words) > MOST_IN_BODY
+    def list_in_macro(self, what, words, of="", is_once=False):
+        """The macro that has the list of the fields or the variants, if that is too long to stand in each body."""
+        self.words, is_long = f"{of}{words}", len(of + words) > MOST_IN_BODY and not is_once
         self.listed = f"{what}_of_{snake(self.name)}" if is_long else ""
         return self.listed and f"""
 macro_rules! {self.listed} {{
@@ -299,7 +300,8 @@ class Choice(Form):
         row, own = self.item.own("Choice"), self.item.own()
         text = f"\ntype {row} = {one_of([str(part.form) for part in self.parts])};\n"
         names = ",".join(f" {part.name}{': tagged' if part.tag else ''}" for part in self.parts)
-        text += self.list_in_macro("variants", names, f" {row} => {self.name};")
+        is_large = len(self.parts) > MOST_BY_POSITION
+        text += self.list_in_macro("variants", names, f" {row} => {self.name};", is_large)
         text += self.stated(part.base for part in self.parts)
         seen = quoted(own, f"AsOneOf<{row}>") + ".seen"
         values = [in_place(at, f"({part.tag} x)" if part.tag else "x") for at, part in enumerate(self.parts)]
@@ -308,9 +310,10 @@ class Choice(Form):
             fn from_one_of(value: {row}) -> {own}
                 ensures {{ {seen} result ≡ value.entry }}
             {{ {self.body("take_choice", "value")} }}""")
+        known = self.match("x.known()", tagged="known_plain::<{form}, _>(x)")
         text += self.impl("Asn1Type", f"""
             ghost der = {{ choice {seen} {quoted(row, "Alternatives")}.list }};
-            fn known(&self) {{ {self.body("known_choice", "self")} }}""")
+            fn known(&self) {{ {known if is_large else self.body("known_choice", "self")} }}""")
         if self.item.reads:
             found = f"IfOk result (λ v. BeginsWithEncodingOf {self.means} v parser.old parser.new)"
             body = f"read_choice::<{row}, {own}>(parser)"
@@ -320,7 +323,9 @@ class Choice(Form):
                 ensures value {{ result ≡ {self.means}.accepts tag }}
                 ensures plain {{ {self.means}.plain }}
             {{ <{row} as AlternativesReadable<{self.item.life or "'_"}>>::accepts(tag) }}""")
-        if self.item.writes:
+        if self.item.writes and is_large:
+            text += self.written("Asn1Writable", last=self.writes_as_read())
+        elif self.item.writes:
             text += self.impl("Asn1Writable", ERROR, f"""
             fn write(&self, dest: &mut Writer<'_>) -> WriteResult<()> {{ {self.body("write_choice", "self, dest")} }}
             fn encoded_length(&self) -> Option<usize> {{ {self.body("choice_length", "self")} }}""",
@@ -358,14 +363,14 @@ class Choice(Form):
                 ensures stops {{ OnErr result ({stops} parser.old parser.new) }}
             {{ {body} }}"""
 
-    def written(self, trait, *members, other=""):
+    def written(self, trait, *members, other="", last=""):
         """The impl of writing: a variant's value is written, and its length told."""
         tagged = "write_plain::<{form}, _>(x, dest)"
         write = self.match("dest.write_element(x)", f"dest.write_element(&{other})", tagged=tagged)
         length = self.match("x.encoded_length()", f"{other}.encoded_length()", tagged="plain_length::<{form}, _>(x)")
         return self.impl(trait, ERROR, *members, f"""
             fn write(&self, dest: &mut Writer<'_>) -> WriteResult<()> {{ {write} }}
-            fn encoded_length(&self) -> Option<usize> {{ {length} }}""")
+            fn encoded_length(&self) -> Option<usize> {{ {length} }}""", last)
 
 
 class Defined(Choice):
@@ -589,6 +594,15 @@ def term_of(tag):
     return group(tag_of((*names, number) if names else ("universal", number), is_constructed)[0])
 
 
+def with_uses(proofs):
+    """The imports of proofs, and these."""
+    uses = ""
+    for source, names in LAW_USES.items():
+        used = ", ".join(name for name in names.split() if re.search(rf"(?<![\w.-]){name}(?![\w-])", proofs))
+        uses += f"use Rattle.{source}.{{{used}}}\n" if used else ""
+    return uses, proofs
+
+
 def law_of_choice(item, module):
     """The proof of a choice's law, alternative by alternative: the search would end at its limit in more than six. That
     no other alternative accepts an alternative's tag is computed, if this is one tag that is known."""
@@ -599,24 +613,52 @@ def law_of_choice(item, module):
         apart = f"no_other_accepts {term_of(*tags)} _ refl" if is_one else "grind (arith, tags_differ)"
         apart = "λ tag accepted. refl" if part is item.parts[-1] else apart
         lawful, others = f"(search rules, search rules, {lawful}, {apart})", f"(search rules, {others})"
-    proof = ANSWER.format("returns", f"({lawful}, {others}, {others})", "")
-    uses = ""
-    for source, names in LAW_USES.items():
-        used = ", ".join(name for name in names.split() if re.search(rf"\b{name}\b", proof))
-        uses += f"use Rattle.{source}.{{{used}}}\n" if used else ""
-    return uses, proof
+    return with_uses(ANSWER.format("returns", f"({lawful}, {others}, {others})", ""))
+
+
+def bodies_of_choice(item):
+    """The proofs of a large choice's bodies: of each arm that its call states what is owed of this variant. The search
+    would find them, but looks into what all alternatives mean."""
+    known, write, length = "", "", ""
+    for part in item.parts:
+        first = next(one for one in item.parts if bool(one.tag) == bool(part.tag))
+        # The first call's goals and results have no more than its name, and those of each further one tell where it is.
+        at = "" if part is first else f"-in-{part.name}"
+        calls = ("known_plain write_plain plain_length" if part.tag else "known write_element encoded_length").split()
+        states, writes, counts = (f"c.{call}{at}.ensures" for call in calls)
+        here, returns = f"rw c.in-{part.name}.is", f"returns-in-{part.name}"
+        owed, err = f"{here} at c.requires", f"{writes}.err"
+        if not part.tag:
+            owed, err = f"inr ({owed})", f"OnErr-KeepsPrefix _ _ c.write_element{at}.result {err}"
+        # The call for a number states more than is owed, so the search proves that arm.
+        is_number = re.fullmatch(r"[iu]\d+|Enumerated", str(part.form))
+        known += "" if is_number else ANSWER.format(returns, f"{here} {states}", "")
+        write += ANSWER.format(f"{calls[1]}-requires{at}", owed, "")
+        write += ANSWER.format(f"{returns}-clause-same_buffer", f"{writes}.same_buffer", "")
+        write += ANSWER.format(f"{returns}-clause-ok", f"{here} {writes}.ok", "")
+        write += ANSWER.format(f"{returns}-clause-err", err, "")
+        told = f"(record {{ right = {counts}.right; told = λ has t is small. absurd has }})"
+        length += ANSWER.format(returns, f"{here} {told}", "")
+    yield f"{item.name}Asn1Type/known", *with_uses(known)
+    if item.writes:
+        yield f"{item.name}Asn1Writable/write", *with_uses(write)
+        yield f"{item.name}Asn1Writable/encoded_length", *with_uses(length)
 
 
 def answers(item, module):
-    """The proofs that are owed for an item: their function, what they use, and the proofs, if any. The write of what an
+    """The proofs that are owed for an item: of each their function, what they use, and the proofs. The write of what an
     item defines owes some, if a variant's type is declared or imported, in which the search would end at its limit: the
-    types have one encoding, so nothing more is asked; and an error leaves the buffer as it was. The law of a large choice
-    owes some."""
+    types have one encoding, so nothing more is asked; and an error leaves the buffer as it was. The law and the bodies
+    of a large choice owe some."""
+    if item.kind == "const":
+        yield item.name.lower(), IDENTIFIER_USES, IDENTIFIER_ANSWERS
     if item.kind == "enum" and not item.is_defined:
-        is_large = item.reads and len(item.parts) > MOST_SEARCHED
-        return f"laws/{snake(item.name)}_is_lawful", *(law_of_choice(item, module) if is_large else ("", ""))
+        if item.reads and len(item.parts) > MOST_SEARCHED:
+            yield f"laws/{snake(item.name)}_is_lawful", *law_of_choice(item, module)
+        if len(item.parts) > MOST_BY_POSITION:
+            yield from bodies_of_choice(item)
     if not (item.is_defined and item.writes):
-        return (item.name.lower(), IDENTIFIER_USES, IDENTIFIER_ANSWERS) if item.kind == "const" else ("", "", "")
+        return
     names, large, kept = {*module.items, *module.imported}, "", ""
     plain = [part for part in item.parts if not part.tag]
     for part in plain:
@@ -628,4 +670,5 @@ def answers(item, module):
         kept += ANSWER.format(f"returns-in-{part.name}-clause-err", term, "")
     uses = "use Rattle.std.proofs.Common.{inl, rules}\n"
     uses += "use Rattle.asn1.specs.Lemmas.Variants.{OnErr-KeepsPrefix}\n"
-    return f"{item.name}Asn1DefinedByWritable{item.of}/write", uses, large and large + kept
+    if large:
+        yield f"{item.name}Asn1DefinedByWritable{item.of}/write", uses, large + kept

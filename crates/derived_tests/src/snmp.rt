@@ -1,5 +1,5 @@
 //! SNMPv3 messages (RFC 3412, RFC 3414, RFC 3416).
-// Printed by tools/derive from declarations/snmp.rs, with the sum a521c71e.
+// Printed by tools/derive from declarations/snmp.rs, with the sum 4d7b504a.
 
 ghost use Rattle.std.specs.Prelude.{◌≡◌, ◌∷◌, [], IsTrue, OnErr, IfOk};
 ghost use Rattle.asn1.specs.AlternativeLists.{after12, choice, alternative1, alternative2, alternative3, alternative4};
@@ -12,7 +12,9 @@ ghost use Rattle.asn1.specs.Structures.{field_names, implicit, structure, fields
 use asn1::alternatives::{
     Alternatives, AlternativesReadable, AsOneOf, OneOf1, OneOf2, OneOf8, OneOf12Or, read_choice,
 };
-use asn1::fields::{Fields2, Fields3, Fields4, Fields6, Row};
+use asn1::fields::{
+    Fields2, Fields3, Fields4, Fields6, Row, known_plain, plain_length, write_plain,
+};
 use asn1::{
     ApplicationImplicit, Asn1Readable, Asn1Type, Asn1Writable, Implicit, Null, ObjectIdentifier,
     OctetStringEncoded, ParseResult, Parser, SequenceOf, SimpleAsn1Readable, SimpleAsn1Writable,
@@ -399,12 +401,6 @@ type PdusChoice<'a> = OneOf8<
     Implicit<Pdu<'a>, 8>,
 >;
 
-macro_rules! variants_of_pdus {
-    ($body:ident, $($of:tt)*) => { $body!($($of)*; PdusChoice<'a> => Pdus;
-        GetRequest: tagged, GetNextRequest: tagged, Response: tagged, SetRequest: tagged,
-        GetBulkRequest: tagged, InformRequest: tagged, Trap: tagged, Report: tagged) };
-}
-
 /// PDUs (RFC 3416, 3).
 #[derive(Drop)]
 pub enum Pdus<'a> {
@@ -445,7 +441,10 @@ impl<'a> AsOneOf<PdusChoice<'a>> for Pdus<'a> {
     fn from_one_of(value: PdusChoice<'a>) -> Pdus<'a>
         ensures { ⟦<Pdus<'a> as AsOneOf<PdusChoice<'a>>>⟧.seen result ≡ value.entry }
     {
-        variants_of_pdus!(take_choice, value)
+        take_choice!(value;
+            PdusChoice<'a> => Pdus; GetRequest: tagged, GetNextRequest: tagged, Response: tagged,
+            SetRequest: tagged, GetBulkRequest: tagged, InformRequest: tagged, Trap: tagged,
+            Report: tagged)
     }
 }
 
@@ -454,7 +453,16 @@ impl<'a> Asn1Type for Pdus<'a> {
         ⟦<PdusChoice<'a> as Alternatives>⟧.list };
 
     fn known(&self) {
-        variants_of_pdus!(known_choice, self)
+        match self {
+            Pdus::GetRequest(x) => known_plain::<Implicit<Pdu<'a>, 0>, _>(x),
+            Pdus::GetNextRequest(x) => known_plain::<Implicit<Pdu<'a>, 1>, _>(x),
+            Pdus::Response(x) => known_plain::<Implicit<Pdu<'a>, 2>, _>(x),
+            Pdus::SetRequest(x) => known_plain::<Implicit<Pdu<'a>, 3>, _>(x),
+            Pdus::GetBulkRequest(x) => known_plain::<Implicit<BulkPdu<'a>, 5>, _>(x),
+            Pdus::InformRequest(x) => known_plain::<Implicit<Pdu<'a>, 6>, _>(x),
+            Pdus::Trap(x) => known_plain::<Implicit<Pdu<'a>, 7>, _>(x),
+            Pdus::Report(x) => known_plain::<Implicit<Pdu<'a>, 8>, _>(x),
+        }
     }
 }
 
@@ -481,11 +489,29 @@ impl<'a> Asn1Writable for Pdus<'a> {
     type Error = WriteError;
 
     fn write(&self, dest: &mut Writer<'_>) -> WriteResult<()> {
-        variants_of_pdus!(write_choice, self, dest)
+        match self {
+            Pdus::GetRequest(x) => write_plain::<Implicit<Pdu<'a>, 0>, _>(x, dest),
+            Pdus::GetNextRequest(x) => write_plain::<Implicit<Pdu<'a>, 1>, _>(x, dest),
+            Pdus::Response(x) => write_plain::<Implicit<Pdu<'a>, 2>, _>(x, dest),
+            Pdus::SetRequest(x) => write_plain::<Implicit<Pdu<'a>, 3>, _>(x, dest),
+            Pdus::GetBulkRequest(x) => write_plain::<Implicit<BulkPdu<'a>, 5>, _>(x, dest),
+            Pdus::InformRequest(x) => write_plain::<Implicit<Pdu<'a>, 6>, _>(x, dest),
+            Pdus::Trap(x) => write_plain::<Implicit<Pdu<'a>, 7>, _>(x, dest),
+            Pdus::Report(x) => write_plain::<Implicit<Pdu<'a>, 8>, _>(x, dest),
+        }
     }
 
     fn encoded_length(&self) -> Option<usize> {
-        variants_of_pdus!(choice_length, self)
+        match self {
+            Pdus::GetRequest(x) => plain_length::<Implicit<Pdu<'a>, 0>, _>(x),
+            Pdus::GetNextRequest(x) => plain_length::<Implicit<Pdu<'a>, 1>, _>(x),
+            Pdus::Response(x) => plain_length::<Implicit<Pdu<'a>, 2>, _>(x),
+            Pdus::SetRequest(x) => plain_length::<Implicit<Pdu<'a>, 3>, _>(x),
+            Pdus::GetBulkRequest(x) => plain_length::<Implicit<BulkPdu<'a>, 5>, _>(x),
+            Pdus::InformRequest(x) => plain_length::<Implicit<Pdu<'a>, 6>, _>(x),
+            Pdus::Trap(x) => plain_length::<Implicit<Pdu<'a>, 7>, _>(x),
+            Pdus::Report(x) => plain_length::<Implicit<Pdu<'a>, 8>, _>(x),
+        }
     }
 
     fn writes_as_read() -> bool
@@ -710,12 +736,6 @@ type ObjectSyntaxChoice<'a> = OneOf12Or<
     OneOf1<Implicit<Null, 2>>,
 >;
 
-macro_rules! variants_of_object_syntax {
-    ($body:ident, $($of:tt)*) => { $body!($($of)*; ObjectSyntaxChoice<'a> => ObjectSyntax;
-        Integer, String, ObjectId, IpAddress, Counter, Unsigned, TimeTicks, Arbitrary, BigCounter,
-        UnSpecified, NoSuchObject: tagged, NoSuchInstance: tagged, EndOfMibView: tagged) };
-}
-
 /// A value, or that there is none: SimpleSyntax, ApplicationSyntax, NULL and three tags.
 #[derive(Drop)]
 pub enum ObjectSyntax<'a> {
@@ -774,7 +794,10 @@ impl<'a> AsOneOf<ObjectSyntaxChoice<'a>> for ObjectSyntax<'a> {
         ensures { ⟦<ObjectSyntax<'a> as AsOneOf<ObjectSyntaxChoice<'a>>>⟧.seen result ≡
             value.entry }
     {
-        variants_of_object_syntax!(take_choice, value)
+        take_choice!(value;
+            ObjectSyntaxChoice<'a> => ObjectSyntax; Integer, String, ObjectId, IpAddress, Counter,
+            Unsigned, TimeTicks, Arbitrary, BigCounter, UnSpecified, NoSuchObject: tagged,
+            NoSuchInstance: tagged, EndOfMibView: tagged)
     }
 }
 
@@ -783,7 +806,21 @@ impl<'a> Asn1Type for ObjectSyntax<'a> {
         ⟦<ObjectSyntaxChoice<'a> as Alternatives>⟧.list };
 
     fn known(&self) {
-        variants_of_object_syntax!(known_choice, self)
+        match self {
+            ObjectSyntax::Integer(x) => x.known(),
+            ObjectSyntax::String(x) => x.known(),
+            ObjectSyntax::ObjectId(x) => x.known(),
+            ObjectSyntax::IpAddress(x) => x.known(),
+            ObjectSyntax::Counter(x) => x.known(),
+            ObjectSyntax::Unsigned(x) => x.known(),
+            ObjectSyntax::TimeTicks(x) => x.known(),
+            ObjectSyntax::Arbitrary(x) => x.known(),
+            ObjectSyntax::BigCounter(x) => x.known(),
+            ObjectSyntax::UnSpecified(x) => x.known(),
+            ObjectSyntax::NoSuchObject(x) => known_plain::<Implicit<Null, 0>, _>(x),
+            ObjectSyntax::NoSuchInstance(x) => known_plain::<Implicit<Null, 1>, _>(x),
+            ObjectSyntax::EndOfMibView(x) => known_plain::<Implicit<Null, 2>, _>(x),
+        }
     }
 }
 
@@ -812,11 +849,39 @@ impl<'a> Asn1Writable for ObjectSyntax<'a> {
     type Error = WriteError;
 
     fn write(&self, dest: &mut Writer<'_>) -> WriteResult<()> {
-        variants_of_object_syntax!(write_choice, self, dest)
+        match self {
+            ObjectSyntax::Integer(x) => dest.write_element(x),
+            ObjectSyntax::String(x) => dest.write_element(x),
+            ObjectSyntax::ObjectId(x) => dest.write_element(x),
+            ObjectSyntax::IpAddress(x) => dest.write_element(x),
+            ObjectSyntax::Counter(x) => dest.write_element(x),
+            ObjectSyntax::Unsigned(x) => dest.write_element(x),
+            ObjectSyntax::TimeTicks(x) => dest.write_element(x),
+            ObjectSyntax::Arbitrary(x) => dest.write_element(x),
+            ObjectSyntax::BigCounter(x) => dest.write_element(x),
+            ObjectSyntax::UnSpecified(x) => dest.write_element(x),
+            ObjectSyntax::NoSuchObject(x) => write_plain::<Implicit<Null, 0>, _>(x, dest),
+            ObjectSyntax::NoSuchInstance(x) => write_plain::<Implicit<Null, 1>, _>(x, dest),
+            ObjectSyntax::EndOfMibView(x) => write_plain::<Implicit<Null, 2>, _>(x, dest),
+        }
     }
 
     fn encoded_length(&self) -> Option<usize> {
-        variants_of_object_syntax!(choice_length, self)
+        match self {
+            ObjectSyntax::Integer(x) => x.encoded_length(),
+            ObjectSyntax::String(x) => x.encoded_length(),
+            ObjectSyntax::ObjectId(x) => x.encoded_length(),
+            ObjectSyntax::IpAddress(x) => x.encoded_length(),
+            ObjectSyntax::Counter(x) => x.encoded_length(),
+            ObjectSyntax::Unsigned(x) => x.encoded_length(),
+            ObjectSyntax::TimeTicks(x) => x.encoded_length(),
+            ObjectSyntax::Arbitrary(x) => x.encoded_length(),
+            ObjectSyntax::BigCounter(x) => x.encoded_length(),
+            ObjectSyntax::UnSpecified(x) => x.encoded_length(),
+            ObjectSyntax::NoSuchObject(x) => plain_length::<Implicit<Null, 0>, _>(x),
+            ObjectSyntax::NoSuchInstance(x) => plain_length::<Implicit<Null, 1>, _>(x),
+            ObjectSyntax::EndOfMibView(x) => plain_length::<Implicit<Null, 2>, _>(x),
+        }
     }
 
     fn writes_as_read() -> bool

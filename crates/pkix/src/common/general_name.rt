@@ -1,5 +1,5 @@
 //! General names (RFC 5280, 4.2.1.6).
-// Printed by tools/derive from declarations/common/general_name.rs, with the sum 0d3161d3.
+// Printed by tools/derive from declarations/common/general_name.rs, with the sum a6e48c76.
 
 ghost use Rattle.std.specs.Prelude.{◌≡◌, ◌∷◌, [], IsTrue, OnErr, IfOk};
 ghost use Rattle.asn1.specs.AlternativeLists.{choice, alternative1, alternative2, alternative3, alternative4};
@@ -11,12 +11,12 @@ ghost use Rattle.asn1.specs.Structures.{explicit, field_names, implicit, structu
 
 use crate::common::{DirectoryString, Name};
 use asn1::alternatives::{Alternatives, AlternativesReadable, AsOneOf, OneOf9, read_choice};
-use asn1::fields::{Fields2, Row};
+use asn1::fields::{Fields2, Row, known_plain, plain_length, write_plain};
 use asn1::{
     Asn1Readable, Asn1Type, Asn1Writable, Explicit, IA5String, Implicit, ObjectIdentifier,
     ParseResult, Parser, Sequence, SequenceOf, SimpleAsn1Readable, SimpleAsn1Writable, Tag, Tlv,
-    WriteBuf, WriteError, WriteResult, Writer, choice_length, fields_length, known_choice,
-    known_fields, read_fields, take_choice, write_choice, write_fields,
+    WriteBuf, WriteError, WriteResult, Writer, fields_length, known_fields, read_fields,
+    take_choice, write_fields,
 };
 use std::alloc::Global;
 
@@ -178,13 +178,6 @@ type GeneralNameChoice<'a> = OneOf9<
     Implicit<ObjectIdentifier, 8>,
 >;
 
-macro_rules! variants_of_general_name {
-    ($body:ident, $($of:tt)*) => { $body!($($of)*; GeneralNameChoice<'a> => GeneralName;
-        OtherName: tagged, Rfc822Name: tagged, DnsName: tagged, X400Address: tagged,
-        DirectoryName: tagged, EdiPartyName: tagged, UniformResourceIdentifier: tagged,
-        IpAddress: tagged, RegisteredId: tagged) };
-}
-
 /// GeneralName (RFC 5280, 4.2.1.6), a CHOICE of nine.
 #[derive(Debug, Clone, PartialEq, Eq, Drop)]
 pub enum GeneralName<'a> {
@@ -231,7 +224,10 @@ impl<'a> AsOneOf<GeneralNameChoice<'a>> for GeneralName<'a> {
     fn from_one_of(value: GeneralNameChoice<'a>) -> GeneralName<'a>
         ensures { ⟦<GeneralName<'a> as AsOneOf<GeneralNameChoice<'a>>>⟧.seen result ≡ value.entry }
     {
-        variants_of_general_name!(take_choice, value)
+        take_choice!(value;
+            GeneralNameChoice<'a> => GeneralName; OtherName: tagged, Rfc822Name: tagged,
+            DnsName: tagged, X400Address: tagged, DirectoryName: tagged, EdiPartyName: tagged,
+            UniformResourceIdentifier: tagged, IpAddress: tagged, RegisteredId: tagged)
     }
 }
 
@@ -240,7 +236,20 @@ impl<'a> Asn1Type for GeneralName<'a> {
         ⟦<GeneralNameChoice<'a> as Alternatives>⟧.list };
 
     fn known(&self) {
-        variants_of_general_name!(known_choice, self)
+        match self {
+            GeneralName::OtherName(x) => known_plain::<Implicit<OtherName<'a>, 0>, _>(x),
+            GeneralName::Rfc822Name(x) => known_plain::<Implicit<IA5String<'a>, 1>, _>(x),
+            GeneralName::DnsName(x) => known_plain::<Implicit<IA5String<'a>, 2>, _>(x),
+            GeneralName::X400Address(x) => known_plain::<Implicit<Sequence<'a>, 3>, _>(x),
+            GeneralName::DirectoryName(x) => known_plain::<Explicit<Name<'a>, 4>, _>(x),
+            GeneralName::EdiPartyName(x) => known_plain::<Implicit<EdiPartyName<'a>, 5>, _>(x),
+            GeneralName::UniformResourceIdentifier(x) => known_plain::<
+                Implicit<IA5String<'a>, 6>,
+                _,
+            >(x),
+            GeneralName::IpAddress(x) => known_plain::<Implicit<&'a [u8], 7>, _>(x),
+            GeneralName::RegisteredId(x) => known_plain::<Implicit<ObjectIdentifier, 8>, _>(x),
+        }
     }
 }
 
@@ -269,11 +278,41 @@ impl<'a> Asn1Writable for GeneralName<'a> {
     type Error = WriteError;
 
     fn write(&self, dest: &mut Writer<'_>) -> WriteResult<()> {
-        variants_of_general_name!(write_choice, self, dest)
+        match self {
+            GeneralName::OtherName(x) => write_plain::<Implicit<OtherName<'a>, 0>, _>(x, dest),
+            GeneralName::Rfc822Name(x) => write_plain::<Implicit<IA5String<'a>, 1>, _>(x, dest),
+            GeneralName::DnsName(x) => write_plain::<Implicit<IA5String<'a>, 2>, _>(x, dest),
+            GeneralName::X400Address(x) => write_plain::<Implicit<Sequence<'a>, 3>, _>(x, dest),
+            GeneralName::DirectoryName(x) => write_plain::<Explicit<Name<'a>, 4>, _>(x, dest),
+            GeneralName::EdiPartyName(x) => write_plain::<Implicit<EdiPartyName<'a>, 5>, _>(
+                x, dest,
+            ),
+            GeneralName::UniformResourceIdentifier(x) => write_plain::<
+                Implicit<IA5String<'a>, 6>,
+                _,
+            >(x, dest),
+            GeneralName::IpAddress(x) => write_plain::<Implicit<&'a [u8], 7>, _>(x, dest),
+            GeneralName::RegisteredId(x) => write_plain::<Implicit<ObjectIdentifier, 8>, _>(
+                x, dest,
+            ),
+        }
     }
 
     fn encoded_length(&self) -> Option<usize> {
-        variants_of_general_name!(choice_length, self)
+        match self {
+            GeneralName::OtherName(x) => plain_length::<Implicit<OtherName<'a>, 0>, _>(x),
+            GeneralName::Rfc822Name(x) => plain_length::<Implicit<IA5String<'a>, 1>, _>(x),
+            GeneralName::DnsName(x) => plain_length::<Implicit<IA5String<'a>, 2>, _>(x),
+            GeneralName::X400Address(x) => plain_length::<Implicit<Sequence<'a>, 3>, _>(x),
+            GeneralName::DirectoryName(x) => plain_length::<Explicit<Name<'a>, 4>, _>(x),
+            GeneralName::EdiPartyName(x) => plain_length::<Implicit<EdiPartyName<'a>, 5>, _>(x),
+            GeneralName::UniformResourceIdentifier(x) => plain_length::<
+                Implicit<IA5String<'a>, 6>,
+                _,
+            >(x),
+            GeneralName::IpAddress(x) => plain_length::<Implicit<&'a [u8], 7>, _>(x),
+            GeneralName::RegisteredId(x) => plain_length::<Implicit<ObjectIdentifier, 8>, _>(x),
+        }
     }
 
     fn writes_as_read() -> bool
