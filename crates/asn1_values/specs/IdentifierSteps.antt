@@ -12,8 +12,8 @@ first_text n = if nat_lt n 80 then decimal (n / 40) ++ (codes "." ++ decimal (n 
 abbrev pub others_text : List ℕ → List ℕ
 others_text numbers = flat_map (λ n. codes "." ++ decimal n) numbers
 
--- A number's encoding in base 128 is written behind the first `count` octets, the octets behind it stay, and it ends
--- behind the first `total`, at most 63.
+-- A number's encoding in base 128 is written after the first `count` octets, the octets after it stay, and it ends
+-- after the first `total`, at most 63.
 abbrev pub AppendsNumber : ℕ → ℕ → List ℕ → List ℕ → ℕ → Type 0
 AppendsNumber count number old new total =
     let encoding = number_octets number in
