@@ -26,11 +26,7 @@ fn differs<L: Debug, R: Debug>(left: &L, right: &R) -> Fail {
 }
 
 /// The same of a row of a table.
-fn differs_at<W: Debug, L: Debug, R: Debug>(
-    row: &W,
-    left: &L,
-    right: &R,
-) -> Fail {
+fn differs_at<W: Debug, L: Debug, R: Debug>(row: &W, left: &L, right: &R) -> Fail {
     Fail::new(format_args!("at {row:?}: {left:?} isn't {right:?}"))
 }
 
