@@ -55,24 +55,24 @@ macro_rules! read_fields {
     }};
 }
 
-/// Moves the fields of a row to those of a struct.
+/// Moves the fields of a row to those of a struct. Each is moved from its place in the row, since a variable for it and
+/// one for the fields after it would double the proof.
 #[macro_export]
 macro_rules! take_fields {
-    ($row:ident; $of:ident {};) => {{
+    ($row:expr; $of:ident {};) => {{
         let _fields = $row;
         $of {}
     }};
-    ($row:ident; $of:ident { $($done:ident),* };
-        $name:ident $(of $value:ident)? $(by $item:ty)? $(: $type:ty)?) => {{
-        let $name = $crate::taken_field!($row.value $(, of $value)? $(, $type)?);
-        $of { $($done,)* $name }
-    }};
-    ($row:ident; $of:ident { $($done:ident),* };
-        $name:ident $(of $value:ident)? $(by $item:ty)? $(: $type:ty)?, $($rest:tt)+) => {{
-        let $name = $crate::taken_field!($row.value $(, of $value)? $(, $type)?);
-        let rest = $row.rest;
-        $crate::take_fields!(rest; $of { $($done,)* $name }; $($rest)+)
-    }};
+    ($row:expr; $of:ident { $($done:tt)* };
+        $name:ident $(of $value:ident)? $(by $item:ty)? $(: $type:ty)?) => {
+        $of { $($done)* $name: $crate::taken_field!($row.value $(, of $value)? $(, $type)?) }
+    };
+    ($row:expr; $of:ident { $($done:tt)* };
+        $name:ident $(of $value:ident)? $(by $item:ty)? $(: $type:ty)?, $($rest:tt)+) => {
+        $crate::take_fields!($row.rest; $of {
+            $($done)* $name: $crate::taken_field!($row.value $(, of $value)? $(, $type)?),
+        }; $($rest)+)
+    };
 }
 
 /// The value of a field as a struct has it.
