@@ -18,6 +18,8 @@ mod error_octets;
 #[cfg(test)]
 mod examples;
 #[cfg(test)]
+mod framing;
+#[cfg(test)]
 mod headline;
 #[cfg(test)]
 mod large;
@@ -47,6 +49,8 @@ mod relative_oid;
 mod round_trips;
 #[cfg(test)]
 mod sets;
+#[cfg(test)]
+mod simple_types;
 #[cfg(test)]
 mod slow;
 #[cfg(test)]

@@ -1,4 +1,4 @@
-use crate::writing::announced_element;
+use crate::framing::writing::announced_element;
 use asn1_core::base128;
 use asn1_core::parser::ParseErrorKind;
 use asn1_core::tag::{Tag, TagClass};

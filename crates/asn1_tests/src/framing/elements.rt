@@ -1,4 +1,4 @@
-use crate::errors::KINDS;
+use crate::framing::errors::KINDS;
 use asn1_core::parser::{
     ParseError, ParseErrorKind, ParseLocation, ParseResult, Parser, parse_single, strip_tlv,
 };

@@ -5,9 +5,9 @@ ghost use Rattle.asn1_core.specs.Tag.{universal};
 ghost use Rattle.asn1_core.specs.Der.{simple_der};
 ghost use Rattle.asn1_core.specs.SetWriting.{written};
 ghost use Rattle.asn1_core.specs.LawsOf.Contents.{written_laws};
-ghost use Rattle.asn1_core_tests.specs.declared.sets.Custom.TheVariants.{Memory, Refused};
+ghost use Rattle.asn1_tests.specs.declared.framing.sets.Custom.TheVariants.{Memory, Refused};
 
-use crate::writing::compare_parts;
+use crate::framing::writing::compare_parts;
 use asn1_core::tag::Tag;
 use asn1_core::types::{Asn1Type, Asn1Writable, SimpleAsn1Writable};
 use asn1_core::writer::{

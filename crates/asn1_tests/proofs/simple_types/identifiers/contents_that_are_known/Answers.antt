@@ -1,5 +1,5 @@
-use Rattle.asn1_values_tests.proofs.KnownContents.{one_octet, three_octets}
-use Rattle.asn1_values_tests.proofs.identifiers.contents_that_are_known.Goals as goal
+use Rattle.asn1_tests.proofs.KnownContents.{one_octet, three_octets}
+use Rattle.asn1_tests.proofs.simple_types.identifiers.contents_that_are_known.Goals as goal
 
 pub from_der_unchecked-identifier-requires : goal.from_der_unchecked-identifier-requires
 from_der_unchecked-identifier-requires g = one_octet

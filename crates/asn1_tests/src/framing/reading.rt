@@ -1,4 +1,4 @@
-use crate::elements::with_places;
+use crate::framing::elements::with_places;
 use asn1_core::parser::{
     ParseError, ParseErrorKind, ParseLocation, ParseResult, Parser, Place, parse, parse_single,
 };

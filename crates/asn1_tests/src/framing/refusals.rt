@@ -2,7 +2,7 @@
 
 ghost use Rattle.std.specs.Prelude.{◌≡◌};
 
-use crate::sets::rejects_true;
+use crate::framing::sets::rejects_true;
 use asn1_core::{
     ParseErrorKind, Parser, SetElementWriter, SetOfWriter, SetWriter, Tlv, WriteError, WriteResult,
     Writer, strip_tlv,

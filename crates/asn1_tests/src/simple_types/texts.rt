@@ -1,6 +1,6 @@
 //! Character strings: the original's cases, values from outside, and what is rejected.
 
-use crate::made::{is_hashed, is_made};
+use crate::simple_types::made::{is_hashed, is_made};
 use asn1_core::{ParseErrorKind, Tag, parse_single};
 use asn1_values::values::{
     BMPString, IA5String, PrintableString, UniversalString, Utf8String, VisibleString,

@@ -1,6 +1,6 @@
 //! Times: elements from outside, and what is rejected.
 
-use crate::made::is_hashed;
+use crate::simple_types::made::is_hashed;
 use asn1_core::{ParseErrorKind, ParseResult};
 use asn1_values::values::{DateTime, GeneralizedTime, UtcTime, X509GeneralizedTime};
 use std::alloc::Global;

@@ -1,6 +1,6 @@
 use Rattle.std.proofs.Common.{rules, ◌≡◌, Some, length, ap, refl}
 use Rattle.asn1_core.proofs.Bodies.{KnowsLength-Announces, KeepsPrefix-result}
-use Rattle.asn1_core_tests.proofs.writing.fn.announced_element.write.Goals as goal
+use Rattle.asn1_tests.proofs.framing.writing.fn.announced_element.write.Goals as goal
 
 pub write_tlv-requires : goal.write_tlv-requires
 write_tlv-requires c = record {

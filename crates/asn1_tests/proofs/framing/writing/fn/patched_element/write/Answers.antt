@@ -1,6 +1,6 @@
 use Rattle.std.proofs.Common.{rules}
 use Rattle.asn1_core.proofs.Bodies.{KeepsPrefix-result}
-use Rattle.asn1_core_tests.proofs.writing.fn.patched_element.write.Goals as goal
+use Rattle.asn1_tests.proofs.framing.writing.fn.patched_element.write.Goals as goal
 
 pub write_tlv-requires : goal.write_tlv-requires
 write_tlv-requires c = record {

@@ -1,4 +1,4 @@
-use crate::writing::{HEADERS, compare_parts};
+use crate::framing::writing::{HEADERS, compare_parts};
 use asn1_core::parser::{ParseErrorKind, ParseResult, Parser, parse, parse_single};
 use asn1_core::types::Null;
 use asn1_core::writer::write_single;

@@ -1,6 +1,6 @@
 //! Bit strings: the original's cases, encodings from outside, and what is rejected.
 
-use crate::made::{is_hashed, is_made};
+use crate::simple_types::made::{is_hashed, is_made};
 use asn1_core::{ParseErrorKind, Tag, parse_single};
 use asn1_values::bit_string::{BitString, OwnedBitString};
 use std::alloc::Global;

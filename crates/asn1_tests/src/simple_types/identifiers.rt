@@ -1,6 +1,6 @@
 //! Object identifiers: values from outside.
 
-use crate::made::is_hashed;
+use crate::simple_types::made::is_hashed;
 use asn1_core::ParseErrorKind;
 use asn1_values::ObjectIdentifier;
 use std::test::Fail;

@@ -1,4 +1,4 @@
-use crate::made::{is_hashed, is_made};
+use crate::simple_types::made::{is_hashed, is_made};
 use asn1_core::{ParseErrorKind, parse_single};
 use asn1_values::values::{BigInt, BigUint, Enumerated, OwnedBigInt, OwnedBigUint};
 use std::alloc::Global;
