@@ -200,51 +200,59 @@ fn check_one(
         place.old place.new count.new }
     ensures number { result ≡ error.new.number }
 {
-    certificate_is_lawful();
-    certificate_list_is_lawful();
-    certification_request_is_lawful();
-    subject_public_key_info_is_lawful();
-    one_asymmetric_key_is_lawful();
-    ec_private_key_is_lawful();
-    rsa_private_key_is_lawful();
-    rsa_public_key_is_lawful();
-    ecdsa_sig_value_is_lawful();
-    digest_info_is_lawful();
-    content_info_is_lawful();
-    time_stamp_req_is_lawful();
-    time_stamp_resp_is_lawful();
     match one {
-        Object::Certificate => check_object::<Certificate<'_>>(alloc, octets, place, count, error),
-        Object::Crl => check_object::<CertificateList<'_>>(alloc, octets, place, count, error),
-        Object::Request => check_object::<CertificationRequest<'_>>(
-            alloc, octets, place, count, error,
-        ),
-        Object::PublicKey => check_object::<SubjectPublicKeyInfo<'_>>(
-            alloc, octets, place, count, error,
-        ),
-        Object::PrivateKey => check_object::<OneAsymmetricKey<'_>>(
-            alloc, octets, place, count, error,
-        ),
-        Object::EcPrivateKey => check_object::<EcPrivateKey<'_>>(
-            alloc, octets, place, count, error,
-        ),
-        Object::RsaPrivateKey => check_object::<RsaPrivateKey<'_>>(
-            alloc, octets, place, count, error,
-        ),
-        Object::RsaPublicKey => check_object::<RsaPublicKey<'_>>(
-            alloc, octets, place, count, error,
-        ),
-        Object::EcdsaSignature => check_object::<EcdsaSigValue<'_>>(
-            alloc, octets, place, count, error,
-        ),
-        Object::DigestInfo => check_object::<DigestInfo<'_>>(alloc, octets, place, count, error),
-        Object::SignedData => check_object::<ContentInfo<'_>>(alloc, octets, place, count, error),
-        Object::TimestampRequest => check_object::<TimeStampReq<'_>>(
-            alloc, octets, place, count, error,
-        ),
-        Object::TimestampResponse => check_object::<TimeStampResp<'_>>(
-            alloc, octets, place, count, error,
-        ),
+        Object::Certificate => {
+            certificate_is_lawful();
+            check_object::<Certificate<'_>>(alloc, octets, place, count, error)
+        }
+        Object::Crl => {
+            certificate_list_is_lawful();
+            check_object::<CertificateList<'_>>(alloc, octets, place, count, error)
+        }
+        Object::Request => {
+            certification_request_is_lawful();
+            check_object::<CertificationRequest<'_>>(alloc, octets, place, count, error)
+        }
+        Object::PublicKey => {
+            subject_public_key_info_is_lawful();
+            check_object::<SubjectPublicKeyInfo<'_>>(alloc, octets, place, count, error)
+        }
+        Object::PrivateKey => {
+            one_asymmetric_key_is_lawful();
+            check_object::<OneAsymmetricKey<'_>>(alloc, octets, place, count, error)
+        }
+        Object::EcPrivateKey => {
+            ec_private_key_is_lawful();
+            check_object::<EcPrivateKey<'_>>(alloc, octets, place, count, error)
+        }
+        Object::RsaPrivateKey => {
+            rsa_private_key_is_lawful();
+            check_object::<RsaPrivateKey<'_>>(alloc, octets, place, count, error)
+        }
+        Object::RsaPublicKey => {
+            rsa_public_key_is_lawful();
+            check_object::<RsaPublicKey<'_>>(alloc, octets, place, count, error)
+        }
+        Object::EcdsaSignature => {
+            ecdsa_sig_value_is_lawful();
+            check_object::<EcdsaSigValue<'_>>(alloc, octets, place, count, error)
+        }
+        Object::DigestInfo => {
+            digest_info_is_lawful();
+            check_object::<DigestInfo<'_>>(alloc, octets, place, count, error)
+        }
+        Object::SignedData => {
+            content_info_is_lawful();
+            check_object::<ContentInfo<'_>>(alloc, octets, place, count, error)
+        }
+        Object::TimestampRequest => {
+            time_stamp_req_is_lawful();
+            check_object::<TimeStampReq<'_>>(alloc, octets, place, count, error)
+        }
+        Object::TimestampResponse => {
+            time_stamp_resp_is_lawful();
+            check_object::<TimeStampResp<'_>>(alloc, octets, place, count, error)
+        }
     }
 }
 

@@ -9,66 +9,50 @@ use std::alloc::{AllocError, Global};
 use std::test::Fail;
 use testing::{all_same, are_written_back, kind_of, same, same_at};
 
-/// Each known algorithm with its identifier.
-const IDENTIFIERS: &[(KnownAlgorithm, &str)] = &[
-    (KnownAlgorithm::RsaEncryption, "1.2.840.113549.1.1.1"),
-    (
-        KnownAlgorithm::Sha1WithRsaEncryption,
-        "1.2.840.113549.1.1.5",
-    ),
-    (
-        KnownAlgorithm::Sha224WithRsaEncryption,
-        "1.2.840.113549.1.1.14",
-    ),
-    (
-        KnownAlgorithm::Sha256WithRsaEncryption,
-        "1.2.840.113549.1.1.11",
-    ),
-    (
-        KnownAlgorithm::Sha384WithRsaEncryption,
-        "1.2.840.113549.1.1.12",
-    ),
-    (
-        KnownAlgorithm::Sha512WithRsaEncryption,
-        "1.2.840.113549.1.1.13",
-    ),
-    (KnownAlgorithm::RsassaPss, "1.2.840.113549.1.1.10"),
-    (KnownAlgorithm::Dsa, "1.2.840.10040.4.1"),
-    (KnownAlgorithm::DsaWithSha1, "1.2.840.10040.4.3"),
-    (KnownAlgorithm::DsaWithSha224, "2.16.840.1.101.3.4.3.1"),
-    (KnownAlgorithm::DsaWithSha256, "2.16.840.1.101.3.4.3.2"),
-    (KnownAlgorithm::EcPublicKey, "1.2.840.10045.2.1"),
-    (KnownAlgorithm::EcDh, "1.3.132.1.12"),
-    (KnownAlgorithm::EcMqv, "1.3.132.1.13"),
-    (KnownAlgorithm::EcdsaWithSha1, "1.2.840.10045.4.1"),
-    (KnownAlgorithm::EcdsaWithSha224, "1.2.840.10045.4.3.1"),
-    (KnownAlgorithm::EcdsaWithSha256, "1.2.840.10045.4.3.2"),
-    (KnownAlgorithm::EcdsaWithSha384, "1.2.840.10045.4.3.3"),
-    (KnownAlgorithm::EcdsaWithSha512, "1.2.840.10045.4.3.4"),
-    (KnownAlgorithm::Ed25519, "1.3.101.112"),
-    (KnownAlgorithm::Ed448, "1.3.101.113"),
-    (KnownAlgorithm::X25519, "1.3.101.110"),
-    (KnownAlgorithm::X448, "1.3.101.111"),
-    (KnownAlgorithm::Sha1, "1.3.14.3.2.26"),
-    (KnownAlgorithm::Sha224, "2.16.840.1.101.3.4.2.4"),
-    (KnownAlgorithm::Sha256, "2.16.840.1.101.3.4.2.1"),
-    (KnownAlgorithm::Sha384, "2.16.840.1.101.3.4.2.2"),
-    (KnownAlgorithm::Sha512, "2.16.840.1.101.3.4.2.3"),
-];
+/// A line for each known algorithm, in the order of `ALL`, with its identifier.
+const IDENTIFIERS: &str = "\
+RsaEncryption 1.2.840.113549.1.1.1\n\
+Sha1WithRsaEncryption 1.2.840.113549.1.1.5\n\
+Sha224WithRsaEncryption 1.2.840.113549.1.1.14\n\
+Sha256WithRsaEncryption 1.2.840.113549.1.1.11\n\
+Sha384WithRsaEncryption 1.2.840.113549.1.1.12\n\
+Sha512WithRsaEncryption 1.2.840.113549.1.1.13\n\
+RsassaPss 1.2.840.113549.1.1.10\n\
+Dsa 1.2.840.10040.4.1\n\
+DsaWithSha1 1.2.840.10040.4.3\n\
+DsaWithSha224 2.16.840.1.101.3.4.3.1\n\
+DsaWithSha256 2.16.840.1.101.3.4.3.2\n\
+EcPublicKey 1.2.840.10045.2.1\n\
+EcDh 1.3.132.1.12\n\
+EcMqv 1.3.132.1.13\n\
+EcdsaWithSha1 1.2.840.10045.4.1\n\
+EcdsaWithSha224 1.2.840.10045.4.3.1\n\
+EcdsaWithSha256 1.2.840.10045.4.3.2\n\
+EcdsaWithSha384 1.2.840.10045.4.3.3\n\
+EcdsaWithSha512 1.2.840.10045.4.3.4\n\
+Ed25519 1.3.101.112\n\
+Ed448 1.3.101.113\n\
+X25519 1.3.101.110\n\
+X448 1.3.101.111\n\
+Sha1 1.3.14.3.2.26\n\
+Sha224 2.16.840.1.101.3.4.2.4\n\
+Sha256 2.16.840.1.101.3.4.2.1\n\
+Sha384 2.16.840.1.101.3.4.2.2\n\
+Sha512 2.16.840.1.101.3.4.2.3\n";
 
 #[test]
 fn identifiers_of_algorithms(rt: HostRuntime) -> Result<(), Fail> {
     let alloc = rt.alloc();
-    for (algorithm, dotted) in IDENTIFIERS {
+    let mut lines = String::new(alloc);
+    for algorithm in KnownAlgorithm::ALL {
         let identifier = algorithm.identifier();
         same(
             KnownAlgorithm::with_identifier(&identifier),
             Some(*algorithm),
         )?;
-        same(format!(in alloc; "{identifier}")?.as_str(), *dotted)?;
+        writeln!(lines, "{algorithm:?} {identifier}")?;
     }
-    // Each was found in `ALL`, so each is in it once.
-    same(KnownAlgorithm::ALL.len(), IDENTIFIERS.len())
+    same(lines.as_str(), IDENTIFIERS)
 }
 
 /// Algorithms in hex, most of them of objects that OpenSSL made, each with its parameters.

@@ -11,46 +11,45 @@ use std::alloc::Global;
 use std::test::Fail;
 use testing::{error_of, same, same_at};
 
-/// Each known extension with its identifier.
-const IDENTIFIERS: &[(KnownExtension, &str)] = &[
-    (KnownExtension::AuthorityInfoAccess, "1.3.6.1.5.5.7.1.1"),
-    (KnownExtension::AuthorityKeyIdentifier, "2.5.29.35"),
-    (KnownExtension::BasicConstraints, "2.5.29.19"),
-    (KnownExtension::CertificateIssuer, "2.5.29.29"),
-    (KnownExtension::CertificatePolicies, "2.5.29.32"),
-    (KnownExtension::CrlDistributionPoints, "2.5.29.31"),
-    (KnownExtension::CrlNumber, "2.5.29.20"),
-    (KnownExtension::CrlReason, "2.5.29.21"),
-    (KnownExtension::DeltaCrlIndicator, "2.5.29.27"),
-    (KnownExtension::ExtendedKeyUsage, "2.5.29.37"),
-    (KnownExtension::FreshestCrl, "2.5.29.46"),
-    (KnownExtension::InhibitAnyPolicy, "2.5.29.54"),
-    (KnownExtension::InvalidityDate, "2.5.29.24"),
-    (KnownExtension::IssuerAltName, "2.5.29.18"),
-    (KnownExtension::IssuingDistributionPoint, "2.5.29.28"),
-    (KnownExtension::KeyUsage, "2.5.29.15"),
-    (KnownExtension::NameConstraints, "2.5.29.30"),
-    (KnownExtension::PolicyConstraints, "2.5.29.36"),
-    (KnownExtension::PolicyMappings, "2.5.29.33"),
-    (KnownExtension::SubjectAltName, "2.5.29.17"),
-    (KnownExtension::SubjectDirectoryAttributes, "2.5.29.9"),
-    (KnownExtension::SubjectInfoAccess, "1.3.6.1.5.5.7.1.11"),
-    (KnownExtension::SubjectKeyIdentifier, "2.5.29.14"),
-];
+/// A line for each known extension, in the order of `ALL`, with its identifier.
+const IDENTIFIERS: &str = "\
+AuthorityInfoAccess 1.3.6.1.5.5.7.1.1\n\
+AuthorityKeyIdentifier 2.5.29.35\n\
+BasicConstraints 2.5.29.19\n\
+CertificateIssuer 2.5.29.29\n\
+CertificatePolicies 2.5.29.32\n\
+CrlDistributionPoints 2.5.29.31\n\
+CrlNumber 2.5.29.20\n\
+CrlReason 2.5.29.21\n\
+DeltaCrlIndicator 2.5.29.27\n\
+ExtendedKeyUsage 2.5.29.37\n\
+FreshestCrl 2.5.29.46\n\
+InhibitAnyPolicy 2.5.29.54\n\
+InvalidityDate 2.5.29.24\n\
+IssuerAltName 2.5.29.18\n\
+IssuingDistributionPoint 2.5.29.28\n\
+KeyUsage 2.5.29.15\n\
+NameConstraints 2.5.29.30\n\
+PolicyConstraints 2.5.29.36\n\
+PolicyMappings 2.5.29.33\n\
+SubjectAltName 2.5.29.17\n\
+SubjectDirectoryAttributes 2.5.29.9\n\
+SubjectInfoAccess 1.3.6.1.5.5.7.1.11\n\
+SubjectKeyIdentifier 2.5.29.14\n";
 
 #[test]
 fn identifiers_of_extensions(rt: HostRuntime) -> Result<(), Fail> {
     let alloc = rt.alloc();
-    for (extension, dotted) in IDENTIFIERS {
+    let mut lines = String::new(alloc);
+    for extension in KnownExtension::ALL {
         let identifier = extension.identifier();
         same(
             KnownExtension::with_identifier(&identifier),
             Some(*extension),
         )?;
-        same(format!(in alloc; "{identifier}")?.as_str(), *dotted)?;
+        writeln!(lines, "{extension:?} {identifier}")?;
     }
-    // Each was found in `ALL`, so each is in it once.
-    same(KnownExtension::ALL.len(), IDENTIFIERS.len())
+    same(lines.as_str(), IDENTIFIERS)
 }
 
 /// The extension that this is a value of.
