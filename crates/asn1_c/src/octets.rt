@@ -65,33 +65,59 @@ fn rejected_as<'a, T: Asn1Readable<'a>>(alloc: Global, octets: &'a [u8]) -> Opti
 fn rejected(alloc: Global, one: Object, octets: &[u8]) -> Option<ParseError>
     ensures { result ≡ ⟦<Object as Rejecting>⟧.rejected one octets.now }
 {
-    certificate_is_lawful();
-    certificate_list_is_lawful();
-    certification_request_is_lawful();
-    subject_public_key_info_is_lawful();
-    one_asymmetric_key_is_lawful();
-    ec_private_key_is_lawful();
-    rsa_private_key_is_lawful();
-    rsa_public_key_is_lawful();
-    ecdsa_sig_value_is_lawful();
-    digest_info_is_lawful();
-    content_info_is_lawful();
-    time_stamp_req_is_lawful();
-    time_stamp_resp_is_lawful();
     match one {
-        Object::Certificate => rejected_as::<Certificate<'_>>(alloc, octets),
-        Object::Crl => rejected_as::<CertificateList<'_>>(alloc, octets),
-        Object::Request => rejected_as::<CertificationRequest<'_>>(alloc, octets),
-        Object::PublicKey => rejected_as::<SubjectPublicKeyInfo<'_>>(alloc, octets),
-        Object::PrivateKey => rejected_as::<OneAsymmetricKey<'_>>(alloc, octets),
-        Object::EcPrivateKey => rejected_as::<EcPrivateKey<'_>>(alloc, octets),
-        Object::RsaPrivateKey => rejected_as::<RsaPrivateKey<'_>>(alloc, octets),
-        Object::RsaPublicKey => rejected_as::<RsaPublicKey<'_>>(alloc, octets),
-        Object::EcdsaSignature => rejected_as::<EcdsaSigValue<'_>>(alloc, octets),
-        Object::DigestInfo => rejected_as::<DigestInfo<'_>>(alloc, octets),
-        Object::SignedData => rejected_as::<ContentInfo<'_>>(alloc, octets),
-        Object::TimestampRequest => rejected_as::<TimeStampReq<'_>>(alloc, octets),
-        Object::TimestampResponse => rejected_as::<TimeStampResp<'_>>(alloc, octets),
+        Object::Certificate => {
+            certificate_is_lawful();
+            rejected_as::<Certificate<'_>>(alloc, octets)
+        }
+        Object::Crl => {
+            certificate_list_is_lawful();
+            rejected_as::<CertificateList<'_>>(alloc, octets)
+        }
+        Object::Request => {
+            certification_request_is_lawful();
+            rejected_as::<CertificationRequest<'_>>(alloc, octets)
+        }
+        Object::PublicKey => {
+            subject_public_key_info_is_lawful();
+            rejected_as::<SubjectPublicKeyInfo<'_>>(alloc, octets)
+        }
+        Object::PrivateKey => {
+            one_asymmetric_key_is_lawful();
+            rejected_as::<OneAsymmetricKey<'_>>(alloc, octets)
+        }
+        Object::EcPrivateKey => {
+            ec_private_key_is_lawful();
+            rejected_as::<EcPrivateKey<'_>>(alloc, octets)
+        }
+        Object::RsaPrivateKey => {
+            rsa_private_key_is_lawful();
+            rejected_as::<RsaPrivateKey<'_>>(alloc, octets)
+        }
+        Object::RsaPublicKey => {
+            rsa_public_key_is_lawful();
+            rejected_as::<RsaPublicKey<'_>>(alloc, octets)
+        }
+        Object::EcdsaSignature => {
+            ecdsa_sig_value_is_lawful();
+            rejected_as::<EcdsaSigValue<'_>>(alloc, octets)
+        }
+        Object::DigestInfo => {
+            digest_info_is_lawful();
+            rejected_as::<DigestInfo<'_>>(alloc, octets)
+        }
+        Object::SignedData => {
+            content_info_is_lawful();
+            rejected_as::<ContentInfo<'_>>(alloc, octets)
+        }
+        Object::TimestampRequest => {
+            time_stamp_req_is_lawful();
+            rejected_as::<TimeStampReq<'_>>(alloc, octets)
+        }
+        Object::TimestampResponse => {
+            time_stamp_resp_is_lawful();
+            rejected_as::<TimeStampResp<'_>>(alloc, octets)
+        }
     }
 }
 
