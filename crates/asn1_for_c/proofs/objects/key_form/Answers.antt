@@ -1,0 +1,43 @@
+use Rattle.std.proofs.Common.{inl, inr}
+use Rattle.asn1_for_c.proofs.Forms.{unread, neither}
+use Rattle.asn1_for_c.proofs.objects.key_form.Goals as goal
+
+pub returns-then-is_read : goal.returns-then-is_read
+returns-then-is_read c = λ number error location told. (inl told.0, told.1, λ zero. inl (told.2 zero), λ i f. told.3 (c.is_read.ensures.yes c.if-is_read.true) f)
+
+pub returns-then-is_read-2 : goal.returns-then-is_read-2
+returns-then-is_read-2 c = λ number error location told. (inr (inl told.0), told.1, λ zero. inr (inl (told.2 zero)), λ i f. told.3 (c.is_read-2.ensures.yes c.if-is_read-2.true) f)
+
+pub returns-then-is_read-3 : goal.returns-then-is_read-3
+returns-then-is_read-3 c = λ number error location told. (inr (inr (inl told.0)), told.1, λ zero. inr (inr (inl (told.2 zero))), λ i f. told.3 (c.is_read-3.ensures.yes c.if-is_read-3.true) f)
+
+pub returns-then-is_read-4 : goal.returns-then-is_read-4
+returns-then-is_read-4 c = λ number error location told. (inr (inr (inr (inl told.0))), told.1, λ zero. inr (inr (inr (inl (told.2 zero)))), λ i f. told.3 (c.is_read-4.ensures.yes c.if-is_read-4.true) f)
+
+pub returns-then-is_read-5 : goal.returns-then-is_read-5
+returns-then-is_read-5 c = λ number error location told. (inr (inr (inr (inr told.0))), told.1, λ zero. inr (inr (inr (inr (told.2 zero)))), λ i f. told.3 (c.is_read-5.ensures.yes c.if-is_read-5.true) f)
+
+pub returns-then-eq : goal.returns-then-eq
+returns-then-eq c =
+    let none = neither (unread _ c.is_read.ensures.no c.if-is_read.false) (neither (unread _ c.is_read-2.ensures.no c.if-is_read-2.false) (neither (unread _ c.is_read-3.ensures.no c.if-is_read-3.false) (neither (unread _ c.is_read-4.ensures.no c.if-is_read-4.false) (unread _ c.is_read-5.ensures.no c.if-is_read-5.false)))) in
+    λ number error location told. (inl told.0, told.1, λ zero. inl (told.2 zero), λ i f. absurd (none i f))
+
+pub returns-then-eq-2 : goal.returns-then-eq-2
+returns-then-eq-2 c =
+    let none = neither (unread _ c.is_read.ensures.no c.if-is_read.false) (neither (unread _ c.is_read-2.ensures.no c.if-is_read-2.false) (neither (unread _ c.is_read-3.ensures.no c.if-is_read-3.false) (neither (unread _ c.is_read-4.ensures.no c.if-is_read-4.false) (unread _ c.is_read-5.ensures.no c.if-is_read-5.false)))) in
+    λ number error location told. (inr (inl told.0), told.1, λ zero. inr (inl (told.2 zero)), λ i f. absurd (none i f))
+
+pub returns-then-ne : goal.returns-then-ne
+returns-then-ne c =
+    let none = neither (unread _ c.is_read.ensures.no c.if-is_read.false) (neither (unread _ c.is_read-2.ensures.no c.if-is_read-2.false) (neither (unread _ c.is_read-3.ensures.no c.if-is_read-3.false) (neither (unread _ c.is_read-4.ensures.no c.if-is_read-4.false) (unread _ c.is_read-5.ensures.no c.if-is_read-5.false)))) in
+    λ number error location told. (inr (inr (inr (inr told.0))), told.1, λ zero. inr (inr (inr (inr (told.2 zero)))), λ i f. absurd (none i f))
+
+pub returns-then-has_more : goal.returns-then-has_more
+returns-then-has_more c =
+    let none = neither (unread _ c.is_read.ensures.no c.if-is_read.false) (neither (unread _ c.is_read-2.ensures.no c.if-is_read-2.false) (neither (unread _ c.is_read-3.ensures.no c.if-is_read-3.false) (neither (unread _ c.is_read-4.ensures.no c.if-is_read-4.false) (unread _ c.is_read-5.ensures.no c.if-is_read-5.false)))) in
+    λ number error location told. (inr (inr (inl told.0)), told.1, λ zero. inr (inr (inl (told.2 zero))), λ i f. absurd (none i f))
+
+pub returns-else-has_more : goal.returns-else-has_more
+returns-else-has_more c =
+    let none = neither (unread _ c.is_read.ensures.no c.if-is_read.false) (neither (unread _ c.is_read-2.ensures.no c.if-is_read-2.false) (neither (unread _ c.is_read-3.ensures.no c.if-is_read-3.false) (neither (unread _ c.is_read-4.ensures.no c.if-is_read-4.false) (unread _ c.is_read-5.ensures.no c.if-is_read-5.false)))) in
+    λ number error location told. (inr (inr (inr (inl told.0))), told.1, λ zero. inr (inr (inr (inl (told.2 zero)))), λ i f. absurd (none i f))
