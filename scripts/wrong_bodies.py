@@ -34,7 +34,7 @@ LIST = re.compile(r"\{(\w+(?:,\w+)+)\}")
 FOLDERS = ["must-fail", "wrong-bodies/first", "wrong-bodies"]
 ALL_FOLDERS = [*FOLDERS, "canaries"]
 KEYS = {"function", "body", "first", "file", "old", "new", "clause", "test", "no test", "must"}
-PLANTED = TOP / "scripts/planted.txt"
+PLANTED, TESTS = TOP / "scripts/planted.txt", "tests"
 # `around` has the bodies of functions in which the changes are, each as its file and where it begins and ends; and
 # `None` if one is in none, as that of a ghost member, which may change the contracts of others.
 Wrong = namedtuple("Wrong", "function name changes clauses tests must reason around", defaults=[None, ()])
@@ -168,6 +168,27 @@ def state_of(name):
     return found.hexdigest()[:32]
 
 
+def state_of_tests():
+    """A hash of all that decides how the tests of wrong bodies end: these bodies, and the sources of the crates of the
+    tests and of those below."""
+    files = [file for name in uses() for folder in ALL_FOLDERS for file in (CRATES / name / folder).glob("*.edit")]
+    blocks = sorted(text for file in files for _, text in blocks_of(file) if NAMED_TEST.search(text))
+    tests = {path.partition("::")[0] for text in blocks for path in NAMED_TEST.search(text)[0].split()[1:]}
+    found = hashlib.sha256("\n".join(blocks).encode())
+    for name in sorted(tests.union(*map(below, tests))):
+        for file in sorted(CRATES.glob(f"{name}/src/**/*.rt")):
+            found.update(f"{file.relative_to(CRATES)}\n{without_layout(without_comments(file))}\n".encode())
+    return found.hexdigest()[:32]
+
+
 def planted():
-    """The state of each crate in which its wrong bodies were planted, all of them, and refused."""
+    """The state of each crate in which its wrong bodies were planted, all of them, and refused; and as `tests` that of
+    all crates in which the tests of wrong bodies were run, and failed."""
     return dict(line.split() for line in PLANTED.read_text().splitlines() if not line.startswith("#"))
+
+
+def keep(name, state):
+    """Writes a line of scripts/planted.txt, or leaves it out."""
+    lines = {**planted(), name: state}
+    head = PLANTED.read_text().partition("\n")[0]
+    PLANTED.write_text("\n".join([head, *(f"{it} {lines[it]}" for it in [*uses(), TESTS] if lines.get(it))]) + "\n")
