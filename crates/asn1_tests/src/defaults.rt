@@ -114,9 +114,7 @@ fn has_a_default<
     'a,
     T: Asn1Readable<'a> + Asn1Writable<Error = WriteError> + MeaningEq,
     D: DefaultValue<T>,
->(alloc: Global, value: T, octets: &'a [u8], encoded_default: &'a [u8]) -> Result<(), Fail>
-    requires { T.der.plain }
-{
+>(alloc: Global, value: T, octets: &'a [u8], encoded_default: &'a [u8]) -> Result<(), Fail> {
     both_ways(alloc, Defaulted::<T, D>::new(value), octets)?;
     both_ways(alloc, Defaulted::<T, D>::new(D::value()), &[])?;
     let error = ParseError::new(ParseErrorKind::EncodedDefault);

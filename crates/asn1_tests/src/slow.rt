@@ -75,9 +75,7 @@ fn compare_as<'a, T: Asn1Readable<'a> + Asn1Writable<Error = WriteError>>(
     alloc: Global,
     text: &'a [u8],
     fault: Option<ParseError>,
-) -> Result<(), Fail>
-    requires { T.der.plain }
-{
+) -> Result<(), Fail> {
     match fault {
         Some(error) => is_refused::<T>(alloc, text, error),
         None => is_written_back::<T>(alloc, text),

@@ -61,9 +61,7 @@ pub fn are_octets_answered<'a, T: Asn1Readable<'a> + Asn1Writable<Error = WriteE
     name: &str,
     octets: &'a [u8],
     wanted: &str,
-) -> Result<(), Fail>
-    requires { T.der.plain }
-{
+) -> Result<(), Fail> {
     let found = match error_of(parse_single::<T>(alloc, octets)) {
         None => {
             is_written_back::<T>(alloc, octets)?;
@@ -84,9 +82,7 @@ fn is_answered<'a, T: Asn1Readable<'a> + Asn1Writable<Error = WriteError>>(
     name: &str,
     digits: &str,
     wanted: &str,
-) -> Result<(), Fail>
-    requires { T.der.plain }
-{
+) -> Result<(), Fail> {
     // What is read borrows from the octets, which are never freed.
     let octets: &'a [u8] = hex::decode(alloc, digits)?.leak();
     are_octets_answered::<T>(alloc, name, octets, wanted)
@@ -145,9 +141,7 @@ fn is_field<'a, T: Asn1Readable<'a> + Asn1Writable<Error = WriteError>>(
     place: usize,
     field: &str,
     answers: &str,
-) -> Result<(), Fail>
-    requires { T.der.plain }
-{
+) -> Result<(), Fail> {
     let twice = format!(in alloc; "{field}{field}")?;
     let other = under_another_tag(alloc, field)?;
     let mut answers = answers.split("; ");
@@ -164,9 +158,7 @@ fn is_sequence<'a, T: Asn1Readable<'a> + Asn1Writable<Error = WriteError>>(
     alloc: Global,
     name: &str,
     rows: &str,
-) -> Result<(), Fail>
-    requires { T.der.plain }
-{
+) -> Result<(), Fail> {
     let whole = structure(alloc, rows, usize::MAX, "", false)?;
     is_answered::<T>(alloc, name, whole.as_str(), "read")?;
     let contents = whole.as_str().strip_prefix("30").unwrap_or("");
@@ -179,9 +171,7 @@ fn are_answered<'a, T: Asn1Readable<'a> + Asn1Writable<Error = WriteError>>(
     alloc: Global,
     name: &str,
     rows: &str,
-) -> Result<(), Fail>
-    requires { T.der.plain }
-{
+) -> Result<(), Fail> {
     let mut count = 0usize;
     for row in rows.split('\n') {
         let Some((octets, answer)) = row.split_once(": ") else {

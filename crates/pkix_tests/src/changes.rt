@@ -23,9 +23,7 @@ fn are_changes_answered<'a, T: Asn1Readable<'a> + Asn1Writable<Error = WriteErro
     name: &str,
     object: &str,
     rows: &str,
-) -> Result<(), Fail>
-    requires { T.der.plain }
-{
+) -> Result<(), Fail> {
     let whole = hex::decode(alloc, object)?;
     for row in rows.split('\n') {
         let Some((place, octet, wanted)) = change_of(row) else {

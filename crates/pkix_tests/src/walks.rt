@@ -42,9 +42,7 @@ fn are_rejected_or_written<'a, T: Asn1Readable<'a> + Asn1Writable<Error = WriteE
     alloc: Global,
     others: &'a [u8],
     length: usize,
-) -> Result<(), Fail>
-    requires { T.der.plain }
-{
+) -> Result<(), Fail> {
     for other in others.chunks(length.max(1)) {
         if parse_single::<T>(alloc, other).is_ok() {
             is_written_back::<T>(alloc, other)?;
@@ -59,9 +57,7 @@ fn walk<'a, T: Asn1Readable<'a> + Asn1Writable<Error = WriteError>>(
     alloc: Global,
     whole: &'a [u8],
     others: &'a [u8],
-) -> Result<(), Fail>
-    requires { T.der.plain }
-{
+) -> Result<(), Fail> {
     is_written_back::<T>(alloc, whole)?;
     are_prefixes_rejected::<T>(alloc, whole)?;
     are_rejected_or_written::<T>(alloc, others, whole.len())

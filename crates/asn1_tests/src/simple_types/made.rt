@@ -11,9 +11,7 @@ use testing::{both_ways, hash_of, same};
 pub fn is_made<
     'a,
     T: Asn1Readable<'a> + Asn1Writable<Error = WriteError> + Clone + PartialEq + Debug,
->(alloc: Global, value: T, octets: &'a [u8]) -> Result<(), Fail>
-    requires { T.der.closures (T.der.meaning value) }
-{
+>(alloc: Global, value: T, octets: &'a [u8]) -> Result<(), Fail> {
     let read = parse_single::<T>(alloc, octets)?;
     same(&read.clone()?, &value)?;
     both_ways(alloc, value, octets)
@@ -23,9 +21,7 @@ pub fn is_made<
 pub fn is_hashed<
     'a,
     T: Asn1Readable<'a> + Asn1Writable<Error = WriteError> + Clone + PartialEq + Debug + Hash,
->(alloc: Global, value: T, octets: &'a [u8]) -> Result<(), Fail>
-    requires { T.der.closures (T.der.meaning value) }
-{
+>(alloc: Global, value: T, octets: &'a [u8]) -> Result<(), Fail> {
     let read = parse_single::<T>(alloc, octets)?;
     same(hash_of(&read), hash_of(&value))?;
     is_made(alloc, value, octets)

@@ -154,9 +154,7 @@ fn compare_text<'a, T: Asn1Readable<'a> + Asn1Writable<Error = WriteError>>(
     alloc: Global,
     text: &'a [u8],
     is_right: bool,
-) -> Result<(), Fail>
-    requires { T.der.plain }
-{
+) -> Result<(), Fail> {
     if is_right {
         return is_written_back::<T>(alloc, text);
     }
