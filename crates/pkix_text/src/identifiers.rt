@@ -1,7 +1,7 @@
 //! The names of object identifiers that are met often.
 
 /// Lines of identifiers, each with its name in the document that defines it. One text, since an array of so many texts
-/// takes forty seconds of proof.
+/// takes several times as long to prove.
 const NAMES: &str = "\
 0.9.2342.19200300.100.1.1 userId\n\
 0.9.2342.19200300.100.1.25 domainComponent\n\
