@@ -4,11 +4,11 @@ use crate::lists::List;
 use asn1::{
     Asn1Readable, Asn1Writable, Choice1, Choice2, Choice3, Explicit, Implicit, OctetStringEncoded,
     Sequence, SequenceOf, SequenceOfWriter, SequenceWriter, Set, SetElementWriter, SetOf,
-    SetOfWriter, SetWriter, SimpleAsn1Writable, Tlv, WriteResult, Writer, parse_single, strip_tlv,
+    SetOfWriter, SetWriter, SimpleAsn1Writable, Tlv, WriteResult, Writer, strip_tlv,
 };
 use std::alloc::Global;
 use std::test::Fail;
-use testing::{same, same_at};
+use testing::{read, same, same_at};
 
 /// The length of each value is known, and is that of the encoding from which the value was read.
 fn lengths_are_known<'a, T: Asn1Readable<'a> + Asn1Writable>(
@@ -16,7 +16,7 @@ fn lengths_are_known<'a, T: Asn1Readable<'a> + Asn1Writable>(
     encodings: &[&'a [u8]],
 ) -> Result<(), Fail> {
     for octets in encodings {
-        let value = parse_single::<T>(alloc, octets)?;
+        let value = read::<T>(alloc, octets)?;
         same_at(*octets, value.encoded_length(), Some(octets.len()))?;
     }
     Ok(())
@@ -29,7 +29,7 @@ fn both_are_known<'a, T: Asn1Readable<'a> + SimpleAsn1Writable>(
 ) -> Result<(), Fail> {
     for octets in encodings {
         let (tlv, _rest) = strip_tlv(octets)?;
-        let value = parse_single::<T>(alloc, octets)?;
+        let value = read::<T>(alloc, octets)?;
         same_at(*octets, value.encoded_length(), Some(octets.len()))?;
         same_at(*octets, value.data_length(), Some(tlv.data().len()))?;
     }
@@ -93,8 +93,8 @@ fn lengths_of_sets(rt: HostRuntime) -> Result<(), Fail> {
 /// The length of a list and of a set that are iterated over is that of the remaining items.
 #[test]
 fn lengths_of_items_left(rt: HostRuntime) -> Result<(), Fail> {
-    let mut list = parse_single::<List<'_, u8>>(rt.alloc(), &[0x30, 7, 2, 1, 5, 2, 2, 0, 0x80])?;
-    let mut set = parse_single::<SetOf<'_, u8>>(rt.alloc(), &[0x31, 7, 2, 1, 5, 2, 2, 0, 0x80])?;
+    let mut list = read::<List<'_, u8>>(rt.alloc(), &[0x30, 7, 2, 1, 5, 2, 2, 0, 0x80])?;
+    let mut set = read::<SetOf<'_, u8>>(rt.alloc(), &[0x31, 7, 2, 1, 5, 2, 2, 0, 0x80])?;
     for count in &[7, 4, 0] {
         length_is(&list, Some(*count))?;
         length_is(&set, Some(*count))?;

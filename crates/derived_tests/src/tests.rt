@@ -19,7 +19,7 @@ use asn1::{
 };
 use std::alloc::Global;
 use std::test::Fail;
-use testing::{all_same, both_ways, error_of, is_written, same, same_owned};
+use testing::{all_same, both_ways, error_of, is_written, read, same, same_owned};
 
 /// The value is written as these octets, whose length it returns.
 fn writes<'a, T: Asn1Readable<'a> + Asn1Writable<Error = WriteError>>(
@@ -119,9 +119,9 @@ fn fields_of(value: &Tagged<'_>) -> (u8, usize, (u64, u64), i8) {
 fn fields_with_tags(rt: HostRuntime) -> Result<(), Fail> {
     let alloc = rt.alloc();
     are_written_back::<Tagged<'_>>(alloc, &[ALL, FEW])?;
-    let all = fields_of(&parse_single::<Tagged<'_>>(alloc, ALL)?);
+    let all = fields_of(&read::<Tagged<'_>>(alloc, ALL)?);
     same(all, (3, 2, (7, 9), 7))?;
-    let few = fields_of(&parse_single::<Tagged<'_>>(alloc, FEW)?);
+    let few = fields_of(&read::<Tagged<'_>>(alloc, FEW)?);
     same(few, (1, 1, (7, 9), -1))
 }
 
@@ -177,7 +177,7 @@ fn a_choice_that_may_be_missing(rt: HostRuntime) -> Result<(), Fail> {
     let alloc = rt.alloc();
     let key: &[u8] = &[0x30, 6, 0xa2, 4, 4, 2, b'a', b'b'];
     are_written_back::<Alternative<'_>>(alloc, &[key, &[0x30, 0]])?;
-    let missing = parse_single::<Alternative<'_>>(alloc, &[0x30, 0])?;
+    let missing = read::<Alternative<'_>>(alloc, &[0x30, 0])?;
     assert!(rt; missing.responder.is_none());
     Ok(())
 }
@@ -309,7 +309,7 @@ fn contents_by_any_identifier(rt: HostRuntime) -> Result<(), Fail> {
         "AnySequence::content",
         other_tag(5),
     )?;
-    let other = parse_single::<AnySequence<'_>>(alloc, OTHER)?.content;
+    let other = read::<AnySequence<'_>>(alloc, OTHER)?.content;
     assert!(rt; is_null_by_another(&other));
     assert!(rt; other.clone()? == other);
     Ok(())
@@ -329,9 +329,9 @@ type List<'a> = SequenceOf<'a, u64, 0, { usize::MAX }>;
 #[test]
 fn contents_that_are_made(rt: HostRuntime) -> Result<(), Fail> {
     let alloc = rt.alloc();
-    let tagged = OctetStringEncoded::new(parse_single::<Tagged<'_>>(alloc, FEW)?);
+    let tagged = OctetStringEncoded::new(read::<Tagged<'_>>(alloc, FEW)?);
     is_made(alloc, AnyContent::Tagged(tagged), TAGGED)?;
-    let numbers = parse_single::<List<'_>>(alloc, &[0x30, 6, 2, 1, 1, 2, 1, 2])?;
+    let numbers = read::<List<'_>>(alloc, &[0x30, 6, 2, 1, 1, 2, 1, 2])?;
     is_made(alloc, AnyContent::Numbers(numbers), NUMBERS)?;
     is_made(alloc, AnyContent::Flag(Some(true)), FLAG)?;
     is_made(alloc, AnyContent::Flag(None), NO_FLAG)
@@ -340,7 +340,7 @@ fn contents_that_are_made(rt: HostRuntime) -> Result<(), Fail> {
 #[test]
 fn contents_of_other_identifiers(rt: HostRuntime) -> Result<(), Fail> {
     let alloc = rt.alloc();
-    let null = parse_single::<Tlv<'_>>(alloc, &[5, 0])?;
+    let null = read::<Tlv<'_>>(alloc, &[5, 0])?;
     for item in [some_oid(), other_oid(), sha256_with_rsa()] {
         assert!(rt; AnyContentUnknown::new(item, null).is_none());
     }

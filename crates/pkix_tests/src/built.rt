@@ -20,7 +20,7 @@ use pkix::common::{
 use pkix::identifiers::attributes;
 use std::alloc::Global;
 use std::test::Fail;
-use testing::same;
+use testing::{read, same};
 
 /// The common names of the subject of a certificate.
 fn common_names<'a>(
@@ -66,6 +66,25 @@ pub fn store<'a>(alloc: Global) -> Result<&'a mut Vec<u8>, Fail> {
     Ok(Box::leak(Box::new(alloc, Vec::new(alloc))?))
 }
 
+/// A list of these items, whose octets are never freed. It says nothing of what they mean, so that no proof of a test
+/// holds this for its type.
+pub fn list_of<
+    'a,
+    T: Asn1Readable<'a> + Asn1Writable<Error = WriteError> + 'a,
+    const MIN: usize,
+    const MAX: usize,
+>(alloc: Global, items: &[T]) -> Result<SequenceOf<'a, T, MIN, MAX>, Fail> {
+    Ok(SequenceOf::of(alloc, items, store(alloc)?)??)
+}
+
+/// A set of these items.
+pub fn set_of<'a, T: Asn1Readable<'a> + Asn1Writable<Error = WriteError> + 'a>(
+    alloc: Global,
+    items: &[T],
+) -> Result<SetOf<'a, T>, Fail> {
+    Ok(SetOf::of(alloc, items, store(alloc)?)??)
+}
+
 /// The encoding of a value, which is never freed.
 pub fn octets_of<'a, 'b, T: Asn1Readable<'b> + Asn1Writable<Error = WriteError>>(
     alloc: Global,
@@ -80,11 +99,11 @@ pub fn name_of<'a>(alloc: Global, parts: &[(&str, &'a [u8])]) -> Result<Name<'a>
     for (type_id, octets) in parts {
         let attribute = AttributeTypeAndValue {
             type_id: identifier(type_id)?,
-            value: parse_single::<Tlv<'a>>(alloc, octets)?,
+            value: read::<Tlv<'a>>(alloc, octets)?,
         };
-        sets.push(SetOf::of(alloc, &[attribute], store(alloc)?)??)?;
+        sets.push(set_of(alloc, &[attribute])?)?;
     }
-    Ok(SequenceOf::of(alloc, sets.as_slice(), store(alloc)?)??)
+    list_of(alloc, sets.as_slice())
 }
 
 /// The name of the certificate's subject, which is its issuer.
@@ -129,20 +148,20 @@ fn other_names<'a>(alloc: Global) -> Result<GeneralNames<'a>, Fail> {
             value: parse_single(alloc, other)?,
         }),
     ];
-    Ok(SequenceOf::of(alloc, &names, store(alloc)?)??)
+    list_of(alloc, &names)
 }
 
 /// Where the revocation list is.
 fn distribution_points<'a>(alloc: Global) -> Result<CrlDistributionPoints<'a>, Fail> {
-    let full_name = SequenceOf::of(alloc, &[uri("http://crl.example/a.crl")?], store(alloc)?)??;
+    let full_name = list_of(alloc, &[uri("http://crl.example/a.crl")?])?;
     let reasons = BitString::new(&[0x60], 5).ok_or("no bits")?;
-    let issuer = SequenceOf::of(alloc, &[directory(alloc)?], store(alloc)?)??;
+    let issuer = list_of(alloc, &[directory(alloc)?])?;
     let point = DistributionPoint {
         distribution_point: Some(DistributionPointName::FullName(full_name)),
         reasons: Some(NamedBits::new(reasons).ok_or("no named bits")?),
         crl_issuer: Some(issuer),
     };
-    Ok(SequenceOf::of(alloc, &[point], store(alloc)?)??)
+    list_of(alloc, &[point])
 }
 
 /// What the key is for.
@@ -151,13 +170,13 @@ fn purposes<'a>(alloc: Global) -> Result<ExtendedKeyUsage<'a>, Fail> {
         identifier("1.3.6.1.5.5.7.3.1")?,
         identifier("1.3.6.1.5.5.7.3.2")?,
     ];
-    Ok(SequenceOf::of(alloc, &both, store(alloc)?)??)
+    list_of(alloc, &both)
 }
 
 /// The identifier of the key of the issuer, with its name and the number of its certificate.
 fn issuer_key<'a>(alloc: Global) -> Result<AuthorityKeyIdentifier<'a>, Fail> {
     let name = GeneralName::DirectoryName(subject(alloc)?);
-    let issuer = SequenceOf::of(alloc, &[name], store(alloc)?)??;
+    let issuer = list_of(alloc, &[name])?;
     Ok(AuthorityKeyIdentifier {
         key_identifier: Some(KEY_IDENTIFIER),
         authority_cert_issuer: Some(issuer),
@@ -177,7 +196,7 @@ fn access<'a>(alloc: Global) -> Result<AuthorityInfoAccess<'a>, Fail> {
             access_location: uri("http://ca.example/c.der")?,
         },
     ];
-    Ok(SequenceOf::of(alloc, &both, store(alloc)?)??)
+    list_of(alloc, &both)
 }
 
 const KEY_IDENTIFIER: &[u8] = &[
@@ -223,7 +242,7 @@ fn extensions<'a>(alloc: Global) -> Result<Extensions<'a>, Fail> {
             extn_value,
         })?;
     }
-    Ok(SequenceOf::of(alloc, all.as_slice(), store(alloc)?)??)
+    list_of(alloc, all.as_slice())
 }
 
 /// The key, with its curve.
@@ -274,7 +293,7 @@ fn a_certificate_is_built(rt: HostRuntime) -> Result<(), Fail> {
 fn names_are_read_and_built(rt: HostRuntime) -> Result<(), Fail> {
     let alloc = rt.alloc();
     let octets = hex::decode(alloc, FULL)?;
-    let certificate = parse_single::<Certificate<'_>>(alloc, octets.as_slice())?;
+    let certificate = read::<Certificate<'_>>(alloc, octets.as_slice())?;
     let names = common_names(alloc, &certificate)?;
     match names.as_slice().first() {
         Some(DirectoryString::Utf8(found)) => same(found.as_str(), "full.example")?,

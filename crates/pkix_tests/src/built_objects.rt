@@ -1,7 +1,7 @@
 //! A revocation list, a request, a request for a time stamp, keys and policies that are built from parts equal those
 //! that OpenSSL made. `openssl asn1parse` counts the octets that are taken from them.
 
-use crate::built::{identifier, name_of, octets_of, store, subject};
+use crate::built::{identifier, list_of, name_of, octets_of, set_of, subject};
 use crate::objects::{CRL, EC_KEY, EC_KEY_PKCS8, POLICIES, REQUEST, RSA_KEY, STAMP_REQUEST};
 use asn1::{
     BigInt, BigUint, BitString, DateTime, Enumerated, IA5String, PrintableString, SequenceOf,
@@ -25,7 +25,7 @@ use pkix::revocation::{RevokedCertificate, TbsCertList};
 use pkix::timestamps::{MessageImprint, TimeStampReq};
 use std::alloc::Global;
 use std::test::Fail;
-use testing::same;
+use testing::{read, same};
 
 /// The octets of an object, which are never freed.
 fn object<'a>(alloc: Global, digits: &str) -> Result<&'a [u8], Fail> {
@@ -45,7 +45,7 @@ fn algorithm<'a>(
     parameters: Option<&'a [u8]>,
 ) -> Result<AlgorithmIdentifier<'a>, Fail> {
     let parameters = match parameters {
-        Some(octets) => Some(parse_single::<Tlv<'a>>(alloc, octets)?),
+        Some(octets) => Some(read::<Tlv<'a>>(alloc, octets)?),
         None => None,
     };
     Ok(AlgorithmIdentifier {
@@ -80,7 +80,7 @@ fn entry<'a>(
         Some(reason) => {
             let value: CrlReason = Enumerated::new(reason);
             let reason = extension("2.5.29.21", octets_of(alloc, &value)?)?;
-            Some(SequenceOf::of(alloc, &[reason], store(alloc)?)??)
+            Some(list_of(alloc, &[reason])?)
         }
         None => None,
     };
@@ -103,7 +103,7 @@ fn extensions_of_list<'a>(alloc: Global, key: &'a [u8]) -> Result<Extensions<'a>
         extension("2.5.29.35", octets_of(alloc, &key)?)?,
         extension("2.5.29.20", octets_of(alloc, &number)?)?,
     ];
-    Ok(SequenceOf::of(alloc, &both, store(alloc)?)??)
+    list_of(alloc, &both)
 }
 
 #[test]
@@ -121,7 +121,7 @@ fn a_revocation_list_is_built(rt: HostRuntime) -> Result<(), Fail> {
         issuer: subject(alloc)?,
         this_update: day(11, 24, 10, 50, 10)?,
         next_update: Some(day(12, 24, 10, 50, 10)?),
-        revoked_certificates: Some(SequenceOf::of(alloc, &entries, store(alloc)?)??),
+        revoked_certificates: Some(list_of(alloc, &entries)?),
         crl_extensions: Some(extensions_of_list(alloc, piece(octets, 223, 20)?)?),
     };
     let built = write_readable(alloc, &list)?;
@@ -134,23 +134,23 @@ fn attribute<'a>(
     type_id: asn1::ObjectIdentifier,
     value: &'a [u8],
 ) -> Result<Attribute<'a>, Fail> {
-    let value = parse_single::<Tlv<'a>>(alloc, value)?;
+    let value = read::<Tlv<'a>>(alloc, value)?;
     Ok(Attribute {
         type_id,
-        values: SetOf::of(alloc, &[value], store(alloc)?)??,
+        values: set_of(alloc, &[value])?,
     })
 }
 
 /// The attributes of the request: a password, and the extensions that are asked for.
 fn attributes_of_request<'a>(alloc: Global) -> Result<Attributes<'a>, Fail> {
     let name = GeneralName::DnsName(IA5String::new("request.example").ok_or("no name")?);
-    let names: GeneralNames<'_> = SequenceOf::of(alloc, &[name], store(alloc)?)??;
+    let names: GeneralNames<'_> = list_of(alloc, &[name])?;
     let usage = BitString::new(&[0x80 >> DIGITAL_SIGNATURE], 7).ok_or("no bits")?;
     let usage = octets_of(alloc, &NamedBits::new(usage).ok_or("no usage")?)?;
     let mut usage = extension("2.5.29.15", usage)?;
     usage.critical = true;
     let both = [extension("2.5.29.17", octets_of(alloc, &names)?)?, usage];
-    let extensions: Extensions<'_> = SequenceOf::of(alloc, &both, store(alloc)?)??;
+    let extensions: Extensions<'_> = list_of(alloc, &both)?;
     let password = octets_of(alloc, &Utf8String::new("a password"))?;
     let all = [
         attribute(alloc, attributes::challenge_password(), password)?,
@@ -160,7 +160,7 @@ fn attributes_of_request<'a>(alloc: Global) -> Result<Attributes<'a>, Fail> {
             octets_of(alloc, &extensions)?,
         )?,
     ];
-    Ok(SetOf::of(alloc, &all, store(alloc)?)??)
+    set_of(alloc, &all)
 }
 
 #[test]
@@ -220,7 +220,7 @@ fn third_prime<'a>(alloc: Global, octets: &'a [u8]) -> Result<OtherPrimeInfos<'a
         exponent: number(octets, 554, 43)?,
         coefficient: number(octets, 599, 43)?,
     }];
-    Ok(SequenceOf::of(alloc, &third, store(alloc)?)??)
+    list_of(alloc, &third)
 }
 
 #[test]
@@ -282,7 +282,7 @@ fn notice<'a>(alloc: Global) -> Result<UserNotice<'a>, Fail> {
     Ok(UserNotice {
         notice_ref: Some(NoticeReference {
             organization: DisplayText::Visible(organization),
-            notice_numbers: SequenceOf::of(alloc, &numbers, store(alloc)?)??,
+            notice_numbers: list_of(alloc, &numbers)?,
         }),
         explicit_text: Some(DisplayText::Utf8(Utf8String::new("Read this"))),
     })
@@ -320,14 +320,14 @@ fn policies_are_built(rt: HostRuntime) -> Result<(), Fail> {
         },
         PolicyInformation {
             policy_identifier: identifier("1.2.3.5")?,
-            policy_qualifiers: Some(SequenceOf::of(alloc, &qualifiers, store(alloc)?)??),
+            policy_qualifiers: Some(list_of(alloc, &qualifiers)?),
         },
         PolicyInformation {
             policy_identifier: identifier("2.5.29.32.0")?,
             policy_qualifiers: None,
         },
     ];
-    let policies: CertificatePolicies<'_> = SequenceOf::of(alloc, &all, store(alloc)?)??;
+    let policies: CertificatePolicies<'_> = list_of(alloc, &all)?;
     let built = write_readable(alloc, &policies)?;
     same(built.as_slice(), piece(octets, 407, 114)?)
 }

@@ -2,14 +2,14 @@
 
 use crate::boundaries::words_of;
 use crate::objects::{CRL, CURVE, DELTA_CRL, FULL, POLICIES, RSA};
-use asn1::{ObjectIdentifier, parse_single};
+use asn1::ObjectIdentifier;
 use pkix::certificate::Certificate;
 use pkix::common::{Extension, Extensions};
 use pkix::extension_values::{ExtensionValue, KnownExtension};
 use pkix::revocation::CertificateList;
 use std::alloc::Global;
 use std::test::Fail;
-use testing::{error_of, same, same_at};
+use testing::{error_of, read, same, same_at};
 
 /// A line for each known extension, in the order of `ALL`, with its identifier.
 const IDENTIFIERS: &str = "\
@@ -156,7 +156,7 @@ fn extensions_of_certificates(rt: HostRuntime) -> Result<(), Fail> {
     let alloc = rt.alloc();
     for (object, wanted) in OF_CERTIFICATES {
         let octets = hex::decode(alloc, object)?;
-        let certificate = parse_single::<Certificate<'_>>(alloc, octets.as_slice())?;
+        let certificate = read::<Certificate<'_>>(alloc, octets.as_slice())?;
         are_read(
             alloc,
             certificate.tbs_certificate.extensions.as_ref(),
@@ -193,7 +193,7 @@ fn extensions_of_revocation_lists(rt: HostRuntime) -> Result<(), Fail> {
     let alloc = rt.alloc();
     for (object, of_list, of_entry) in OF_LISTS {
         let octets = hex::decode(alloc, object)?;
-        let list = parse_single::<CertificateList<'_>>(alloc, octets.as_slice())?;
+        let list = read::<CertificateList<'_>>(alloc, octets.as_slice())?;
         let extensions = list.tbs_cert_list.crl_extensions.as_ref();
         are_read(alloc, extensions, of_list)?;
         let Some(entries) = &list.tbs_cert_list.revoked_certificates else {

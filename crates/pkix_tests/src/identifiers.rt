@@ -1,13 +1,13 @@
 //! Identifiers by the numbers that their documents give them, and the bits of a key's usages. The command `openssl
 //! asn1parse -genstr OID:NAME` encodes the identifier that has the name.
 
-use asn1::{ObjectIdentifier, parse_single};
+use asn1::ObjectIdentifier;
 use pkix::certificate::extensions::KeyUsage;
 use pkix::certificate::key_usages;
 use pkix::identifiers::{attributes, curves, purposes};
 use std::alloc::Global;
 use std::test::Fail;
-use testing::{same, same_at};
+use testing::{read, same, same_at};
 
 /// Each identifier is this one, in dotted form.
 fn are(alloc: Global, rows: &[(ObjectIdentifier, &str)]) -> Result<(), Fail> {
@@ -86,7 +86,7 @@ const USAGES: &[(usize, &[u8])] = &[
 fn usages_of_keys(rt: HostRuntime) -> Result<(), Fail> {
     let alloc = rt.alloc();
     for (usage, octets) in USAGES {
-        let value = parse_single::<KeyUsage<'_>>(alloc, *octets)?;
+        let value = read::<KeyUsage<'_>>(alloc, *octets)?;
         for (other, _) in USAGES {
             same_at(
                 (*usage, *other),

@@ -1,10 +1,9 @@
 //! Encrypted keys (RFC 5958, 3), which no program here shows.
 
 use crate::objects::ENCRYPTED_KEY;
-use asn1::parse_single;
 use pkix::keys::EncryptedPrivateKeyInfo;
 use std::test::Fail;
-use testing::{is_written_back, same};
+use testing::{is_written_back, read, same};
 
 /// By PBES2 (RFC 8018, A.4), to 64 octets.
 #[test]
@@ -12,7 +11,7 @@ fn keys_that_are_encrypted(rt: HostRuntime) -> Result<(), Fail> {
     let alloc = rt.alloc();
     let whole = hex::decode(alloc, ENCRYPTED_KEY)?;
     is_written_back::<EncryptedPrivateKeyInfo<'_>>(alloc, whole.as_slice())?;
-    let key = parse_single::<EncryptedPrivateKeyInfo<'_>>(alloc, whole.as_slice())?;
+    let key = read::<EncryptedPrivateKeyInfo<'_>>(alloc, whole.as_slice())?;
     let algorithm = format!(in alloc; "{}", key.encryption_algorithm.algorithm)?;
     same(algorithm.as_str(), "1.2.840.113549.1.5.13")?;
     same(

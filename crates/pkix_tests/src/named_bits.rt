@@ -1,10 +1,10 @@
 //! Bit strings whose bits have names: zero bits at their end are removed before they are encoded (X.690 11.2.2).
 
-use asn1::{BitString, parse_single};
+use asn1::BitString;
 use pkix::certificate::extensions::KeyUsage;
 use pkix::common::NamedBits;
 use std::test::Fail;
-use testing::{are_invalid, are_written_back, is_written_back, same};
+use testing::{are_invalid, are_written_back, is_written_back, read, same};
 
 #[test]
 fn encodings_of_named_bits(rt: HostRuntime) -> Result<(), Fail> {
@@ -39,7 +39,7 @@ fn encodings_of_named_bits(rt: HostRuntime) -> Result<(), Fail> {
 
 #[test]
 fn bits_by_number(rt: HostRuntime) -> Result<(), Fail> {
-    let usage = parse_single::<KeyUsage<'_>>(rt.alloc(), b"\x03\x02\x05\xa0")?;
+    let usage = read::<KeyUsage<'_>>(rt.alloc(), b"\x03\x02\x05\xa0")?;
     for (number, is_set) in [(0, true), (1, false), (2, true), (3, false), (8, false)] {
         same(usage.has_bit_set(number), is_set)?;
     }

@@ -1,12 +1,12 @@
 //! Encodings that are cut or changed: a certificate (RFC 5280, 4.1) and a response with a time stamp (RFC 3161).
 
 use crate::objects::{FULL, STAMP_RESPONSE};
-use asn1::{Asn1Readable, Asn1Writable, WriteError, parse_single};
+use asn1::{Asn1Readable, Asn1Writable, WriteError};
 use pkix::certificate::Certificate;
 use pkix::timestamps::TimeStampResp;
 use std::alloc::Global;
 use std::test::Fail;
-use testing::is_written_back;
+use testing::{is_written_back, read};
 
 /// What each octet is changed by, in turn.
 const MASKS: [u8; 4] = [0x01, 0x20, 0x80, 0xff];
@@ -30,7 +30,7 @@ fn are_prefixes_rejected<'a, T: Asn1Readable<'a>>(
     whole: &'a [u8],
 ) -> Result<(), Fail> {
     for end in 0..whole.len() {
-        if parse_single::<T>(alloc, whole.get(..end).unwrap_or(whole)).is_ok() {
+        if read::<T>(alloc, whole.get(..end).unwrap_or(whole)).is_ok() {
             return Err(Fail::new(format_args!("the prefix of {end} octets is read")));
         }
     }
@@ -44,7 +44,7 @@ fn are_rejected_or_written<'a, T: Asn1Readable<'a> + Asn1Writable<Error = WriteE
     length: usize,
 ) -> Result<(), Fail> {
     for other in others.chunks(length.max(1)) {
-        if parse_single::<T>(alloc, other).is_ok() {
+        if read::<T>(alloc, other).is_ok() {
             is_written_back::<T>(alloc, other)?;
         }
     }

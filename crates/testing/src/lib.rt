@@ -221,6 +221,11 @@ fn unread(octets: &[u8], error: ParseError) -> Fail {
     Fail::new(format_args!("{octets:?}: {error:?}"))
 }
 
+/// What `parse_single` returns, and nothing of what it promises, which each proof of a test would hold for its type.
+pub fn read<'a, T: Asn1Readable<'a>>(alloc: Global, octets: &'a [u8]) -> ParseResult<T> {
+    parse_single::<T>(alloc, octets)
+}
+
 /// What is read as the type may be written: a call of the type says so.
 fn may_be_written<'a, T: Asn1Readable<'a>>()
     ensures { T.der.plain }

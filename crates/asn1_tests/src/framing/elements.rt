@@ -1,6 +1,6 @@
 use crate::framing::errors::KINDS;
 use asn1_core::parser::{
-    ParseError, ParseErrorKind, ParseLocation, ParseResult, Parser, parse_single, strip_tlv,
+    ParseError, ParseErrorKind, ParseLocation, ParseResult, Parser, strip_tlv,
 };
 use asn1_core::tag::{Tag, TagClass, implicit_tag};
 use asn1_core::types::{Asn1Readable, Tlv};
@@ -8,7 +8,7 @@ use asn1_core::writer::{WriteError, Writer};
 use std::alloc::Global;
 use std::test::Fail;
 use testing::{
-    are_refused, closure_writes, is_displayed, is_refusal, is_written, kind_of, same, same_at,
+    are_refused, closure_writes, is_displayed, is_refusal, is_written, kind_of, read, same, same_at,
 };
 
 const LENGTH: ParseErrorKind = ParseErrorKind::InvalidLength;
@@ -96,7 +96,7 @@ fn other_forms_are_not_short_ones(rt: HostRuntime) -> Result<(), Fail> {
     let mut indefinite = [0u8; 130];
     indefinite[0] = 0x04;
     indefinite[1] = 0x80;
-    is_refusal(parse_single::<Tlv<'_>>(rt.alloc(), &indefinite), LENGTH)?;
+    is_refusal(read::<Tlv<'_>>(rt.alloc(), &indefinite), LENGTH)?;
     are_refused::<Tlv<'_>>(rt.alloc(), &[(&[0x1f, 0x02, 0x00, 0x00], TAG)])
 }
 
@@ -151,7 +151,7 @@ fn elements_with_long_lengths(rt: HostRuntime) -> Result<(), Fail> {
 #[test]
 fn parts_of_an_element(rt: HostRuntime) -> Result<(), Fail> {
     let octets = [0x01, 0x03, 0x61, 0x62, 0x63];
-    let tlv = parse_single::<Tlv<'_>>(rt.alloc(), &octets)?;
+    let tlv = read::<Tlv<'_>>(rt.alloc(), &octets)?;
     compare_octets(&tlv, &[0x01], b"abc", &octets)
 }
 
@@ -213,7 +213,7 @@ fn compare_written(
 #[test]
 fn any_element_is_read_and_written(rt: HostRuntime) -> Result<(), Fail> {
     for (octets, tag, class, number, content) in ELEMENTS {
-        let tlv = parse_single::<Tlv<'_>>(rt.alloc(), octets)?;
+        let tlv = read::<Tlv<'_>>(rt.alloc(), octets)?;
         compare_octets(&tlv, tag, content, octets)?;
         compare_written(rt.alloc(), &tlv, octets, (*class, *number))?;
     }

@@ -1,4 +1,4 @@
-use asn1_core::parser::{ParseErrorKind, parse_single};
+use asn1_core::parser::ParseErrorKind;
 use asn1_core::tag::Tag;
 use asn1_core::types::{Asn1Readable, Asn1Writable, SimpleAsn1Writable, is_integer_content};
 use asn1_core::writer::WriteError;
@@ -9,7 +9,7 @@ use std::num::{
 };
 use std::test::Fail;
 use testing::{
-    are_both_ways, are_refused, both_ways, is_refusal, is_written, repeated, same, same_at,
+    are_both_ways, are_refused, both_ways, is_refusal, is_written, read, repeated, same, same_at,
 };
 
 const INVALID: ParseErrorKind = ParseErrorKind::InvalidValue;
@@ -145,8 +145,8 @@ fn other_texts_are_no_long_number(rt: HostRuntime) -> Result<(), Fail> {
 fn other_tags_are_no_number(rt: HostRuntime) -> Result<(), Fail> {
     let actual = Tag::primitive(3);
     let kind = ParseErrorKind::UnexpectedTag { actual };
-    is_refusal(parse_single::<i64>(rt.alloc(), &[0x03, 0x00]), kind)?;
-    is_refusal(parse_single::<i32>(rt.alloc(), &[0x03, 0x00]), kind)
+    is_refusal(read::<i64>(rt.alloc(), &[0x03, 0x00]), kind)?;
+    is_refusal(read::<i32>(rt.alloc(), &[0x03, 0x00]), kind)
 }
 
 const OF_I16: &[(i16, &[u8])] = &[
@@ -269,7 +269,7 @@ fn unsigned_numbers_have_no_sign(rt: HostRuntime) -> Result<(), Fail> {
 #[test]
 fn boxes_hold_values(rt: HostRuntime) -> Result<(), Fail> {
     let alloc = rt.alloc();
-    same(*parse_single::<Box<u8>>(alloc, &[0x02, 0x01, 0x0c])?, 12)?;
+    same(*read::<Box<u8>>(alloc, &[0x02, 0x01, 0x0c])?, 12)?;
     both_ways(alloc, Box::new(alloc, 12u8)?, &[0x02, 0x01, 0x0c])?;
     both_ways(alloc, Box::new(alloc, 0u8)?, &[0x02, 0x01, 0x00])?;
     both_ways(alloc, Box::new(alloc, true)?, &[0x01, 0x01, 0xff])?;

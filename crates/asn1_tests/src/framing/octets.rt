@@ -1,10 +1,12 @@
 use crate::framing::writing::{HEADERS, compare_parts};
-use asn1_core::parser::{ParseErrorKind, ParseResult, Parser, parse, parse_single};
+use asn1_core::parser::{ParseErrorKind, ParseResult, Parser, parse};
 use asn1_core::types::Null;
 use asn1_core::writer::write_single;
 use std::alloc::Global;
 use std::test::Fail;
-use testing::{are_both_ways, are_invalid, are_refused, both_ways, is_written, same, same_at};
+use testing::{
+    are_both_ways, are_invalid, are_refused, both_ways, is_written, read, same, same_at,
+};
 
 const LENGTH: ParseErrorKind = ParseErrorKind::InvalidLength;
 
@@ -67,7 +69,7 @@ fn compare_read(alloc: Global, header: &[u8], count: usize) -> Result<(), Fail> 
     let letters = vec![in alloc; b'a'; count]?;
     let mut text = Vec::from_slice(alloc, header)?;
     text.extend_from_slice(letters.as_slice())?;
-    let found = parse_single::<&[u8]>(alloc, text.as_slice())?;
+    let found = read::<&[u8]>(alloc, text.as_slice())?;
     same_at(count, found == letters.as_slice(), true)
 }
 

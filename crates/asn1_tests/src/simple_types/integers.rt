@@ -1,11 +1,11 @@
 use crate::simple_types::made::{is_hashed, is_made};
-use asn1_core::{ParseErrorKind, parse_single};
+use asn1_core::ParseErrorKind;
 use asn1_values::values::{BigInt, BigUint, Enumerated, OwnedBigInt, OwnedBigUint};
 use std::alloc::Global;
 use std::test::Fail;
 use testing::{
-    are_equal_or_not, are_invalid, are_refused, both_ways, different, is_laid_out, is_shown, same,
-    same_at,
+    are_equal_or_not, are_invalid, are_refused, both_ways, different, is_laid_out, is_shown, read,
+    same, same_at,
 };
 
 const NONE: &str = "no content";
@@ -182,7 +182,7 @@ const DIGITS: &[(&[u8], usize, bool)] = &[
 #[test]
 fn binary_digits_are_counted(rt: HostRuntime) -> Result<(), Fail> {
     for (text, count, is_negative) in DIGITS {
-        let number = parse_single::<BigInt<'_>>(rt.alloc(), text)?;
+        let number = read::<BigInt<'_>>(rt.alloc(), text)?;
         assert!(rt; number.as_bytes().len() < 0x80);
         let found = (number.bit_length(), number.is_negative());
         same_at(*text, found, (*count, *is_negative))?;
@@ -193,7 +193,7 @@ fn binary_digits_are_counted(rt: HostRuntime) -> Result<(), Fail> {
 #[test]
 fn binary_digits_of_owned_integers(rt: HostRuntime) -> Result<(), Fail> {
     for (text, count, is_negative) in DIGITS {
-        let number = parse_single::<OwnedBigInt>(rt.alloc(), text)?;
+        let number = read::<OwnedBigInt>(rt.alloc(), text)?;
         assert!(rt; number.as_bytes().len() < 0x80);
         let found = (number.bit_length(), number.is_negative());
         same_at(*text, found, (*count, *is_negative))?;
@@ -203,13 +203,13 @@ fn binary_digits_of_owned_integers(rt: HostRuntime) -> Result<(), Fail> {
 
 #[test]
 fn copies_are_equal(rt: HostRuntime) -> Result<(), Fail> {
-    let signed = parse_single::<OwnedBigInt>(rt.alloc(), &[0x02, 0x02, 0x00, 0x80])?;
+    let signed = read::<OwnedBigInt>(rt.alloc(), &[0x02, 0x02, 0x00, 0x80])?;
     same(&signed.clone()?, &signed)
 }
 
 #[test]
 fn copies_of_unsigned_integers_are_equal(rt: HostRuntime) -> Result<(), Fail> {
-    let unsigned = parse_single::<OwnedBigUint>(rt.alloc(), &[0x02, 0x02, 0x00, 0x80])?;
+    let unsigned = read::<OwnedBigUint>(rt.alloc(), &[0x02, 0x02, 0x00, 0x80])?;
     same(&unsigned.clone()?, &unsigned)
 }
 
@@ -267,9 +267,9 @@ fn integers_are_shown(rt: HostRuntime) -> Result<(), Fail> {
 #[test]
 fn owned_integers_are_shown(rt: HostRuntime) -> Result<(), Fail> {
     let alloc = rt.alloc();
-    let signed = parse_single::<OwnedBigInt>(alloc, &[0x02, 0x02, 0x00, 0xff])?;
+    let signed = read::<OwnedBigInt>(alloc, &[0x02, 0x02, 0x00, 0xff])?;
     is_shown(alloc, &signed, "OwnedBigInt { data: [0, 255] }")?;
-    let unsigned = parse_single::<OwnedBigUint>(alloc, &[0x02, 0x02, 0x00, 0xff])?;
+    let unsigned = read::<OwnedBigUint>(alloc, &[0x02, 0x02, 0x00, 0xff])?;
     is_shown(alloc, &unsigned, "OwnedBigUint { data: [0, 255] }")
 }
 
@@ -329,13 +329,13 @@ fn integers_are_laid_out(rt: HostRuntime) -> Result<(), Fail> {
 #[test]
 fn owned_integers_are_laid_out(rt: HostRuntime) -> Result<(), Fail> {
     let alloc = rt.alloc();
-    let signed = parse_single::<OwnedBigInt>(alloc, &[0x02, 0x01, 0x80])?;
+    let signed = read::<OwnedBigInt>(alloc, &[0x02, 0x01, 0x80])?;
     is_laid_out(
         alloc,
         &signed,
         "OwnedBigInt {\n    data: [\n        128,\n    ],\n}",
     )?;
-    let unsigned = parse_single::<OwnedBigUint>(alloc, &[0x02, 0x01, 0x7f])?;
+    let unsigned = read::<OwnedBigUint>(alloc, &[0x02, 0x01, 0x7f])?;
     is_laid_out(
         alloc,
         &unsigned,

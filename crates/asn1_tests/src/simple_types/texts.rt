@@ -1,14 +1,14 @@
 //! Character strings: the original's cases, values from outside, and what is rejected.
 
 use crate::simple_types::made::{is_hashed, is_made};
-use asn1_core::{ParseErrorKind, Tag, parse_single};
+use asn1_core::{ParseErrorKind, Tag};
 use asn1_values::values::{
     BMPString, IA5String, PrintableString, UniversalString, Utf8String, VisibleString,
 };
 use std::alloc::Global;
 use std::fmt::Debug;
 use std::test::Fail;
-use testing::{are_invalid, are_refused, different, is_shown, same};
+use testing::{are_invalid, are_refused, different, is_shown, read, same};
 
 const OTHER: &str = "characters of another type";
 
@@ -93,7 +93,7 @@ fn other_characters_are_not_ascii(rt: HostRuntime) -> Result<(), Fail> {
     )?;
     let found = (IA5String::new("%").is_some(), IA5String::new("😄").is_some());
     same(found, (true, false))?;
-    let delete = parse_single::<IA5String<'_>>(rt.alloc(), &[0x16, 0x01, 0x7f])?;
+    let delete = read::<IA5String<'_>>(rt.alloc(), &[0x16, 0x01, 0x7f])?;
     same(delete.as_str(), "\x7f")
 }
 
@@ -187,7 +187,7 @@ fn other_octets_are_not_utf8(rt: HostRuntime) -> Result<(), Fail> {
         rt.alloc(),
         &[&[0x0c, 0x01, 0xff], &[0x0c, 0x02, 0xc3, 0x28]],
     )?;
-    let smile = parse_single::<Utf8String<'_>>(rt.alloc(), &[0x0c, 0x04, 0xf0, 0x9f, 0x98, 0x84])?;
+    let smile = read::<Utf8String<'_>>(rt.alloc(), &[0x0c, 0x04, 0xf0, 0x9f, 0x98, 0x84])?;
     same(smile.as_str(), "😄")
 }
 

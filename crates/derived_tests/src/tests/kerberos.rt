@@ -2,9 +2,9 @@
 
 use super::writes;
 use crate::kerberos::{AsRep, AsReq, TgsRep, Ticket};
-use asn1::{ParseErrorKind, Tag, TagClass, parse_single};
+use asn1::{ParseErrorKind, Tag, TagClass};
 use std::test::Fail;
-use testing::{refused, same};
+use testing::{read, refused, same};
 
 /// A request of user@EXAMPLE.COM for a ticket of krbtgt/EXAMPLE.COM, with an address and a ticket in it.
 const AS_REQ: &str = "\
@@ -28,7 +28,7 @@ a003020102a11730151b066b72627467741b0b4558414d504c452e434f4da3183016a003020112a1
 fn a_request(rt: HostRuntime) -> Result<(), Fail> {
     let alloc = rt.alloc();
     let octets = hex::decode(alloc, AS_REQ)?;
-    let request = parse_single::<AsReq<'_>>(alloc, octets.as_slice())?;
+    let request = read::<AsReq<'_>>(alloc, octets.as_slice())?;
     let message = request.as_inner();
     let body = &message.req_body;
     same(
@@ -47,7 +47,7 @@ fn a_request(rt: HostRuntime) -> Result<(), Fail> {
 fn a_reply(rt: HostRuntime) -> Result<(), Fail> {
     let alloc = rt.alloc();
     let octets = hex::decode(alloc, AS_REP)?;
-    let reply = parse_single::<AsRep<'_>>(alloc, octets.as_slice())?;
+    let reply = read::<AsRep<'_>>(alloc, octets.as_slice())?;
     let ticket = reply.as_inner().ticket.as_inner();
     same((ticket.tkt_vno, ticket.sname.name_type), (5, 2))?;
     same((ticket.enc_part.etype, ticket.enc_part.kvno), (18, Some(1)))?;

@@ -5,9 +5,9 @@ use crate::numbers::{
     Defaults, ENC_TIMESTAMP, Named, OfVersion, OfVersionOther, PaData, PaValue, PaValueOther,
     VERSION, Version, Versioned, sha1,
 };
-use asn1::{DefinedByMarker, ParseErrorKind, RelativeOid, TeletexString, Tlv, parse_single};
+use asn1::{DefinedByMarker, ParseErrorKind, RelativeOid, TeletexString, Tlv};
 use std::test::Fail;
-use testing::{are_refused, both_ways};
+use testing::{are_refused, both_ways, read};
 
 /// Of 2, of -1, of 136, and null of 3.
 const ROWS: &[&[u8]] = &[
@@ -36,7 +36,7 @@ fn values_by_a_number(rt: HostRuntime) -> Result<(), Fail> {
 #[test]
 fn values_by_other_numbers(rt: HostRuntime) -> Result<(), Fail> {
     let alloc = rt.alloc();
-    let null = parse_single::<Tlv<'_>>(alloc, &[5, 0])?;
+    let null = read::<Tlv<'_>>(alloc, &[5, 0])?;
     assert!(rt; PaValueOther::new(ENC_TIMESTAMP, null).is_none());
     assert!(rt; OfVersionOther::new(VERSION, null).is_none());
     let Some(other) = OfVersionOther::new(6, null) else {

@@ -2,9 +2,9 @@
 
 use super::{is_at, refusal, writes};
 use crate::snmp::{ObjectSyntax, Pdus, ScopedPduData, SnmpV3Message};
-use asn1::{ParseErrorKind, Tag, TagClass, parse_single};
+use asn1::{ParseErrorKind, Tag, TagClass};
 use std::test::Fail;
-use testing::same;
+use testing::{read, same};
 
 /// A response of thirteen values, one of each kind.
 const RESPONSE: &str = "\
@@ -75,7 +75,7 @@ fn pdu_of<'b, 'a>(message: &'b SnmpV3Message<'a>) -> Result<&'b Pdus<'a>, Fail> 
 fn a_response(rt: HostRuntime) -> Result<(), Fail> {
     let alloc = rt.alloc();
     let octets = hex::decode(alloc, RESPONSE)?;
-    let message = parse_single::<SnmpV3Message<'_>>(alloc, octets.as_slice())?;
+    let message = read::<SnmpV3Message<'_>>(alloc, octets.as_slice())?;
     let security = message.msg_security_parameters.get();
     same(
         (
@@ -106,7 +106,7 @@ fn a_response(rt: HostRuntime) -> Result<(), Fail> {
 fn a_request_for_many(rt: HostRuntime) -> Result<(), Fail> {
     let alloc = rt.alloc();
     let octets = hex::decode(alloc, GET_BULK)?;
-    let message = parse_single::<SnmpV3Message<'_>>(alloc, octets.as_slice())?;
+    let message = read::<SnmpV3Message<'_>>(alloc, octets.as_slice())?;
     let Pdus::GetBulkRequest(request) = pdu_of(&message)? else {
         return Err(Fail::new(format_args!("it is no request for many")));
     };

@@ -2,9 +2,9 @@
 
 use super::are_written_back;
 use crate::spellings::{Received, Sent, Spelled};
-use asn1::{ParseErrorKind, parse_single};
+use asn1::ParseErrorKind;
 use std::test::Fail;
-use testing::{are_refused, is_written, same};
+use testing::{are_refused, is_written, read, same};
 
 /// Sixteen octets, a list of one number, and a text.
 const FEW: &[u8] = &[
@@ -36,6 +36,6 @@ fn spelled_fields(rt: HostRuntime) -> Result<(), Fail> {
 #[test]
 fn one_way(rt: HostRuntime) -> Result<(), Fail> {
     let octets = &[0x30, 3, 2, 1, 7];
-    same(parse_single::<Received>(rt.alloc(), octets)?.number, 7)?;
+    same(read::<Received>(rt.alloc(), octets)?.number, 7)?;
     is_written(rt.alloc(), &Sent { number: 7 }, octets)
 }
