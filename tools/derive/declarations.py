@@ -412,6 +412,18 @@ class Module:
             found += one.inner if not item else [item.type] if item.type else []
         return found
 
+    def is_large(self, item):
+        """Whether an alternative of a choice is of an imported type, or holds a list of items that are declared. The
+        prover's search ends at its limit in what these mean."""
+        found = [part.form for part in item.parts]
+        for one in found:
+            declared = self.items.get(one.name)
+            is_list = one.name in LISTS and any(inside.name in self.items for inside in one.inner)
+            if is_list or one.name in self.imported:
+                return True
+            found += one.inner if not declared else [declared.type] if declared.type else [part.form for part in declared.parts]
+        return False
+
     def known(self, type):
         """What is known of a type; nothing if it is declared elsewhere."""
         name, item = type.name, self.items.get(type.name)
@@ -615,6 +627,7 @@ def set_form(item, part, items):
     part.reject(is_unclear, "has a tag: either it is an option, or the tag says `required = true`")
     is_around = is_option and part.tag and in_struct and part.type.inner
     part.base = part.type.inner[0] if is_around else part.type
+    part.number = number
     part.form = Type(part.tag.capitalize(), [part.base, str(number)], part.line) if part.tag else part.base
     part.form = Type("Option", [part.form], part.line) if is_around else part.form
     # Of a marker the value that its item defines, of this value the item's type, and of any field its default.

@@ -20,8 +20,7 @@ use Rattle.asn1.specs.Base128.{leading_number}
 use Rattle.asn1.specs.Identifier.{numbers_in, read_identifier}
 use Rattle.asn1.specs.Lemmas.Results.{done-injective}
 """
-# Where the names are from that the proofs of a large choice use; the most alternatives of which the search proves the
-# law; and the most of a choice whose bodies go by positions, of which each names all alternatives.
+# Where the names are from that the proofs of choices use, and the most alternatives of which the search proves the law.
 LAW_USES = {
     "std.proofs.Common": "arith false inr refl rules true",
     "asn1.specs.Lemmas.Fields": "no_other_accepts tags_differ",
@@ -29,7 +28,8 @@ LAW_USES = {
     "asn1.specs.Tagged": "application_tag private_tag",
     "asn1.specs.Lemmas.Variants": "OnErr-KeepsPrefix",
 }
-MOST_SEARCHED, MOST_BY_POSITION = 6, 4
+MOST_SEARCHED = 8
+PLACES = "first second third fourth fifth sixth seventh eighth".split()
 COMPUTED = "unfolding read_identifier numbers_in leading_number\n"
 IDENTIFIER_ANSWERS = ANSWER.format("known_identifier-requires", "refl", COMPUTED)
 IDENTIFIER_ANSWERS += ANSWER.format("returns", "sym (done-injective _ _ c.known_identifier.ensures)", COMPUTED)
@@ -299,12 +299,13 @@ class Choice(Form):
     def __str__(self):
         row, own = self.item.own("Choice"), self.item.own()
         text = f"\ntype {row} = {one_of([str(part.form) for part in self.parts])};\n"
-        names = ",".join(f" {part.name}{': tagged' if part.tag else ''}" for part in self.parts)
-        is_large = len(self.parts) > MOST_BY_POSITION
-        text += self.list_in_macro("variants", names, f" {row} => {self.name};", is_large)
+        words = ",".join(f" {part.name}{f': {part.tag} {part.number}' if part.tag else ''}" for part in self.parts)
+        is_large = self.module.is_large(self.item)
+        text += self.list_in_macro("variants", words, f" {self.name};", is_large)
         text += self.stated(part.base for part in self.parts)
         seen = quoted(own, f"AsOneOf<{row}>") + ".seen"
-        values = [in_place(at, f"({part.tag} x)" if part.tag else "x") for at, part in enumerate(self.parts)]
+        values = [f"({part.tag} x)" if part.tag else "x" for part in self.parts]
+        values = [in_place(at, len(values), value) for at, value in enumerate(values)]
         text += self.impl(f"AsOneOf<{row}>", self.variants(), f"""
             ghost seen = {{ {self.elim(values)[1:-1]} }};
             fn from_one_of(value: {row}) -> {own}
@@ -489,14 +490,19 @@ impl<{life}> {of} {{
 
 
 def one_of(types):
-    """The type of a list of alternatives of these types: twelve at a time, the most that have a list with a name."""
-    firsts = ", ".join(types[:12])
-    return f"OneOf12Or<{firsts}, {one_of(types[12:])}>" if len(types) > 12 else f"OneOf{len(types)}<{firsts}>"
+    """The type of a list of alternatives of these types: of at most twelve it has a name."""
+    if len(types) > 12:
+        return f"OneOfEight<{', '.join(types[:8])}, {one_of(types[8:])}>"
+    return f"OneOf{len(types)}<{', '.join(types)}>"
 
 
-def in_place(at, value):
-    """A value of the alternative at a place of the list, counted from 0."""
-    return f"after12 ({in_place(at - 12, value)})" if at >= 12 else f"alternative{at + 1} {value}"
+def in_place(at, count, value):
+    """A value of the alternative at a place of a list of this many, counted from 0: the list has eight at a time while
+    there are as many, then three, and then one."""
+    front = next(size for size in (8, 3, 1) if size <= count)
+    if at < front:
+        return f"{PLACES[at]}{front} {value}"
+    return f"after{front} ({in_place(at - front, count - front, value)})"
 
 
 def side(at, count):
@@ -648,15 +654,15 @@ def bodies_of_choice(item):
 def answers(item, module):
     """The proofs that are owed for an item: of each their function, what they use, and the proofs. The write of what an
     item defines owes some, if a variant's type is declared or imported, in which the search would end at its limit: the
-    types have one encoding, so nothing more is asked; and an error leaves the buffer as it was. The law and the bodies
-    of a large choice owe some."""
+    types have one encoding, so nothing more is asked; and an error leaves the buffer as it was. The law of a choice of
+    many alternatives owes some, and so do the bodies of one with large parts."""
     if item.kind == "const":
         yield item.name.lower(), IDENTIFIER_USES, IDENTIFIER_ANSWERS
     if item.kind == "enum" and not item.is_defined:
+        if module.is_large(item):
+            yield from bodies_of_choice(item)
         if item.reads and len(item.parts) > MOST_SEARCHED:
             yield f"laws/{snake(item.name)}_is_lawful", *law_of_choice(item, module)
-        if len(item.parts) > MOST_BY_POSITION:
-            yield from bodies_of_choice(item)
     if not (item.is_defined and item.writes):
         return
     names, large, kept = {*module.items, *module.imported}, "", ""

@@ -8,8 +8,14 @@ use Rattle.asn1_core.specs.Der.{Der, encoding_of}
 use Rattle.asn1.specs.declared.alternatives.NoOther.{NoOther}
 use Rattle.asn1.specs.declared.alternatives.OneOf.{OneOf}
 use Rattle.asn1.specs.declared.alternatives.OneOf.TheVariants.{First, Other}
-use Rattle.asn1.specs.Choices.{Alternatives, AlternativesLaws, or, none}
+use Rattle.asn1.specs.declared.alternatives.OneOfThree.{OneOfThree}
+use Rattle.asn1.specs.declared.alternatives.OneOfThree.TheVariants as three
+use Rattle.asn1.specs.declared.alternatives.OneOfEight.{OneOfEight}
+use Rattle.asn1.specs.declared.alternatives.OneOfEight.TheVariants as eight
+use Rattle.asn1.specs.Among.{Among3, Among8, first_of_3, second_of_3, third_of_3, after_3, first_of_8, second_of_8, third_of_8, fourth_of_8, fifth_of_8, sixth_of_8, seventh_of_8, eighth_of_8, after_8}
+use Rattle.asn1.specs.Choices.{Alternatives, AlternativesLaws, or, or_three, or_eight, none}
 use Rattle.asn1.specs.LawsOf.Choices.{none_laws, or_laws}
+use Rattle.asn1.specs.LawsOf.Alternatives.{or_three_laws, or_eight_laws}
 use Rattle.asn1.specs.Types.{choice_der}
 
 -- ---- lists of alternatives as types
@@ -43,6 +49,41 @@ one_of d others = record {
   laws = or_laws d.laws others.laws;
 }
 
+abbrev pub one_of_three_meaning : {A B C R Am Bm Cm Rm : Type 0} → (A → Am) → (B → Bm) → (C → Cm) → (R → Rm) → OneOfThree A B C R → Among3 Am Bm Cm Rm
+one_of_three_meaning f1 f2 f3 g (three.First x) = first_of_3 (f1 x)
+one_of_three_meaning f1 f2 f3 g (three.Second x) = second_of_3 (f2 x)
+one_of_three_meaning f1 f2 f3 g (three.Third x) = third_of_3 (f3 x)
+one_of_three_meaning f1 f2 f3 g (three.Others x) = after_3 (g x)
+
+-- The list of three alternatives and those of another list.
+abbrev pub one_of_three : {A B C R : Type 0} → Der A → Der B → Der C → AlternativeList R → AlternativeList (OneOfThree A B C R)
+one_of_three a b c others = record {
+  Meaning = Among3 a.Meaning b.Meaning c.Meaning others.Meaning;
+  meaning = one_of_three_meaning a.meaning b.meaning c.meaning others.meaning;
+  all = or_three (encoding_of a) (encoding_of b) (encoding_of c) others.all;
+  laws = or_three_laws a.laws b.laws c.laws others.laws;
+}
+
+abbrev pub one_of_eight_meaning : {A B C D E F G H R Am Bm Cm Dm Em Fm Gm Hm Rm : Type 0} → (A → Am) → (B → Bm) → (C → Cm) → (D → Dm) → (E → Em) → (F → Fm) → (G → Gm) → (H → Hm) → (R → Rm) → OneOfEight A B C D E F G H R → Among8 Am Bm Cm Dm Em Fm Gm Hm Rm
+one_of_eight_meaning f1 f2 f3 f4 f5 f6 f7 f8 g (eight.First x) = first_of_8 (f1 x)
+one_of_eight_meaning f1 f2 f3 f4 f5 f6 f7 f8 g (eight.Second x) = second_of_8 (f2 x)
+one_of_eight_meaning f1 f2 f3 f4 f5 f6 f7 f8 g (eight.Third x) = third_of_8 (f3 x)
+one_of_eight_meaning f1 f2 f3 f4 f5 f6 f7 f8 g (eight.Fourth x) = fourth_of_8 (f4 x)
+one_of_eight_meaning f1 f2 f3 f4 f5 f6 f7 f8 g (eight.Fifth x) = fifth_of_8 (f5 x)
+one_of_eight_meaning f1 f2 f3 f4 f5 f6 f7 f8 g (eight.Sixth x) = sixth_of_8 (f6 x)
+one_of_eight_meaning f1 f2 f3 f4 f5 f6 f7 f8 g (eight.Seventh x) = seventh_of_8 (f7 x)
+one_of_eight_meaning f1 f2 f3 f4 f5 f6 f7 f8 g (eight.Eighth x) = eighth_of_8 (f8 x)
+one_of_eight_meaning f1 f2 f3 f4 f5 f6 f7 f8 g (eight.Others x) = after_8 (g x)
+
+-- The list of eight alternatives and those of another list.
+abbrev pub one_of_eight : {A B C D E F G H R : Type 0} → Der A → Der B → Der C → Der D → Der E → Der F → Der G → Der H → AlternativeList R → AlternativeList (OneOfEight A B C D E F G H R)
+one_of_eight a b c d e f g h others = record {
+  Meaning = Among8 a.Meaning b.Meaning c.Meaning d.Meaning e.Meaning f.Meaning g.Meaning h.Meaning others.Meaning;
+  meaning = one_of_eight_meaning a.meaning b.meaning c.meaning d.meaning e.meaning f.meaning g.meaning h.meaning others.meaning;
+  all = or_eight (encoding_of a) (encoding_of b) (encoding_of c) (encoding_of d) (encoding_of e) (encoding_of f) (encoding_of g) (encoding_of h) others.all;
+  laws = or_eight_laws a.laws b.laws c.laws d.laws e.laws f.laws g.laws h.laws others.laws;
+}
+
 -- What reading this element as one of the alternatives returns.
 abbrev pub ReadsAlternative : {V : Type 0} → AlternativeList V → Element → Result V ReadError → Type 0
 ReadsAlternative list e result = Returns list.meaning (list.all.runs_out e) result (list.all.read e)
@@ -61,43 +102,49 @@ EachHasOneEncoding list = list.all.lawful × list.all.plain × list.all.is_read
 abbrev pub choice : {V W : Type 0} → (W → V) → AlternativeList V → Der W
 choice view list = choice_der (λ w. list.meaning (view w)) list.all list.laws
 
--- ---- values of the first twelve alternatives, and of those after them
+-- ---- values of lists: of the alternatives at their front, and of those after these
 
-abbrev pub alternative1 : {A R : Type 0} → A → OneOf A R
-alternative1 x = First x
+abbrev pub first1 : {A R : Type 0} → A → OneOf A R
+first1 x = First x
 
-abbrev pub alternative2 : {A B R : Type 0} → B → OneOf A (OneOf B R)
-alternative2 x = Other (alternative1 x)
+abbrev pub after1 : {A R : Type 0} → R → OneOf A R
+after1 x = Other x
 
-abbrev pub alternative3 : {A B C R : Type 0} → C → OneOf A (OneOf B (OneOf C R))
-alternative3 x = Other (alternative2 x)
+abbrev pub first3 : {A B C R : Type 0} → A → OneOfThree A B C R
+first3 x = three.First x
 
-abbrev pub alternative4 : {A B C D R : Type 0} → D → OneOf A (OneOf B (OneOf C (OneOf D R)))
-alternative4 x = Other (alternative3 x)
+abbrev pub second3 : {A B C R : Type 0} → B → OneOfThree A B C R
+second3 x = three.Second x
 
-abbrev pub alternative5 : {A B C D E R : Type 0} → E → OneOf A (OneOf B (OneOf C (OneOf D (OneOf E R))))
-alternative5 x = Other (alternative4 x)
+abbrev pub third3 : {A B C R : Type 0} → C → OneOfThree A B C R
+third3 x = three.Third x
 
-abbrev pub alternative6 : {A B C D E F R : Type 0} → F → OneOf A (OneOf B (OneOf C (OneOf D (OneOf E (OneOf F R)))))
-alternative6 x = Other (alternative5 x)
+abbrev pub after3 : {A B C R : Type 0} → R → OneOfThree A B C R
+after3 x = three.Others x
 
-abbrev pub alternative7 : {A B C D E F G R : Type 0} → G → OneOf A (OneOf B (OneOf C (OneOf D (OneOf E (OneOf F (OneOf G R))))))
-alternative7 x = Other (alternative6 x)
+abbrev pub first8 : {A B C D E F G H R : Type 0} → A → OneOfEight A B C D E F G H R
+first8 x = eight.First x
 
-abbrev pub alternative8 : {A B C D E F G H R : Type 0} → H → OneOf A (OneOf B (OneOf C (OneOf D (OneOf E (OneOf F (OneOf G (OneOf H R)))))))
-alternative8 x = Other (alternative7 x)
+abbrev pub second8 : {A B C D E F G H R : Type 0} → B → OneOfEight A B C D E F G H R
+second8 x = eight.Second x
 
-abbrev pub alternative9 : {A B C D E F G H I R : Type 0} → I → OneOf A (OneOf B (OneOf C (OneOf D (OneOf E (OneOf F (OneOf G (OneOf H (OneOf I R))))))))
-alternative9 x = Other (alternative8 x)
+abbrev pub third8 : {A B C D E F G H R : Type 0} → C → OneOfEight A B C D E F G H R
+third8 x = eight.Third x
 
-abbrev pub alternative10 : {A B C D E F G H I J R : Type 0} → J → OneOf A (OneOf B (OneOf C (OneOf D (OneOf E (OneOf F (OneOf G (OneOf H (OneOf I (OneOf J R)))))))))
-alternative10 x = Other (alternative9 x)
+abbrev pub fourth8 : {A B C D E F G H R : Type 0} → D → OneOfEight A B C D E F G H R
+fourth8 x = eight.Fourth x
 
-abbrev pub alternative11 : {A B C D E F G H I J K R : Type 0} → K → OneOf A (OneOf B (OneOf C (OneOf D (OneOf E (OneOf F (OneOf G (OneOf H (OneOf I (OneOf J (OneOf K R))))))))))
-alternative11 x = Other (alternative10 x)
+abbrev pub fifth8 : {A B C D E F G H R : Type 0} → E → OneOfEight A B C D E F G H R
+fifth8 x = eight.Fifth x
 
-abbrev pub alternative12 : {A B C D E F G H I J K L R : Type 0} → L → OneOf A (OneOf B (OneOf C (OneOf D (OneOf E (OneOf F (OneOf G (OneOf H (OneOf I (OneOf J (OneOf K (OneOf L R)))))))))))
-alternative12 x = Other (alternative11 x)
+abbrev pub sixth8 : {A B C D E F G H R : Type 0} → F → OneOfEight A B C D E F G H R
+sixth8 x = eight.Sixth x
 
-abbrev pub after12 : {A B C D E F G H I J K L R : Type 0} → R → OneOf A (OneOf B (OneOf C (OneOf D (OneOf E (OneOf F (OneOf G (OneOf H (OneOf I (OneOf J (OneOf K (OneOf L R)))))))))))
-after12 r = Other (Other (Other (Other (Other (Other (Other (Other (Other (Other (Other (Other r)))))))))))
+abbrev pub seventh8 : {A B C D E F G H R : Type 0} → G → OneOfEight A B C D E F G H R
+seventh8 x = eight.Seventh x
+
+abbrev pub eighth8 : {A B C D E F G H R : Type 0} → H → OneOfEight A B C D E F G H R
+eighth8 x = eight.Eighth x
+
+abbrev pub after8 : {A B C D E F G H R : Type 0} → R → OneOfEight A B C D E F G H R
+after8 x = eight.Others x

@@ -4,10 +4,11 @@ use Rattle.asn1_core.specs.declared.tag.Tag.{Tag}
 use Rattle.asn1_core.specs.declared.parser.Place.{Place}
 use Rattle.asn1_core.specs.declared.parser.ParseErrorKind.TheVariants.{UnexpectedTag}
 use Rattle.asn1_core.specs.Base256.{IsOctets}
-use Rattle.asn1_core.specs.Element.{Element, element_encoding, IsReadable}
+use Rattle.asn1_core.specs.Element.{Element, element_encoding, IsReadable, ◌>>=◌}
 use Rattle.asn1_core.specs.ReadError.{ReadError, read_error, IsOfInput}
 use Rattle.asn1_core.specs.Reading.{IsOneElement, IsNothingOrElement, simple_stops}
 use Rattle.asn1_core.specs.Encoding.{Encoding, no_content}
+use Rattle.asn1.specs.Among.{Among3, Among8, three, three_encoding, eight, eight_encoding, among_three, among_eight}
 use Rattle.asn1.specs.Alternatives.{Disjoint, either, either_encoding, only_read, or_read, only_out, or_out, choice_read, choice_out}
 
 -- One or more alternatives, whose abstract values are an M: what an element is read as.
@@ -75,6 +76,42 @@ or d c = record {
   accepts = λ t. d.accepts t || c.accepts t;
   read = or_read d.accepts d.read c.read;
 }
+
+-- The same alternatives, whose abstract values are made of theirs by `view`: what is stated of these values is given.
+abbrev pub viewed_alternatives : {M N : Type 0} → (M → N) → Alternatives M → (N → List ℕ) → (N → List ℕ → Type 0) → (N → Type 0) → (N → Type 0) → (N → Type 0) → Alternatives N
+viewed_alternatives view c encoding encodings closures valid allowed = record {
+  encoding = encoding;
+  encodings = encodings;
+  closures = closures;
+  valid = valid;
+  allowed = allowed;
+  bounded = c.bounded;
+  plain = c.plain;
+  lawful = c.lawful;
+  takes_memory = c.takes_memory;
+  is_read = c.is_read;
+  runs_out = c.runs_out;
+  accepts = c.accepts;
+  read = λ e. c.read e >>= λ m. Ok (view m);
+}
+
+-- three alternatives before others, as if they came one by one
+abbrev pub or_three : {A B C R : Type 0} → Encoding A → Encoding B → Encoding C → Alternatives R → Alternatives (Among3 A B C R)
+or_three a b c others = viewed_alternatives among_three (or a (or b (or c others)))
+    (three_encoding a.encoding b.encoding c.encoding others.encoding)
+    (three a.encodings b.encodings c.encodings others.encodings)
+    (three a.closures b.closures c.closures others.closures)
+    (three a.valid b.valid c.valid others.valid)
+    (three a.allowed b.allowed c.allowed others.allowed)
+
+-- eight alternatives before others, as if they came one by one
+abbrev pub or_eight : {A B C D E F G H R : Type 0} → Encoding A → Encoding B → Encoding C → Encoding D → Encoding E → Encoding F → Encoding G → Encoding H → Alternatives R → Alternatives (Among8 A B C D E F G H R)
+or_eight a b c d e f g h others = viewed_alternatives among_eight (or a (or b (or c (or d (or e (or f (or g (or h others))))))))
+    (eight_encoding a.encoding b.encoding c.encoding d.encoding e.encoding f.encoding g.encoding h.encoding others.encoding)
+    (eight a.encodings b.encodings c.encodings d.encodings e.encodings f.encodings g.encodings h.encodings others.encodings)
+    (eight a.closures b.closures c.closures d.closures e.closures f.closures g.closures h.closures others.closures)
+    (eight a.valid b.valid c.valid d.valid e.valid f.valid g.valid h.valid others.valid)
+    (eight a.allowed b.allowed c.allowed d.allowed e.allowed f.allowed g.allowed h.allowed others.allowed)
 
 -- no alternative: each tag is unexpected
 abbrev pub none : Alternatives ⊥

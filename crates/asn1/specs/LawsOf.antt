@@ -6,6 +6,7 @@ pub mod Lists
 pub mod Tagged
 pub mod Defaults
 pub mod Choices
+pub mod Alternatives
 pub mod Fields
 pub mod Defined
 pub mod Numbered

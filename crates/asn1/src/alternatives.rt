@@ -1,26 +1,18 @@
-//! Choices of one's own, of any number of alternatives (X.690 8.13, X.680 29). A list of alternatives is a type, as
-//! `OneOf<A, OneOf<B, NoOther>>`. Its values are read, and moved to the user's enum ([`AsOneOf`]). A value of the enum
-//! is written as that of the alternative at a position in the list ([`WritableAt`]).
+//! Choices of one's own, of any number of alternatives (X.690 8.13, X.680 29). A list of alternatives is a type: eight
+//! at a time while there are as many, then three, and then one by one, as `OneOfThree<A, B, C, OneOf<D, NoOther>>`. Its
+//! values are read, and moved to the user's enum ([`AsOneOf`]). The enum's bodies that write match on its variants.
 
-ghost use Rattle.std.specs.Prelude.{◌≡◌, IfErr, IfOk, OnErr, OnOk};
-ghost use Rattle.asn1_core.specs.Buffer.{Appends, KeepsPrefix};
+ghost use Rattle.std.specs.Prelude.{◌≡◌, IfOk, OnErr};
 ghost use Rattle.asn1_core.specs.Reading.{EndsWith};
 ghost use Rattle.asn1_core.specs.Reads.{BeginsWithEncodingOf, ReadsPrefix};
 ghost use Rattle.asn1_core.specs.Tlv.{element_of};
-ghost use Rattle.asn1_core.specs.Writing.{buffer_name, octets_of, GivesLength, NamesError};
-ghost use Rattle.asn1.specs.declared.alternatives.OneOf.TheVariants.{First, Other};
 ghost use Rattle.asn1.specs.AlternativeLists.{AlternativeList, IsAlternative, ReadsAlternative};
-ghost use Rattle.asn1.specs.AlternativeLists.{choice, no_list, one_of};
-ghost use Rattle.asn1.specs.Structures.{explicit, implicit};
+ghost use Rattle.asn1.specs.AlternativeLists.{choice, no_list, one_of, one_of_eight, one_of_three};
 
-use crate::fields::{Wraps, explicit_length, implicit_length};
-use crate::wrappers::{Explicit, Implicit};
 use asn1_core::{
-    Asn1Readable, Asn1Type, Asn1Writable, ParseError, ParseErrorKind, ParseResult, Parser,
-    SimpleAsn1Writable, Tag, Tlv, WriteError, Writer,
+    Asn1Readable, Asn1Type, ParseError, ParseErrorKind, ParseResult, Parser, Tag, Tlv,
 };
 use std::alloc::Global;
-use std::marker::PhantomData;
 
 /// A value of the first alternative, or of one of the others.
 #[derive(Drop)]
@@ -29,6 +21,44 @@ pub enum OneOf<A, R> {
     First(A),
     /// Of one of the others.
     Other(R),
+}
+
+/// A value of one of the first three alternatives, or of one of the others.
+#[derive(Drop)]
+pub enum OneOfThree<A, B, C, R> {
+    /// Of the first.
+    First(A),
+    /// Of the second.
+    Second(B),
+    /// Of the third.
+    Third(C),
+    /// Of one of the others.
+    Others(R),
+}
+
+/// A value of one of the first eight alternatives, or of one of the others. A list of many is nested an eighth as deep
+/// as one by one: what the prover does for a list grows with how deep its type is nested, and it looks for a value's
+/// place only so deep.
+#[derive(Drop)]
+pub enum OneOfEight<A, B, C, D, E, F, G, H, R> {
+    /// Of the first.
+    First(A),
+    /// Of the second.
+    Second(B),
+    /// Of the third.
+    Third(C),
+    /// Of the fourth.
+    Fourth(D),
+    /// Of the fifth.
+    Fifth(E),
+    /// Of the sixth.
+    Sixth(F),
+    /// Of the seventh.
+    Seventh(G),
+    /// Of the eighth.
+    Eighth(H),
+    /// Of one of the others.
+    Others(R),
 }
 
 /// No alternative: the end of a list.
@@ -72,6 +102,25 @@ impl<A: Asn1Type, R: Alternatives> Alternatives for OneOf<A, R> {
     ghost list = { one_of A.der R.list };
 }
 
+impl<A: Asn1Type, B: Asn1Type, C: Asn1Type, R: Alternatives> Alternatives
+    for OneOfThree<A, B, C, R> {
+    ghost list = { one_of_three A.der B.der C.der R.list };
+}
+
+impl<
+    A: Asn1Type,
+    B: Asn1Type,
+    C: Asn1Type,
+    D: Asn1Type,
+    E: Asn1Type,
+    F: Asn1Type,
+    G: Asn1Type,
+    H: Asn1Type,
+    R: Alternatives,
+> Alternatives for OneOfEight<A, B, C, D, E, F, G, H, R> {
+    ghost list = { one_of_eight A.der B.der C.der D.der E.der F.der G.der H.der R.list };
+}
+
 impl<'a> AlternativesReadable<'a> for NoOther {
     #[inline(always)]
     fn read(tlv: Tlv<'a>, _alloc: Global) -> ParseResult<NoOther> {
@@ -103,6 +152,95 @@ impl<'a, A: Asn1Readable<'a>, R: AlternativesReadable<'a>> AlternativesReadable<
     }
 }
 
+impl<
+    'a,
+    A: Asn1Readable<'a>,
+    B: Asn1Readable<'a>,
+    C: Asn1Readable<'a>,
+    R: AlternativesReadable<'a>,
+> AlternativesReadable<'a> for OneOfThree<A, B, C, R> {
+    #[inline(always)]
+    fn read(tlv: Tlv<'a>, alloc: Global) -> ParseResult<Self> {
+        if A::can_parse(tlv.tag()) {
+            return Ok(OneOfThree::First(tlv.parse::<A>(alloc)?));
+        }
+        if B::can_parse(tlv.tag()) {
+            return Ok(OneOfThree::Second(tlv.parse::<B>(alloc)?));
+        }
+        if C::can_parse(tlv.tag()) {
+            return Ok(OneOfThree::Third(tlv.parse::<C>(alloc)?));
+        }
+        Ok(OneOfThree::Others(R::read(tlv, alloc)?))
+    }
+
+    #[inline(always)]
+    fn accepts(tag: Tag) -> bool {
+        // Each is called, as in a list of one.
+        let first = A::can_parse(tag);
+        let second = B::can_parse(tag);
+        let third = C::can_parse(tag);
+        let others = R::accepts(tag);
+        first || second || third || others
+    }
+}
+
+impl<
+    'a,
+    A: Asn1Readable<'a>,
+    B: Asn1Readable<'a>,
+    C: Asn1Readable<'a>,
+    D: Asn1Readable<'a>,
+    E: Asn1Readable<'a>,
+    F: Asn1Readable<'a>,
+    G: Asn1Readable<'a>,
+    H: Asn1Readable<'a>,
+    R: AlternativesReadable<'a>,
+> AlternativesReadable<'a> for OneOfEight<A, B, C, D, E, F, G, H, R> {
+    #[inline(always)]
+    fn read(tlv: Tlv<'a>, alloc: Global) -> ParseResult<Self> {
+        if A::can_parse(tlv.tag()) {
+            return Ok(OneOfEight::First(tlv.parse::<A>(alloc)?));
+        }
+        if B::can_parse(tlv.tag()) {
+            return Ok(OneOfEight::Second(tlv.parse::<B>(alloc)?));
+        }
+        if C::can_parse(tlv.tag()) {
+            return Ok(OneOfEight::Third(tlv.parse::<C>(alloc)?));
+        }
+        if D::can_parse(tlv.tag()) {
+            return Ok(OneOfEight::Fourth(tlv.parse::<D>(alloc)?));
+        }
+        if E::can_parse(tlv.tag()) {
+            return Ok(OneOfEight::Fifth(tlv.parse::<E>(alloc)?));
+        }
+        if F::can_parse(tlv.tag()) {
+            return Ok(OneOfEight::Sixth(tlv.parse::<F>(alloc)?));
+        }
+        if G::can_parse(tlv.tag()) {
+            return Ok(OneOfEight::Seventh(tlv.parse::<G>(alloc)?));
+        }
+        if H::can_parse(tlv.tag()) {
+            return Ok(OneOfEight::Eighth(tlv.parse::<H>(alloc)?));
+        }
+        Ok(OneOfEight::Others(R::read(tlv, alloc)?))
+    }
+
+    #[inline(always)]
+    fn accepts(tag: Tag) -> bool {
+        // Each is called, as in a list of one.
+        let first = A::can_parse(tag);
+        let second = B::can_parse(tag);
+        let third = C::can_parse(tag);
+        let fourth = D::can_parse(tag);
+        let fifth = E::can_parse(tag);
+        let sixth = F::can_parse(tag);
+        let seventh = G::can_parse(tag);
+        let eighth = H::can_parse(tag);
+        let others = R::accepts(tag);
+        first || second || third || fourth || fifth || sixth || seventh || eighth || others
+    }
+}
+
 /// Reads the next element as a value of the choice `C`: the body of its `parse`. The element is framed first. Errors
 /// after those of framing are those of [`AlternativesReadable::read`].
 #[inline(always)]
@@ -120,215 +258,6 @@ pub fn read_choice<'a, R: AlternativesReadable<'a>, C: AsOneOf<R>>(
     Ok(C::from_one_of(value))
 }
 
-/// The position of the first alternative, of which a choice has the values as they are.
-pub struct Here;
-
-/// The position of the first alternative, if it is under a tag. A choice has its values without the tag.
-pub struct UnderTag;
-
-/// A position among the alternatives after the first.
-pub struct Next<P> {
-    of: PhantomData<P>,
-}
-
-/// A list of alternatives that has one at the position `P`, of which a choice has the values as a `V`. With
-/// [`Alternatives`] as a supertrait the prover would compare what the two say of the list at each position up to this
-/// one. So `list` is stated once more, and a caller is proved only if it is that of the choice.
-pub trait At<P, V>: Sized {
-    ghost list: { AlternativeList Self };
-
-    ghost put: { V → Self };
-
-    /// States that the value is valid. The call does nothing at run time.
-    fn known_at(value: &V)
-        ensures { list.all.valid (list.meaning (put value.now)) };
-}
-
-/// The same of an alternative that is written.
-pub trait WritableAt<P, V>: Sized {
-    /// The error of a write that fails.
-    type Error: From<WriteError>;
-
-    ghost list: { AlternativeList Self };
-
-    ghost put: { V → Self };
-
-    // The errors that a write may return, other than out of memory; and the values whose length is known without
-    // writing them.
-    ghost write_errors_at: { V → Self.Error → Type 0 };
-
-    ghost length_known_at: { V → Type 0 };
-
-    /// Appends the encoding of the value. Errors and what the caller has to prove are those of
-    /// [`Asn1Writable::write`].
-    fn write_at(value: &V, dest: &mut Writer<'_>) -> Result<(), Self::Error>
-        requires { list.all.closures (list.meaning (put value.now)) }
-        ensures same_buffer { buffer_name dest.new ≡ buffer_name dest.old }
-        ensures ok { OnOk result (Appends (list.all.encodings (list.meaning (put value.now)))
-            (octets_of dest.old) (octets_of dest.new)) }
-        ensures err { OnErr result (KeepsPrefix (octets_of dest.old) (octets_of dest.new)) }
-        ensures error { IfErr result (NamesError Self.Error.from_gives
-            (write_errors_at value.now)) };
-
-    /// How many octets the encoding of the value has, if that is known without writing it.
-    fn length_at(value: &V) -> Option<usize>
-        ensures { GivesLength (length_known_at value.now) (list.all.encodings (list.meaning
-            (put value.now))) result };
-}
-
-impl<A: Asn1Type, R: Alternatives> At<Here, A> for OneOf<A, R> {
-    ghost list = { one_of A.der R.list };
-
-    ghost put = { First };
-
-    fn known_at(value: &A) {
-        value.known()
-    }
-}
-
-impl<V, A: Wraps<V>, R: Alternatives> At<UnderTag, V> for OneOf<A, R> {
-    ghost list = { one_of A.der R.list };
-
-    ghost put = { λ v. First (A.wrap v) };
-
-    fn known_at(value: &V) {
-        A::known_plain(value)
-    }
-}
-
-impl<P, V, A: Asn1Type, R: At<P, V>> At<Next<P>, V> for OneOf<A, R> {
-    ghost list = { one_of A.der R.list };
-
-    ghost put = { λ v. Other (R.put v) };
-
-    fn known_at(value: &V) {
-        R::known_at(value)
-    }
-}
-
-impl<A: Asn1Writable, R: Alternatives> WritableAt<Here, A> for OneOf<A, R> {
-    type Error = A::Error;
-
-    ghost list = { one_of A.der R.list };
-
-    ghost put = { First };
-
-    ghost write_errors_at = { A.write_errors };
-
-    ghost length_known_at = { A.length_known };
-
-    fn write_at(value: &A, dest: &mut Writer<'_>) -> Result<(), A::Error> {
-        dest.write_element(value)
-    }
-
-    fn length_at(value: &A) -> Option<usize> {
-        value.encoded_length()
-    }
-}
-
-impl<T: SimpleAsn1Writable, R: Alternatives, const N: u32> WritableAt<UnderTag, T>
-    for OneOf<Implicit<T, N>, R> {
-    type Error = T::Error;
-
-    ghost list = { one_of ⟦<Implicit<T, N> as Asn1Type>⟧.der R.list };
-
-    ghost put = { λ v. First (implicit v) };
-
-    ghost write_errors_at = { T.write_errors };
-
-    ghost length_known_at = { T.length_known };
-
-    fn write_at(value: &T, dest: &mut Writer<'_>) -> Result<(), T::Error> {
-        dest.write_implicit_element(value, N)
-    }
-
-    fn length_at(value: &T) -> Option<usize> {
-        implicit_length(value, N)
-    }
-}
-
-impl<T: Asn1Writable, R: Alternatives, const N: u32> WritableAt<UnderTag, T>
-    for OneOf<Explicit<T, N>, R> {
-    type Error = T::Error;
-
-    ghost list = { one_of ⟦<Explicit<T, N> as Asn1Type>⟧.der R.list };
-
-    ghost put = { λ v. First (explicit v) };
-
-    ghost write_errors_at = { T.write_errors };
-
-    ghost length_known_at = { T.length_known };
-
-    fn write_at(value: &T, dest: &mut Writer<'_>) -> Result<(), T::Error> {
-        dest.write_explicit_element(value, N)
-    }
-
-    fn length_at(value: &T) -> Option<usize> {
-        explicit_length(value, N)
-    }
-}
-
-impl<P, V, A: Asn1Type, R: WritableAt<P, V>> WritableAt<Next<P>, V> for OneOf<A, R> {
-    type Error = R::Error;
-
-    ghost list = { one_of A.der R.list };
-
-    ghost put = { λ v. Other (R.put v) };
-
-    ghost write_errors_at = { R.write_errors_at };
-
-    ghost length_known_at = { R.length_known_at };
-
-    fn write_at(value: &V, dest: &mut Writer<'_>) -> Result<(), R::Error> {
-        R::write_at(value, dest)
-    }
-
-    fn length_at(value: &V) -> Option<usize> {
-        R::length_at(value)
-    }
-}
-
-// The next three are called with a value of a choice, and with the value in it, which is that of the alternative at a
-// position. Only contracts speak of the first: a goal of a caller is then no larger than what is stated of it.
-
-/// States that a value of a choice is valid. The call does nothing at run time.
-pub fn known_variant<C: AsOneOf<R>, R: At<P, V>, P, V>(_choice: &C, value: &V)
-    requires { C.seen _choice.now ≡ R.put value.now }
-    ensures { R.list.all.valid (R.list.meaning (C.seen _choice.now)) }
-{
-    R::known_at(value)
-}
-
-/// Appends the encoding of a value of a choice. Errors and what the caller has to prove are those of
-/// [`Asn1Writable::write`].
-pub fn write_variant<C: AsOneOf<R>, R: WritableAt<P, V>, P, V>(
-    _choice: &C,
-    value: &V,
-    dest: &mut Writer<'_>,
-) -> Result<(), R::Error>
-    requires is { C.seen _choice.now ≡ R.put value.now }
-    requires owed { R.list.all.closures (R.list.meaning (C.seen _choice.now)) }
-    ensures same_buffer { buffer_name dest.new ≡ buffer_name dest.old }
-    ensures ok { OnOk result (Appends (R.list.all.encodings (R.list.meaning (C.seen _choice.now)))
-        (octets_of dest.old) (octets_of dest.new)) }
-    ensures err { OnErr result (KeepsPrefix (octets_of dest.old) (octets_of dest.new)) }
-    ensures error { IfErr result (NamesError R.Error.from_gives (R.write_errors_at value.now)) }
-{
-    R::write_at(value, dest)
-}
-
-/// How many octets the encoding of a value of a choice has, if that is known without writing it.
-pub fn variant_length<C: AsOneOf<R>, R: WritableAt<P, V>, P, V>(
-    _choice: &C,
-    value: &V,
-) -> Option<usize>
-    requires { C.seen _choice.now ≡ R.put value.now }
-    ensures { GivesLength (R.length_known_at value.now) (R.list.all.encodings (R.list.meaning
-        (C.seen _choice.now))) result }
-{
-    R::length_at(value)
-}
-
 /// One alternative.
 pub type OneOf1<A> = OneOf<A, NoOther>;
 
@@ -336,49 +265,57 @@ pub type OneOf1<A> = OneOf<A, NoOther>;
 pub type OneOf2<A, B> = OneOf<A, OneOf1<B>>;
 
 /// Three alternatives.
-pub type OneOf3<A, B, C> = OneOf<A, OneOf2<B, C>>;
+pub type OneOf3<A, B, C> = OneOfThree<A, B, C, NoOther>;
 
 /// Four alternatives.
-pub type OneOf4<A, B, C, D> = OneOf<A, OneOf3<B, C, D>>;
+pub type OneOf4<A, B, C, D> = OneOfThree<A, B, C, OneOf1<D>>;
 
 /// Five alternatives.
-pub type OneOf5<A, B, C, D, E> = OneOf<A, OneOf4<B, C, D, E>>;
+pub type OneOf5<A, B, C, D, E> = OneOfThree<A, B, C, OneOf2<D, E>>;
 
 /// Six alternatives.
-pub type OneOf6<A, B, C, D, E, F> = OneOf<A, OneOf5<B, C, D, E, F>>;
+pub type OneOf6<A, B, C, D, E, F> = OneOfThree<A, B, C, OneOf3<D, E, F>>;
 
 /// Seven alternatives.
-pub type OneOf7<A, B, C, D, E, F, G> = OneOf<A, OneOf6<B, C, D, E, F, G>>;
+pub type OneOf7<A, B, C, D, E, F, G> = OneOfThree<A, B, C, OneOf4<D, E, F, G>>;
 
 /// Eight alternatives.
-pub type OneOf8<A, B, C, D, E, F, G, H> = OneOf<A, OneOf7<B, C, D, E, F, G, H>>;
+pub type OneOf8<A, B, C, D, E, F, G, H> = OneOfEight<A, B, C, D, E, F, G, H, NoOther>;
 
 /// Nine alternatives.
-pub type OneOf9<A, B, C, D, E, F, G, H, I> = OneOf<A, OneOf8<B, C, D, E, F, G, H, I>>;
+pub type OneOf9<A, B, C, D, E, F, G, H, I> = OneOfEight<A, B, C, D, E, F, G, H, OneOf1<I>>;
 
 /// Ten alternatives.
-pub type OneOf10<A, B, C, D, E, F, G, H, I, J> = OneOf<A, OneOf9<B, C, D, E, F, G, H, I, J>>;
+pub type OneOf10<A, B, C, D, E, F, G, H, I, J> = OneOfEight<A, B, C, D, E, F, G, H, OneOf2<I, J>>;
 
 /// Eleven alternatives.
-pub type OneOf11<A, B, C, D, E, F, G, H, I, J, K> = OneOf<A, OneOf10<B, C, D, E, F, G, H, I, J, K>>;
-
-/// Twelve alternatives.
-pub type OneOf12<A, B, C, D, E, F, G, H, I, J, K, L> = OneOf<
+pub type OneOf11<A, B, C, D, E, F, G, H, I, J, K> = OneOfEight<
     A,
-    OneOf11<B, C, D, E, F, G, H, I, J, K, L>,
+    B,
+    C,
+    D,
+    E,
+    F,
+    G,
+    H,
+    OneOf3<I, J, K>,
 >;
 
-/// Twelve alternatives, and those after them.
-pub type OneOf12Or<A, B, C, D, E, F, G, H, I, J, K, L, R> = OneOf<
+/// Twelve alternatives.
+pub type OneOf12<A, B, C, D, E, F, G, H, I, J, K, L> = OneOfEight<
     A,
-    OneOf<
-        B,
-        OneOf<
-            C,
-            OneOf<
-                D,
-                OneOf<E, OneOf<F, OneOf<G, OneOf<H, OneOf<I, OneOf<J, OneOf<K, OneOf<L, R>>>>>>>>,
-            >,
-        >,
-    >,
+    B,
+    C,
+    D,
+    E,
+    F,
+    G,
+    H,
+    OneOf4<I, J, K, L>,
+>;
+
+/// The list of eight alternatives and others, one by one.
+pub type EightOneByOne<A, B, C, D, E, F, G, H, R> = OneOf<
+    A,
+    OneOf<B, OneOf<C, OneOf<D, OneOf<E, OneOf<F, OneOf<G, OneOf<H, R>>>>>>>,
 >;

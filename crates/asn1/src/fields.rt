@@ -21,7 +21,6 @@ pub use defined::{
     Before, DefinedField, Item, ItemOf, LastValue, RowBehind, RowBehindReadable, Value, ValueOf,
     is_identifier, known_identifier, known_item, known_value,
 };
-pub(crate) use plain::{explicit_length, implicit_length};
 pub use plain::{FieldWritable, Plain, Wraps, into_plain, known_plain, plain_length, write_plain};
 pub use writes::{Four, RowWritable};
 

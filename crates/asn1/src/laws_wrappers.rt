@@ -10,7 +10,9 @@ ghost use Rattle.asn1.specs.Alternatives.{Disjoint};
 ghost use Rattle.asn1.specs.Structures.{defaulted, explicit, implicit, IsEncoded, IsPlainBehind, IsReadAs};
 ghost use Rattle.asn1.specs.Structures.{IsReadBehind, IsWrittenAs};
 
-use crate::alternatives::{Alternatives, AsOneOf, NoOther, OneOf};
+use crate::alternatives::{
+    Alternatives, AsOneOf, EightOneByOne, NoOther, OneOf, OneOfEight, OneOfThree,
+};
 use crate::fields::{
     Before, DefinedField, Field, FieldWritable, Item, ItemOf, Last, LastValue, NoFields, Plain,
     Row, RowBehind, RowBehindReadable, RowReadable, RowWritable, Value, ValueOf,
@@ -73,6 +75,29 @@ pub fn alternatives_are_lawful<A: Asn1Type, R: Alternatives>()
     ensures first { HasOneEncoding A.der → A.der.is_element → EachHasOneEncoding R.list
         → Disjoint A.der.accepts R.list.all.accepts
         → EachHasOneEncoding ⟦<OneOf<A, R> as Alternatives>⟧.list }
+{}
+
+/// The same of a list of three alternatives and others, if it is so of the list that has the three one by one.
+pub fn alternatives_by_three_are_lawful<A: Asn1Type, B: Asn1Type, C: Asn1Type, R: Alternatives>()
+    ensures { EachHasOneEncoding ⟦<OneOf<A, OneOf<B, OneOf<C, R>>> as Alternatives>⟧.list
+        → EachHasOneEncoding ⟦<OneOfThree<A, B, C, R> as Alternatives>⟧.list }
+{}
+
+/// The same of a list of eight.
+pub fn alternatives_by_eight_are_lawful<
+    A: Asn1Type,
+    B: Asn1Type,
+    C: Asn1Type,
+    D: Asn1Type,
+    E: Asn1Type,
+    F: Asn1Type,
+    G: Asn1Type,
+    H: Asn1Type,
+    R: Alternatives,
+>()
+    ensures { EachHasOneEncoding
+        ⟦<EightOneByOne<A, B, C, D, E, F, G, H, R> as Alternatives>⟧.list
+        → EachHasOneEncoding ⟦<OneOfEight<A, B, C, D, E, F, G, H, R> as Alternatives>⟧.list }
 {}
 
 /// So has a choice of one's own, whose values are seen as those of such a list; and it is an element.

@@ -6,9 +6,11 @@
 //! - `name of value: Type`, the position of an item of this type, which the field `value` determines;
 //! - `name by Type`, a value that an item of this type defines.
 //!
-//! Macros for the bodies of a choice's impls have the list of alternatives, the enum and its variants, in order, as in
-//! `Alternatives => ResponderId; ByName: tagged, Other`. `tagged` says that the alternative is under a tag, and the
-//! value in the variant is without it.
+//! Macros for the bodies of a choice's impls have the enum and a list of its variants, in the order of the
+//! alternatives, as in `ResponderId; ByName: explicit 1, ByKey: explicit 2, Other`. An entry is
+//!
+//! - `Name`, a variant whose value is encoded as it is;
+//! - `Name: explicit 1` or `Name: implicit 1`, one under this tag, without which the variant has the value.
 
 /// States that the fields are valid: the body of `known`. `known_fields!(self; r, s)`
 #[macro_export]
@@ -149,76 +151,128 @@ macro_rules! row {
 }
 
 /// States that the value in each variant is valid: the body of `known`.
-/// `known_choice!(self; Alternatives => ResponderId; ByName: tagged, ByKey: tagged)`
+/// `known_choice!(self; ResponderId; ByName: explicit 1, ByKey: explicit 2)`
 #[macro_export]
 macro_rules! known_choice {
-    ($of:expr; $row:ty => $choice:ident; $($list:tt)+) => {
-        $crate::each_variant!(known_variant($of), $row => $choice; []; []; $($list)+)
+    ($of:expr; $choice:ident;
+        $($name:ident $(: $kind:ident $tag:literal)?),+ $(,)?) => {
+        match $of {
+            $($choice::$name(x) => $crate::Asn1Type::known(x),)+
+        }
     };
 }
 
 /// Appends the encoding of the value in the variant: the body of `write`. Errors are those of the variant's write.
-/// `write_choice!(self, dest; Alternatives => ResponderId; ByName: tagged, ByKey: tagged)`
+/// `write_choice!(self, dest; ResponderId; ByName: explicit 1, ByKey: explicit 2)`
 #[macro_export]
 macro_rules! write_choice {
-    ($of:expr, $dest:expr; $row:ty => $choice:ident; $($list:tt)+) => {
-        $crate::each_variant!(write_variant($of, $dest), $row => $choice; []; []; $($list)+)
+    ($of:expr, $dest:expr; $choice:ident;
+        $($name:ident $(: $kind:ident $tag:literal)?),+ $(,)?) => {
+        match $of {
+            $($choice::$name(x) => $crate::write_variant!(x, $dest $(, $kind $tag)?),)+
+        }
     };
+}
+
+/// Appends the encoding of the value in a variant.
+#[macro_export]
+macro_rules! write_variant {
+    ($value:expr, $dest:expr) => { $dest.write_element($value) };
+    ($value:expr, $dest:expr, explicit $tag:literal) => { $dest.write_explicit_element($value, $tag) };
+    ($value:expr, $dest:expr, implicit $tag:literal) => { $dest.write_implicit_element($value, $tag) };
 }
 
 /// How many octets the encoding of the value in the variant has, if that is known: the body of `encoded_length`.
-/// `choice_length!(self; Alternatives => ResponderId; ByName: tagged, ByKey: tagged)`
+/// `choice_length!(self; ResponderId; ByName: explicit 1, ByKey: explicit 2)`
 #[macro_export]
 macro_rules! choice_length {
-    ($of:expr; $row:ty => $choice:ident; $($list:tt)+) => {
-        $crate::each_variant!(variant_length($of), $row => $choice; []; []; $($list)+)
-    };
-}
-
-/// Calls a function of `asn1::alternatives` for each variant, with the variant's position. Arms are made one by one.
-#[macro_export]
-macro_rules! each_variant {
-    ($call:ident($of:expr $(, $dest:expr)?), $row:ty => $choice:ident; [$($arms:tt)*]; [$($next:ident)*];) => {
+    ($of:expr; $choice:ident;
+        $($name:ident $(: $kind:ident $tag:literal)?),+ $(,)?) => {
         match $of {
-            $($arms)*
+            $($choice::$name(x) => $crate::variant_length!(x $(, $kind $tag)?),)+
         }
     };
-    ($call:ident($of:expr $(, $dest:expr)?), $row:ty => $choice:ident; [$($arms:tt)*]; [$($next:ident)*];
-        $name:ident $(: $mark:ident)? $(, $($rest:tt)*)?) => {
-        $crate::each_variant!($call($of $(, $dest)?), $row => $choice; [
-            $($arms)*
-            $choice::$name(x) => $crate::alternatives::$call::<
-                _,
-                $row,
-                $crate::position!($($next)*; $($mark)?),
-                _,
-            >($of, x $(, $dest)?),
-        ]; [$($next)* next]; $($($rest)*)?)
-    };
 }
 
-/// The position of a variant, after as many as there are words.
+/// How many octets the encoding of the value in a variant has, if that is known.
 #[macro_export]
-macro_rules! position {
-    (;) => { $crate::alternatives::Here };
-    (; tagged) => { $crate::alternatives::UnderTag };
-    ($first:ident $($next:ident)*; $($mark:ident)?) => {
-        $crate::alternatives::Next<$crate::position!($($next)*; $($mark)?)>
-    };
+macro_rules! variant_length {
+    ($value:expr) => { $crate::Asn1Writable::encoded_length($value) };
+    ($value:expr, explicit $tag:literal) => { $crate::fields::plain_length::<$crate::Explicit<_, $tag>, _>($value) };
+    ($value:expr, implicit $tag:literal) => { $crate::fields::plain_length::<$crate::Implicit<_, $tag>, _>($value) };
 }
 
-/// Moves the value of an alternative to its variant: the body of `from_one_of`.
-/// `take_choice!(value; Alternatives => ResponderId; ByName: tagged, ByKey: tagged)`
+/// Moves the value of an alternative to its variant: the body of `from_one_of`. A list has eight alternatives at a time
+/// while there are as many, and then three. `take_choice!(value; ResponderId; ByName: explicit 1, ByKey: explicit 2)`
 #[macro_export]
 macro_rules! take_choice {
-    ($value:expr; $row:ty => $choice:ident;) => { match $value {} };
-    ($value:expr; $row:ty => $choice:ident; $name:ident $(: $mark:ident)? $(, $($rest:tt)*)?) => {
+    ($value:expr; $choice:ident;) => { match $value {} };
+    ($value:expr; $choice:ident;
+        $a:ident $(: $a_kind:ident $a_tag:literal)?,
+        $b:ident $(: $b_kind:ident $b_tag:literal)?,
+        $c:ident $(: $c_kind:ident $c_tag:literal)?,
+        $d:ident $(: $d_kind:ident $d_tag:literal)?,
+        $e:ident $(: $e_kind:ident $e_tag:literal)?,
+        $f:ident $(: $f_kind:ident $f_tag:literal)?,
+        $g:ident $(: $g_kind:ident $g_tag:literal)?,
+        $h:ident $(: $h_kind:ident $h_tag:literal)? $(, $($rest:tt)*)?) => {
+        match $value {
+            $crate::alternatives::OneOfEight::First(x) => {
+                $choice::$a($crate::taken_variant!(x $(, $a_kind)?))
+            }
+            $crate::alternatives::OneOfEight::Second(x) => {
+                $choice::$b($crate::taken_variant!(x $(, $b_kind)?))
+            }
+            $crate::alternatives::OneOfEight::Third(x) => {
+                $choice::$c($crate::taken_variant!(x $(, $c_kind)?))
+            }
+            $crate::alternatives::OneOfEight::Fourth(x) => {
+                $choice::$d($crate::taken_variant!(x $(, $d_kind)?))
+            }
+            $crate::alternatives::OneOfEight::Fifth(x) => {
+                $choice::$e($crate::taken_variant!(x $(, $e_kind)?))
+            }
+            $crate::alternatives::OneOfEight::Sixth(x) => {
+                $choice::$f($crate::taken_variant!(x $(, $f_kind)?))
+            }
+            $crate::alternatives::OneOfEight::Seventh(x) => {
+                $choice::$g($crate::taken_variant!(x $(, $g_kind)?))
+            }
+            $crate::alternatives::OneOfEight::Eighth(x) => {
+                $choice::$h($crate::taken_variant!(x $(, $h_kind)?))
+            }
+            $crate::alternatives::OneOfEight::Others(others) => {
+                $crate::take_choice!(others; $choice; $($($rest)*)?)
+            }
+        }
+    };
+    ($value:expr; $choice:ident;
+        $a:ident $(: $a_kind:ident $a_tag:literal)?,
+        $b:ident $(: $b_kind:ident $b_tag:literal)?,
+        $c:ident $(: $c_kind:ident $c_tag:literal)? $(, $($rest:tt)*)?) => {
+        match $value {
+            $crate::alternatives::OneOfThree::First(x) => {
+                $choice::$a($crate::taken_variant!(x $(, $a_kind)?))
+            }
+            $crate::alternatives::OneOfThree::Second(x) => {
+                $choice::$b($crate::taken_variant!(x $(, $b_kind)?))
+            }
+            $crate::alternatives::OneOfThree::Third(x) => {
+                $choice::$c($crate::taken_variant!(x $(, $c_kind)?))
+            }
+            $crate::alternatives::OneOfThree::Others(others) => {
+                $crate::take_choice!(others; $choice; $($($rest)*)?)
+            }
+        }
+    };
+    ($value:expr; $choice:ident;
+        $name:ident $(: $kind:ident $tag:literal)? $(, $($rest:tt)*)?) => {
         match $value {
             $crate::alternatives::OneOf::First(x) => {
-                $choice::$name($crate::taken_variant!(x $(, $mark)?))
+                $choice::$name($crate::taken_variant!(x $(, $kind)?))
             }
             $crate::alternatives::OneOf::Other(others) => {
-                $crate::take_choice!(others; $row => $choice; $($($rest)*)?)
+                $crate::take_choice!(others; $choice; $($($rest)*)?)
             }
         }
     };
@@ -228,5 +282,5 @@ macro_rules! take_choice {
 #[macro_export]
 macro_rules! taken_variant {
     ($value:expr) => { $value };
-    ($value:expr, tagged) => { $crate::fields::into_plain::<_, _>($value) };
+    ($value:expr, $kind:ident) => { $value.into_inner() };
 }

@@ -1,12 +1,17 @@
 //! What a user gets from the laws of lists of alternatives, with no proof by hand.
 
-ghost use Rattle.asn1.specs.AlternativeLists.{choice};
+ghost use Rattle.asn1.specs.AlternativeLists.{choice, EachHasOneEncoding};
 ghost use Rattle.asn1.specs.Alternatives.{Disjoint};
 ghost use Rattle.asn1.specs.Reads.{HasOneEncoding};
 
 use asn1::Asn1Type;
-use asn1::alternatives::{Alternatives, AsOneOf, NoOther, OneOf1, OneOf2};
-use asn1::laws_wrappers::{alternatives_are_lawful, choices_of_alternatives_are_lawful};
+use asn1::alternatives::{
+    Alternatives, AsOneOf, EightOneByOne, NoOther, OneOf, OneOf1, OneOf2, OneOfEight, OneOfThree,
+};
+use asn1::laws_wrappers::{
+    alternatives_are_lawful, alternatives_by_eight_are_lawful, alternatives_by_three_are_lawful,
+    choices_of_alternatives_are_lawful,
+};
 
 /// A choice of one's own has one encoding for each value, if its two alternatives are elements, have, and accept no tag
 /// in common.
@@ -22,4 +27,28 @@ pub fn choices_of_two<T: Asn1Type, U: Asn1Type, C: AsOneOf<OneOf2<T, U>>>()
     alternatives_are_lawful::<U, NoOther>();
     alternatives_are_lawful::<T, OneOf1<U>>();
     choices_of_alternatives_are_lawful::<OneOf2<T, U>, C>();
+}
+
+/// A list of three alternatives at a time has one encoding for each value, if a list of the three one by one has.
+pub fn choices_by_three<
+    A: Asn1Type,
+    B: Asn1Type,
+    C: Asn1Type,
+    R: Alternatives,
+    W: AsOneOf<OneOfThree<A, B, C, R>>,
+>()
+    requires { EachHasOneEncoding ⟦<OneOf<A, OneOf<B, OneOf<C, R>>> as Alternatives>⟧.list }
+    ensures { HasOneEncoding (choice W.seen ⟦<OneOfThree<A, B, C, R> as Alternatives>⟧.list) }
+{
+    alternatives_by_three_are_lawful::<A, B, C, R>();
+    choices_of_alternatives_are_lawful::<OneOfThree<A, B, C, R>, W>();
+}
+
+/// The same of eight.
+pub fn lists_by_eight<A: Asn1Type, R: Alternatives>()
+    requires { EachHasOneEncoding
+        ⟦<EightOneByOne<A, A, A, A, A, A, A, A, R> as Alternatives>⟧.list }
+    ensures { EachHasOneEncoding ⟦<OneOfEight<A, A, A, A, A, A, A, A, R> as Alternatives>⟧.list }
+{
+    alternatives_by_eight_are_lawful::<A, A, A, A, A, A, A, A, R>();
 }

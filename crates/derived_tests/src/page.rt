@@ -1,8 +1,8 @@
 //! Structures and choices: each attribute of the original's derives for them, once.
-// Printed by tools/derive from declarations/page.rs, with the sum 103a85d2.
+// Printed by tools/derive from declarations/page.rs, with the sum 8139b504.
 
 ghost use Rattle.std.specs.Prelude.{◌≡◌, ◌∷◌, [], negsuc, IsTrue, OnErr, IfOk};
-ghost use Rattle.asn1.specs.AlternativeLists.{choice, alternative1, alternative2};
+ghost use Rattle.asn1.specs.AlternativeLists.{after1, choice, first1};
 ghost use Rattle.asn1.specs.Reading.{EndsWith};
 ghost use Rattle.asn1.specs.Reads.{BeginsWithEncodingOf, HasOneEncoding, ReadsContents, ReadsPrefix};
 ghost use Rattle.asn1.specs.Structures.{defaulted, explicit, field_names, implicit, structure, fields0, fields1};
@@ -245,14 +245,14 @@ impl<'a> AsOneOf<ResponderIdChoice<'a>> for ResponderId<'a> {
     ghost use Rattle.derived_tests.specs.declared.page.ResponderId.TheVariants.{ByName, ByKey};
 
     ghost seen = { elim [
-      | ByName x ↦ alternative1 (explicit x)
-      | ByKey x ↦ alternative2 (explicit x)
+      | ByName x ↦ first1 (explicit x)
+      | ByKey x ↦ after1 (first1 (explicit x))
     ] };
 
     fn from_one_of(value: ResponderIdChoice<'a>) -> ResponderId<'a>
         ensures { ⟦<ResponderId<'a> as AsOneOf<ResponderIdChoice<'a>>>⟧.seen result ≡ value.entry }
     {
-        take_choice!(value; ResponderIdChoice<'a> => ResponderId; ByName: tagged, ByKey: tagged)
+        take_choice!(value; ResponderId; ByName: explicit 1, ByKey: explicit 2)
     }
 }
 
@@ -261,7 +261,7 @@ impl<'a> Asn1Type for ResponderId<'a> {
         ⟦<ResponderIdChoice<'a> as Alternatives>⟧.list };
 
     fn known(&self) {
-        known_choice!(self; ResponderIdChoice<'a> => ResponderId; ByName: tagged, ByKey: tagged)
+        known_choice!(self; ResponderId; ByName: explicit 1, ByKey: explicit 2)
     }
 }
 
@@ -290,12 +290,11 @@ impl<'a> Asn1Writable for ResponderId<'a> {
     type Error = WriteError;
 
     fn write(&self, dest: &mut Writer<'_>) -> WriteResult<()> {
-        write_choice!(self, dest;
-            ResponderIdChoice<'a> => ResponderId; ByName: tagged, ByKey: tagged)
+        write_choice!(self, dest; ResponderId; ByName: explicit 1, ByKey: explicit 2)
     }
 
     fn encoded_length(&self) -> Option<usize> {
-        choice_length!(self; ResponderIdChoice<'a> => ResponderId; ByName: tagged, ByKey: tagged)
+        choice_length!(self; ResponderId; ByName: explicit 1, ByKey: explicit 2)
     }
 
     fn writes_as_read() -> bool

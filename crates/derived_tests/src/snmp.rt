@@ -1,16 +1,15 @@
 //! SNMPv3 messages (RFC 3412, RFC 3414, RFC 3416).
-// Printed by tools/derive from declarations/snmp.rs, with the sum 4d7b504a.
+// Printed by tools/derive from declarations/snmp.rs, with the sum 8a8055a2.
 
 ghost use Rattle.std.specs.Prelude.{◌≡◌, ◌∷◌, [], IsTrue, OnErr, IfOk};
-ghost use Rattle.asn1.specs.AlternativeLists.{after12, choice, alternative1, alternative2, alternative3, alternative4};
-ghost use Rattle.asn1.specs.AlternativeLists.{alternative5, alternative6, alternative7, alternative8, alternative9};
-ghost use Rattle.asn1.specs.AlternativeLists.{alternative10, alternative11, alternative12};
+ghost use Rattle.asn1.specs.AlternativeLists.{after1, after3, after8, choice, first1, first3, second3, third3, first8};
+ghost use Rattle.asn1.specs.AlternativeLists.{second8, third8, fourth8, fifth8, sixth8, seventh8, eighth8};
 ghost use Rattle.asn1.specs.Reading.{EndsWith};
 ghost use Rattle.asn1.specs.Reads.{BeginsWithEncodingOf, HasOneEncoding, ReadsContents, ReadsPrefix};
 ghost use Rattle.asn1.specs.Structures.{field_names, implicit, structure, fields2, fields3, fields4, fields6};
 
 use asn1::alternatives::{
-    Alternatives, AlternativesReadable, AsOneOf, OneOf1, OneOf2, OneOf8, OneOf12Or, read_choice,
+    Alternatives, AlternativesReadable, AsOneOf, OneOf2, OneOf5, OneOf8, OneOfEight, read_choice,
 };
 use asn1::fields::{
     Fields2, Fields3, Fields4, Fields6, Row, known_plain, plain_length, write_plain,
@@ -262,13 +261,13 @@ pub enum ScopedPduData<'a> {
 impl<'a> AsOneOf<ScopedPduDataChoice<'a>> for ScopedPduData<'a> {
     ghost use Rattle.derived_tests.specs.declared.snmp.ScopedPduData.TheVariants.{Plaintext, EncryptedPdu};
 
-    ghost seen = { elim [ Plaintext x ↦ alternative1 x | EncryptedPdu x ↦ alternative2 x ] };
+    ghost seen = { elim [ Plaintext x ↦ first1 x | EncryptedPdu x ↦ after1 (first1 x) ] };
 
     fn from_one_of(value: ScopedPduDataChoice<'a>) -> ScopedPduData<'a>
         ensures { ⟦<ScopedPduData<'a> as AsOneOf<ScopedPduDataChoice<'a>>>⟧.seen result ≡
             value.entry }
     {
-        take_choice!(value; ScopedPduDataChoice<'a> => ScopedPduData; Plaintext, EncryptedPdu)
+        take_choice!(value; ScopedPduData; Plaintext, EncryptedPdu)
     }
 }
 
@@ -277,7 +276,10 @@ impl<'a> Asn1Type for ScopedPduData<'a> {
         ⟦<ScopedPduDataChoice<'a> as Alternatives>⟧.list };
 
     fn known(&self) {
-        known_choice!(self; ScopedPduDataChoice<'a> => ScopedPduData; Plaintext, EncryptedPdu)
+        match self {
+            ScopedPduData::Plaintext(x) => x.known(),
+            ScopedPduData::EncryptedPdu(x) => x.known(),
+        }
     }
 }
 
@@ -306,11 +308,17 @@ impl<'a> Asn1Writable for ScopedPduData<'a> {
     type Error = WriteError;
 
     fn write(&self, dest: &mut Writer<'_>) -> WriteResult<()> {
-        write_choice!(self, dest; ScopedPduDataChoice<'a> => ScopedPduData; Plaintext, EncryptedPdu)
+        match self {
+            ScopedPduData::Plaintext(x) => dest.write_element(x),
+            ScopedPduData::EncryptedPdu(x) => dest.write_element(x),
+        }
     }
 
     fn encoded_length(&self) -> Option<usize> {
-        choice_length!(self; ScopedPduDataChoice<'a> => ScopedPduData; Plaintext, EncryptedPdu)
+        match self {
+            ScopedPduData::Plaintext(x) => x.encoded_length(),
+            ScopedPduData::EncryptedPdu(x) => x.encoded_length(),
+        }
     }
 
     fn writes_as_read() -> bool
@@ -428,23 +436,23 @@ impl<'a> AsOneOf<PdusChoice<'a>> for Pdus<'a> {
     ghost use Rattle.derived_tests.specs.declared.snmp.Pdus.TheVariants.{Trap, Report};
 
     ghost seen = { elim [
-      | GetRequest x ↦ alternative1 (implicit x)
-      | GetNextRequest x ↦ alternative2 (implicit x)
-      | Response x ↦ alternative3 (implicit x)
-      | SetRequest x ↦ alternative4 (implicit x)
-      | GetBulkRequest x ↦ alternative5 (implicit x)
-      | InformRequest x ↦ alternative6 (implicit x)
-      | Trap x ↦ alternative7 (implicit x)
-      | Report x ↦ alternative8 (implicit x)
+      | GetRequest x ↦ first8 (implicit x)
+      | GetNextRequest x ↦ second8 (implicit x)
+      | Response x ↦ third8 (implicit x)
+      | SetRequest x ↦ fourth8 (implicit x)
+      | GetBulkRequest x ↦ fifth8 (implicit x)
+      | InformRequest x ↦ sixth8 (implicit x)
+      | Trap x ↦ seventh8 (implicit x)
+      | Report x ↦ eighth8 (implicit x)
     ] };
 
     fn from_one_of(value: PdusChoice<'a>) -> Pdus<'a>
         ensures { ⟦<Pdus<'a> as AsOneOf<PdusChoice<'a>>>⟧.seen result ≡ value.entry }
     {
         take_choice!(value;
-            PdusChoice<'a> => Pdus; GetRequest: tagged, GetNextRequest: tagged, Response: tagged,
-            SetRequest: tagged, GetBulkRequest: tagged, InformRequest: tagged, Trap: tagged,
-            Report: tagged)
+            Pdus; GetRequest: implicit 0, GetNextRequest: implicit 1, Response: implicit 2,
+            SetRequest: implicit 3, GetBulkRequest: implicit 5, InformRequest: implicit 6,
+            Trap: implicit 7, Report: implicit 8)
     }
 }
 
@@ -720,7 +728,7 @@ impl<'a> SimpleAsn1Writable for VarBind<'a> {
     }
 }
 
-type ObjectSyntaxChoice<'a> = OneOf12Or<
+type ObjectSyntaxChoice<'a> = OneOfEight<
     i32,
     &'a [u8],
     ObjectIdentifier,
@@ -729,12 +737,21 @@ type ObjectSyntaxChoice<'a> = OneOf12Or<
     ApplicationImplicit<u32, 2>,
     ApplicationImplicit<u32, 3>,
     ApplicationImplicit<&'a [u8], 4>,
-    ApplicationImplicit<u64, 6>,
-    Null,
-    Implicit<Null, 0>,
-    Implicit<Null, 1>,
-    OneOf1<Implicit<Null, 2>>,
+    OneOf5<
+        ApplicationImplicit<u64, 6>,
+        Null,
+        Implicit<Null, 0>,
+        Implicit<Null, 1>,
+        Implicit<Null, 2>,
+    >,
 >;
+
+macro_rules! variants_of_object_syntax {
+    ($body:ident, $($of:tt)*) => { $body!($($of)*; ObjectSyntax;
+        Integer, String, ObjectId, IpAddress, Counter, Unsigned, TimeTicks, Arbitrary, BigCounter,
+        UnSpecified, NoSuchObject: implicit 0, NoSuchInstance: implicit 1,
+        EndOfMibView: implicit 2) };
+}
 
 /// A value, or that there is none: SimpleSyntax, ApplicationSyntax, NULL and three tags.
 #[derive(Drop)]
@@ -775,29 +792,26 @@ impl<'a> AsOneOf<ObjectSyntaxChoice<'a>> for ObjectSyntax<'a> {
     ghost use Rattle.derived_tests.specs.declared.snmp.ObjectSyntax.TheVariants.{NoSuchInstance, EndOfMibView};
 
     ghost seen = { elim [
-      | Integer x ↦ alternative1 x
-      | String x ↦ alternative2 x
-      | ObjectId x ↦ alternative3 x
-      | IpAddress x ↦ alternative4 x
-      | Counter x ↦ alternative5 x
-      | Unsigned x ↦ alternative6 x
-      | TimeTicks x ↦ alternative7 x
-      | Arbitrary x ↦ alternative8 x
-      | BigCounter x ↦ alternative9 x
-      | UnSpecified x ↦ alternative10 x
-      | NoSuchObject x ↦ alternative11 (implicit x)
-      | NoSuchInstance x ↦ alternative12 (implicit x)
-      | EndOfMibView x ↦ after12 (alternative1 (implicit x))
+      | Integer x ↦ first8 x
+      | String x ↦ second8 x
+      | ObjectId x ↦ third8 x
+      | IpAddress x ↦ fourth8 x
+      | Counter x ↦ fifth8 x
+      | Unsigned x ↦ sixth8 x
+      | TimeTicks x ↦ seventh8 x
+      | Arbitrary x ↦ eighth8 x
+      | BigCounter x ↦ after8 (first3 x)
+      | UnSpecified x ↦ after8 (second3 x)
+      | NoSuchObject x ↦ after8 (third3 (implicit x))
+      | NoSuchInstance x ↦ after8 (after3 (first1 (implicit x)))
+      | EndOfMibView x ↦ after8 (after3 (after1 (first1 (implicit x))))
     ] };
 
     fn from_one_of(value: ObjectSyntaxChoice<'a>) -> ObjectSyntax<'a>
         ensures { ⟦<ObjectSyntax<'a> as AsOneOf<ObjectSyntaxChoice<'a>>>⟧.seen result ≡
             value.entry }
     {
-        take_choice!(value;
-            ObjectSyntaxChoice<'a> => ObjectSyntax; Integer, String, ObjectId, IpAddress, Counter,
-            Unsigned, TimeTicks, Arbitrary, BigCounter, UnSpecified, NoSuchObject: tagged,
-            NoSuchInstance: tagged, EndOfMibView: tagged)
+        variants_of_object_syntax!(take_choice, value)
     }
 }
 
@@ -806,21 +820,7 @@ impl<'a> Asn1Type for ObjectSyntax<'a> {
         ⟦<ObjectSyntaxChoice<'a> as Alternatives>⟧.list };
 
     fn known(&self) {
-        match self {
-            ObjectSyntax::Integer(x) => x.known(),
-            ObjectSyntax::String(x) => x.known(),
-            ObjectSyntax::ObjectId(x) => x.known(),
-            ObjectSyntax::IpAddress(x) => x.known(),
-            ObjectSyntax::Counter(x) => x.known(),
-            ObjectSyntax::Unsigned(x) => x.known(),
-            ObjectSyntax::TimeTicks(x) => x.known(),
-            ObjectSyntax::Arbitrary(x) => x.known(),
-            ObjectSyntax::BigCounter(x) => x.known(),
-            ObjectSyntax::UnSpecified(x) => x.known(),
-            ObjectSyntax::NoSuchObject(x) => known_plain::<Implicit<Null, 0>, _>(x),
-            ObjectSyntax::NoSuchInstance(x) => known_plain::<Implicit<Null, 1>, _>(x),
-            ObjectSyntax::EndOfMibView(x) => known_plain::<Implicit<Null, 2>, _>(x),
-        }
+        variants_of_object_syntax!(known_choice, self)
     }
 }
 
@@ -849,39 +849,11 @@ impl<'a> Asn1Writable for ObjectSyntax<'a> {
     type Error = WriteError;
 
     fn write(&self, dest: &mut Writer<'_>) -> WriteResult<()> {
-        match self {
-            ObjectSyntax::Integer(x) => dest.write_element(x),
-            ObjectSyntax::String(x) => dest.write_element(x),
-            ObjectSyntax::ObjectId(x) => dest.write_element(x),
-            ObjectSyntax::IpAddress(x) => dest.write_element(x),
-            ObjectSyntax::Counter(x) => dest.write_element(x),
-            ObjectSyntax::Unsigned(x) => dest.write_element(x),
-            ObjectSyntax::TimeTicks(x) => dest.write_element(x),
-            ObjectSyntax::Arbitrary(x) => dest.write_element(x),
-            ObjectSyntax::BigCounter(x) => dest.write_element(x),
-            ObjectSyntax::UnSpecified(x) => dest.write_element(x),
-            ObjectSyntax::NoSuchObject(x) => write_plain::<Implicit<Null, 0>, _>(x, dest),
-            ObjectSyntax::NoSuchInstance(x) => write_plain::<Implicit<Null, 1>, _>(x, dest),
-            ObjectSyntax::EndOfMibView(x) => write_plain::<Implicit<Null, 2>, _>(x, dest),
-        }
+        variants_of_object_syntax!(write_choice, self, dest)
     }
 
     fn encoded_length(&self) -> Option<usize> {
-        match self {
-            ObjectSyntax::Integer(x) => x.encoded_length(),
-            ObjectSyntax::String(x) => x.encoded_length(),
-            ObjectSyntax::ObjectId(x) => x.encoded_length(),
-            ObjectSyntax::IpAddress(x) => x.encoded_length(),
-            ObjectSyntax::Counter(x) => x.encoded_length(),
-            ObjectSyntax::Unsigned(x) => x.encoded_length(),
-            ObjectSyntax::TimeTicks(x) => x.encoded_length(),
-            ObjectSyntax::Arbitrary(x) => x.encoded_length(),
-            ObjectSyntax::BigCounter(x) => x.encoded_length(),
-            ObjectSyntax::UnSpecified(x) => x.encoded_length(),
-            ObjectSyntax::NoSuchObject(x) => plain_length::<Implicit<Null, 0>, _>(x),
-            ObjectSyntax::NoSuchInstance(x) => plain_length::<Implicit<Null, 1>, _>(x),
-            ObjectSyntax::EndOfMibView(x) => plain_length::<Implicit<Null, 2>, _>(x),
-        }
+        variants_of_object_syntax!(choice_length, self)
     }
 
     fn writes_as_read() -> bool

@@ -1,8 +1,8 @@
 //! Tags of every class, sets, and enums whose values have numbers: each form of the script for them, once.
-// Printed by tools/derive from declarations/tags.rs, with the sum ca01da85.
+// Printed by tools/derive from declarations/tags.rs, with the sum d544abc8.
 
 ghost use Rattle.std.specs.Prelude.{◌≡◌, ◌∷◌, [], true, false, IsTrue, OnErr, IfOk};
-ghost use Rattle.asn1.specs.AlternativeLists.{choice, alternative1, alternative2, alternative3};
+ghost use Rattle.asn1.specs.AlternativeLists.{after1, choice, first1, first3, second3, third3};
 ghost use Rattle.asn1.specs.Listing.{set_tag};
 ghost use Rattle.asn1.specs.Numbered.{numbered};
 ghost use Rattle.asn1.specs.Reading.{EndsWith};
@@ -404,16 +404,12 @@ pub enum Entry<'a> {
 impl<'a> AsOneOf<EntryChoice<'a>> for Entry<'a> {
     ghost use Rattle.derived_tests.specs.declared.tags.Entry.TheVariants.{Report, Either, Number};
 
-    ghost seen = { elim [
-      | Report x ↦ alternative1 x
-      | Either x ↦ alternative2 x
-      | Number x ↦ alternative3 x
-    ] };
+    ghost seen = { elim [ Report x ↦ first3 x | Either x ↦ second3 x | Number x ↦ third3 x ] };
 
     fn from_one_of(value: EntryChoice<'a>) -> Entry<'a>
         ensures { ⟦<Entry<'a> as AsOneOf<EntryChoice<'a>>>⟧.seen result ≡ value.entry }
     {
-        take_choice!(value; EntryChoice<'a> => Entry; Report, Either, Number)
+        take_choice!(value; Entry; Report, Either, Number)
     }
 }
 
@@ -422,7 +418,7 @@ impl<'a> Asn1Type for Entry<'a> {
         ⟦<EntryChoice<'a> as Alternatives>⟧.list };
 
     fn known(&self) {
-        known_choice!(self; EntryChoice<'a> => Entry; Report, Either, Number)
+        known_choice!(self; Entry; Report, Either, Number)
     }
 }
 
@@ -449,11 +445,11 @@ impl<'a> Asn1Writable for Entry<'a> {
     type Error = WriteError;
 
     fn write(&self, dest: &mut Writer<'_>) -> WriteResult<()> {
-        write_choice!(self, dest; EntryChoice<'a> => Entry; Report, Either, Number)
+        write_choice!(self, dest; Entry; Report, Either, Number)
     }
 
     fn encoded_length(&self) -> Option<usize> {
-        choice_length!(self; EntryChoice<'a> => Entry; Report, Either, Number)
+        choice_length!(self; Entry; Report, Either, Number)
     }
 
     fn writes_as_read() -> bool
@@ -477,12 +473,12 @@ pub enum Either<'a> {
 impl<'a> AsOneOf<EitherChoice<'a>> for Either<'a> {
     ghost use Rattle.derived_tests.specs.declared.tags.Either.TheVariants.{Octets, None};
 
-    ghost seen = { elim [ Octets x ↦ alternative1 x | None x ↦ alternative2 x ] };
+    ghost seen = { elim [ Octets x ↦ first1 x | None x ↦ after1 (first1 x) ] };
 
     fn from_one_of(value: EitherChoice<'a>) -> Either<'a>
         ensures { ⟦<Either<'a> as AsOneOf<EitherChoice<'a>>>⟧.seen result ≡ value.entry }
     {
-        take_choice!(value; EitherChoice<'a> => Either; Octets, None)
+        take_choice!(value; Either; Octets, None)
     }
 }
 
@@ -491,7 +487,7 @@ impl<'a> Asn1Type for Either<'a> {
         ⟦<EitherChoice<'a> as Alternatives>⟧.list };
 
     fn known(&self) {
-        known_choice!(self; EitherChoice<'a> => Either; Octets, None)
+        known_choice!(self; Either; Octets, None)
     }
 }
 
@@ -518,11 +514,11 @@ impl<'a> Asn1Writable for Either<'a> {
     type Error = WriteError;
 
     fn write(&self, dest: &mut Writer<'_>) -> WriteResult<()> {
-        write_choice!(self, dest; EitherChoice<'a> => Either; Octets, None)
+        write_choice!(self, dest; Either; Octets, None)
     }
 
     fn encoded_length(&self) -> Option<usize> {
-        choice_length!(self; EitherChoice<'a> => Either; Octets, None)
+        choice_length!(self; Either; Octets, None)
     }
 
     fn writes_as_read() -> bool

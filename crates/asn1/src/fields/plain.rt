@@ -12,9 +12,6 @@ use asn1_core::{Asn1Type, Asn1Writable, WriteError, Writer};
 mod explicit;
 mod implicit;
 
-pub(crate) use explicit::explicit_length;
-pub(crate) use implicit::implicit_length;
-
 /// A field's type in the encoding. A struct has its values as a `P`: without the tag, or with no mention of the
 /// default.
 pub trait Wraps<P>: Asn1Type {

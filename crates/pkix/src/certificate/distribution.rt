@@ -1,8 +1,8 @@
 //! Where revocation lists are found, and what they have (RFC 5280, 4.2.1.13 and 5.2.5).
-// Printed by tools/derive from declarations/certificate/distribution.rs, with the sum 4d830146.
+// Printed by tools/derive from declarations/certificate/distribution.rs, with the sum f4a05e24.
 
 ghost use Rattle.std.specs.Prelude.{◌≡◌, ◌∷◌, [], false, IsTrue, OnErr, IfOk};
-ghost use Rattle.asn1.specs.AlternativeLists.{choice, alternative1, alternative2};
+ghost use Rattle.asn1.specs.AlternativeLists.{after1, choice, first1};
 ghost use Rattle.asn1.specs.Options.{option_meaning};
 ghost use Rattle.asn1.specs.Reading.{EndsWith};
 ghost use Rattle.asn1.specs.Reads.{BeginsWithEncodingOf, HasOneEncoding, ReadsContents, ReadsPrefix};
@@ -10,12 +10,11 @@ ghost use Rattle.asn1.specs.Structures.{defaulted, explicit, field_names, implic
 
 use crate::common::{AttributeTypeAndValue, GeneralNames, NamedBits};
 use asn1::alternatives::{Alternatives, AlternativesReadable, AsOneOf, OneOf2, read_choice};
-use asn1::fields::{Fields3, Fields6, Row};
+use asn1::fields::{Fields3, Fields6, Row, known_plain, plain_length, write_plain};
 use asn1::{
     Asn1Readable, Asn1Type, Asn1Writable, DefaultValue, Defaulted, Explicit, Implicit, ParseResult,
     Parser, SequenceOf, SetOf, SimpleAsn1Readable, SimpleAsn1Writable, Tag, WriteBuf, WriteError,
-    WriteResult, Writer, choice_length, fields_length, known_choice, known_fields, read_fields,
-    take_choice, write_choice, write_fields,
+    WriteResult, Writer, fields_length, known_fields, read_fields, take_choice, write_fields,
 };
 use std::alloc::Global;
 
@@ -23,11 +22,6 @@ type DistributionPointNameChoice<'a> = OneOf2<
     Implicit<GeneralNames<'a>, 0>,
     Implicit<SetOf<'a, AttributeTypeAndValue<'a>>, 1>,
 >;
-
-macro_rules! variants_of_distribution_point_name {
-    ($body:ident, $($of:tt)*) => { $body!($($of)*; DistributionPointNameChoice<'a> => DistributionPointName;
-        FullName: tagged, NameRelativeToCrlIssuer: tagged) };
-}
 
 /// DistributionPointName (RFC 5280, 4.2.1.13), a CHOICE.
 #[derive(Debug, Clone, PartialEq, Eq, Drop)]
@@ -44,15 +38,16 @@ impl<'a> AsOneOf<DistributionPointNameChoice<'a>> for DistributionPointName<'a> 
     ghost use Rattle.pkix.specs.declared.certificate.distribution.DistributionPointName.TheVariants.{NameRelativeToCrlIssuer};
 
     ghost seen = { elim [
-      | FullName x ↦ alternative1 (implicit x)
-      | NameRelativeToCrlIssuer x ↦ alternative2 (implicit x)
+      | FullName x ↦ first1 (implicit x)
+      | NameRelativeToCrlIssuer x ↦ after1 (first1 (implicit x))
     ] };
 
     fn from_one_of(value: DistributionPointNameChoice<'a>) -> DistributionPointName<'a>
         ensures { ⟦<DistributionPointName<'a> as AsOneOf<DistributionPointNameChoice<'a>>>⟧.seen
             result ≡ value.entry }
     {
-        variants_of_distribution_point_name!(take_choice, value)
+        take_choice!(value;
+            DistributionPointName; FullName: implicit 0, NameRelativeToCrlIssuer: implicit 1)
     }
 }
 
@@ -62,7 +57,15 @@ impl<'a> Asn1Type for DistributionPointName<'a> {
         ⟦<DistributionPointNameChoice<'a> as Alternatives>⟧.list };
 
     fn known(&self) {
-        variants_of_distribution_point_name!(known_choice, self)
+        match self {
+            DistributionPointName::FullName(x) => known_plain::<Implicit<GeneralNames<'a>, 0>, _>(
+                x,
+            ),
+            DistributionPointName::NameRelativeToCrlIssuer(x) => known_plain::<
+                Implicit<SetOf<'a, AttributeTypeAndValue<'a>>, 1>,
+                _,
+            >(x),
+        }
     }
 }
 
@@ -91,11 +94,27 @@ impl<'a> Asn1Writable for DistributionPointName<'a> {
     type Error = WriteError;
 
     fn write(&self, dest: &mut Writer<'_>) -> WriteResult<()> {
-        variants_of_distribution_point_name!(write_choice, self, dest)
+        match self {
+            DistributionPointName::FullName(x) => write_plain::<Implicit<GeneralNames<'a>, 0>, _>(
+                x, dest,
+            ),
+            DistributionPointName::NameRelativeToCrlIssuer(x) => write_plain::<
+                Implicit<SetOf<'a, AttributeTypeAndValue<'a>>, 1>,
+                _,
+            >(x, dest),
+        }
     }
 
     fn encoded_length(&self) -> Option<usize> {
-        variants_of_distribution_point_name!(choice_length, self)
+        match self {
+            DistributionPointName::FullName(x) => plain_length::<Implicit<GeneralNames<'a>, 0>, _>(
+                x,
+            ),
+            DistributionPointName::NameRelativeToCrlIssuer(x) => plain_length::<
+                Implicit<SetOf<'a, AttributeTypeAndValue<'a>>, 1>,
+                _,
+            >(x),
+        }
     }
 
     fn writes_as_read() -> bool

@@ -1,9 +1,9 @@
 //! The policies of a certificate, and what it demands of those that follow it in a path (RFC 5280, 4.2.1.4, 4.2.1.5,
 //! 4.2.1.10, 4.2.1.11 and 4.2.1.14).
-// Printed by tools/derive from declarations/certificate/policies.rs, with the sum b508cb35.
+// Printed by tools/derive from declarations/certificate/policies.rs, with the sum 44db3eb0.
 
 ghost use Rattle.std.specs.Prelude.{◌≡◌, ◌∷◌, [], IsTrue, OnErr, IfOk};
-ghost use Rattle.asn1.specs.AlternativeLists.{choice, alternative1, alternative2, alternative3, alternative4};
+ghost use Rattle.asn1.specs.AlternativeLists.{after3, choice, first1, first3, second3, third3};
 ghost use Rattle.asn1.specs.Options.{option_meaning};
 ghost use Rattle.asn1.specs.Reading.{EndsWith};
 ghost use Rattle.asn1.specs.Reads.{BeginsWithEncodingOf, HasOneEncoding, ReadsContents, ReadsPrefix};
@@ -116,16 +116,16 @@ impl<'a> AsOneOf<DisplayTextChoice<'a>> for DisplayText<'a> {
     ghost use Rattle.pkix.specs.declared.certificate.policies.DisplayText.TheVariants.{Ia5, Visible, Bmp, Utf8};
 
     ghost seen = { elim [
-      | Ia5 x ↦ alternative1 x
-      | Visible x ↦ alternative2 x
-      | Bmp x ↦ alternative3 x
-      | Utf8 x ↦ alternative4 x
+      | Ia5 x ↦ first3 x
+      | Visible x ↦ second3 x
+      | Bmp x ↦ third3 x
+      | Utf8 x ↦ after3 (first1 x)
     ] };
 
     fn from_one_of(value: DisplayTextChoice<'a>) -> DisplayText<'a>
         ensures { ⟦<DisplayText<'a> as AsOneOf<DisplayTextChoice<'a>>>⟧.seen result ≡ value.entry }
     {
-        take_choice!(value; DisplayTextChoice<'a> => DisplayText; Ia5, Visible, Bmp, Utf8)
+        take_choice!(value; DisplayText; Ia5, Visible, Bmp, Utf8)
     }
 }
 
@@ -134,7 +134,7 @@ impl<'a> Asn1Type for DisplayText<'a> {
         ⟦<DisplayTextChoice<'a> as Alternatives>⟧.list };
 
     fn known(&self) {
-        known_choice!(self; DisplayTextChoice<'a> => DisplayText; Ia5, Visible, Bmp, Utf8)
+        known_choice!(self; DisplayText; Ia5, Visible, Bmp, Utf8)
     }
 }
 
@@ -163,11 +163,11 @@ impl<'a> Asn1Writable for DisplayText<'a> {
     type Error = WriteError;
 
     fn write(&self, dest: &mut Writer<'_>) -> WriteResult<()> {
-        write_choice!(self, dest; DisplayTextChoice<'a> => DisplayText; Ia5, Visible, Bmp, Utf8)
+        write_choice!(self, dest; DisplayText; Ia5, Visible, Bmp, Utf8)
     }
 
     fn encoded_length(&self) -> Option<usize> {
-        choice_length!(self; DisplayTextChoice<'a> => DisplayText; Ia5, Visible, Bmp, Utf8)
+        choice_length!(self; DisplayText; Ia5, Visible, Bmp, Utf8)
     }
 
     fn writes_as_read() -> bool

@@ -1,9 +1,9 @@
 //! General names (RFC 5280, 4.2.1.6).
-// Printed by tools/derive from declarations/common/general_name.rs, with the sum a6e48c76.
+// Printed by tools/derive from declarations/common/general_name.rs, with the sum f1c08ee4.
 
 ghost use Rattle.std.specs.Prelude.{◌≡◌, ◌∷◌, [], IsTrue, OnErr, IfOk};
-ghost use Rattle.asn1.specs.AlternativeLists.{choice, alternative1, alternative2, alternative3, alternative4};
-ghost use Rattle.asn1.specs.AlternativeLists.{alternative5, alternative6, alternative7, alternative8, alternative9};
+ghost use Rattle.asn1.specs.AlternativeLists.{after8, choice, first1, first8, second8, third8, fourth8, fifth8};
+ghost use Rattle.asn1.specs.AlternativeLists.{sixth8, seventh8, eighth8};
 ghost use Rattle.asn1.specs.Options.{option_meaning};
 ghost use Rattle.asn1.specs.Reading.{EndsWith};
 ghost use Rattle.asn1.specs.Reads.{BeginsWithEncodingOf, HasOneEncoding, ReadsContents, ReadsPrefix};
@@ -210,24 +210,24 @@ impl<'a> AsOneOf<GeneralNameChoice<'a>> for GeneralName<'a> {
     ghost use Rattle.pkix.specs.declared.common.general_name.GeneralName.TheVariants.{IpAddress, RegisteredId};
 
     ghost seen = { elim [
-      | OtherName x ↦ alternative1 (implicit x)
-      | Rfc822Name x ↦ alternative2 (implicit x)
-      | DnsName x ↦ alternative3 (implicit x)
-      | X400Address x ↦ alternative4 (implicit x)
-      | DirectoryName x ↦ alternative5 (explicit x)
-      | EdiPartyName x ↦ alternative6 (implicit x)
-      | UniformResourceIdentifier x ↦ alternative7 (implicit x)
-      | IpAddress x ↦ alternative8 (implicit x)
-      | RegisteredId x ↦ alternative9 (implicit x)
+      | OtherName x ↦ first8 (implicit x)
+      | Rfc822Name x ↦ second8 (implicit x)
+      | DnsName x ↦ third8 (implicit x)
+      | X400Address x ↦ fourth8 (implicit x)
+      | DirectoryName x ↦ fifth8 (explicit x)
+      | EdiPartyName x ↦ sixth8 (implicit x)
+      | UniformResourceIdentifier x ↦ seventh8 (implicit x)
+      | IpAddress x ↦ eighth8 (implicit x)
+      | RegisteredId x ↦ after8 (first1 (implicit x))
     ] };
 
     fn from_one_of(value: GeneralNameChoice<'a>) -> GeneralName<'a>
         ensures { ⟦<GeneralName<'a> as AsOneOf<GeneralNameChoice<'a>>>⟧.seen result ≡ value.entry }
     {
         take_choice!(value;
-            GeneralNameChoice<'a> => GeneralName; OtherName: tagged, Rfc822Name: tagged,
-            DnsName: tagged, X400Address: tagged, DirectoryName: tagged, EdiPartyName: tagged,
-            UniformResourceIdentifier: tagged, IpAddress: tagged, RegisteredId: tagged)
+            GeneralName; OtherName: implicit 0, Rfc822Name: implicit 1, DnsName: implicit 2,
+            X400Address: implicit 3, DirectoryName: explicit 4, EdiPartyName: implicit 5,
+            UniformResourceIdentifier: implicit 6, IpAddress: implicit 7, RegisteredId: implicit 8)
     }
 }
 

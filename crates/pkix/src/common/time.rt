@@ -1,7 +1,7 @@
 //! Times (RFC 5280, 4.1.2.5).
-// Printed by tools/derive from declarations/common/time.rs, with the sum c4b741a8.
+// Printed by tools/derive from declarations/common/time.rs, with the sum 537b9488.
 
-ghost use Rattle.asn1.specs.AlternativeLists.{choice, alternative1, alternative2};
+ghost use Rattle.asn1.specs.AlternativeLists.{after1, choice, first1};
 ghost use Rattle.asn1.specs.Reads.{HasOneEncoding};
 
 use asn1::alternatives::{Alternatives, AlternativesReadable, AsOneOf, OneOf2, read_choice};
@@ -26,10 +26,10 @@ pub enum Time {
 impl AsOneOf<TimeChoice> for Time {
     ghost use Rattle.pkix.specs.declared.common.time.Time.TheVariants.{UtcTime, GeneralTime};
 
-    ghost seen = { elim [ UtcTime x ↦ alternative1 x | GeneralTime x ↦ alternative2 x ] };
+    ghost seen = { elim [ UtcTime x ↦ first1 x | GeneralTime x ↦ after1 (first1 x) ] };
 
     fn from_one_of(value: TimeChoice) -> Time {
-        take_choice!(value; TimeChoice => Time; UtcTime, GeneralTime)
+        take_choice!(value; Time; UtcTime, GeneralTime)
     }
 }
 
@@ -37,7 +37,7 @@ impl Asn1Type for Time {
     ghost der = { choice ⟦<Time as AsOneOf<TimeChoice>>⟧.seen ⟦<TimeChoice as Alternatives>⟧.list };
 
     fn known(&self) {
-        known_choice!(self; TimeChoice => Time; UtcTime, GeneralTime)
+        known_choice!(self; Time; UtcTime, GeneralTime)
     }
 }
 
@@ -55,11 +55,11 @@ impl Asn1Writable for Time {
     type Error = WriteError;
 
     fn write(&self, dest: &mut Writer<'_>) -> WriteResult<()> {
-        write_choice!(self, dest; TimeChoice => Time; UtcTime, GeneralTime)
+        write_choice!(self, dest; Time; UtcTime, GeneralTime)
     }
 
     fn encoded_length(&self) -> Option<usize> {
-        choice_length!(self; TimeChoice => Time; UtcTime, GeneralTime)
+        choice_length!(self; Time; UtcTime, GeneralTime)
     }
 
     fn writes_as_read() -> bool {

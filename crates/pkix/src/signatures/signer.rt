@@ -1,8 +1,8 @@
 //! Who signed (RFC 5652, 5.3), and the values of signed attributes (11.1 to 11.3).
-// Printed by tools/derive from declarations/signatures/signer.rs, with the sum b28a0dd5.
+// Printed by tools/derive from declarations/signatures/signer.rs, with the sum cd4fdf9d.
 
 ghost use Rattle.std.specs.Prelude.{◌≡◌, ◌∷◌, [], IsTrue, OnErr, IfOk};
-ghost use Rattle.asn1.specs.AlternativeLists.{choice, alternative1, alternative2};
+ghost use Rattle.asn1.specs.AlternativeLists.{after1, choice, first1};
 ghost use Rattle.asn1.specs.Options.{option_meaning};
 ghost use Rattle.asn1.specs.Reading.{EndsWith};
 ghost use Rattle.asn1.specs.Reads.{BeginsWithEncodingOf, HasOneEncoding, ReadsContents, ReadsPrefix};
@@ -10,12 +10,11 @@ ghost use Rattle.asn1.specs.Structures.{field_names, implicit, structure, fields
 
 use crate::common::{AlgorithmIdentifier, Attributes, Name, Time};
 use asn1::alternatives::{Alternatives, AlternativesReadable, AsOneOf, OneOf2, read_choice};
-use asn1::fields::{Fields2, Fields7, Row};
+use asn1::fields::{Fields2, Fields7, Row, known_plain, plain_length, write_plain};
 use asn1::{
     Asn1Readable, Asn1Type, Asn1Writable, BigInt, Implicit, ObjectIdentifier, ParseResult, Parser,
     SimpleAsn1Readable, SimpleAsn1Writable, Tag, WriteBuf, WriteError, WriteResult, Writer,
-    choice_length, fields_length, known_choice, known_fields, read_fields, take_choice,
-    write_choice, write_fields,
+    fields_length, known_fields, read_fields, take_choice, write_fields,
 };
 use std::alloc::Global;
 
@@ -85,11 +84,6 @@ impl<'a> SimpleAsn1Writable for IssuerAndSerialNumber<'a> {
 
 type SignerIdentifierChoice<'a> = OneOf2<IssuerAndSerialNumber<'a>, Implicit<&'a [u8], 0>>;
 
-macro_rules! variants_of_signer_identifier {
-    ($body:ident, $($of:tt)*) => { $body!($($of)*; SignerIdentifierChoice<'a> => SignerIdentifier;
-        IssuerAndSerialNumber, SubjectKeyIdentifier: tagged) };
-}
-
 /// SignerIdentifier (RFC 5652, 5.3), a CHOICE.
 #[derive(Debug, Clone, PartialEq, Eq, Drop)]
 pub enum SignerIdentifier<'a> {
@@ -104,15 +98,16 @@ impl<'a> AsOneOf<SignerIdentifierChoice<'a>> for SignerIdentifier<'a> {
     ghost use Rattle.pkix.specs.declared.signatures.signer.SignerIdentifier.TheVariants.{SubjectKeyIdentifier};
 
     ghost seen = { elim [
-      | IssuerAndSerialNumber x ↦ alternative1 x
-      | SubjectKeyIdentifier x ↦ alternative2 (implicit x)
+      | IssuerAndSerialNumber x ↦ first1 x
+      | SubjectKeyIdentifier x ↦ after1 (first1 (implicit x))
     ] };
 
     fn from_one_of(value: SignerIdentifierChoice<'a>) -> SignerIdentifier<'a>
         ensures { ⟦<SignerIdentifier<'a> as AsOneOf<SignerIdentifierChoice<'a>>>⟧.seen result ≡
             value.entry }
     {
-        variants_of_signer_identifier!(take_choice, value)
+        take_choice!(value;
+            SignerIdentifier; IssuerAndSerialNumber, SubjectKeyIdentifier: implicit 0)
     }
 }
 
@@ -121,7 +116,10 @@ impl<'a> Asn1Type for SignerIdentifier<'a> {
         ⟦<SignerIdentifierChoice<'a> as Alternatives>⟧.list };
 
     fn known(&self) {
-        variants_of_signer_identifier!(known_choice, self)
+        match self {
+            SignerIdentifier::IssuerAndSerialNumber(x) => x.known(),
+            SignerIdentifier::SubjectKeyIdentifier(x) => known_plain::<Implicit<&'a [u8], 0>, _>(x),
+        }
     }
 }
 
@@ -150,11 +148,21 @@ impl<'a> Asn1Writable for SignerIdentifier<'a> {
     type Error = WriteError;
 
     fn write(&self, dest: &mut Writer<'_>) -> WriteResult<()> {
-        variants_of_signer_identifier!(write_choice, self, dest)
+        match self {
+            SignerIdentifier::IssuerAndSerialNumber(x) => dest.write_element(x),
+            SignerIdentifier::SubjectKeyIdentifier(x) => write_plain::<Implicit<&'a [u8], 0>, _>(
+                x, dest,
+            ),
+        }
     }
 
     fn encoded_length(&self) -> Option<usize> {
-        variants_of_signer_identifier!(choice_length, self)
+        match self {
+            SignerIdentifier::IssuerAndSerialNumber(x) => x.encoded_length(),
+            SignerIdentifier::SubjectKeyIdentifier(x) => plain_length::<Implicit<&'a [u8], 0>, _>(
+                x,
+            ),
+        }
     }
 
     fn writes_as_read() -> bool

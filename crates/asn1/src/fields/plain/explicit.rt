@@ -14,7 +14,7 @@ use asn1_core::writer::full_length;
 use asn1_core::{Asn1Type, Asn1Writable, Writer, explicit_tag};
 
 /// How many octets the encoding of a value under an explicit tag has, if that is known.
-pub(crate) fn explicit_length<T: Asn1Writable>(value: &T, tag: u32) -> Option<usize>
+fn explicit_length<T: Asn1Writable>(value: &T, tag: u32) -> Option<usize>
     ensures { GivesLength (T.length_known value.now) (IsElementOf (explicit_tag_of tag)
         (T.der.encodings (T.der.meaning value.now))) result }
 {

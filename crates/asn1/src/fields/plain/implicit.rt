@@ -14,7 +14,7 @@ use asn1_core::writer::full_length;
 use asn1_core::{Asn1Type, Asn1Writable, SimpleAsn1Writable, Writer, implicit_tag};
 
 /// How many octets the encoding of a value under an implicit tag has, if that is known.
-pub(crate) fn implicit_length<T: SimpleAsn1Writable>(value: &T, tag: u32) -> Option<usize>
+fn implicit_length<T: SimpleAsn1Writable>(value: &T, tag: u32) -> Option<usize>
     ensures { GivesLength (T.length_known value.now) (IsElementOf
         (implicit_tag_of tag T.der.content.tag) (T.der.content.encodings (T.der.meaning value.now)))
         result }
