@@ -361,11 +361,12 @@ LIBRARY = {
         (COPY, "'", "2 BigInt, 2 BigUint, 16 Sequence"),
         (COPY, "'", "20 TeletexString, 21 VideotexString, 25 GraphicString, 27 GeneralString"),
         (COPY, "n", "4 [u8; N]"),
-        (ALL, "", "2 OwnedBigInt, 2 OwnedBigUint, 3 OwnedBitString, 6 ObjectIdentifier"),
-        (ALL, "", "23 UtcTime, 24 GeneralizedTime, 24 X509GeneralizedTime, 31 Date"),
-        (ALL, "'", "3 BitString, 12 Utf8String, 17 Set, 28 UniversalString, 30 BMPString"),
-        (ALL, "'", "13 RelativeOid, 18 NumericString, 19 PrintableString"),
-        (ALL - {"Hash"}, "'", "22 IA5String, 26 VisibleString"),
+        (COPY, "", "6 ObjectIdentifier, 23 UtcTime, 24 GeneralizedTime, 24 X509GeneralizedTime, 31 Date"),
+        (COPY, "'", "3 BitString, 12 Utf8String, 13 RelativeOid, 18 NumericString, 19 PrintableString"),
+        (COPY, "'", "28 UniversalString, 30 BMPString"),
+        (COPY - {"Hash"}, "'", "22 IA5String, 26 VisibleString"),
+        (ALL, "", "2 OwnedBigInt, 2 OwnedBigUint, 3 OwnedBitString"),
+        (ALL, "'", "17 Set"),
         (frozenset({"Debug", "PartialEq", "Eq"}), "", "10 Enumerated"),
     )
     for number, name in (type.split(" ", 1) for type in types.split(", "))
@@ -465,7 +466,8 @@ class Module:
         if name == "OctetStringEncoded":
             return replace(inside, tags={"4"}, is_missing=False, is_simple=True)
         if name not in TAGGED:
-            return replace(inside, derives=inside.derives & ALL)
+            # An imported type is taken to have what is asked for: the compiler tells if it hasn't.
+            return replace(inside, derives=inside.derives & (ALL if name in SHAPES else COPY))
         is_large = not type.args[1].isdigit() or int(type.args[1]) > LARGEST
         reject(is_large, type.line, f"a tag isn't a number from 0 to {LARGEST}")
         has_no_tag = name.endswith("Implicit") and not inside.is_simple

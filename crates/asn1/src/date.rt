@@ -1,6 +1,6 @@
 //! DATE (X.680 38.4.1, X.690 8.26).
 
-ghost use Rattle.std.specs.Prelude.{◌≡◌, ◌+◌, ◌/◌, ◌%◌, ⊤, MatchOption, MatchResult};
+ghost use Rattle.std.specs.Prelude.{◌≡◌, ◌+◌, ◌/◌, ◌%◌, MatchOption, MatchResult};
 ghost use Rattle.asn1_core.specs.declared.parser.ParseErrorKind.TheVariants.{InvalidValue};
 ghost use Rattle.asn1_core.specs.ReadError.{read_error};
 ghost use Rattle.asn1_core.specs.Der.{simple_der};
@@ -12,7 +12,7 @@ use asn1_core::{
     WriteBuf, WriteError, WriteResult,
 };
 use asn1_values::DateTime;
-use std::alloc::{AllocError, Global};
+use std::alloc::Global;
 
 /// Whether the octet is a decimal digit.
 fn is_decimal(octet: u8) -> bool
@@ -58,7 +58,7 @@ fn units(n: u8) -> u8
 /// let date = Date::new(2012, 2, 29)?;
 /// both_ways(alloc, date, b"\x1f\x1f\x0820120229")?;
 /// ```
-#[derive(Debug, PartialEq, Eq, Hash, Drop)]
+#[derive(Debug, Clone, Copy, PartialEq, Eq, Hash)]
 pub struct Date {
     year: u16,
     month: u8,
@@ -160,23 +160,6 @@ impl Date {
         ensures { result ≡ (day_of self.now).day }
     {
         self.day
-    }
-}
-
-/// Doesn't allocate, and never fails.
-impl Clone for Date {
-    ghost use Rattle.asn1.specs.DateValues.{day_of};
-
-    ghost is_clone = { λ x y. day_of y ≡ day_of x };
-
-    ghost is_infallible = { λ _. ⊤ };
-
-    fn clone(&self) -> Result<Date, AllocError> {
-        Ok(Date {
-            year: self.year,
-            month: self.month,
-            day: self.day,
-        })
     }
 }
 

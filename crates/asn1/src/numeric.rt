@@ -1,6 +1,6 @@
 //! NumericString (X.690 8.23, X.680 41), and the character strings whose contents octets are kept as they are.
 
-ghost use Rattle.std.specs.Prelude.{◌≡◌, IsTrue, true, false, ⊤, length, MatchOption};
+ghost use Rattle.std.specs.Prelude.{◌≡◌, IsTrue, true, false, length, MatchOption};
 ghost use Rattle.asn1_core.specs.Tag.{universal};
 ghost use Rattle.asn1_core.specs.Reads.{ReadsContents};
 ghost use Rattle.asn1_core.specs.Writing.{GivesLength};
@@ -13,7 +13,7 @@ use asn1_core::{
     Asn1Type, ParseError, ParseErrorKind, ParseResult, SimpleAsn1Readable, SimpleAsn1Writable, Tag,
     WriteBuf, WriteError, WriteResult,
 };
-use std::alloc::{AllocError, Global};
+use std::alloc::Global;
 use std::fmt;
 
 /// TeletexString, or T61String (X.680 41; universal 20): the octets as they are. They stand for characters of several
@@ -50,7 +50,7 @@ fn is_numeric_text(octets: &[u8]) -> bool
 /// let number = NumericString::new("49 30").ok_or("no numeric string")?;
 /// both_ways(alloc, number, &[0x12, 5, 0x34, 0x39, 0x20, 0x33, 0x30])?;
 /// ```
-#[derive(PartialEq, Eq, Hash, Drop)]
+#[derive(Clone, Copy, PartialEq, Eq, Hash)]
 pub struct NumericString<'a> {
     text: &'a str,
     pub ghost is_text: { IsTextOf is_numeric_text text.now },
@@ -75,19 +75,6 @@ impl<'a> NumericString<'a> {
         ensures { result.now ≡ numeric_octets self.now }
     {
         self.text
-    }
-}
-
-/// Doesn't allocate, and never fails.
-impl<'a> Clone for NumericString<'a> {
-    ghost use Rattle.asn1.specs.NumericValues.{numeric_octets};
-
-    ghost is_clone = { λ x y. numeric_octets y ≡ numeric_octets x };
-
-    ghost is_infallible = { λ _. ⊤ };
-
-    fn clone(&self) -> Result<NumericString<'a>, AllocError> {
-        Ok(NumericString { text: self.text })
     }
 }
 

@@ -1,6 +1,6 @@
 //! RELATIVE-OID (X.690 8.20).
 
-ghost use Rattle.std.specs.Prelude.{◌≡◌, ◌∷◌, ◌<◌, IsTrue, true, ⊤, Some, length, is_some};
+ghost use Rattle.std.specs.Prelude.{◌≡◌, ◌∷◌, ◌<◌, IsTrue, true, Some, length, is_some};
 ghost use Rattle.asn1_core.specs.Base128.{leading_number};
 ghost use Rattle.asn1_core.specs.Reading.{Returns};
 ghost use Rattle.asn1_core.specs.Reads.{ReadsContents};
@@ -14,7 +14,7 @@ use asn1_core::{
     Asn1Type, ParseError, ParseErrorKind, ParseResult, SimpleAsn1Readable, SimpleAsn1Writable, Tag,
     WriteBuf, WriteError, WriteResult, base128,
 };
-use std::alloc::{AllocError, Global};
+use std::alloc::Global;
 use std::fmt;
 
 /// Whether the octets are a concatenation of arcs in base 128.
@@ -56,7 +56,7 @@ fn first_arc(octets: &[u8]) -> (u128, &[u8])
 /// let rest = RelativeOid::from_der(&[0x03, 0x02])?;
 /// assert!(rt; relative.split_first() == (8571, Some(rest)));
 /// ```
-#[derive(PartialEq, Eq, Hash, Drop)]
+#[derive(Clone, Copy, PartialEq, Eq, Hash)]
 pub struct RelativeOid<'a> {
     octets: &'a [u8],
     pub ghost is_content: { IsRelativeForm octets.now },
@@ -93,21 +93,6 @@ impl<'a> RelativeOid<'a> {
             return (arc, None);
         }
         (arc, Some(RelativeOid { octets: rest }))
-    }
-}
-
-/// Doesn't allocate, and never fails.
-impl<'a> Clone for RelativeOid<'a> {
-    ghost use Rattle.asn1.specs.RelativeValues.{relative_arcs};
-
-    ghost is_clone = { λ x y. y.octets.now ≡ x.octets.now };
-
-    ghost is_infallible = { λ _. ⊤ };
-
-    fn clone(&self) -> Result<RelativeOid<'a>, AllocError> {
-        Ok(RelativeOid {
-            octets: self.octets,
-        })
     }
 }
 

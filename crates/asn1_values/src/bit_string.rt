@@ -1,6 +1,6 @@
 //! BIT STRING (X.690 8.6, 11.2), borrowed and owned.
 
-ghost use Rattle.std.specs.Prelude.{◌≡◌, IsTrue, true, ⊤, length, MatchOption};
+ghost use Rattle.std.specs.Prelude.{◌≡◌, IsTrue, true, length, MatchOption};
 ghost use Rattle.asn1_core.specs.Reads.{ReadsContents};
 ghost use Rattle.asn1_core.specs.Der.{simple_der};
 ghost use Rattle.asn1_core.specs.Boxed.{boxed};
@@ -43,7 +43,7 @@ const fn has_padding(octets: &[u8], padding: u8) -> bool
 /// let read = parse_single::<BitString<'_>>(alloc, TEXT)?;
 /// same(&bits.clone()?, &read)?;
 /// ```
-#[derive(PartialEq, Eq, Hash, Drop)]
+#[derive(Clone, Copy, PartialEq, Eq, Hash)]
 pub struct BitString<'a> {
     octets: &'a [u8],
     padding: u8,
@@ -89,22 +89,6 @@ impl<'a> BitString<'a> {
             return false;
         }
         (self.octets[index] >> (7 - n % 8)) % 2 == 1
-    }
-}
-
-/// Doesn't allocate, and never fails.
-impl<'a> Clone for BitString<'a> {
-    ghost use Rattle.asn1_values.specs.BitStrings.{bits_of};
-
-    ghost is_clone = { λ x y. bits_of y ≡ bits_of x };
-
-    ghost is_infallible = { λ _. ⊤ };
-
-    fn clone(&self) -> Result<BitString<'a>, AllocError> {
-        Ok(BitString {
-            octets: self.octets,
-            padding: self.padding,
-        })
     }
 }
 

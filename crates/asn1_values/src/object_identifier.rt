@@ -1,6 +1,6 @@
 //! OBJECT IDENTIFIER (X.690 8.19), and its dotted form in decimal.
 
-ghost use Rattle.std.specs.Prelude.{⊤, ◌≡◌, ◌+◌, ◌<◌, ◌≤◌, ◌^◌, ◌∷◌};
+ghost use Rattle.std.specs.Prelude.{◌≡◌, ◌+◌, ◌<◌, ◌≤◌, ◌^◌, ◌∷◌};
 ghost use Rattle.std.specs.Prelude.{IfSome, option_map, length, true, Some, take, is_some};
 ghost use Rattle.std.specs.Prelude.{MatchOption};
 ghost use Rattle.asn1_core.specs.declared.parser.ParseErrorKind.{ParseErrorKind};
@@ -17,7 +17,7 @@ use asn1_core::{
     Asn1Type, ParseError, ParseErrorKind, ParseResult, SimpleAsn1Readable, SimpleAsn1Writable, Tag,
     WriteBuf, WriteError, WriteResult, base128,
 };
-use std::alloc::{AllocError, Global};
+use std::alloc::Global;
 use std::fmt;
 
 /// How many contents octets there are at most.
@@ -110,7 +110,7 @@ fn first_of(first: u128, second: u128) -> Option<u128>
 /// same(identifier.as_der(), &[0x2a, 0x03])?;
 /// is_displayed(alloc, &identifier, "1.2.3")
 /// ```
-#[derive(PartialEq, Eq, Hash, Drop)]
+#[derive(Clone, Copy, PartialEq, Eq, Hash)]
 pub struct ObjectIdentifier {
     octets: [u8; MAX_OCTETS],
     count: u8,
@@ -201,22 +201,6 @@ impl ObjectIdentifier {
         ensures value { IsIdentifier (identifier_of self.now) }
     {
         &self.octets[..usize::from(self.count)]
-    }
-}
-
-/// Doesn't allocate, and never fails.
-impl Clone for ObjectIdentifier {
-    ghost use Rattle.asn1_values.specs.IdentifierValues.{oid_octets};
-
-    ghost is_clone = { λ x y. oid_octets y ≡ oid_octets x };
-
-    ghost is_infallible = { λ _. ⊤ };
-
-    fn clone(&self) -> Result<ObjectIdentifier, AllocError> {
-        Ok(ObjectIdentifier {
-            octets: self.octets,
-            count: self.count,
-        })
     }
 }
 

@@ -1,7 +1,7 @@
 //! Private keys of elliptic curves (RFC 5915, 3).
 
 /// A private key.
-#[derive(asn1::Asn1Read, asn1::Asn1Write, Debug, Clone, PartialEq, Eq, Hash)]
+#[derive(asn1::Asn1Read, asn1::Asn1Write, Debug, Clone, Copy, PartialEq, Eq, Hash)]
 pub struct EcPrivateKey<'a> {
     /// The version, 1.
     pub version: u8,

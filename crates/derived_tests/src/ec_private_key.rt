@@ -1,5 +1,5 @@
 //! Private keys of elliptic curves (RFC 5915, 3).
-// Printed by tools/derive from declarations/ec_private_key.rs, with the sum d5cc7102.
+// Printed by tools/derive from declarations/ec_private_key.rs, with the sum fc53fae4.
 
 ghost use Rattle.std.specs.Prelude.{◌≡◌, ◌∷◌, [], IsTrue};
 ghost use Rattle.asn1.specs.Options.{option_meaning};
@@ -15,7 +15,7 @@ use asn1::{
 use std::alloc::Global;
 
 /// A private key.
-#[derive(Debug, Clone, PartialEq, Eq, Hash, Drop)]
+#[derive(Debug, Clone, Copy, PartialEq, Eq, Hash)]
 pub struct EcPrivateKey<'a> {
     /// The version, 1.
     pub version: u8,

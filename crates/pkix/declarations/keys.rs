@@ -22,7 +22,7 @@ pub struct OneAsymmetricKey<'a> {
 }
 
 /// EncryptedPrivateKeyInfo (RFC 5958, 3), a SEQUENCE: a private key that is encrypted.
-#[derive(asn1::Asn1Read, asn1::Asn1Write, Debug, Clone, PartialEq, Eq)]
+#[derive(asn1::Asn1Read, asn1::Asn1Write, Debug, Clone, Copy, PartialEq, Eq)]
 pub struct EncryptedPrivateKeyInfo<'a> {
     /// The algorithm that encrypted it.
     pub encryption_algorithm: AlgorithmIdentifier<'a>,
@@ -31,7 +31,7 @@ pub struct EncryptedPrivateKeyInfo<'a> {
 }
 
 /// RSAPublicKey (RFC 8017, A.1.1), a SEQUENCE. Its numbers aren't negative.
-#[derive(asn1::Asn1Read, asn1::Asn1Write, Debug, Clone, PartialEq, Eq)]
+#[derive(asn1::Asn1Read, asn1::Asn1Write, Debug, Clone, Copy, PartialEq, Eq)]
 pub struct RsaPublicKey<'a> {
     /// The modulus.
     pub modulus: asn1::BigUint<'a>,
@@ -40,7 +40,7 @@ pub struct RsaPublicKey<'a> {
 }
 
 /// OtherPrimeInfo (RFC 8017, A.1.2), a SEQUENCE: a prime after the first two. Its numbers aren't negative.
-#[derive(asn1::Asn1Read, asn1::Asn1Write, Debug, Clone, PartialEq, Eq)]
+#[derive(asn1::Asn1Read, asn1::Asn1Write, Debug, Clone, Copy, PartialEq, Eq)]
 pub struct OtherPrimeInfo<'a> {
     /// The prime.
     pub prime: asn1::BigUint<'a>,
@@ -79,7 +79,7 @@ pub struct RsaPrivateKey<'a> {
 }
 
 /// ECPrivateKey (RFC 5915, 3), a SEQUENCE.
-#[derive(asn1::Asn1Read, asn1::Asn1Write, Debug, Clone, PartialEq, Eq)]
+#[derive(asn1::Asn1Read, asn1::Asn1Write, Debug, Clone, Copy, PartialEq, Eq)]
 pub struct EcPrivateKey<'a> {
     /// The version, which is 1. Any from 0 to 255 is read.
     pub version: u8,
@@ -94,7 +94,7 @@ pub struct EcPrivateKey<'a> {
 }
 
 /// Dss-Parms (RFC 3279, 2.3.2), a SEQUENCE: the parameters of DSA. Its numbers aren't negative.
-#[derive(asn1::Asn1Read, asn1::Asn1Write, Debug, Clone, PartialEq, Eq)]
+#[derive(asn1::Asn1Read, asn1::Asn1Write, Debug, Clone, Copy, PartialEq, Eq)]
 pub struct DssParms<'a> {
     /// The prime that numbers are taken modulo.
     pub p: asn1::BigUint<'a>,
@@ -106,7 +106,7 @@ pub struct DssParms<'a> {
 
 /// RSASSA-PSS-params (RFC 4055, 3.1), a SEQUENCE. The defaults of its algorithms are structures: each is `None` if it
 /// is left out, and if it is encoded, which DER forbids, it is read.
-#[derive(asn1::Asn1Read, asn1::Asn1Write, Debug, Clone, PartialEq, Eq)]
+#[derive(asn1::Asn1Read, asn1::Asn1Write, Debug, Clone, Copy, PartialEq, Eq)]
 pub struct RsassaPssParams<'a> {
     /// The digest, by default SHA-1 (`sha1Identifier`).
     #[explicit(0)]

@@ -260,7 +260,7 @@ impl ParametersForm {
 }
 
 /// The parameters of an algorithm, read as the type that its identifier defines.
-#[derive(Debug, Clone, PartialEq, Eq, Drop)]
+#[derive(Debug, Clone, Copy, PartialEq, Eq)]
 pub enum AlgorithmParameters<'a> {
     /// NULL. RSA has to have it, except in signatures with SHA-2. Digests may have it.
     Null,

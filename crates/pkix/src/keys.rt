@@ -1,5 +1,5 @@
 //! Keys, and the parameters of their algorithms (RFC 5958, 8017, 5915, 5480, 3279 and 4055).
-// Printed by tools/derive from declarations/keys.rs, with the sum b5da5c5d.
+// Printed by tools/derive from declarations/keys.rs, with the sum efaa3fe4.
 
 ghost use Rattle.std.specs.Prelude.{◌≡◌, ◌∷◌, [], IsTrue};
 ghost use Rattle.asn1.specs.Options.{option_meaning};
@@ -106,7 +106,7 @@ impl<'a> SimpleAsn1Writable for OneAsymmetricKey<'a> {
 }
 
 /// EncryptedPrivateKeyInfo (RFC 5958, 3), a SEQUENCE: a private key that is encrypted.
-#[derive(Debug, Clone, PartialEq, Eq, Drop)]
+#[derive(Debug, Clone, Copy, PartialEq, Eq)]
 pub struct EncryptedPrivateKeyInfo<'a> {
     /// The algorithm that encrypted it.
     pub encryption_algorithm: AlgorithmIdentifier<'a>,
@@ -170,7 +170,7 @@ impl<'a> SimpleAsn1Writable for EncryptedPrivateKeyInfo<'a> {
 }
 
 /// RSAPublicKey (RFC 8017, A.1.1), a SEQUENCE. Its numbers aren't negative.
-#[derive(Debug, Clone, PartialEq, Eq, Drop)]
+#[derive(Debug, Clone, Copy, PartialEq, Eq)]
 pub struct RsaPublicKey<'a> {
     /// The modulus.
     pub modulus: BigUint<'a>,
@@ -234,7 +234,7 @@ impl<'a> SimpleAsn1Writable for RsaPublicKey<'a> {
 }
 
 /// OtherPrimeInfo (RFC 8017, A.1.2), a SEQUENCE: a prime after the first two. Its numbers aren't negative.
-#[derive(Debug, Clone, PartialEq, Eq, Drop)]
+#[derive(Debug, Clone, Copy, PartialEq, Eq)]
 pub struct OtherPrimeInfo<'a> {
     /// The prime.
     pub prime: BigUint<'a>,
@@ -404,7 +404,7 @@ impl<'a> SimpleAsn1Writable for RsaPrivateKey<'a> {
 }
 
 /// ECPrivateKey (RFC 5915, 3), a SEQUENCE.
-#[derive(Debug, Clone, PartialEq, Eq, Drop)]
+#[derive(Debug, Clone, Copy, PartialEq, Eq)]
 pub struct EcPrivateKey<'a> {
     /// The version, which is 1. Any from 0 to 255 is read.
     pub version: u8,
@@ -488,7 +488,7 @@ impl<'a> SimpleAsn1Writable for EcPrivateKey<'a> {
 }
 
 /// Dss-Parms (RFC 3279, 2.3.2), a SEQUENCE: the parameters of DSA. Its numbers aren't negative.
-#[derive(Debug, Clone, PartialEq, Eq, Drop)]
+#[derive(Debug, Clone, Copy, PartialEq, Eq)]
 pub struct DssParms<'a> {
     /// The prime that numbers are taken modulo.
     pub p: BigUint<'a>,
@@ -554,7 +554,7 @@ impl<'a> SimpleAsn1Writable for DssParms<'a> {
 
 /// RSASSA-PSS-params (RFC 4055, 3.1), a SEQUENCE. The defaults of its algorithms are structures: each is `None` if it
 /// is left out, and if it is encoded, which DER forbids, it is read.
-#[derive(Debug, Clone, PartialEq, Eq, Drop)]
+#[derive(Debug, Clone, Copy, PartialEq, Eq)]
 pub struct RsassaPssParams<'a> {
     /// The digest, by default SHA-1 (`sha1Identifier`).
     pub hash_algorithm: Option<AlgorithmIdentifier<'a>>,

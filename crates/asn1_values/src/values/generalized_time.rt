@@ -1,6 +1,6 @@
 //! GeneralizedTime, with a fraction of a second or without (X.690 11.7).
 
-ghost use Rattle.std.specs.Prelude.{◌≡◌, ◌≤◌, ⊤, length, MatchResult};
+ghost use Rattle.std.specs.Prelude.{◌≡◌, ◌≤◌, length, MatchResult};
 ghost use Rattle.std.proofs.Props.{props};
 ghost use Rattle.asn1_core.specs.declared.parser.ParseErrorKind.TheVariants.{InvalidValue};
 ghost use Rattle.asn1_core.specs.ReadError.{read_error};
@@ -14,7 +14,7 @@ use asn1_core::{
     Asn1Type, ParseError, ParseErrorKind, ParseResult, SimpleAsn1Readable, SimpleAsn1Writable, Tag,
     WriteBuf, WriteError, WriteResult,
 };
-use std::alloc::{AllocError, Global};
+use std::alloc::Global;
 
 /// GeneralizedTime (X.690 11.7; universal 24): a date and a time of day in UTC, of a year from 0 to 9999, with a
 /// fraction of a second in nanoseconds or without. Values are ordered by date and time of day, then no fraction before
@@ -29,7 +29,7 @@ use std::alloc::{AllocError, Global};
 /// let time = GeneralizedTime::new(date.clone()?, *nanoseconds)?;
 /// same((time.as_datetime(), time.nanoseconds()), (&date, *nanoseconds))?;
 /// ```
-#[derive(Debug, PartialEq, Eq, PartialOrd, Hash, Drop)]
+#[derive(Debug, Clone, Copy, PartialEq, Eq, PartialOrd, Hash)]
 pub struct GeneralizedTime {
     datetime: DateTime,
     nanoseconds: Option<u32>,
@@ -68,23 +68,6 @@ impl GeneralizedTime {
         ensures { result ≡ (instant_of self.now).nanoseconds }
     {
         self.nanoseconds
-    }
-}
-
-/// Doesn't allocate, and never fails.
-impl Clone for GeneralizedTime {
-    ghost use Rattle.asn1_values.specs.TimeValues.{instant_of};
-
-    ghost is_clone = { λ x y. instant_of y ≡ instant_of x };
-
-    ghost is_infallible = { λ _. ⊤ };
-
-    fn clone(&self) -> Result<GeneralizedTime, AllocError> {
-        let datetime = self.datetime.clone()?;
-        Ok(GeneralizedTime {
-            datetime,
-            nanoseconds: self.nanoseconds,
-        })
     }
 }
 

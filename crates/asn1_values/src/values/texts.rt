@@ -1,6 +1,6 @@
 //! Character strings whose contents octets are read as `str` (X.690 8.23, X.680 41).
 
-ghost use Rattle.std.specs.Prelude.{◌≡◌, IsTrue, true, false, ⊤, length, MatchOption, IsUtf8};
+ghost use Rattle.std.specs.Prelude.{◌≡◌, IsTrue, true, false, length, MatchOption, IsUtf8};
 ghost use Rattle.asn1_core.specs.Tag.{universal};
 ghost use Rattle.asn1_core.specs.Reads.{ReadsContents};
 ghost use Rattle.asn1_core.specs.Writing.{GivesLength};
@@ -12,7 +12,7 @@ use asn1_core::{
     Asn1Type, ParseError, ParseErrorKind, ParseResult, SimpleAsn1Readable, SimpleAsn1Writable, Tag,
     WriteBuf, WriteError, WriteResult,
 };
-use std::alloc::{AllocError, Global};
+use std::alloc::Global;
 use std::fmt;
 
 /// A bit for each character below 64 that a `PrintableString` may have: space, `'()+,-./:=?` and the digits.
@@ -68,7 +68,7 @@ fn text_in(octets: &[u8], is_text: bool) -> Option<&str>
 
 /// PrintableString (X.690 8.23, X.680 41; universal 19): letters, digits, space and `'()+,-./:=?`, an octet each,
 /// borrowed from the input. The encoding is primitive (10.2). Reading rejects other octets with `InvalidValue`.
-#[derive(PartialEq, Eq, Hash, Drop)]
+#[derive(Clone, Copy, PartialEq, Eq, Hash)]
 pub struct PrintableString<'a> {
     text: &'a str,
     pub ghost is_text: { IsTextOf is_printable_text text.now },
@@ -93,19 +93,6 @@ impl<'a> PrintableString<'a> {
         ensures { result.now ≡ printable_octets self.now }
     {
         self.text
-    }
-}
-
-/// Doesn't allocate, and never fails.
-impl<'a> Clone for PrintableString<'a> {
-    ghost use Rattle.asn1_values.specs.TextValues.{printable_octets};
-
-    ghost is_clone = { λ x y. printable_octets y ≡ printable_octets x };
-
-    ghost is_infallible = { λ _. ⊤ };
-
-    fn clone(&self) -> Result<PrintableString<'a>, AllocError> {
-        Ok(PrintableString { text: self.text })
     }
 }
 
@@ -182,7 +169,7 @@ impl SimpleAsn1Writable for PrintableString<'_> {
 
 /// IA5String (X.690 8.23, X.680 41; universal 22): ASCII characters, control characters included, an octet each,
 /// borrowed from the input. The encoding is primitive (10.2). Reading rejects octets from 0x80 on with `InvalidValue`.
-#[derive(PartialEq, Eq, Drop)]
+#[derive(Clone, Copy, PartialEq, Eq)]
 pub struct IA5String<'a> {
     text: &'a str,
     pub ghost is_text: { IsTextOf is_ia5_text text.now },
@@ -207,19 +194,6 @@ impl<'a> IA5String<'a> {
         ensures { result.now ≡ ia5_octets self.now }
     {
         self.text
-    }
-}
-
-/// Doesn't allocate, and never fails.
-impl<'a> Clone for IA5String<'a> {
-    ghost use Rattle.asn1_values.specs.TextValues.{ia5_octets};
-
-    ghost is_clone = { λ x y. ia5_octets y ≡ ia5_octets x };
-
-    ghost is_infallible = { λ _. ⊤ };
-
-    fn clone(&self) -> Result<IA5String<'a>, AllocError> {
-        Ok(IA5String { text: self.text })
     }
 }
 
@@ -295,7 +269,7 @@ impl SimpleAsn1Writable for IA5String<'_> {
 
 /// VisibleString (X.690 8.23, X.680 41; universal 26): the ASCII characters from space to `~`, an octet each, borrowed
 /// from the input. The encoding is primitive (10.2). Reading rejects other octets with `InvalidValue`.
-#[derive(PartialEq, Eq, Drop)]
+#[derive(Clone, Copy, PartialEq, Eq)]
 pub struct VisibleString<'a> {
     text: &'a str,
     pub ghost is_text: { IsTextOf is_visible_text text.now },
@@ -320,19 +294,6 @@ impl<'a> VisibleString<'a> {
         ensures { result.now ≡ visible_octets self.now }
     {
         self.text
-    }
-}
-
-/// Doesn't allocate, and never fails.
-impl<'a> Clone for VisibleString<'a> {
-    ghost use Rattle.asn1_values.specs.TextValues.{visible_octets};
-
-    ghost is_clone = { λ x y. visible_octets y ≡ visible_octets x };
-
-    ghost is_infallible = { λ _. ⊤ };
-
-    fn clone(&self) -> Result<VisibleString<'a>, AllocError> {
-        Ok(VisibleString { text: self.text })
     }
 }
 
@@ -408,7 +369,7 @@ impl SimpleAsn1Writable for VisibleString<'_> {
 
 /// UTF8String (X.690 8.23, X.680 41; universal 12): any Unicode characters in UTF-8, borrowed from the input. The
 /// encoding is primitive (10.2). Reading rejects octets that aren't UTF-8 with `InvalidValue`.
-#[derive(PartialEq, Eq, Hash, Drop)]
+#[derive(Clone, Copy, PartialEq, Eq, Hash)]
 pub struct Utf8String<'a> {
     text: &'a str,
     pub ghost is_text: { IsTextOf is_utf8_text text.now },
@@ -429,19 +390,6 @@ impl<'a> Utf8String<'a> {
         ensures { result.now ≡ utf8_octets self.now }
     {
         self.text
-    }
-}
-
-/// Doesn't allocate, and never fails.
-impl<'a> Clone for Utf8String<'a> {
-    ghost use Rattle.asn1_values.specs.TextValues.{utf8_octets};
-
-    ghost is_clone = { λ x y. utf8_octets y ≡ utf8_octets x };
-
-    ghost is_infallible = { λ _. ⊤ };
-
-    fn clone(&self) -> Result<Utf8String<'a>, AllocError> {
-        Ok(Utf8String { text: self.text })
     }
 }
 

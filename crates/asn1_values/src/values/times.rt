@@ -1,7 +1,7 @@
 //! Times without a fraction of a second: UTCTime, and GeneralizedTime as in certificates (X.690 11.7, 11.8; RFC 5280
 //! 4.1.2.5).
 
-ghost use Rattle.std.specs.Prelude.{◌≡◌, ◌≤◌, ⊤, MatchResult};
+ghost use Rattle.std.specs.Prelude.{◌≡◌, ◌≤◌, MatchResult};
 ghost use Rattle.asn1_core.specs.declared.parser.ParseErrorKind.TheVariants.{InvalidValue};
 ghost use Rattle.asn1_core.specs.ReadError.{read_error};
 ghost use Rattle.asn1_core.specs.Der.{simple_der};
@@ -12,7 +12,7 @@ use asn1_core::{
     Asn1Type, ParseError, ParseErrorKind, ParseResult, SimpleAsn1Readable, SimpleAsn1Writable, Tag,
     WriteBuf, WriteError, WriteResult,
 };
-use std::alloc::{AllocError, Global};
+use std::alloc::Global;
 use std::fmt;
 
 /// UTCTime (X.690 11.8; universal 23): a date and a time of day to the second, in UTC, of a year from 1950 to 2049.
@@ -25,7 +25,7 @@ use std::fmt;
 /// let time = UtcTime::new(date.clone()?)?;
 /// same(time.as_datetime(), &date)?;
 /// ```
-#[derive(PartialEq, Eq, Hash, Drop)]
+#[derive(Clone, Copy, PartialEq, Eq, Hash)]
 pub struct UtcTime {
     datetime: DateTime,
     pub ghost in_range: { (1950 ≤ datetime.year) × (datetime.year ≤ 2049) },
@@ -51,20 +51,6 @@ impl UtcTime {
         ensures { moment result.now ≡ utc_moment self.now }
     {
         &self.datetime
-    }
-}
-
-/// Doesn't allocate, and never fails.
-impl Clone for UtcTime {
-    ghost use Rattle.asn1_values.specs.TimeValues.{utc_moment};
-
-    ghost is_clone = { λ x y. utc_moment y ≡ utc_moment x };
-
-    ghost is_infallible = { λ _. ⊤ };
-
-    fn clone(&self) -> Result<UtcTime, AllocError> {
-        let datetime = self.datetime.clone()?;
-        Ok(UtcTime { datetime })
     }
 }
 
@@ -126,7 +112,7 @@ impl SimpleAsn1Writable for UtcTime {
 ///
 /// The contents octets are `YYYYMMDDHHMMSSZ`. Reading rejects others, also those with a fraction of a second, and those
 /// that are no date or no time of day, with `InvalidValue`.
-#[derive(PartialEq, Eq, Hash, Drop)]
+#[derive(Clone, Copy, PartialEq, Eq, Hash)]
 pub struct X509GeneralizedTime {
     datetime: DateTime,
     pub ghost in_range: { datetime.year ≤ 9999 },
@@ -151,20 +137,6 @@ impl X509GeneralizedTime {
         ensures { moment result.now ≡ x509_moment self.now }
     {
         &self.datetime
-    }
-}
-
-/// Doesn't allocate, and never fails.
-impl Clone for X509GeneralizedTime {
-    ghost use Rattle.asn1_values.specs.TimeValues.{x509_moment};
-
-    ghost is_clone = { λ x y. x509_moment y ≡ x509_moment x };
-
-    ghost is_infallible = { λ _. ⊤ };
-
-    fn clone(&self) -> Result<X509GeneralizedTime, AllocError> {
-        let datetime = self.datetime.clone()?;
-        Ok(X509GeneralizedTime { datetime })
     }
 }
 

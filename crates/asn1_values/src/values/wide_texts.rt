@@ -1,6 +1,6 @@
 //! Character strings of two or four octets a character (X.690 8.23, X.680 41).
 
-ghost use Rattle.std.specs.Prelude.{◌≡◌, ◌+◌, ◌%◌, ◌<◌, ◌≤◌, ◌↔◌, [], ◌∷◌, ⊤};
+ghost use Rattle.std.specs.Prelude.{◌≡◌, ◌+◌, ◌%◌, ◌<◌, ◌≤◌, ◌↔◌, [], ◌∷◌};
 ghost use Rattle.std.specs.Prelude.{drop, true, false, length, MatchOption, IsTrue};
 ghost use Rattle.std.specs.Char.{IsScalar};
 ghost use Rattle.asn1_core.specs.Base256.{number};
@@ -14,7 +14,7 @@ use asn1_core::{
     Asn1Type, ParseError, ParseErrorKind, ParseResult, SimpleAsn1Readable, SimpleAsn1Writable, Tag,
     WriteBuf, WriteError, WriteResult,
 };
-use std::alloc::{AllocError, Global};
+use std::alloc::Global;
 use std::fmt;
 
 /// How many octets of UTF-16 the character at an index has: 2, or 4 for a pair of surrogates. 0 if a surrogate has no
@@ -90,7 +90,7 @@ fn is_utf32_text(octets: &[u8]) -> bool
 ///
 /// The encoding is primitive (10.2). Reading rejects an odd number of octets, and a surrogate without its partner, with
 /// `InvalidValue`.
-#[derive(PartialEq, Eq, Hash, Drop)]
+#[derive(Clone, Copy, PartialEq, Eq, Hash)]
 pub struct BMPString<'a> {
     octets: &'a [u8],
     pub ghost is_text: { IsTextOf is_utf16_text octets.now },
@@ -115,21 +115,6 @@ impl<'a> BMPString<'a> {
         ensures { result.now ≡ bmp_octets self.now }
     {
         self.octets
-    }
-}
-
-/// Doesn't allocate, and never fails.
-impl<'a> Clone for BMPString<'a> {
-    ghost use Rattle.asn1_values.specs.TextValues.{bmp_octets};
-
-    ghost is_clone = { λ x y. bmp_octets y ≡ bmp_octets x };
-
-    ghost is_infallible = { λ _. ⊤ };
-
-    fn clone(&self) -> Result<BMPString<'a>, AllocError> {
-        Ok(BMPString {
-            octets: self.octets,
-        })
     }
 }
 
@@ -206,7 +191,7 @@ impl SimpleAsn1Writable for BMPString<'_> {
 /// UniversalString (X.690 8.23, X.680 41; universal 28): UTF-32, the most significant octet of each character first,
 /// borrowed from the input. The encoding is primitive (10.2). Reading rejects the octets that [`UniversalString::new`]
 /// rejects, with `InvalidValue`.
-#[derive(PartialEq, Eq, Hash, Drop)]
+#[derive(Clone, Copy, PartialEq, Eq, Hash)]
 pub struct UniversalString<'a> {
     octets: &'a [u8],
     pub ghost is_text: { IsTextOf is_utf32_text octets.now },
@@ -232,21 +217,6 @@ impl<'a> UniversalString<'a> {
         ensures { result.now ≡ universal_octets self.now }
     {
         self.octets
-    }
-}
-
-/// Doesn't allocate, and never fails.
-impl<'a> Clone for UniversalString<'a> {
-    ghost use Rattle.asn1_values.specs.TextValues.{universal_octets};
-
-    ghost is_clone = { λ x y. universal_octets y ≡ universal_octets x };
-
-    ghost is_infallible = { λ _. ⊤ };
-
-    fn clone(&self) -> Result<UniversalString<'a>, AllocError> {
-        Ok(UniversalString {
-            octets: self.octets,
-        })
     }
 }
 

@@ -3,7 +3,7 @@
 use crate::common::{Attribute, GeneralNames, NamedBits};
 
 /// BasicConstraints (RFC 5280, 4.2.1.9), a SEQUENCE; identifier 2.5.29.19.
-#[derive(asn1::Asn1Read, asn1::Asn1Write, Debug, Clone, PartialEq, Eq)]
+#[derive(asn1::Asn1Read, asn1::Asn1Write, Debug, Clone, Copy, PartialEq, Eq)]
 pub struct BasicConstraints<'a> {
     /// Whether the subject may sign certificates.
     #[name("cA")]

@@ -4,7 +4,7 @@
 use crate::common::GeneralName;
 
 /// PolicyQualifierInfo (RFC 5280, 4.2.1.4), a SEQUENCE: more about a policy.
-#[derive(asn1::Asn1Read, asn1::Asn1Write, Debug, Clone, PartialEq, Eq)]
+#[derive(asn1::Asn1Read, asn1::Asn1Write, Debug, Clone, Copy, PartialEq, Eq)]
 pub struct PolicyQualifierInfo<'a> {
     /// Which qualifier it is: the RFC has id-qt-cps and id-qt-unotice. Any identifier is read.
     pub policy_qualifier_id: asn1::ObjectIdentifier,
@@ -18,7 +18,7 @@ pub type CpsUri<'a> = asn1::IA5String<'a>;
 
 /// DisplayText (RFC 5280, 4.2.1.4), a CHOICE: words for people. Of each string the RFC says `SIZE (1..200)`, which
 /// isn't checked.
-#[derive(asn1::Asn1Read, asn1::Asn1Write, Debug, Clone, PartialEq, Eq)]
+#[derive(asn1::Asn1Read, asn1::Asn1Write, Debug, Clone, Copy, PartialEq, Eq)]
 pub enum DisplayText<'a> {
     /// ia5String.
     Ia5(asn1::IA5String<'a>),
@@ -64,7 +64,7 @@ pub type CertificatePolicies<'a> = asn1::SequenceOf<'a, PolicyInformation<'a>, 1
 
 /// An item of PolicyMappings (RFC 5280, 4.2.1.5), a SEQUENCE: two policies that are equal for the issuer. That neither
 /// is anyPolicy isn't checked.
-#[derive(asn1::Asn1Read, asn1::Asn1Write, Debug, Clone, PartialEq, Eq)]
+#[derive(asn1::Asn1Read, asn1::Asn1Write, Debug, Clone, Copy, PartialEq, Eq)]
 pub struct PolicyMapping {
     /// The issuer's policy.
     pub issuer_domain_policy: asn1::ObjectIdentifier,
@@ -106,7 +106,7 @@ pub struct NameConstraints<'a> {
 
 /// PolicyConstraints (RFC 5280, 4.2.1.11), a SEQUENCE; identifier 2.5.29.36. One without fields is read, which the RFC
 /// forbids. Its numbers are SkipCerts: how many certificates may come before.
-#[derive(asn1::Asn1Read, asn1::Asn1Write, Debug, Clone, PartialEq, Eq)]
+#[derive(asn1::Asn1Read, asn1::Asn1Write, Debug, Clone, Copy, PartialEq, Eq)]
 pub struct PolicyConstraints<'a> {
     /// After how many certificates each has to have a policy that is accepted.
     #[implicit(0)]

@@ -3,7 +3,7 @@
 use crate::common::{AlgorithmIdentifier, Extensions, Name, SubjectPublicKeyInfo, Time};
 
 /// Validity (RFC 5280, 4.1.2.5), a SEQUENCE: when a certificate is valid, both ends included.
-#[derive(asn1::Asn1Read, asn1::Asn1Write, Debug, Clone, PartialEq, Eq)]
+#[derive(asn1::Asn1Read, asn1::Asn1Write, Debug, Clone, Copy, PartialEq, Eq)]
 pub struct Validity {
     /// The first second.
     pub not_before: Time,

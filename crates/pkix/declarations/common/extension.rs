@@ -1,7 +1,7 @@
 //! Extensions (RFC 5280, 4.1.2.9).
 
 /// Extension (RFC 5280, 4.1), a SEQUENCE.
-#[derive(asn1::Asn1Read, asn1::Asn1Write, Debug, Clone, PartialEq, Eq)]
+#[derive(asn1::Asn1Read, asn1::Asn1Write, Debug, Clone, Copy, PartialEq, Eq)]
 pub struct Extension<'a> {
     /// Which extension it is.
     #[name("extnID")]

@@ -3,7 +3,7 @@
 use crate::common::{DirectoryString, Name};
 
 /// OtherName (RFC 5280, 4.2.1.6), a SEQUENCE: a name of a form that an identifier names.
-#[derive(asn1::Asn1Read, asn1::Asn1Write, Debug, Clone, PartialEq, Eq)]
+#[derive(asn1::Asn1Read, asn1::Asn1Write, Debug, Clone, Copy, PartialEq, Eq)]
 pub struct OtherName<'a> {
     /// The form.
     #[name("type-id")]
@@ -14,7 +14,7 @@ pub struct OtherName<'a> {
 }
 
 /// EDIPartyName (RFC 5280, 4.2.1.6), a SEQUENCE.
-#[derive(asn1::Asn1Read, asn1::Asn1Write, Debug, Clone, PartialEq, Eq)]
+#[derive(asn1::Asn1Read, asn1::Asn1Write, Debug, Clone, Copy, PartialEq, Eq)]
 pub struct EdiPartyName<'a> {
     /// Who assigned the name.
     #[explicit(0)]

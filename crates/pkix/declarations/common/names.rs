@@ -1,7 +1,7 @@
 //! Names and attributes (RFC 5280, 4.1.2.4; RFC 2986, 4.1; RFC 5652, 5.3).
 
 /// AttributeTypeAndValue (RFC 5280, 4.1.2.4), a SEQUENCE: a part of a name.
-#[derive(asn1::Asn1Read, asn1::Asn1Write, Debug, Clone, PartialEq, Eq)]
+#[derive(asn1::Asn1Read, asn1::Asn1Write, Debug, Clone, Copy, PartialEq, Eq)]
 pub struct AttributeTypeAndValue<'a> {
     /// The attribute's type.
     #[name("type")]
@@ -30,7 +30,7 @@ pub type Attributes<'a> = asn1::SetOf<'a, Attribute<'a>>;
 
 /// DirectoryString (RFC 5280, 4.1.2.4), a CHOICE: the value of most attributes of names. Of each string the RFC says
 /// `SIZE (1..MAX)`, which isn't checked.
-#[derive(asn1::Asn1Read, asn1::Asn1Write, Debug, Clone, PartialEq, Eq)]
+#[derive(asn1::Asn1Read, asn1::Asn1Write, Debug, Clone, Copy, PartialEq, Eq)]
 pub enum DirectoryString<'a> {
     /// teletexString: the RFC allows it only in names that stood before.
     Teletex(asn1::TeletexString<'a>),

@@ -6,7 +6,7 @@ use crate::revocation::CertificateList;
 use crate::signatures::SignerInfo;
 
 /// ContentInfo (RFC 5652, 3), a SEQUENCE.
-#[derive(asn1::Asn1Read, asn1::Asn1Write, Debug, Clone, PartialEq, Eq)]
+#[derive(asn1::Asn1Read, asn1::Asn1Write, Debug, Clone, Copy, PartialEq, Eq)]
 pub struct ContentInfo<'a> {
     /// Which content it is.
     pub content_type: asn1::ObjectIdentifier,
@@ -16,7 +16,7 @@ pub struct ContentInfo<'a> {
 }
 
 /// EncapsulatedContentInfo (RFC 5652, 5.2), a SEQUENCE.
-#[derive(asn1::Asn1Read, asn1::Asn1Write, Debug, Clone, PartialEq, Eq)]
+#[derive(asn1::Asn1Read, asn1::Asn1Write, Debug, Clone, Copy, PartialEq, Eq)]
 pub struct EncapsulatedContentInfo<'a> {
     /// Which content it is.
     pub e_content_type: asn1::ObjectIdentifier,

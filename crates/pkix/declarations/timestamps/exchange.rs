@@ -4,7 +4,7 @@ use crate::common::{AlgorithmIdentifier, Extensions, NamedBits};
 use crate::signatures::ContentInfo;
 
 /// MessageImprint (RFC 3161, 2.4.1), a SEQUENCE: the digest of what is stamped.
-#[derive(asn1::Asn1Read, asn1::Asn1Write, Debug, Clone, PartialEq, Eq)]
+#[derive(asn1::Asn1Read, asn1::Asn1Write, Debug, Clone, Copy, PartialEq, Eq)]
 pub struct MessageImprint<'a> {
     /// The algorithm of the digest.
     pub hash_algorithm: AlgorithmIdentifier<'a>,

@@ -4,7 +4,7 @@ use crate::common::{Extensions, GeneralName};
 use crate::timestamps::MessageImprint;
 
 /// Accuracy (RFC 3161, 2.4.2), a SEQUENCE: how far the time may be off.
-#[derive(asn1::Asn1Read, asn1::Asn1Write, Debug, Clone, PartialEq, Eq)]
+#[derive(asn1::Asn1Read, asn1::Asn1Write, Debug, Clone, Copy, PartialEq, Eq)]
 pub struct Accuracy<'a> {
     /// Seconds.
     pub seconds: Option<asn1::BigInt<'a>>,

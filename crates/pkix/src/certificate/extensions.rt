@@ -1,5 +1,5 @@
 //! Values of extensions (RFC 5280, 4.2.1 and 4.2.2): each type is what the octets of an extension hold.
-// Printed by tools/derive from declarations/certificate/extensions.rs, with the sum 7d0600b6.
+// Printed by tools/derive from declarations/certificate/extensions.rs, with the sum 5ff674e7.
 
 ghost use Rattle.std.specs.Prelude.{◌≡◌, ◌∷◌, [], false, IsTrue};
 ghost use Rattle.asn1.specs.Options.{option_meaning};
@@ -16,7 +16,7 @@ use asn1::{
 use std::alloc::Global;
 
 /// BasicConstraints (RFC 5280, 4.2.1.9), a SEQUENCE; identifier 2.5.29.19.
-#[derive(Debug, Clone, PartialEq, Eq, Drop)]
+#[derive(Debug, Clone, Copy, PartialEq, Eq)]
 pub struct BasicConstraints<'a> {
     /// Whether the subject may sign certificates.
     pub ca: bool,

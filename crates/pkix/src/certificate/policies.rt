@@ -1,6 +1,6 @@
 //! The policies of a certificate, and what it demands of those that follow it in a path (RFC 5280, 4.2.1.4, 4.2.1.5,
 //! 4.2.1.10, 4.2.1.11 and 4.2.1.14).
-// Printed by tools/derive from declarations/certificate/policies.rs, with the sum 44db3eb0.
+// Printed by tools/derive from declarations/certificate/policies.rs, with the sum bdce072d.
 
 ghost use Rattle.std.specs.Prelude.{◌≡◌, ◌∷◌, [], IsTrue, OnErr, IfOk};
 ghost use Rattle.asn1.specs.AlternativeLists.{after3, choice, first1, first3, second3, third3};
@@ -22,7 +22,7 @@ use asn1::{
 use std::alloc::Global;
 
 /// PolicyQualifierInfo (RFC 5280, 4.2.1.4), a SEQUENCE: more about a policy.
-#[derive(Debug, Clone, PartialEq, Eq, Drop)]
+#[derive(Debug, Clone, Copy, PartialEq, Eq)]
 pub struct PolicyQualifierInfo<'a> {
     /// Which qualifier it is: the RFC has id-qt-cps and id-qt-unotice. Any identifier is read.
     pub policy_qualifier_id: ObjectIdentifier,
@@ -100,7 +100,7 @@ type DisplayTextChoice<'a> = OneOf4<
 
 /// DisplayText (RFC 5280, 4.2.1.4), a CHOICE: words for people. Of each string the RFC says `SIZE (1..200)`, which
 /// isn't checked.
-#[derive(Debug, Clone, PartialEq, Eq, Drop)]
+#[derive(Debug, Clone, Copy, PartialEq, Eq)]
 pub enum DisplayText<'a> {
     /// ia5String.
     Ia5(IA5String<'a>),
@@ -380,7 +380,7 @@ pub type CertificatePolicies<'a> = SequenceOf<'a, PolicyInformation<'a>, 1, { us
 
 /// An item of PolicyMappings (RFC 5280, 4.2.1.5), a SEQUENCE: two policies that are equal for the issuer. That neither
 /// is anyPolicy isn't checked.
-#[derive(Debug, Clone, PartialEq, Eq, Drop)]
+#[derive(Debug, Clone, Copy, PartialEq, Eq)]
 pub struct PolicyMapping {
     /// The issuer's policy.
     pub issuer_domain_policy: ObjectIdentifier,
@@ -607,7 +607,7 @@ impl<'a> SimpleAsn1Writable for NameConstraints<'a> {
 
 /// PolicyConstraints (RFC 5280, 4.2.1.11), a SEQUENCE; identifier 2.5.29.36. One without fields is read, which the RFC
 /// forbids. Its numbers are SkipCerts: how many certificates may come before.
-#[derive(Debug, Clone, PartialEq, Eq, Drop)]
+#[derive(Debug, Clone, Copy, PartialEq, Eq)]
 pub struct PolicyConstraints<'a> {
     /// After how many certificates each has to have a policy that is accepted.
     pub require_explicit_policy: Option<BigUint<'a>>,

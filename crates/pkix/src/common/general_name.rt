@@ -1,5 +1,5 @@
 //! General names (RFC 5280, 4.2.1.6).
-// Printed by tools/derive from declarations/common/general_name.rs, with the sum f1c08ee4.
+// Printed by tools/derive from declarations/common/general_name.rs, with the sum d647585b.
 
 ghost use Rattle.std.specs.Prelude.{◌≡◌, ◌∷◌, [], IsTrue, OnErr, IfOk};
 ghost use Rattle.asn1.specs.AlternativeLists.{after8, choice, first1, first8, second8, third8, fourth8, fifth8};
@@ -21,7 +21,7 @@ use asn1::{
 use std::alloc::Global;
 
 /// OtherName (RFC 5280, 4.2.1.6), a SEQUENCE: a name of a form that an identifier names.
-#[derive(Debug, Clone, PartialEq, Eq, Drop)]
+#[derive(Debug, Clone, Copy, PartialEq, Eq)]
 pub struct OtherName<'a> {
     /// The form.
     pub type_id: ObjectIdentifier,
@@ -92,7 +92,7 @@ impl<'a> SimpleAsn1Writable for OtherName<'a> {
 }
 
 /// EDIPartyName (RFC 5280, 4.2.1.6), a SEQUENCE.
-#[derive(Debug, Clone, PartialEq, Eq, Drop)]
+#[derive(Debug, Clone, Copy, PartialEq, Eq)]
 pub struct EdiPartyName<'a> {
     /// Who assigned the name.
     pub name_assigner: Option<DirectoryString<'a>>,

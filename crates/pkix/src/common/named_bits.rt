@@ -1,6 +1,6 @@
 //! Bit strings whose bits have names (X.690 11.2.2).
 
-ghost use Rattle.std.specs.Prelude.{◌≡◌, true, ⊤, MatchOption};
+ghost use Rattle.std.specs.Prelude.{◌≡◌, true, MatchOption};
 ghost use Rattle.asn1.specs.BitStrings.{bits_of};
 ghost use Rattle.asn1.specs.Bits.{has_bit};
 ghost use Rattle.asn1.specs.Der.{simple_der};
@@ -11,7 +11,7 @@ use asn1::{
     Asn1Type, BitString, ParseError, ParseErrorKind, ParseResult, SimpleAsn1Readable,
     SimpleAsn1Writable, Tag, WriteBuf, WriteError, WriteResult,
 };
-use std::alloc::{AllocError, Global};
+use std::alloc::Global;
 
 /// Whether the last bit is a one, or there is none.
 fn has_one_at_end(bits: &BitString<'_>) -> bool
@@ -26,7 +26,7 @@ fn has_one_at_end(bits: &BitString<'_>) -> bool
 /// BIT STRING with named bits (X.690 11.2.2; universal 3): zero bits at its end are removed before it is encoded, so
 /// that the last bit, if there is any, is a one. Reading rejects other contents octets with `InvalidValue`. Which bits
 /// have names isn't checked.
-#[derive(Debug, PartialEq, Eq, Drop)]
+#[derive(Debug, Clone, Copy, PartialEq, Eq)]
 pub struct NamedBits<'a> {
     bits: BitString<'a>,
     pub ghost is_named: { ends_with_one (bits_of bits) ≡ true },
@@ -56,19 +56,6 @@ impl<'a> NamedBits<'a> {
         ensures { result ≡ has_bit (bits_of self.now.bits) n }
     {
         self.bits.has_bit_set(n)
-    }
-}
-
-/// Allocates nothing, and never fails.
-impl<'a> Clone for NamedBits<'a> {
-    ghost is_clone = { λ x y. bits_of y.bits ≡ bits_of x.bits };
-
-    ghost is_infallible = { λ _. ⊤ };
-
-    fn clone(&self) -> Result<NamedBits<'a>, AllocError> {
-        Ok(NamedBits {
-            bits: self.bits.clone()?,
-        })
     }
 }
 

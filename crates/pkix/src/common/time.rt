@@ -1,5 +1,5 @@
 //! Times (RFC 5280, 4.1.2.5).
-// Printed by tools/derive from declarations/common/time.rs, with the sum 537b9488.
+// Printed by tools/derive from declarations/common/time.rs, with the sum c38a0b7d.
 
 ghost use Rattle.asn1.specs.AlternativeLists.{after1, choice, first1};
 ghost use Rattle.asn1.specs.Reads.{HasOneEncoding};
@@ -15,7 +15,7 @@ type TimeChoice = OneOf2<UtcTime, X509GeneralizedTime>;
 
 /// Time (RFC 5280, 4.1), a CHOICE of two forms of a time in UTC, distinguished by the tag. Which form a year has to
 /// have isn't checked.
-#[derive(Debug, Clone, PartialEq, Eq, Drop)]
+#[derive(Debug, Clone, Copy, PartialEq, Eq)]
 pub enum Time {
     /// utcTime: a time from 1950 to 2049.
     UtcTime(UtcTime),

@@ -1,5 +1,5 @@
 //! Signed data (RFC 5652), as far as time stamps need it.
-// Printed by tools/derive from declarations/signatures/signed_data.rs, with the sum 6aa76679.
+// Printed by tools/derive from declarations/signatures/signed_data.rs, with the sum aace6017.
 
 ghost use Rattle.std.specs.Prelude.{◌≡◌, ◌∷◌, [], IsTrue};
 ghost use Rattle.asn1.specs.Options.{option_meaning};
@@ -19,7 +19,7 @@ use asn1::{
 use std::alloc::Global;
 
 /// ContentInfo (RFC 5652, 3), a SEQUENCE.
-#[derive(Debug, Clone, PartialEq, Eq, Drop)]
+#[derive(Debug, Clone, Copy, PartialEq, Eq)]
 pub struct ContentInfo<'a> {
     /// Which content it is.
     pub content_type: ObjectIdentifier,
@@ -86,7 +86,7 @@ impl<'a> SimpleAsn1Writable for ContentInfo<'a> {
 }
 
 /// EncapsulatedContentInfo (RFC 5652, 5.2), a SEQUENCE.
-#[derive(Debug, Clone, PartialEq, Eq, Drop)]
+#[derive(Debug, Clone, Copy, PartialEq, Eq)]
 pub struct EncapsulatedContentInfo<'a> {
     /// Which content it is.
     pub e_content_type: ObjectIdentifier,

@@ -1,5 +1,5 @@
 //! Values of signatures (RFC 3279, 2.2.2 and 2.2.3; RFC 8017, 9.2).
-// Printed by tools/derive from declarations/signatures/values.rs, with the sum 7ca5e094.
+// Printed by tools/derive from declarations/signatures/values.rs, with the sum 1a86fbd8.
 
 ghost use Rattle.std.specs.Prelude.{◌≡◌, ◌∷◌, [], IsTrue};
 ghost use Rattle.asn1.specs.Reads.{HasOneEncoding, ReadsContents};
@@ -15,7 +15,7 @@ use std::alloc::Global;
 
 /// ECDSA-Sig-Value (RFC 3279, 2.2.3), a SEQUENCE, and Dss-Sig-Value (RFC 3279, 2.2.2), which is the same. Its numbers
 /// aren't negative.
-#[derive(Debug, Clone, PartialEq, Eq, Drop)]
+#[derive(Debug, Clone, Copy, PartialEq, Eq)]
 pub struct EcdsaSigValue<'a> {
     /// The first number.
     pub r: BigUint<'a>,
@@ -78,7 +78,7 @@ impl<'a> SimpleAsn1Writable for EcdsaSigValue<'a> {
 }
 
 /// DigestInfo (RFC 8017, 9.2), a SEQUENCE: a digest, and the algorithm that made it.
-#[derive(Debug, Clone, PartialEq, Eq, Drop)]
+#[derive(Debug, Clone, Copy, PartialEq, Eq)]
 pub struct DigestInfo<'a> {
     /// The algorithm.
     pub digest_algorithm: AlgorithmIdentifier<'a>,

@@ -1,5 +1,5 @@
 //! Requests for time stamps, and responses (RFC 3161, 2.4).
-// Printed by tools/derive from declarations/timestamps/exchange.rs, with the sum b7c6036c.
+// Printed by tools/derive from declarations/timestamps/exchange.rs, with the sum d7125e60.
 
 ghost use Rattle.std.specs.Prelude.{◌≡◌, ◌∷◌, [], false, IsTrue};
 ghost use Rattle.asn1.specs.Options.{option_meaning};
@@ -17,7 +17,7 @@ use asn1::{
 use std::alloc::Global;
 
 /// MessageImprint (RFC 3161, 2.4.1), a SEQUENCE: the digest of what is stamped.
-#[derive(Debug, Clone, PartialEq, Eq, Drop)]
+#[derive(Debug, Clone, Copy, PartialEq, Eq)]
 pub struct MessageImprint<'a> {
     /// The algorithm of the digest.
     pub hash_algorithm: AlgorithmIdentifier<'a>,

@@ -1,5 +1,5 @@
 //! What a time stamp says (RFC 3161, 2.4.2).
-// Printed by tools/derive from declarations/timestamps/info.rs, with the sum 21fd2407.
+// Printed by tools/derive from declarations/timestamps/info.rs, with the sum 92e3a9e5.
 
 ghost use Rattle.std.specs.Prelude.{◌≡◌, ◌∷◌, [], false, IsTrue};
 ghost use Rattle.asn1.specs.Options.{option_meaning};
@@ -17,7 +17,7 @@ use asn1::{
 use std::alloc::Global;
 
 /// Accuracy (RFC 3161, 2.4.2), a SEQUENCE: how far the time may be off.
-#[derive(Debug, Clone, PartialEq, Eq, Drop)]
+#[derive(Debug, Clone, Copy, PartialEq, Eq)]
 pub struct Accuracy<'a> {
     /// Seconds.
     pub seconds: Option<BigInt<'a>>,

@@ -21,4 +21,4 @@ pub returns-clause-hash : goal.returns-clause-hash
 returns-clause-hash c a b e = let same = same_octets a b e in cc
 
 pub returns-clause-clone : goal.returns-clause-clone
-returns-clause-clone c a b same = (equal b a).1 (ap identifier_numbers same)
+returns-clause-clone c a b same = (equal b a).1 (ap relative_arcs same)
