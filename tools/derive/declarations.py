@@ -422,7 +422,8 @@ class Module:
             is_list = one.name in LISTS and any(inside.name in self.items for inside in one.inner)
             if is_list or one.name in self.imported:
                 return True
-            found += one.inner if not declared else [declared.type] if declared.type else [part.form for part in declared.parts]
+            inner = [part.form for part in declared.parts] if declared else one.inner
+            found += [declared.type] if declared and declared.type else inner
         return False
 
     def known(self, type):
