@@ -414,9 +414,11 @@ class Module:
         return found
 
     def is_large(self, item):
-        """Whether an alternative of a choice is of an imported type, or holds a list of items that are declared. The
-        prover's search ends at its limit in what these mean."""
+        """Whether an alternative of a choice is of an imported type, is a list, or holds a list of items that are declared.
+        The prover's search ends at its limit in what these mean."""
         found = [part.form for part in item.parts]
+        if any(type.name in LISTS for one in found for type in self.within(one)):
+            return True
         for one in found:
             declared = self.items.get(one.name)
             is_list = one.name in LISTS and any(inside.name in self.items for inside in one.inner)

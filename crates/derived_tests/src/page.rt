@@ -1,5 +1,5 @@
 //! Structures and choices: each attribute of the original's derives for them, once.
-// Printed by tools/derive from declarations/page.rs, with the sum 8139b504.
+// Printed by tools/derive from declarations/page.rs, with the sum 46fa92d1.
 
 ghost use Rattle.std.specs.Prelude.{◌≡◌, ◌∷◌, [], negsuc, IsTrue, OnErr, IfOk};
 ghost use Rattle.asn1.specs.AlternativeLists.{after1, choice, first1};
@@ -9,13 +9,12 @@ ghost use Rattle.asn1.specs.Structures.{defaulted, explicit, field_names, implic
 ghost use Rattle.asn1.specs.Structures.{fields2, fields4};
 
 use asn1::alternatives::{Alternatives, AlternativesReadable, AsOneOf, OneOf2, read_choice};
-use asn1::fields::{Fields2, Fields4, Last, NoFields, Row};
+use asn1::fields::{Fields2, Fields4, Last, NoFields, Row, known_plain, plain_length, write_plain};
 use asn1::{
     Asn1Readable, Asn1Type, Asn1Writable, DefaultValue, Defaulted, Explicit, Implicit, ParseResult,
     Parser, PrintableString, SequenceOf, SetOf, SetOfWriter, SimpleAsn1Readable,
-    SimpleAsn1Writable, Tag, WriteBuf, WriteError, WriteResult, Writer, choice_length,
-    fields_length, known_choice, known_fields, read_fields, take_choice, write_choice,
-    write_fields,
+    SimpleAsn1Writable, Tag, WriteBuf, WriteError, WriteResult, Writer, fields_length,
+    known_fields, read_fields, take_choice, write_fields,
 };
 use std::alloc::Global;
 
@@ -261,7 +260,10 @@ impl<'a> Asn1Type for ResponderId<'a> {
         ⟦<ResponderIdChoice<'a> as Alternatives>⟧.list };
 
     fn known(&self) {
-        known_choice!(self; ResponderId; ByName: explicit 1, ByKey: explicit 2)
+        match self {
+            ResponderId::ByName(x) => known_plain::<Explicit<Strings<'a>, 1>, _>(x),
+            ResponderId::ByKey(x) => known_plain::<Explicit<&'a [u8], 2>, _>(x),
+        }
     }
 }
 
@@ -290,11 +292,17 @@ impl<'a> Asn1Writable for ResponderId<'a> {
     type Error = WriteError;
 
     fn write(&self, dest: &mut Writer<'_>) -> WriteResult<()> {
-        write_choice!(self, dest; ResponderId; ByName: explicit 1, ByKey: explicit 2)
+        match self {
+            ResponderId::ByName(x) => write_plain::<Explicit<Strings<'a>, 1>, _>(x, dest),
+            ResponderId::ByKey(x) => write_plain::<Explicit<&'a [u8], 2>, _>(x, dest),
+        }
     }
 
     fn encoded_length(&self) -> Option<usize> {
-        choice_length!(self; ResponderId; ByName: explicit 1, ByKey: explicit 2)
+        match self {
+            ResponderId::ByName(x) => plain_length::<Explicit<Strings<'a>, 1>, _>(x),
+            ResponderId::ByKey(x) => plain_length::<Explicit<&'a [u8], 2>, _>(x),
+        }
     }
 
     fn writes_as_read() -> bool
