@@ -8,7 +8,7 @@ from workloads import workloads
 
 COUNTED, FAILED = 1_000, 2**64 - 1
 # The page with the table of times, and how the table's head begins.
-PAGE, HEAD = TOP / "docs/DECISIONS.md", "| What | Port, {} |"
+PAGE, HEAD = TOP / "docs/SPEED.md", "| What | Port, {} |"
 
 
 def port():
