@@ -1,5 +1,5 @@
--- What the values of several alternatives and of those after them mean: one case for each. A sum of sums would be taken
--- apart at each place before that of a value, and the prover looks only so deep.
+-- What the values of several alternatives and of those after them mean: one case for each, and no sum of sums, of which
+-- the prover doesn't show the bodies of the seventh alternative by itself.
 use Rattle.std.specs.Prelude.{ℕ, ◌⊎◌, List}
 use Rattle.std.proofs.Common.{inl, inr}
 

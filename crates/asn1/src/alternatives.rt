@@ -37,8 +37,7 @@ pub enum OneOfThree<A, B, C, R> {
 }
 
 /// A value of one of the first eight alternatives, or of one of the others. A list of many is nested an eighth as deep
-/// as one by one: what the prover does for a list grows with how deep its type is nested, and it looks for a value's
-/// place only so deep.
+/// as one by one, since what the prover does for a list grows with how deep its type is nested.
 #[derive(Drop)]
 pub enum OneOfEight<A, B, C, D, E, F, G, H, R> {
     /// Of the first.
