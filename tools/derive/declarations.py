@@ -415,7 +415,7 @@ class Module:
 
     def is_large(self, item):
         """Whether an alternative of a choice is of an imported type, is a list, or holds a list of items that are declared.
-        The prover's search ends at its limit in what these mean."""
+        In arms that the library's macros make the prover's search ends at its limit in what these mean."""
         found = [part.form for part in item.parts]
         if any(type.name in LISTS for one in found for type in self.within(one)):
             return True

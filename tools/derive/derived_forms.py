@@ -20,15 +20,15 @@ use Rattle.asn1.specs.Base128.{leading_number}
 use Rattle.asn1.specs.Identifier.{numbers_in, read_identifier}
 use Rattle.asn1.specs.Lemmas.Results.{done-injective}
 """
-# Where the names are from that the proofs of choices use, and the most alternatives of which the search proves the law.
+# Where the names are from that the proofs of laws use; the most alternatives of which the law of a choice needs no proof,
+# and the most of which one search is its proof.
 LAW_USES = {
-    "std.proofs.Common": "arith false inr refl rules true",
+    "std.proofs.Common": "arith false refl rules true",
     "asn1.specs.Lemmas.Fields": "no_other_accepts tags_differ",
     "asn1.specs.Tag": "explicit_tag_of implicit_tag_of universal universal_constructed",
     "asn1.specs.Tagged": "application_tag private_tag",
-    "asn1.specs.Lemmas.Variants": "OnErr-KeepsPrefix",
 }
-MOST_SEARCHED = 8
+MOST_SEARCHED, MOST_FOUND = 8, 16
 PLACES = "first second third fourth fifth sixth seventh eighth".split()
 COMPUTED = "unfolding read_identifier numbers_in leading_number\n"
 IDENTIFIER_ANSWERS = ANSWER.format("known_identifier-requires", "refl", COMPUTED)
@@ -93,9 +93,9 @@ class Form:
         generics = f"<{self.life}>" if "'" in head else ""
         return f"\nimpl{generics} {head} {{\n{text}\n}}\n"
 
-    def list_in_macro(self, what, words, of="", is_once=False):
+    def list_in_macro(self, what, words, of=""):
         """The macro that has the list of the fields or the variants, if that is too long to stand in each body."""
-        self.words, is_long = f"{of}{words}", len(of + words) > MOST_IN_BODY and not is_once
+        self.words, is_long = f"{of}{words}", len(of + words) > MOST_IN_BODY
         self.listed = f"{what}_of_{snake(self.name)}" if is_long else ""
         return self.listed and f"""
 macro_rules! {self.listed} {{
@@ -300,8 +300,7 @@ class Choice(Form):
         row, own = self.item.own("Choice"), self.item.own()
         text = f"\ntype {row} = {one_of([str(part.form) for part in self.parts])};\n"
         words = ",".join(f" {part.name}{f': {part.tag} {part.number}' if part.tag else ''}" for part in self.parts)
-        is_large = self.module.is_large(self.item)
-        text += self.list_in_macro("variants", words, f" {self.name};", is_large)
+        text += self.list_in_macro("variants", words, f" {self.name};")
         text += self.stated(part.base for part in self.parts)
         seen = quoted(own, f"AsOneOf<{row}>") + ".seen"
         values = [f"({part.tag} x)" if part.tag else "x" for part in self.parts]
@@ -311,10 +310,9 @@ class Choice(Form):
             fn from_one_of(value: {row}) -> {own}
                 ensures {{ {seen} result ≡ value.entry }}
             {{ {self.body("take_choice", "value")} }}""")
-        known = self.match("x.known()", tagged="known_plain::<{form}, _>(x)")
         text += self.impl("Asn1Type", f"""
             ghost der = {{ choice {seen} {quoted(row, "Alternatives")}.list }};
-            fn known(&self) {{ {known if is_large else self.body("known_choice", "self")} }}""")
+            fn known(&self) {{ {self.body("known_choice", "self")} }}""")
         if self.item.reads:
             found = f"IfOk result (λ v. BeginsWithEncodingOf {self.means} v parser.old parser.new)"
             body = f"read_choice::<{row}, {own}>(parser)"
@@ -324,7 +322,7 @@ class Choice(Form):
                 ensures value {{ result ≡ {self.means}.accepts tag }}
                 ensures plain {{ {self.means}.plain }}
             {{ <{row} as AlternativesReadable<{self.item.life or "'_"}>>::accepts(tag) }}""")
-        if self.item.writes and is_large:
+        if self.item.writes and self.module.is_large(self.item):
             text += self.written("Asn1Writable", last=self.writes_as_read())
         elif self.item.writes:
             text += self.impl("Asn1Writable", ERROR, f"""
@@ -367,7 +365,7 @@ class Choice(Form):
     def written(self, trait, *members, other="", last=""):
         """The impl of writing: a variant's value is written, and its length told."""
         tagged = "write_plain::<{form}, _>(x, dest)"
-        write = self.match("dest.write_element(x)", f"dest.write_element(&{other})", tagged=tagged)
+        write = self.match("x.write(dest)", f"{other}.write(dest)", tagged=tagged)
         length = self.match("x.encoded_length()", f"{other}.encoded_length()", tagged="plain_length::<{form}, _>(x)")
         return self.impl(trait, ERROR, *members, f"""
             fn write(&self, dest: &mut Writer<'_>) -> WriteResult<()> {{ {write} }}
@@ -510,13 +508,18 @@ def side(at, count):
     return "(inr " * at + ("(inl {})" if at < count - 1 else "{}") + ")" * at
 
 
+def has_proof(item):
+    """Whether the law of a choice has a proof of its own."""
+    return item.kind == "enum" and item.reads and not item.is_defined and len(item.parts) > MOST_SEARCHED
+
+
 def lawful(item, module):
     """The function that says that each value of the type has one encoding. It calls the laws of the types in the type.
     If one of these may be missing, or for a choice, tags differ."""
     if item.kind in ("const", "number") or item.is_defined or item.kind != "type" and not item.reads:
         return ""
     parts = [item.type] if item.type else [part.form for part in item.parts]
-    is_told = item.kind == "enum" or any(module.known(part).is_missing for part in parts[:-1])
+    is_told = item.kind == "enum" and not has_proof(item) or any(module.known(part).is_missing for part in parts[:-1])
     # An imported type that an item defines has no law by itself.
     others = [part.form for part in item.parts if "defined_by" in part.attributes and part.base.name not in module.items]
     called = dict.fromkeys(called for part in parts if part not in others for called in laws_of(module, part))
@@ -600,81 +603,30 @@ def term_of(tag):
     return group(tag_of((*names, number) if names else ("universal", number), is_constructed)[0])
 
 
-def with_uses(proofs):
-    """The imports of proofs, and these."""
+def law_of_choice(item, module):
+    """What the proof of a large choice's law uses, and the proof. That no other alternative accepts an alternative's tag
+    is computed, if this is one tag that is known. If it is so of all, and they aren't too many, the search finds these
+    tags; else the proof is alternative by alternative."""
+    *before, _ = [module.known(part.form).tags for part in item.parts]
+    are_one = [tags not in (None, ANY) and len(tags) == 1 for tags in before]
+    proof = "search (rules, no_other_accepts)"
+    if not all(are_one) or len(item.parts) > MOST_FOUND:
+        lawful, others = "(search rules, search rules, tt, λ tag accepted. refl)", "(search rules, tt)"
+        for tags, is_one in zip(reversed(before), reversed(are_one)):
+            apart = f"no_other_accepts {term_of(*tags)} _ refl" if is_one else "grind (arith, tags_differ)"
+            lawful, others = f"(search rules, search rules, {lawful}, {apart})", f"(search rules, {others})"
+        proof = f"({lawful}, {others}, {others})"
     uses = ""
     for source, names in LAW_USES.items():
-        used = ", ".join(name for name in names.split() if re.search(rf"(?<![\w.-]){name}(?![\w-])", proofs))
+        used = ", ".join(name for name in names.split() if re.search(rf"(?<![\w.-]){name}(?![\w-])", proof))
         uses += f"use Rattle.{source}.{{{used}}}\n" if used else ""
-    return uses, proofs
-
-
-def law_of_choice(item, module):
-    """The proof of a choice's law, alternative by alternative: the search would end at its limit in more than six. That
-    no other alternative accepts an alternative's tag is computed, if this is one tag that is known."""
-    lawful, others = "tt", "tt"
-    for part in reversed(item.parts):
-        tags = module.known(part.form).tags
-        is_one = tags and tags != ANY and len(tags) == 1
-        apart = f"no_other_accepts {term_of(*tags)} _ refl" if is_one else "grind (arith, tags_differ)"
-        apart = "λ tag accepted. refl" if part is item.parts[-1] else apart
-        lawful, others = f"(search rules, search rules, {lawful}, {apart})", f"(search rules, {others})"
-    return with_uses(ANSWER.format("returns", f"({lawful}, {others}, {others})", ""))
-
-
-def bodies_of_choice(item):
-    """The proofs of a large choice's bodies: of each arm that its call states what is owed of this variant. The search
-    would find them, but looks into what all alternatives mean."""
-    known, write, length = "", "", ""
-    for part in item.parts:
-        first = next(one for one in item.parts if bool(one.tag) == bool(part.tag))
-        # The first call's goals and results have no more than its name, and those of each further one tell where it is.
-        at = "" if part is first else f"-in-{part.name}"
-        calls = ("known_plain write_plain plain_length" if part.tag else "known write_element encoded_length").split()
-        states, writes, counts = (f"c.{call}{at}.ensures" for call in calls)
-        here, returns = f"rw c.in-{part.name}.is", f"returns-in-{part.name}"
-        owed, err = f"{here} at c.requires", f"{writes}.err"
-        if not part.tag:
-            owed, err = f"inr ({owed})", f"OnErr-KeepsPrefix _ _ c.write_element{at}.result {err}"
-        # The call for a number states more than is owed, so the search proves that arm.
-        is_number = re.fullmatch(r"[iu]\d+|Enumerated", str(part.form))
-        known += "" if is_number else ANSWER.format(returns, f"{here} {states}", "")
-        write += ANSWER.format(f"{calls[1]}-requires{at}", owed, "")
-        write += ANSWER.format(f"{returns}-clause-same_buffer", f"{writes}.same_buffer", "")
-        write += ANSWER.format(f"{returns}-clause-ok", f"{here} {writes}.ok", "")
-        write += ANSWER.format(f"{returns}-clause-err", err, "")
-        told = f"(record {{ right = {counts}.right; told = λ has t is small. absurd has }})"
-        length += ANSWER.format(returns, f"{here} {told}", "")
-    yield f"{item.name}Asn1Type/known", *with_uses(known)
-    if item.writes:
-        yield f"{item.name}Asn1Writable/write", *with_uses(write)
-        yield f"{item.name}Asn1Writable/encoded_length", *with_uses(length)
+    return uses, ANSWER.format("returns", proof, "")
 
 
 def answers(item, module):
-    """The proofs that are owed for an item: of each their function, what they use, and the proofs. The write of what an
-    item defines owes some, if a variant's type is declared or imported, in which the search would end at its limit: the
-    types have one encoding, so nothing more is asked; and an error leaves the buffer as it was. The law of a choice of
-    many alternatives owes some, and so do the bodies of one with large parts."""
+    """The proofs that are owed for an item, an identifier or a choice of many alternatives: of each its function, what
+    it uses, and the proof."""
     if item.kind == "const":
         yield item.name.lower(), IDENTIFIER_USES, IDENTIFIER_ANSWERS
-    if item.kind == "enum" and not item.is_defined:
-        if module.is_large(item):
-            yield from bodies_of_choice(item)
-        if item.reads and len(item.parts) > MOST_SEARCHED:
-            yield f"laws/{snake(item.name)}_is_lawful", *law_of_choice(item, module)
-    if not (item.is_defined and item.writes):
-        return
-    names, large, kept = {*module.items, *module.imported}, "", ""
-    plain = [part for part in item.parts if not part.tag]
-    for part in plain:
-        # The first call's goals and results have no more than its name, and those of each further one tell where it is.
-        at = "" if part is plain[0] else f"-in-{part.name}"
-        is_large = any(type.name in names for type in module.within(part.base))
-        large += ANSWER.format(f"write_element-requires{at}", "inl (search rules)", "") if is_large else ""
-        term = f"OnErr-KeepsPrefix _ _ c.write_element{at}.result c.write_element{at}.ensures.err"
-        kept += ANSWER.format(f"returns-in-{part.name}-clause-err", term, "")
-    uses = "use Rattle.std.proofs.Common.{inl, rules}\n"
-    uses += "use Rattle.asn1.specs.Lemmas.Variants.{OnErr-KeepsPrefix}\n"
-    if large:
-        yield f"{item.name}Asn1DefinedByWritable{item.of}/write", uses, large + kept
+    if has_proof(item):
+        yield f"laws/{snake(item.name)}_is_lawful", *law_of_choice(item, module)

@@ -87,3 +87,32 @@ pub enum Either<'a> {
     /// None.
     None(asn1::Null),
 }
+
+/// Nine alternatives, of which one is a choice without a tag of its own.
+#[derive(asn1::Asn1Read, asn1::Asn1Write)]
+pub enum Nine<'a> {
+    /// A number.
+    #[implicit(0)]
+    First(u8),
+    /// Another.
+    #[implicit(1)]
+    Second(u8),
+    /// Another.
+    #[implicit(2)]
+    Third(u8),
+    /// Another.
+    #[explicit(3)]
+    Fourth(u8),
+    /// Another.
+    #[application(4, implicit)]
+    Fifth(u8),
+    /// Another.
+    #[private(5, implicit)]
+    Sixth(u8),
+    /// A code.
+    Code(ResultCode),
+    /// Octets or none.
+    Either(Either<'a>),
+    /// Whether.
+    Flag(bool),
+}

@@ -1,5 +1,5 @@
 //! Values that an item before them defines: each attribute of the original's derives for them, once.
-// Printed by tools/derive from declarations/items.rs, with the sum 33098a25.
+// Printed by tools/derive from declarations/items.rs, with the sum 7ee93c02.
 
 ghost use Rattle.std.specs.Prelude.{◌≡◌, ◌⊎◌, ◌∷◌, [], true, false, ⊤, IsTrue, MatchOption, OnErr};
 ghost use Rattle.std.specs.Str.{bytes_eq};
@@ -186,8 +186,8 @@ impl Asn1DefinedByWritable<ObjectIdentifier> for Content {
 
     fn write(&self, dest: &mut Writer<'_>) -> WriteResult<()> {
         match self {
-            Content::SomeVariant(x) => dest.write_element(x),
-            Content::RsaParameters(x) => dest.write_element(x),
+            Content::SomeVariant(x) => x.write(dest),
+            Content::RsaParameters(x) => x.write(dest),
         }
     }
 
@@ -367,13 +367,13 @@ impl<'a> Asn1DefinedByWritable<ObjectIdentifier> for AnyContent<'a> {
 
     fn write(&self, dest: &mut Writer<'_>) -> WriteResult<()> {
         match self {
-            AnyContent::Tagged(x) => dest.write_element(x),
+            AnyContent::Tagged(x) => x.write(dest),
             AnyContent::Numbers(x) => write_plain::<
                 Explicit<SequenceOf<'a, u64, 0, { usize::MAX }>, 1>,
                 _,
             >(x, dest),
-            AnyContent::Flag(x) => dest.write_element(x),
-            AnyContent::Unknown(x) => dest.write_element(&x.value),
+            AnyContent::Flag(x) => x.write(dest),
+            AnyContent::Unknown(x) => x.value.write(dest),
         }
     }
 
@@ -678,8 +678,8 @@ impl<'a> Asn1DefinedByWritable<ObjectIdentifier> for Listed<'a> {
 
     fn write(&self, dest: &mut Writer<'_>) -> WriteResult<()> {
         match self {
-            Listed::Number(x) => dest.write_element(x),
-            Listed::Unknown(x) => dest.write_element(&x.value),
+            Listed::Number(x) => x.write(dest),
+            Listed::Unknown(x) => x.value.write(dest),
         }
     }
 

@@ -1,5 +1,5 @@
 //! Items that are numbers, and defaults that aren't literals: each form of the script for them, once.
-// Printed by tools/derive from declarations/numbers.rs, with the sum 2ca4e0c1.
+// Printed by tools/derive from declarations/numbers.rs, with the sum d335185a.
 
 ghost use Rattle.std.specs.Prelude.{◌≡◌, ◌⊎◌, ◌∷◌, [], pos, negsuc, nat_eq, true, false, ⊤, IsTrue, MatchOption, OnErr};
 ghost use Rattle.std.specs.Cmp.{partial_equiv_from_equiv};
@@ -208,10 +208,10 @@ impl<'a> Asn1DefinedByWritable<i32> for PaValue<'a> {
 
     fn write(&self, dest: &mut Writer<'_>) -> WriteResult<()> {
         match self {
-            PaValue::Timestamp(x) => dest.write_element(x),
+            PaValue::Timestamp(x) => x.write(dest),
             PaValue::Fast(x) => write_plain::<Explicit<&'a [u8], 0>, _>(x, dest),
-            PaValue::Local(x) => dest.write_element(x),
-            PaValue::Other(x) => dest.write_element(&x.value),
+            PaValue::Local(x) => x.write(dest),
+            PaValue::Other(x) => x.value.write(dest),
         }
     }
 
@@ -413,8 +413,8 @@ impl<'a> Asn1DefinedByWritable<u8> for OfVersion<'a> {
 
     fn write(&self, dest: &mut Writer<'_>) -> WriteResult<()> {
         match self {
-            OfVersion::Number(x) => dest.write_element(x),
-            OfVersion::Other(x) => dest.write_element(&x.value),
+            OfVersion::Number(x) => x.write(dest),
+            OfVersion::Other(x) => x.value.write(dest),
         }
     }
 

@@ -1,5 +1,5 @@
 //! Structures and choices: each attribute of the original's derives for them, once.
-// Printed by tools/derive from declarations/page.rs, with the sum 46fa92d1.
+// Printed by tools/derive from declarations/page.rs, with the sum 04c8855c.
 
 ghost use Rattle.std.specs.Prelude.{◌≡◌, ◌∷◌, [], negsuc, IsTrue, OnErr, IfOk};
 ghost use Rattle.asn1.specs.AlternativeLists.{after1, choice, first1};
@@ -9,12 +9,12 @@ ghost use Rattle.asn1.specs.Structures.{defaulted, explicit, field_names, implic
 ghost use Rattle.asn1.specs.Structures.{fields2, fields4};
 
 use asn1::alternatives::{Alternatives, AlternativesReadable, AsOneOf, OneOf2, read_choice};
-use asn1::fields::{Fields2, Fields4, Last, NoFields, Row, known_plain, plain_length, write_plain};
+use asn1::fields::{Fields2, Fields4, Last, NoFields, Row, plain_length, write_plain};
 use asn1::{
     Asn1Readable, Asn1Type, Asn1Writable, DefaultValue, Defaulted, Explicit, Implicit, ParseResult,
     Parser, PrintableString, SequenceOf, SetOf, SetOfWriter, SimpleAsn1Readable,
     SimpleAsn1Writable, Tag, WriteBuf, WriteError, WriteResult, Writer, fields_length,
-    known_fields, read_fields, take_choice, write_fields,
+    known_choice, known_fields, read_fields, take_choice, write_fields,
 };
 use std::alloc::Global;
 
@@ -260,10 +260,7 @@ impl<'a> Asn1Type for ResponderId<'a> {
         ⟦<ResponderIdChoice<'a> as Alternatives>⟧.list };
 
     fn known(&self) {
-        match self {
-            ResponderId::ByName(x) => known_plain::<Explicit<Strings<'a>, 1>, _>(x),
-            ResponderId::ByKey(x) => known_plain::<Explicit<&'a [u8], 2>, _>(x),
-        }
+        known_choice!(self; ResponderId; ByName: explicit 1, ByKey: explicit 2)
     }
 }
 

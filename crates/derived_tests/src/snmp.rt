@@ -1,5 +1,5 @@
 //! SNMPv3 messages (RFC 3412, RFC 3414, RFC 3416).
-// Printed by tools/derive from declarations/snmp.rs, with the sum 8a8055a2.
+// Printed by tools/derive from declarations/snmp.rs, with the sum b70e277f.
 
 ghost use Rattle.std.specs.Prelude.{◌≡◌, ◌∷◌, [], IsTrue, OnErr, IfOk};
 ghost use Rattle.asn1.specs.AlternativeLists.{after1, after3, after8, choice, first1, first3, second3, third3, first8};
@@ -11,9 +11,7 @@ ghost use Rattle.asn1.specs.Structures.{field_names, implicit, structure, fields
 use asn1::alternatives::{
     Alternatives, AlternativesReadable, AsOneOf, OneOf2, OneOf5, OneOf8, OneOfEight, read_choice,
 };
-use asn1::fields::{
-    Fields2, Fields3, Fields4, Fields6, Row, known_plain, plain_length, write_plain,
-};
+use asn1::fields::{Fields2, Fields3, Fields4, Fields6, Row, plain_length, write_plain};
 use asn1::{
     ApplicationImplicit, Asn1Readable, Asn1Type, Asn1Writable, Implicit, Null, ObjectIdentifier,
     OctetStringEncoded, ParseResult, Parser, SequenceOf, SimpleAsn1Readable, SimpleAsn1Writable,
@@ -276,10 +274,7 @@ impl<'a> Asn1Type for ScopedPduData<'a> {
         ⟦<ScopedPduDataChoice<'a> as Alternatives>⟧.list };
 
     fn known(&self) {
-        match self {
-            ScopedPduData::Plaintext(x) => x.known(),
-            ScopedPduData::EncryptedPdu(x) => x.known(),
-        }
+        known_choice!(self; ScopedPduData; Plaintext, EncryptedPdu)
     }
 }
 
@@ -309,8 +304,8 @@ impl<'a> Asn1Writable for ScopedPduData<'a> {
 
     fn write(&self, dest: &mut Writer<'_>) -> WriteResult<()> {
         match self {
-            ScopedPduData::Plaintext(x) => dest.write_element(x),
-            ScopedPduData::EncryptedPdu(x) => dest.write_element(x),
+            ScopedPduData::Plaintext(x) => x.write(dest),
+            ScopedPduData::EncryptedPdu(x) => x.write(dest),
         }
     }
 
@@ -409,6 +404,13 @@ type PdusChoice<'a> = OneOf8<
     Implicit<Pdu<'a>, 8>,
 >;
 
+macro_rules! variants_of_pdus {
+    ($body:ident, $($of:tt)*) => { $body!($($of)*; Pdus;
+        GetRequest: implicit 0, GetNextRequest: implicit 1, Response: implicit 2,
+        SetRequest: implicit 3, GetBulkRequest: implicit 5, InformRequest: implicit 6,
+        Trap: implicit 7, Report: implicit 8) };
+}
+
 /// PDUs (RFC 3416, 3).
 #[derive(Drop)]
 pub enum Pdus<'a> {
@@ -449,10 +451,7 @@ impl<'a> AsOneOf<PdusChoice<'a>> for Pdus<'a> {
     fn from_one_of(value: PdusChoice<'a>) -> Pdus<'a>
         ensures { ⟦<Pdus<'a> as AsOneOf<PdusChoice<'a>>>⟧.seen result ≡ value.entry }
     {
-        take_choice!(value;
-            Pdus; GetRequest: implicit 0, GetNextRequest: implicit 1, Response: implicit 2,
-            SetRequest: implicit 3, GetBulkRequest: implicit 5, InformRequest: implicit 6,
-            Trap: implicit 7, Report: implicit 8)
+        variants_of_pdus!(take_choice, value)
     }
 }
 
@@ -461,16 +460,7 @@ impl<'a> Asn1Type for Pdus<'a> {
         ⟦<PdusChoice<'a> as Alternatives>⟧.list };
 
     fn known(&self) {
-        match self {
-            Pdus::GetRequest(x) => known_plain::<Implicit<Pdu<'a>, 0>, _>(x),
-            Pdus::GetNextRequest(x) => known_plain::<Implicit<Pdu<'a>, 1>, _>(x),
-            Pdus::Response(x) => known_plain::<Implicit<Pdu<'a>, 2>, _>(x),
-            Pdus::SetRequest(x) => known_plain::<Implicit<Pdu<'a>, 3>, _>(x),
-            Pdus::GetBulkRequest(x) => known_plain::<Implicit<BulkPdu<'a>, 5>, _>(x),
-            Pdus::InformRequest(x) => known_plain::<Implicit<Pdu<'a>, 6>, _>(x),
-            Pdus::Trap(x) => known_plain::<Implicit<Pdu<'a>, 7>, _>(x),
-            Pdus::Report(x) => known_plain::<Implicit<Pdu<'a>, 8>, _>(x),
-        }
+        variants_of_pdus!(known_choice, self)
     }
 }
 
@@ -936,7 +926,6 @@ pub mod laws {
     }
 
     /// Each value of `ObjectSyntax` has one encoding, which is read back.
-    #[tactic(auto, using(asn1::specs::Lemmas::Fields::tags_differ))]
     pub fn object_syntax_is_lawful()
         ensures { HasOneEncoding ⟦<ObjectSyntax<'static> as Asn1Type>⟧.der }
     {}

@@ -1,26 +1,27 @@
 //! Tags of every class, sets, and enums whose values have numbers: each form of the script for them, once.
-// Printed by tools/derive from declarations/tags.rs, with the sum d544abc8.
+// Printed by tools/derive from declarations/tags.rs, with the sum cdc1434f.
 
 ghost use Rattle.std.specs.Prelude.{◌≡◌, ◌∷◌, [], true, false, IsTrue, OnErr, IfOk};
-ghost use Rattle.asn1.specs.AlternativeLists.{after1, choice, first1, first3, second3, third3};
+ghost use Rattle.asn1.specs.AlternativeLists.{after1, after8, choice, first1, first3, second3, third3, first8};
+ghost use Rattle.asn1.specs.AlternativeLists.{second8, third8, fourth8, fifth8, sixth8, seventh8, eighth8};
 ghost use Rattle.asn1.specs.Listing.{set_tag};
 ghost use Rattle.asn1.specs.Numbered.{numbered};
 ghost use Rattle.asn1.specs.Reading.{EndsWith};
 ghost use Rattle.asn1.specs.Reads.{BeginsWithEncodingOf, HasOneEncoding, ReadsContents, ReadsPrefix};
-ghost use Rattle.asn1.specs.Structures.{defaulted, field_names, implicit, structure_with_tag, fields3};
+ghost use Rattle.asn1.specs.Structures.{defaulted, explicit, field_names, implicit, structure_with_tag, fields3};
 ghost use Rattle.asn1.specs.Tag.{universal};
 ghost use Rattle.asn1.specs.Tagged.{application_tag, private_tag};
 
 use asn1::alternatives::{
-    Alternatives, AlternativesReadable, AsOneOf, OneOf2, OneOf3, read_choice,
+    Alternatives, AlternativesReadable, AsOneOf, OneOf2, OneOf3, OneOf9, read_choice,
 };
 use asn1::fields::{Fields3, Row};
 use asn1::{
     ApplicationExplicit, ApplicationImplicit, Asn1Readable, Asn1Type, Asn1Writable, DefaultValue,
     Defaulted, Explicit, IA5String, Implicit, Null, Numbered, ParseResult, Parser, PrivateExplicit,
-    SimpleAsn1Readable, SimpleAsn1Writable, Tag, TagClass, UniversalImplicit, WriteBuf, WriteError,
-    WriteResult, Writer, choice_length, fields_length, known_choice, known_fields, known_number,
-    read_fields, read_number, take_choice, write_choice, write_fields,
+    PrivateImplicit, SimpleAsn1Readable, SimpleAsn1Writable, Tag, TagClass, UniversalImplicit,
+    WriteBuf, WriteError, WriteResult, Writer, choice_length, fields_length, known_choice,
+    known_fields, known_number, read_fields, read_number, take_choice, write_choice, write_fields,
 };
 use std::alloc::Global;
 
@@ -528,9 +529,121 @@ impl<'a> Asn1Writable for Either<'a> {
     }
 }
 
+type NineChoice<'a> = OneOf9<
+    Implicit<u8, 0>,
+    Implicit<u8, 1>,
+    Implicit<u8, 2>,
+    Explicit<u8, 3>,
+    ApplicationImplicit<u8, 4>,
+    PrivateImplicit<u8, 5>,
+    ResultCode,
+    Either<'a>,
+    bool,
+>;
+
+macro_rules! variants_of_nine {
+    ($body:ident, $($of:tt)*) => { $body!($($of)*; Nine;
+        First: implicit 0, Second: implicit 1, Third: implicit 2, Fourth: explicit 3, Fifth, Sixth,
+        Code, Either, Flag) };
+}
+
+/// Nine alternatives, of which one is a choice without a tag of its own.
+#[derive(Drop)]
+pub enum Nine<'a> {
+    /// A number.
+    First(u8),
+    /// Another.
+    Second(u8),
+    /// Another.
+    Third(u8),
+    /// Another.
+    Fourth(u8),
+    /// Another.
+    Fifth(ApplicationImplicit<u8, 4>),
+    /// Another.
+    Sixth(PrivateImplicit<u8, 5>),
+    /// A code.
+    Code(ResultCode),
+    /// Octets or none.
+    Either(Either<'a>),
+    /// Whether.
+    Flag(bool),
+}
+
+impl<'a> AsOneOf<NineChoice<'a>> for Nine<'a> {
+    ghost use Rattle.derived_tests.specs.declared.tags.Nine.TheVariants.{First, Second, Third, Fourth, Fifth, Sixth};
+    ghost use Rattle.derived_tests.specs.declared.tags.Nine.TheVariants.{Code, Either, Flag};
+
+    ghost seen = { elim [
+      | First x ↦ first8 (implicit x)
+      | Second x ↦ second8 (implicit x)
+      | Third x ↦ third8 (implicit x)
+      | Fourth x ↦ fourth8 (explicit x)
+      | Fifth x ↦ fifth8 x
+      | Sixth x ↦ sixth8 x
+      | Code x ↦ seventh8 x
+      | Either x ↦ eighth8 x
+      | Flag x ↦ after8 (first1 x)
+    ] };
+
+    fn from_one_of(value: NineChoice<'a>) -> Nine<'a>
+        ensures { ⟦<Nine<'a> as AsOneOf<NineChoice<'a>>>⟧.seen result ≡ value.entry }
+    {
+        variants_of_nine!(take_choice, value)
+    }
+}
+
+impl<'a> Asn1Type for Nine<'a> {
+    ghost der = { choice ⟦<Nine<'a> as AsOneOf<NineChoice<'a>>>⟧.seen
+        ⟦<NineChoice<'a> as Alternatives>⟧.list };
+
+    fn known(&self) {
+        variants_of_nine!(known_choice, self)
+    }
+}
+
+impl<'a> Asn1Readable<'a> for Nine<'a> {
+    fn parse(parser: &mut Parser<'a>) -> ParseResult<Nine<'a>>
+        ensures answers { ReadsPrefix ⟦<Nine<'a> as Asn1Type>⟧.der parser.old parser.new result }
+        ensures found { IfOk result (λ v. BeginsWithEncodingOf ⟦<Nine<'a> as Asn1Type>⟧.der v
+            parser.old parser.new) }
+        ensures rest { EndsWith parser.old parser.new }
+        ensures stops { OnErr result (⟦<Nine<'a> as Asn1Type>⟧.der.stops parser.old parser.new) }
+    {
+        read_choice::<NineChoice<'a>, Nine<'a>>(parser)
+    }
+
+    fn can_parse(tag: Tag) -> bool
+        ensures value { result ≡ ⟦<Nine<'a> as Asn1Type>⟧.der.accepts tag }
+        ensures plain { ⟦<Nine<'a> as Asn1Type>⟧.der.plain }
+    {
+        <NineChoice<'a> as AlternativesReadable<'a>>::accepts(tag)
+    }
+}
+
+impl<'a> Asn1Writable for Nine<'a> {
+    type Error = WriteError;
+
+    fn write(&self, dest: &mut Writer<'_>) -> WriteResult<()> {
+        variants_of_nine!(write_choice, self, dest)
+    }
+
+    fn encoded_length(&self) -> Option<usize> {
+        variants_of_nine!(choice_length, self)
+    }
+
+    fn writes_as_read() -> bool
+        ensures { IsTrue result }
+    {
+        true
+    }
+}
+
 /// The laws of the types, which do nothing.
 pub mod laws {
-    use super::{Either, Entry, Numeric, Report, ResultCode, Sealed, Settings, Switch, Version};
+    use super::{
+        Either, Entry, Nine, Numeric, Report, ResultCode, Sealed, Settings, Switch, Version,
+    };
     use asn1::Asn1Type;
 
     /// Each value of `ResultCode` has one encoding, which is read back.
@@ -592,4 +705,12 @@ pub mod laws {
     pub fn either_is_lawful()
         ensures { HasOneEncoding ⟦<Either<'static> as Asn1Type>⟧.der }
     {}
+
+    /// Each value of `Nine` has one encoding, which is read back.
+    pub fn nine_is_lawful()
+        ensures { HasOneEncoding ⟦<Nine<'static> as Asn1Type>⟧.der }
+    {
+        result_code_is_lawful();
+        either_is_lawful();
+    }
 }

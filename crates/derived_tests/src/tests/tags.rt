@@ -1,7 +1,7 @@
 //! Tags of every class, sets, and enums whose values have numbers.
 
 use super::are_written_back;
-use crate::tags::{Either, Entry, Report, ResultCode, Sealed, Settings, Switch, Version};
+use crate::tags::{Either, Entry, Nine, Report, ResultCode, Sealed, Settings, Switch, Version};
 use asn1::{Explicit, ParseErrorKind, Tag};
 use std::test::Fail;
 use testing::{are_both_ways, are_refused, both_ways};
@@ -106,4 +106,29 @@ fn entries(rt: HostRuntime) -> Result<(), Fail> {
         actual: Tag::constructed(0x10),
     };
     are_refused::<Entry<'_>>(alloc, &[(&[0xa1, 4, 0x30, 2, 5, 0], structure)])
+}
+
+/// Each of nine alternatives is told by its tag, and the choice in the choice by its two.
+#[test]
+fn nine_alternatives(rt: HostRuntime) -> Result<(), Fail> {
+    let alloc = rt.alloc();
+    are_written_back::<Nine<'_>>(
+        alloc,
+        &[
+            &[0x80, 1, 7],
+            &[0x81, 1, 7],
+            &[0x82, 1, 7],
+            &[0xa3, 3, 2, 1, 7],
+            &[0x44, 1, 7],
+            &[0xc5, 1, 7],
+            &[0x0a, 1, 3],
+            &[4, 1, 7],
+            &[5, 0],
+            &[1, 1, 0xff],
+        ],
+    )?;
+    let number = ParseErrorKind::UnexpectedTag {
+        actual: Tag::primitive(2),
+    };
+    are_refused::<Nine<'_>>(alloc, &[(&[2, 1, 7], number)])
 }

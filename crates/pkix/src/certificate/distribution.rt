@@ -1,5 +1,5 @@
 //! Where revocation lists are found, and what they have (RFC 5280, 4.2.1.13 and 5.2.5).
-// Printed by tools/derive from declarations/certificate/distribution.rs, with the sum f4a05e24.
+// Printed by tools/derive from declarations/certificate/distribution.rs, with the sum 2d39ee3f.
 
 ghost use Rattle.std.specs.Prelude.{◌≡◌, ◌∷◌, [], false, IsTrue, OnErr, IfOk};
 ghost use Rattle.asn1.specs.AlternativeLists.{after1, choice, first1};
@@ -10,11 +10,12 @@ ghost use Rattle.asn1.specs.Structures.{defaulted, explicit, field_names, implic
 
 use crate::common::{AttributeTypeAndValue, GeneralNames, NamedBits};
 use asn1::alternatives::{Alternatives, AlternativesReadable, AsOneOf, OneOf2, read_choice};
-use asn1::fields::{Fields3, Fields6, Row, known_plain, plain_length, write_plain};
+use asn1::fields::{Fields3, Fields6, Row, plain_length, write_plain};
 use asn1::{
     Asn1Readable, Asn1Type, Asn1Writable, DefaultValue, Defaulted, Explicit, Implicit, ParseResult,
     Parser, SequenceOf, SetOf, SimpleAsn1Readable, SimpleAsn1Writable, Tag, WriteBuf, WriteError,
-    WriteResult, Writer, fields_length, known_fields, read_fields, take_choice, write_fields,
+    WriteResult, Writer, fields_length, known_choice, known_fields, read_fields, take_choice,
+    write_fields,
 };
 use std::alloc::Global;
 
@@ -57,15 +58,8 @@ impl<'a> Asn1Type for DistributionPointName<'a> {
         ⟦<DistributionPointNameChoice<'a> as Alternatives>⟧.list };
 
     fn known(&self) {
-        match self {
-            DistributionPointName::FullName(x) => known_plain::<Implicit<GeneralNames<'a>, 0>, _>(
-                x,
-            ),
-            DistributionPointName::NameRelativeToCrlIssuer(x) => known_plain::<
-                Implicit<SetOf<'a, AttributeTypeAndValue<'a>>, 1>,
-                _,
-            >(x),
-        }
+        known_choice!(self;
+            DistributionPointName; FullName: implicit 0, NameRelativeToCrlIssuer: implicit 1)
     }
 }
 

@@ -1,5 +1,5 @@
 //! General names (RFC 5280, 4.2.1.6).
-// Printed by tools/derive from declarations/common/general_name.rs, with the sum d647585b.
+// Printed by tools/derive from declarations/common/general_name.rs, with the sum 1b77cd64.
 
 ghost use Rattle.std.specs.Prelude.{◌≡◌, ◌∷◌, [], IsTrue, OnErr, IfOk};
 ghost use Rattle.asn1.specs.AlternativeLists.{after8, choice, first1, first8, second8, third8, fourth8, fifth8};
@@ -11,12 +11,12 @@ ghost use Rattle.asn1.specs.Structures.{explicit, field_names, implicit, structu
 
 use crate::common::{DirectoryString, Name};
 use asn1::alternatives::{Alternatives, AlternativesReadable, AsOneOf, OneOf9, read_choice};
-use asn1::fields::{Fields2, Row, known_plain, plain_length, write_plain};
+use asn1::fields::{Fields2, Row, plain_length, write_plain};
 use asn1::{
     Asn1Readable, Asn1Type, Asn1Writable, Explicit, IA5String, Implicit, ObjectIdentifier,
     ParseResult, Parser, Sequence, SequenceOf, SimpleAsn1Readable, SimpleAsn1Writable, Tag, Tlv,
-    WriteBuf, WriteError, WriteResult, Writer, fields_length, known_fields, read_fields,
-    take_choice, write_fields,
+    WriteBuf, WriteError, WriteResult, Writer, fields_length, known_choice, known_fields,
+    read_fields, take_choice, write_fields,
 };
 use std::alloc::Global;
 
@@ -178,6 +178,13 @@ type GeneralNameChoice<'a> = OneOf9<
     Implicit<ObjectIdentifier, 8>,
 >;
 
+macro_rules! variants_of_general_name {
+    ($body:ident, $($of:tt)*) => { $body!($($of)*; GeneralName;
+        OtherName: implicit 0, Rfc822Name: implicit 1, DnsName: implicit 2, X400Address: implicit 3,
+        DirectoryName: explicit 4, EdiPartyName: implicit 5, UniformResourceIdentifier: implicit 6,
+        IpAddress: implicit 7, RegisteredId: implicit 8) };
+}
+
 /// GeneralName (RFC 5280, 4.2.1.6), a CHOICE of nine.
 #[derive(Debug, Clone, PartialEq, Eq, Drop)]
 pub enum GeneralName<'a> {
@@ -224,10 +231,7 @@ impl<'a> AsOneOf<GeneralNameChoice<'a>> for GeneralName<'a> {
     fn from_one_of(value: GeneralNameChoice<'a>) -> GeneralName<'a>
         ensures { ⟦<GeneralName<'a> as AsOneOf<GeneralNameChoice<'a>>>⟧.seen result ≡ value.entry }
     {
-        take_choice!(value;
-            GeneralName; OtherName: implicit 0, Rfc822Name: implicit 1, DnsName: implicit 2,
-            X400Address: implicit 3, DirectoryName: explicit 4, EdiPartyName: implicit 5,
-            UniformResourceIdentifier: implicit 6, IpAddress: implicit 7, RegisteredId: implicit 8)
+        variants_of_general_name!(take_choice, value)
     }
 }
 
@@ -236,20 +240,7 @@ impl<'a> Asn1Type for GeneralName<'a> {
         ⟦<GeneralNameChoice<'a> as Alternatives>⟧.list };
 
     fn known(&self) {
-        match self {
-            GeneralName::OtherName(x) => known_plain::<Implicit<OtherName<'a>, 0>, _>(x),
-            GeneralName::Rfc822Name(x) => known_plain::<Implicit<IA5String<'a>, 1>, _>(x),
-            GeneralName::DnsName(x) => known_plain::<Implicit<IA5String<'a>, 2>, _>(x),
-            GeneralName::X400Address(x) => known_plain::<Implicit<Sequence<'a>, 3>, _>(x),
-            GeneralName::DirectoryName(x) => known_plain::<Explicit<Name<'a>, 4>, _>(x),
-            GeneralName::EdiPartyName(x) => known_plain::<Implicit<EdiPartyName<'a>, 5>, _>(x),
-            GeneralName::UniformResourceIdentifier(x) => known_plain::<
-                Implicit<IA5String<'a>, 6>,
-                _,
-            >(x),
-            GeneralName::IpAddress(x) => known_plain::<Implicit<&'a [u8], 7>, _>(x),
-            GeneralName::RegisteredId(x) => known_plain::<Implicit<ObjectIdentifier, 8>, _>(x),
-        }
+        variants_of_general_name!(known_choice, self)
     }
 }
 
@@ -344,7 +335,6 @@ pub mod laws {
     }
 
     /// Each value of `GeneralName` has one encoding, which is read back.
-    #[tactic(auto, using(asn1::specs::Lemmas::Fields::tags_differ))]
     pub fn general_name_is_lawful()
         ensures { HasOneEncoding ⟦<GeneralName<'static> as Asn1Type>⟧.der }
     {

@@ -1,5 +1,5 @@
 //! Who signed (RFC 5652, 5.3), and the values of signed attributes (11.1 to 11.3).
-// Printed by tools/derive from declarations/signatures/signer.rs, with the sum cd4fdf9d.
+// Printed by tools/derive from declarations/signatures/signer.rs, with the sum 3dedc19a.
 
 ghost use Rattle.std.specs.Prelude.{◌≡◌, ◌∷◌, [], IsTrue, OnErr, IfOk};
 ghost use Rattle.asn1.specs.AlternativeLists.{after1, choice, first1};
@@ -10,11 +10,11 @@ ghost use Rattle.asn1.specs.Structures.{field_names, implicit, structure, fields
 
 use crate::common::{AlgorithmIdentifier, Attributes, Name, Time};
 use asn1::alternatives::{Alternatives, AlternativesReadable, AsOneOf, OneOf2, read_choice};
-use asn1::fields::{Fields2, Fields7, Row, known_plain, plain_length, write_plain};
+use asn1::fields::{Fields2, Fields7, Row, plain_length, write_plain};
 use asn1::{
     Asn1Readable, Asn1Type, Asn1Writable, BigInt, Implicit, ObjectIdentifier, ParseResult, Parser,
     SimpleAsn1Readable, SimpleAsn1Writable, Tag, WriteBuf, WriteError, WriteResult, Writer,
-    fields_length, known_fields, read_fields, take_choice, write_fields,
+    fields_length, known_choice, known_fields, read_fields, take_choice, write_fields,
 };
 use std::alloc::Global;
 
@@ -116,10 +116,8 @@ impl<'a> Asn1Type for SignerIdentifier<'a> {
         ⟦<SignerIdentifierChoice<'a> as Alternatives>⟧.list };
 
     fn known(&self) {
-        match self {
-            SignerIdentifier::IssuerAndSerialNumber(x) => x.known(),
-            SignerIdentifier::SubjectKeyIdentifier(x) => known_plain::<Implicit<&'a [u8], 0>, _>(x),
-        }
+        known_choice!(self;
+            SignerIdentifier; IssuerAndSerialNumber, SubjectKeyIdentifier: implicit 0)
     }
 }
 
@@ -149,7 +147,7 @@ impl<'a> Asn1Writable for SignerIdentifier<'a> {
 
     fn write(&self, dest: &mut Writer<'_>) -> WriteResult<()> {
         match self {
-            SignerIdentifier::IssuerAndSerialNumber(x) => dest.write_element(x),
+            SignerIdentifier::IssuerAndSerialNumber(x) => x.write(dest),
             SignerIdentifier::SubjectKeyIdentifier(x) => write_plain::<Implicit<&'a [u8], 0>, _>(
                 x, dest,
             ),
