@@ -20,15 +20,6 @@ use Rattle.asn1.specs.Base128.{leading_number}
 use Rattle.asn1.specs.Identifier.{numbers_in, read_identifier}
 use Rattle.asn1.specs.Lemmas.Results.{done-injective}
 """
-# Where the names are from that the proofs of laws use; the most alternatives of which the law of a choice needs no proof,
-# and the most of which one search is its proof.
-LAW_USES = {
-    "std.proofs.Common": "arith false refl rules true",
-    "asn1.specs.Lemmas.Fields": "no_other_accepts tags_differ",
-    "asn1.specs.Tag": "explicit_tag_of implicit_tag_of universal universal_constructed",
-    "asn1.specs.Tagged": "application_tag private_tag",
-}
-MOST_SEARCHED, MOST_FOUND = 8, 16
 PLACES = "first second third fourth fifth sixth seventh eighth".split()
 COMPUTED = "unfolding read_identifier numbers_in leading_number\n"
 IDENTIFIER_ANSWERS = ANSWER.format("known_identifier-requires", "refl", COMPUTED)
@@ -508,37 +499,53 @@ def side(at, count):
     return "(inr " * at + ("(inl {})" if at < count - 1 else "{}") + ")" * at
 
 
-def has_proof(item):
-    """Whether the law of a choice has a proof of its own."""
-    return item.kind == "enum" and item.reads and not item.is_defined and len(item.parts) > MOST_SEARCHED
+def of_static(type):
+    """A type of the lifetime that laws are about."""
+    return re.sub("'\\w+", "'static", type)
+
+
+def within_laws(type):
+    """A type of the declarations, as the module of laws within theirs names it."""
+    return "super::" * (type.split("::")[0] in ("self", "super")) + of_static(type).removeprefix("self::")
 
 
 def lawful(item, module):
     """The function that says that each value of the type has one encoding. It calls the laws of the types in the type.
-    If one of these may be missing, or for a choice, tags differ."""
+    If one of these may be missing, tags differ. So they do in a choice: the library compares the tags of alternatives
+    that have one each with all others."""
     if item.kind in ("const", "number") or item.is_defined or item.kind != "type" and not item.reads:
         return ""
     parts = [item.type] if item.type else [part.form for part in item.parts]
-    is_told = item.kind == "enum" and not has_proof(item) or any(module.known(part).is_missing for part in parts[:-1])
     # An imported type that an item defines has no law by itself.
     others = [part.form for part in item.parts if "defined_by" in part.attributes and part.base.name not in module.items]
-    called = dict.fromkeys(called for part in parts if part not in others for called in laws_of(module, part))
+    called = list(dict.fromkeys(law for part in parts if part not in others for law in laws_of(module, part)))
+    is_told = any(module.known(part).is_missing for part in parts[:-1])
+    if item.kind == "enum":
+        untagged = [part for part in parts if not module.known(part).tags or not module.known(part).is_simple]
+        named = [within_laws(str(type)) for type in untagged]
+        pairs = [f"tags_are_apart::<{one}, {other}>" for at, one in enumerate(named) for other in named[at + 1 :]]
+        is_told = bool(pairs)
+        called += [*pairs, f"alternatives_apart_are_lawful::<{within_laws(item.own('Choice'))}>"]
     return f"""
 /// Each value of `{item.name}` has one encoding, which is read back.
 {BY_TAGS if is_told else ''}{item.visibility} fn {snake(item.name)}_is_lawful()
-    ensures {{ HasOneEncoding {der(re.sub("'.*>", "'static>", item.own()))} }}
+    ensures {{ HasOneEncoding {der(of_static(item.own()))} }}
 {{ {' '.join(f'{law}();' for law in called)} }}
 """
 
 
 def module_of_laws(laws):
     """The module of these laws, if there are any."""
-    types = re.findall(r"^/// Each value of `(\w+)`", laws, re.M)
+    called = re.findall(r"(\w+)::<(.*)>\(\);", laws)
+    named = [name for _, types in called for name in re.findall(r"(?<![:\w'])[A-Z]\w*", types)]
+    types = ", ".join(sorted({*re.findall(r"^/// Each value of `(\w+)`", laws, re.M), *named}))
+    library = ", ".join(sorted({law for law, _ in called}))
     return types and f"""
 /// The laws of the types, which do nothing.
 pub mod laws {{
-    use super::{{{', '.join(types)}}};
+    use super::{{{types}}};
     use asn1::Asn1Type;
+    {f"use asn1::laws_wrappers::{{{library}}};" if library else ""}
     {laws}
 }}
 """ or ""
@@ -594,39 +601,7 @@ def alias(item, _):
 FORMS = {"struct": Structure, "enum": Choice, "numbers": Numbers, "type": alias, "const": identifier, "number": alias}
 
 
-def term_of(tag):
-    """A tag, as [`Known`] has it, in a proof."""
-    *names, number = tag.removesuffix(" constructed").split(" ")
-    is_constructed = tag.endswith(" constructed")
-    if names == ["context"]:
-        return f"(explicit_tag_of {number})" if is_constructed else f"(implicit_tag_of {number} (universal 0))"
-    return group(tag_of((*names, number) if names else ("universal", number), is_constructed)[0])
-
-
-def law_of_choice(item, module):
-    """What the proof of a large choice's law uses, and the proof. That no other alternative accepts an alternative's tag
-    is computed, if this is one tag that is known. If it is so of all, and they aren't too many, the search finds these
-    tags; else the proof is alternative by alternative."""
-    *before, _ = [module.known(part.form).tags for part in item.parts]
-    are_one = [tags not in (None, ANY) and len(tags) == 1 for tags in before]
-    proof = "search (rules, no_other_accepts)"
-    if not all(are_one) or len(item.parts) > MOST_FOUND:
-        lawful, others = "(search rules, search rules, tt, λ tag accepted. refl)", "(search rules, tt)"
-        for tags, is_one in zip(reversed(before), reversed(are_one)):
-            apart = f"no_other_accepts {term_of(*tags)} _ refl" if is_one else "grind (arith, tags_differ)"
-            lawful, others = f"(search rules, search rules, {lawful}, {apart})", f"(search rules, {others})"
-        proof = f"({lawful}, {others}, {others})"
-    uses = ""
-    for source, names in LAW_USES.items():
-        used = ", ".join(name for name in names.split() if re.search(rf"(?<![\w.-]){name}(?![\w-])", proof))
-        uses += f"use Rattle.{source}.{{{used}}}\n" if used else ""
-    return uses, ANSWER.format("returns", proof, "")
-
-
-def answers(item, module):
-    """The proofs that are owed for an item, an identifier or a choice of many alternatives: of each its function, what
-    it uses, and the proof."""
+def answers(item):
+    """The proofs that are owed for an identifier."""
     if item.kind == "const":
         yield item.name.lower(), IDENTIFIER_USES, IDENTIFIER_ANSWERS
-    if has_proof(item):
-        yield f"laws/{snake(item.name)}_is_lawful", *law_of_choice(item, module)

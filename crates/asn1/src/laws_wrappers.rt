@@ -106,6 +106,19 @@ pub fn choices_of_alternatives_are_lawful<R: Alternatives, C: AsOneOf<R>>()
     ensures element { (choice C.seen R.list).is_element }
 {}
 
+/// A list of alternatives is lawful if each alternative is, and no other accepts one of its tags. If all alternatives
+/// but one have one tag each, the caller proves nothing by hand: these tags are compared by computing.
+pub fn alternatives_apart_are_lawful<R: Alternatives>()
+    requires { R.list.all.each_apart }
+    ensures { R.list.all.lawful }
+{}
+
+/// No tag is accepted by both types. The law of alternatives asks it of two that have several tags each.
+pub fn tags_are_apart<A: Asn1Type, B: Asn1Type>()
+    requires { Disjoint A.der.accepts B.der.accepts }
+    ensures { Disjoint A.der.accepts B.der.accepts }
+{}
+
 /// The wrappers other than options are elements: they may be the part of an option or an alternative of a choice.
 pub fn wrappers_are_elements<T: Asn1Type, const TAG: u32>()
     ensures explicit { ⟦<Explicit<T, TAG> as Asn1Type>⟧.der.is_element }

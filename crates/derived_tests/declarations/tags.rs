@@ -1,5 +1,7 @@
 //! Tags of every class, sets, and enums whose values have numbers: each form of the script for them, once.
 
+use super::page::ResponderId;
+
 /// How a search ended (RFC 4511, 4.1.9, some of its codes).
 #[derive(asn1::Asn1Read, asn1::Asn1Write, Debug, Clone, Copy, PartialEq, Eq, Hash)]
 pub enum ResultCode {
@@ -115,4 +117,13 @@ pub enum Nine<'a> {
     Either(Either<'a>),
     /// Whether.
     Flag(bool),
+}
+
+/// Two choices without a tag of their own, of which one is declared elsewhere.
+#[derive(asn1::Asn1Read, asn1::Asn1Write)]
+pub enum Both<'a> {
+    /// Octets or none.
+    Either(Either<'a>),
+    /// Who answers.
+    Responder(ResponderId<'a>),
 }

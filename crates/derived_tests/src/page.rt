@@ -1,5 +1,5 @@
 //! Structures and choices: each attribute of the original's derives for them, once.
-// Printed by tools/derive from declarations/page.rs, with the sum 04c8855c.
+// Printed by tools/derive from declarations/page.rs, with the sum 88e0e774.
 
 ghost use Rattle.std.specs.Prelude.{◌≡◌, ◌∷◌, [], negsuc, IsTrue, OnErr, IfOk};
 ghost use Rattle.asn1.specs.AlternativeLists.{after1, choice, first1};
@@ -414,8 +414,9 @@ impl<'a> SimpleAsn1Writable for Bag<'a> {
 
 /// The laws of the types, which do nothing.
 pub mod laws {
-    use super::{Alternative, Nothing, ResponderId, Signature, Strings, Tagged};
+    use super::{Alternative, Nothing, ResponderId, ResponderIdChoice, Signature, Strings, Tagged};
     use asn1::Asn1Type;
+    use asn1::laws_wrappers::alternatives_apart_are_lawful;
 
     /// Each value of `Signature` has one encoding, which is read back.
     pub fn signature_is_lawful()
@@ -441,11 +442,11 @@ pub mod laws {
     {}
 
     /// Each value of `ResponderId` has one encoding, which is read back.
-    #[tactic(auto, using(asn1::specs::Lemmas::Fields::tags_differ))]
     pub fn responder_id_is_lawful()
         ensures { HasOneEncoding ⟦<ResponderId<'static> as Asn1Type>⟧.der }
     {
         strings_is_lawful();
+        alternatives_apart_are_lawful::<ResponderIdChoice<'static>>();
     }
 
     /// Each value of `Alternative` has one encoding, which is read back.

@@ -1,5 +1,5 @@
 //! SNMPv3 messages (RFC 3412, RFC 3414, RFC 3416).
-// Printed by tools/derive from declarations/snmp.rs, with the sum b70e277f.
+// Printed by tools/derive from declarations/snmp.rs, with the sum 4dfe0683.
 
 ghost use Rattle.std.specs.Prelude.{◌≡◌, ◌∷◌, [], IsTrue, OnErr, IfOk};
 ghost use Rattle.asn1.specs.AlternativeLists.{after1, after3, after8, choice, first1, first3, second3, third3, first8};
@@ -856,10 +856,11 @@ impl<'a> Asn1Writable for ObjectSyntax<'a> {
 /// The laws of the types, which do nothing.
 pub mod laws {
     use super::{
-        BulkPdu, HeaderData, ObjectSyntax, Pdu, Pdus, ScopedPdu, ScopedPduData, SnmpV3Message,
-        UsmSecurityParameters, VarBind,
+        BulkPdu, HeaderData, ObjectSyntax, ObjectSyntaxChoice, Pdu, Pdus, PdusChoice, ScopedPdu,
+        ScopedPduData, ScopedPduDataChoice, SnmpV3Message, UsmSecurityParameters, VarBind,
     };
     use asn1::Asn1Type;
+    use asn1::laws_wrappers::alternatives_apart_are_lawful;
 
     /// Each value of `SnmpV3Message` has one encoding, which is read back.
     pub fn snmp_v3_message_is_lawful()
@@ -881,11 +882,11 @@ pub mod laws {
     {}
 
     /// Each value of `ScopedPduData` has one encoding, which is read back.
-    #[tactic(auto, using(asn1::specs::Lemmas::Fields::tags_differ))]
     pub fn scoped_pdu_data_is_lawful()
         ensures { HasOneEncoding ⟦<ScopedPduData<'static> as Asn1Type>⟧.der }
     {
         scoped_pdu_is_lawful();
+        alternatives_apart_are_lawful::<ScopedPduDataChoice<'static>>();
     }
 
     /// Each value of `ScopedPdu` has one encoding, which is read back.
@@ -896,12 +897,12 @@ pub mod laws {
     }
 
     /// Each value of `Pdus` has one encoding, which is read back.
-    #[tactic(auto, using(asn1::specs::Lemmas::Fields::tags_differ))]
     pub fn pdus_is_lawful()
         ensures { HasOneEncoding ⟦<Pdus<'static> as Asn1Type>⟧.der }
     {
         pdu_is_lawful();
         bulk_pdu_is_lawful();
+        alternatives_apart_are_lawful::<PdusChoice<'static>>();
     }
 
     /// Each value of `Pdu` has one encoding, which is read back.
@@ -928,5 +929,7 @@ pub mod laws {
     /// Each value of `ObjectSyntax` has one encoding, which is read back.
     pub fn object_syntax_is_lawful()
         ensures { HasOneEncoding ⟦<ObjectSyntax<'static> as Asn1Type>⟧.der }
-    {}
+    {
+        alternatives_apart_are_lawful::<ObjectSyntaxChoice<'static>>();
+    }
 }

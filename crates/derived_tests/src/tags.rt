@@ -1,5 +1,5 @@
 //! Tags of every class, sets, and enums whose values have numbers: each form of the script for them, once.
-// Printed by tools/derive from declarations/tags.rs, with the sum cdc1434f.
+// Printed by tools/derive from declarations/tags.rs, with the sum 09c7b630.
 
 ghost use Rattle.std.specs.Prelude.{◌≡◌, ◌∷◌, [], true, false, IsTrue, OnErr, IfOk};
 ghost use Rattle.asn1.specs.AlternativeLists.{after1, after8, choice, first1, first3, second3, third3, first8};
@@ -12,6 +12,7 @@ ghost use Rattle.asn1.specs.Structures.{defaulted, explicit, field_names, implic
 ghost use Rattle.asn1.specs.Tag.{universal};
 ghost use Rattle.asn1.specs.Tagged.{application_tag, private_tag};
 
+use super::page::ResponderId;
 use asn1::alternatives::{
     Alternatives, AlternativesReadable, AsOneOf, OneOf2, OneOf3, OneOf9, read_choice,
 };
@@ -639,12 +640,89 @@ impl<'a> Asn1Writable for Nine<'a> {
     }
 }
 
+type BothChoice<'a> = OneOf2<Either<'a>, ResponderId<'a>>;
+
+/// Two choices without a tag of their own, of which one is declared elsewhere.
+#[derive(Drop)]
+pub enum Both<'a> {
+    /// Octets or none.
+    Either(Either<'a>),
+    /// Who answers.
+    Responder(ResponderId<'a>),
+}
+
+impl<'a> AsOneOf<BothChoice<'a>> for Both<'a> {
+    ghost use Rattle.derived_tests.specs.declared.tags.Both.TheVariants.{Either, Responder};
+
+    ghost seen = { elim [ Either x ↦ first1 x | Responder x ↦ after1 (first1 x) ] };
+
+    fn from_one_of(value: BothChoice<'a>) -> Both<'a>
+        ensures { ⟦<Both<'a> as AsOneOf<BothChoice<'a>>>⟧.seen result ≡ value.entry }
+    {
+        take_choice!(value; Both; Either, Responder)
+    }
+}
+
+impl<'a> Asn1Type for Both<'a> {
+    ghost der = { choice ⟦<Both<'a> as AsOneOf<BothChoice<'a>>>⟧.seen
+        ⟦<BothChoice<'a> as Alternatives>⟧.list };
+
+    fn known(&self) {
+        known_choice!(self; Both; Either, Responder)
+    }
+}
+
+impl<'a> Asn1Readable<'a> for Both<'a> {
+    fn parse(parser: &mut Parser<'a>) -> ParseResult<Both<'a>>
+        ensures answers { ReadsPrefix ⟦<Both<'a> as Asn1Type>⟧.der parser.old parser.new result }
+        ensures found { IfOk result (λ v. BeginsWithEncodingOf ⟦<Both<'a> as Asn1Type>⟧.der v
+            parser.old parser.new) }
+        ensures rest { EndsWith parser.old parser.new }
+        ensures stops { OnErr result (⟦<Both<'a> as Asn1Type>⟧.der.stops parser.old parser.new) }
+    {
+        read_choice::<BothChoice<'a>, Both<'a>>(parser)
+    }
+
+    fn can_parse(tag: Tag) -> bool
+        ensures value { result ≡ ⟦<Both<'a> as Asn1Type>⟧.der.accepts tag }
+        ensures plain { ⟦<Both<'a> as Asn1Type>⟧.der.plain }
+    {
+        <BothChoice<'a> as AlternativesReadable<'a>>::accepts(tag)
+    }
+}
+
+impl<'a> Asn1Writable for Both<'a> {
+    type Error = WriteError;
+
+    fn write(&self, dest: &mut Writer<'_>) -> WriteResult<()> {
+        match self {
+            Both::Either(x) => x.write(dest),
+            Both::Responder(x) => x.write(dest),
+        }
+    }
+
+    fn encoded_length(&self) -> Option<usize> {
+        match self {
+            Both::Either(x) => x.encoded_length(),
+            Both::Responder(x) => x.encoded_length(),
+        }
+    }
+
+    fn writes_as_read() -> bool
+        ensures { IsTrue result }
+    {
+        true
+    }
+}
+
 /// The laws of the types, which do nothing.
 pub mod laws {
     use super::{
-        Either, Entry, Nine, Numeric, Report, ResultCode, Sealed, Settings, Switch, Version,
+        Both, BothChoice, Either, EitherChoice, Entry, EntryChoice, Nine, NineChoice, Numeric,
+        Report, ResponderId, ResultCode, Sealed, Settings, Switch, Version,
     };
     use asn1::Asn1Type;
+    use asn1::laws_wrappers::{alternatives_apart_are_lawful, tags_are_apart};
 
     /// Each value of `ResultCode` has one encoding, which is read back.
     pub fn result_code_is_lawful()
@@ -692,19 +770,20 @@ pub mod laws {
     }
 
     /// Each value of `Entry` has one encoding, which is read back.
-    #[tactic(auto, using(asn1::specs::Lemmas::Fields::tags_differ))]
     pub fn entry_is_lawful()
         ensures { HasOneEncoding ⟦<Entry<'static> as Asn1Type>⟧.der }
     {
         report_is_lawful();
         either_is_lawful();
+        alternatives_apart_are_lawful::<EntryChoice<'static>>();
     }
 
     /// Each value of `Either` has one encoding, which is read back.
-    #[tactic(auto, using(asn1::specs::Lemmas::Fields::tags_differ))]
     pub fn either_is_lawful()
         ensures { HasOneEncoding ⟦<Either<'static> as Asn1Type>⟧.der }
-    {}
+    {
+        alternatives_apart_are_lawful::<EitherChoice<'static>>();
+    }
 
     /// Each value of `Nine` has one encoding, which is read back.
     pub fn nine_is_lawful()
@@ -712,5 +791,17 @@ pub mod laws {
     {
         result_code_is_lawful();
         either_is_lawful();
+        alternatives_apart_are_lawful::<NineChoice<'static>>();
+    }
+
+    /// Each value of `Both` has one encoding, which is read back.
+    #[tactic(auto, using(asn1::specs::Lemmas::Fields::tags_differ))]
+    pub fn both_is_lawful()
+        ensures { HasOneEncoding ⟦<Both<'static> as Asn1Type>⟧.der }
+    {
+        either_is_lawful();
+        super::super::page::laws::responder_id_is_lawful();
+        tags_are_apart::<Either<'static>, ResponderId<'static>>();
+        alternatives_apart_are_lawful::<BothChoice<'static>>();
     }
 }

@@ -9,7 +9,7 @@ use Rattle.asn1_core.specs.Reading.{IsOneElement, IsNothingOrElement}
 use Rattle.asn1_core.specs.Lemmas.Results.{done-injective, bind_ok}
 use Rattle.asn1_core.specs.Lemmas.Faults.{bind_errors}
 use Rattle.asn1.specs.Among.{Among3, Among8, first_of_3, second_of_3, third_of_3, after_3, first_of_8, second_of_8, third_of_8, fourth_of_8, fifth_of_8, sixth_of_8, seventh_of_8, eighth_of_8, after_8, among_three, among_eight, sum_of_three, sum_of_eight}
-use Rattle.asn1.specs.Choices.{Alternatives, AlternativesLaws, or, or_three, or_eight, viewed_alternatives}
+use Rattle.asn1.specs.Choices.{Alternatives, AlternativesLaws, IsApart, OneApart, ThreeApart, EightApart, or, or_three, or_eight, viewed_alternatives}
 use Rattle.asn1.specs.LawsOf.Choices.{or_laws}
 
 -- What the laws say of one value, beside how it is read.
@@ -41,14 +41,14 @@ abbrev IsRead : {M : Type 0} → Alternatives M → M → Element → Type 0
 IsRead c m e = (c.encoding m ≡ element_encoding e) × (c.valid m × c.allowed m)
 
 module _ {M N : Type 0} (view : M → N) (back : N → M) (c : Alternatives M) (l : AlternativesLaws c)
-    (encoding : N → List ℕ) (encodings : N → List ℕ → Type 0) (closures valid allowed : N → Type 0) where
+    (encoding : N → List ℕ) (encodings : N → List ℕ → Type 0) (closures valid allowed : N → Type 0) (each_apart : Type 0) where
   abbrev Viewed : Alternatives N
-  Viewed = viewed_alternatives view c encoding encodings closures valid allowed
+  Viewed = viewed_alternatives view c encoding encodings closures valid allowed each_apart
 
   viewed_laws : ((n : N) → view (back n) ≡ n) → ((n : N) → At c (back n) → At Viewed n)
       → ((m : M) (e : Element) → IsRead c m e → IsRead Viewed (view m) e) → ((n : N) (e : Element) → IsRead Viewed n e → IsRead c (back n) e)
-      → AlternativesLaws Viewed
-  viewed_laws same at forth read = record {
+      → (each_apart → c.each_apart) → AlternativesLaws Viewed
+  viewed_laws same at forth read one_by_one = record {
     one_encoding = λ p n. (at n (laws_at l (back n))).one_encoding p;
     has_encoding = λ p n. (at n (laws_at l (back n))).has_encoding p;
     at_most_one = λ n. (at n (laws_at l (back n))).at_most_one;
@@ -59,6 +59,8 @@ module _ {M N : Type 0} (view : M → N) (back : N → M) (c : Alternatives M) (
         let is_m = l.consumes e got.0 is got.1 in
         let is_n = forth got.0 e (sym is_m.0, is_m.1) in
         subst (λ x. (element_encoding e ≡ encoding x) × (valid x × allowed x)) eq (sym is_n.0, is_n.1);
+    disjoint = l.disjoint;
+    lawful_if_apart = λ each. l.lawful_if_apart (one_by_one each);
     nothing_or_element = λ n. (at n (laws_at l (back n))).nothing_or_element;
     accepted = λ n. (at n (laws_at l (back n))).accepted;
     read_back = λ n e lawful v a readable is.
@@ -68,6 +70,9 @@ module _ {M N : Type 0} (view : M → N) (back : N → M) (c : Alternatives M) (
     memory = l.memory;
     errors = λ e. bind_errors (c.read e) (λ m. Ok (view m)) (l.errors e) (λ m. tt);
   }
+
+one : {A N : Type 0} {d : Encoding A} {others : Alternatives N} → IsApart d others → others.each_apart → OneApart d others
+one first rest = record { first = first; rest = rest }
 
 module _ {A B C R : Type 0} (a : Encoding A) (b : Encoding B) (c : Encoding C) (others : Alternatives R) where
   abbrev OneByOne3 : Alternatives (A ⊎ (B ⊎ (C ⊎ R)))
@@ -99,6 +104,9 @@ module _ {A B C R : Type 0} (a : Encoding A) (b : Encoding B) (c : Encoding C) (
   read_three (inr (inl x)) e is = is
   read_three (inr (inr (inl x))) e is = is
   read_three (inr (inr (inr x))) e is = is
+
+  three_apart : ThreeApart a b c others → OneByOne3.each_apart
+  three_apart l = one l.first (one l.second (one l.third l.rest))
 
 module _ {A B C D E F G H R : Type 0} (a : Encoding A) (b : Encoding B) (c : Encoding C) (d : Encoding D) (e : Encoding E) (f : Encoding F) (g : Encoding G) (h : Encoding H) (others : Alternatives R) where
   abbrev OneByOne8 : Alternatives (A ⊎ (B ⊎ (C ⊎ (D ⊎ (E ⊎ (F ⊎ (G ⊎ (H ⊎ R))))))))
@@ -151,12 +159,15 @@ module _ {A B C D E F G H R : Type 0} (a : Encoding A) (b : Encoding B) (c : Enc
   read_eight (inr (inr (inr (inr (inr (inr (inr (inl x)))))))) e is = is
   read_eight (inr (inr (inr (inr (inr (inr (inr (inr x)))))))) e is = is
 
+  eight_apart : EightApart a b c d e f g h others → OneByOne8.each_apart
+  eight_apart l = one l.first (one l.second (one l.third (one l.fourth (one l.fifth (one l.sixth (one l.seventh (one l.eighth l.rest)))))))
+
 pub or_three_laws : {A B C R : Type 0} {a : Encoding A} {b : Encoding B} {c : Encoding C} {others : Alternatives R} → EncodingLaws a → EncodingLaws b → EncodingLaws c → AlternativesLaws others → AlternativesLaws (or_three a b c others)
 or_three_laws {a = a} {b = b} {c = c} {others = others} la lb lc lo =
-    viewed_laws among_three sum_of_three (OneByOne3 a b c others) (or_laws la (or_laws lb (or_laws lc lo))) _ _ _ _ _
-    (among_three-sum_of_three a b c others) (three_at a b c others) (read_three a b c others) (three_read a b c others)
+    viewed_laws among_three sum_of_three (OneByOne3 a b c others) (or_laws la (or_laws lb (or_laws lc lo))) _ _ _ _ _ _
+    (among_three-sum_of_three a b c others) (three_at a b c others) (read_three a b c others) (three_read a b c others) (three_apart a b c others)
 
 pub or_eight_laws : {A B C D E F G H R : Type 0} {a : Encoding A} {b : Encoding B} {c : Encoding C} {d : Encoding D} {e : Encoding E} {f : Encoding F} {g : Encoding G} {h : Encoding H} {others : Alternatives R} → EncodingLaws a → EncodingLaws b → EncodingLaws c → EncodingLaws d → EncodingLaws e → EncodingLaws f → EncodingLaws g → EncodingLaws h → AlternativesLaws others → AlternativesLaws (or_eight a b c d e f g h others)
 or_eight_laws {a = a} {b = b} {c = c} {d = d} {e = e} {f = f} {g = g} {h = h} {others = others} la lb lc ld le lf lg lh lo =
-    viewed_laws among_eight sum_of_eight (OneByOne8 a b c d e f g h others) (or_laws la (or_laws lb (or_laws lc (or_laws ld (or_laws le (or_laws lf (or_laws lg (or_laws lh lo)))))))) _ _ _ _ _
-    (among_eight-sum_of_eight a b c d e f g h others) (eight_at a b c d e f g h others) (read_eight a b c d e f g h others) (eight_read a b c d e f g h others)
+    viewed_laws among_eight sum_of_eight (OneByOne8 a b c d e f g h others) (or_laws la (or_laws lb (or_laws lc (or_laws ld (or_laws le (or_laws lf (or_laws lg (or_laws lh lo)))))))) _ _ _ _ _ _
+    (among_eight-sum_of_eight a b c d e f g h others) (eight_at a b c d e f g h others) (read_eight a b c d e f g h others) (eight_read a b c d e f g h others) (eight_apart a b c d e f g h others)

@@ -1,8 +1,10 @@
 //! Tags of every class, sets, and enums whose values have numbers.
 
 use super::are_written_back;
-use crate::tags::{Either, Entry, Nine, Report, ResultCode, Sealed, Settings, Switch, Version};
-use asn1::{Explicit, ParseErrorKind, Tag};
+use crate::tags::{
+    Both, Either, Entry, Nine, Report, ResultCode, Sealed, Settings, Switch, Version,
+};
+use asn1::{Explicit, ParseErrorKind, Tag, TagClass};
 use std::test::Fail;
 use testing::{are_both_ways, are_refused, both_ways};
 
@@ -131,4 +133,23 @@ fn nine_alternatives(rt: HostRuntime) -> Result<(), Fail> {
         actual: Tag::primitive(2),
     };
     are_refused::<Nine<'_>>(alloc, &[(&[2, 1, 7], number)])
+}
+
+/// Each of two choices is told by its tags.
+#[test]
+fn both_choices(rt: HostRuntime) -> Result<(), Fail> {
+    let alloc = rt.alloc();
+    are_written_back::<Both<'_>>(
+        alloc,
+        &[
+            &[4, 1, 7],
+            &[5, 0],
+            &[0xa1, 2, 0x31, 0],
+            &[0xa2, 3, 4, 1, 7],
+        ],
+    )?;
+    let unknown = ParseErrorKind::UnexpectedTag {
+        actual: Tag::new(0, TagClass::ContextSpecific, true),
+    };
+    are_refused::<Both<'_>>(alloc, &[(&[0xa0, 3, 4, 1, 7], unknown)])
 }

@@ -1,5 +1,5 @@
 //! Where revocation lists are found, and what they have (RFC 5280, 4.2.1.13 and 5.2.5).
-// Printed by tools/derive from declarations/certificate/distribution.rs, with the sum 2d39ee3f.
+// Printed by tools/derive from declarations/certificate/distribution.rs, with the sum b9252c15.
 
 ghost use Rattle.std.specs.Prelude.{◌≡◌, ◌∷◌, [], false, IsTrue, OnErr, IfOk};
 ghost use Rattle.asn1.specs.AlternativeLists.{after1, choice, first1};
@@ -392,17 +392,19 @@ impl<'a> SimpleAsn1Writable for IssuingDistributionPoint<'a> {
 /// The laws of the types, which do nothing.
 pub mod laws {
     use super::{
-        CrlDistributionPoints, DistributionPoint, DistributionPointName, IssuingDistributionPoint,
+        CrlDistributionPoints, DistributionPoint, DistributionPointName,
+        DistributionPointNameChoice, IssuingDistributionPoint,
     };
     use asn1::Asn1Type;
+    use asn1::laws_wrappers::alternatives_apart_are_lawful;
 
     /// Each value of `DistributionPointName` has one encoding, which is read back.
-    #[tactic(auto, using(asn1::specs::Lemmas::Fields::tags_differ))]
     pub fn distribution_point_name_is_lawful()
         ensures { HasOneEncoding ⟦<DistributionPointName<'static> as Asn1Type>⟧.der }
     {
         crate::common::laws::general_names_is_lawful();
         crate::common::laws::attribute_type_and_value_is_lawful();
+        alternatives_apart_are_lawful::<DistributionPointNameChoice<'static>>();
     }
 
     /// Each value of `DistributionPoint` has one encoding, which is read back.

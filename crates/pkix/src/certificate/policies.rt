@@ -1,6 +1,6 @@
 //! The policies of a certificate, and what it demands of those that follow it in a path (RFC 5280, 4.2.1.4, 4.2.1.5,
 //! 4.2.1.10, 4.2.1.11 and 4.2.1.14).
-// Printed by tools/derive from declarations/certificate/policies.rs, with the sum bdce072d.
+// Printed by tools/derive from declarations/certificate/policies.rs, with the sum 1c85ec35.
 
 ghost use Rattle.std.specs.Prelude.{◌≡◌, ◌∷◌, [], IsTrue, OnErr, IfOk};
 ghost use Rattle.asn1.specs.AlternativeLists.{after3, choice, first1, first3, second3, third3};
@@ -692,11 +692,12 @@ pub type InhibitAnyPolicy<'a> = BigUint<'a>;
 /// The laws of the types, which do nothing.
 pub mod laws {
     use super::{
-        CertificatePolicies, CpsUri, DisplayText, GeneralSubtree, GeneralSubtrees,
-        InhibitAnyPolicy, NameConstraints, NoticeReference, PolicyConstraints, PolicyInformation,
-        PolicyMapping, PolicyMappings, PolicyQualifierInfo, UserNotice,
+        CertificatePolicies, CpsUri, DisplayText, DisplayTextChoice, GeneralSubtree,
+        GeneralSubtrees, InhibitAnyPolicy, NameConstraints, NoticeReference, PolicyConstraints,
+        PolicyInformation, PolicyMapping, PolicyMappings, PolicyQualifierInfo, UserNotice,
     };
     use asn1::Asn1Type;
+    use asn1::laws_wrappers::alternatives_apart_are_lawful;
 
     /// Each value of `PolicyQualifierInfo` has one encoding, which is read back.
     pub fn policy_qualifier_info_is_lawful()
@@ -709,10 +710,11 @@ pub mod laws {
     {}
 
     /// Each value of `DisplayText` has one encoding, which is read back.
-    #[tactic(auto, using(asn1::specs::Lemmas::Fields::tags_differ))]
     pub fn display_text_is_lawful()
         ensures { HasOneEncoding ⟦<DisplayText<'static> as Asn1Type>⟧.der }
-    {}
+    {
+        alternatives_apart_are_lawful::<DisplayTextChoice<'static>>();
+    }
 
     /// Each value of `NoticeReference` has one encoding, which is read back.
     pub fn notice_reference_is_lawful()

@@ -1,5 +1,5 @@
 //! General names (RFC 5280, 4.2.1.6).
-// Printed by tools/derive from declarations/common/general_name.rs, with the sum 1b77cd64.
+// Printed by tools/derive from declarations/common/general_name.rs, with the sum c3624280.
 
 ghost use Rattle.std.specs.Prelude.{◌≡◌, ◌∷◌, [], IsTrue, OnErr, IfOk};
 ghost use Rattle.asn1.specs.AlternativeLists.{after8, choice, first1, first8, second8, third8, fourth8, fifth8};
@@ -318,8 +318,9 @@ pub type GeneralNames<'a> = SequenceOf<'a, GeneralName<'a>, 1, { usize::MAX }>;
 
 /// The laws of the types, which do nothing.
 pub mod laws {
-    use super::{EdiPartyName, GeneralName, GeneralNames, OtherName};
+    use super::{EdiPartyName, GeneralName, GeneralNameChoice, GeneralNames, OtherName};
     use asn1::Asn1Type;
+    use asn1::laws_wrappers::alternatives_apart_are_lawful;
 
     /// Each value of `OtherName` has one encoding, which is read back.
     pub fn other_name_is_lawful()
@@ -341,6 +342,7 @@ pub mod laws {
         other_name_is_lawful();
         crate::common::laws::name_is_lawful();
         edi_party_name_is_lawful();
+        alternatives_apart_are_lawful::<GeneralNameChoice<'static>>();
     }
 
     /// Each value of `GeneralNames` has one encoding, which is read back.

@@ -1,5 +1,5 @@
 //! Times (RFC 5280, 4.1.2.5).
-// Printed by tools/derive from declarations/common/time.rs, with the sum c38a0b7d.
+// Printed by tools/derive from declarations/common/time.rs, with the sum aff24ebb.
 
 ghost use Rattle.asn1.specs.AlternativeLists.{after1, choice, first1};
 ghost use Rattle.asn1.specs.Reads.{HasOneEncoding};
@@ -69,12 +69,14 @@ impl Asn1Writable for Time {
 
 /// The laws of the types, which do nothing.
 pub mod laws {
-    use super::Time;
+    use super::{Time, TimeChoice};
     use asn1::Asn1Type;
+    use asn1::laws_wrappers::alternatives_apart_are_lawful;
 
     /// Each value of `Time` has one encoding, which is read back.
-    #[tactic(auto, using(asn1::specs::Lemmas::Fields::tags_differ))]
     pub fn time_is_lawful()
         ensures { HasOneEncoding ⟦<Time as Asn1Type>⟧.der }
-    {}
+    {
+        alternatives_apart_are_lawful::<TimeChoice>();
+    }
 }

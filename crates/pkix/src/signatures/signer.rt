@@ -1,5 +1,5 @@
 //! Who signed (RFC 5652, 5.3), and the values of signed attributes (11.1 to 11.3).
-// Printed by tools/derive from declarations/signatures/signer.rs, with the sum 3dedc19a.
+// Printed by tools/derive from declarations/signatures/signer.rs, with the sum c178cdc6.
 
 ghost use Rattle.std.specs.Prelude.{◌≡◌, ◌∷◌, [], IsTrue, OnErr, IfOk};
 ghost use Rattle.asn1.specs.AlternativeLists.{after1, choice, first1};
@@ -275,10 +275,11 @@ pub type SigningTime = Time;
 /// The laws of the types, which do nothing.
 pub mod laws {
     use super::{
-        ContentType, IssuerAndSerialNumber, MessageDigest, SignerIdentifier, SignerInfo,
-        SigningTime,
+        ContentType, IssuerAndSerialNumber, MessageDigest, SignerIdentifier,
+        SignerIdentifierChoice, SignerInfo, SigningTime,
     };
     use asn1::Asn1Type;
+    use asn1::laws_wrappers::alternatives_apart_are_lawful;
 
     /// Each value of `IssuerAndSerialNumber` has one encoding, which is read back.
     pub fn issuer_and_serial_number_is_lawful()
@@ -288,11 +289,11 @@ pub mod laws {
     }
 
     /// Each value of `SignerIdentifier` has one encoding, which is read back.
-    #[tactic(auto, using(asn1::specs::Lemmas::Fields::tags_differ))]
     pub fn signer_identifier_is_lawful()
         ensures { HasOneEncoding ⟦<SignerIdentifier<'static> as Asn1Type>⟧.der }
     {
         issuer_and_serial_number_is_lawful();
+        alternatives_apart_are_lawful::<SignerIdentifierChoice<'static>>();
     }
 
     /// Each value of `SignerInfo` has one encoding, which is read back.
