@@ -413,20 +413,11 @@ class Module:
             found += one.inner if not item else [item.type] if item.type else []
         return found
 
-    def is_large(self, item):
-        """Whether an alternative of a choice is of an imported type, is a list, or holds a list of items that are declared.
-        In arms that the library's macros make the prover's search ends at its limit in what these mean."""
-        found = [part.form for part in item.parts]
-        if any(type.name in LISTS for one in found for type in self.within(one)):
-            return True
-        for one in found:
-            declared = self.items.get(one.name)
-            is_list = one.name in LISTS and any(inside.name in self.items for inside in one.inner)
-            if is_list or one.name in self.imported:
-                return True
-            inner = [part.form for part in declared.parts] if declared else one.inner
-            found += [declared.type] if declared and declared.type else inner
-        return False
+    def has_tagged_list(self, item):
+        """Whether an alternative of a choice is a list under a tag, or may be one, since its type is imported. In arms that
+        the library's macros make the prover's search ends at its limit for such a list."""
+        tagged = [type for part in item.parts if part.tag for type in self.within(part.base)]
+        return any(type.name in (*LISTS, *self.imported) for type in tagged)
 
     def known(self, type):
         """What is known of a type; nothing if it is declared elsewhere."""

@@ -313,7 +313,7 @@ class Choice(Form):
                 ensures value {{ result ≡ {self.means}.accepts tag }}
                 ensures plain {{ {self.means}.plain }}
             {{ <{row} as AlternativesReadable<{self.item.life or "'_"}>>::accepts(tag) }}""")
-        if self.item.writes and self.module.is_large(self.item):
+        if self.item.writes and self.module.has_tagged_list(self.item):
             text += self.written("Asn1Writable", last=self.writes_as_read())
         elif self.item.writes:
             text += self.impl("Asn1Writable", ERROR, f"""
@@ -355,9 +355,8 @@ class Choice(Form):
 
     def written(self, trait, *members, other="", last=""):
         """The impl of writing: a variant's value is written, and its length told."""
-        tagged = "write_plain::<{form}, _>(x, dest)"
-        write = self.match("x.write(dest)", f"{other}.write(dest)", tagged=tagged)
-        length = self.match("x.encoded_length()", f"{other}.encoded_length()", tagged="plain_length::<{form}, _>(x)")
+        write = self.match("x.write(dest)", f"{other}.write(dest)", tagged="write_{tag}(x, {number}, dest)")
+        length = self.match("x.encoded_length()", f"{other}.encoded_length()", tagged="{tag}_length(x, {number})")
         return self.impl(trait, ERROR, *members, f"""
             fn write(&self, dest: &mut Writer<'_>) -> WriteResult<()> {{ {write} }}
             fn encoded_length(&self) -> Option<usize> {{ {length} }}""", last)

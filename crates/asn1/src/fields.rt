@@ -21,7 +21,10 @@ pub use defined::{
     Before, DefinedField, Item, ItemOf, LastValue, RowBehind, RowBehindReadable, Value, ValueOf,
     is_identifier, known_identifier, known_item, known_value,
 };
-pub use plain::{FieldWritable, Plain, Wraps, into_plain, known_plain, plain_length, write_plain};
+pub use plain::{
+    FieldWritable, Plain, Wraps, explicit_length, implicit_length, into_plain, known_plain,
+    plain_length, write_explicit, write_implicit, write_plain,
+};
 pub use writes::{Four, RowWritable};
 
 /// Names of fields, in order.

@@ -58,13 +58,13 @@ pub fn error_into_is_lawful<T: Asn1Type, E>()
 {}
 
 /// A choice of lawful elements is lawful if no tag is accepted by two alternatives.
-pub fn choices_are_lawful<T1: Asn1Type, T2: Asn1Type, T3: Asn1Type>()
-    ensures choice1 { T1.der.lawful → T1.der.is_element → ⟦<Choice1<T1> as Asn1Type>⟧.der.lawful }
-    ensures choice2 { T1.der.lawful → T1.der.is_element → T2.der.lawful → T2.der.is_element
-        → Disjoint T1.der.accepts T2.der.accepts → ⟦<Choice2<T1, T2> as Asn1Type>⟧.der.lawful }
-    ensures choice3 { T1.der.lawful → T1.der.is_element → ⟦<Choice2<T2, T3> as Asn1Type>⟧.der.lawful
-        → Disjoint T1.der.accepts T2.der.accepts → Disjoint T1.der.accepts T3.der.accepts
-        → ⟦<Choice3<T1, T2, T3> as Asn1Type>⟧.der.lawful }
+pub fn choices_are_lawful<A: Asn1Type, B: Asn1Type, C: Asn1Type>()
+    ensures choice1 { A.der.lawful → A.der.is_element → ⟦<Choice1<A> as Asn1Type>⟧.der.lawful }
+    ensures choice2 { A.der.lawful → A.der.is_element → B.der.lawful → B.der.is_element
+        → Disjoint A.der.accepts B.der.accepts → ⟦<Choice2<A, B> as Asn1Type>⟧.der.lawful }
+    ensures choice3 { A.der.lawful → A.der.is_element → ⟦<Choice2<B, C> as Asn1Type>⟧.der.lawful
+        → Disjoint A.der.accepts B.der.accepts → Disjoint A.der.accepts C.der.accepts
+        → ⟦<Choice3<A, B, C> as Asn1Type>⟧.der.lawful }
 {}
 
 /// Each value of a list of alternatives has one encoding if it is so of the first alternative, which has to be an
@@ -127,10 +127,10 @@ pub fn wrappers_are_elements<T: Asn1Type, const TAG: u32>()
 {}
 
 /// Choices are elements too.
-pub fn choices_are_elements<T1: Asn1Type, T2: Asn1Type, T3: Asn1Type>()
-    ensures choice1 { ⟦<Choice1<T1> as Asn1Type>⟧.der.is_element }
-    ensures choice2 { ⟦<Choice2<T1, T2> as Asn1Type>⟧.der.is_element }
-    ensures choice3 { ⟦<Choice3<T1, T2, T3> as Asn1Type>⟧.der.is_element }
+pub fn choices_are_elements<A: Asn1Type, B: Asn1Type, C: Asn1Type>()
+    ensures choice1 { ⟦<Choice1<A> as Asn1Type>⟧.der.is_element }
+    ensures choice2 { ⟦<Choice2<A, B> as Asn1Type>⟧.der.is_element }
+    ensures choice3 { ⟦<Choice3<A, B, C> as Asn1Type>⟧.der.is_element }
 {}
 
 /// A type that an item defines is lawful under an explicit tag if the type is lawful and its encoding is an element.

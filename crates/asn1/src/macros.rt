@@ -177,9 +177,9 @@ macro_rules! write_choice {
 /// Appends the encoding of the value in a variant.
 #[macro_export]
 macro_rules! write_variant {
-    ($value:expr, $dest:expr) => { $dest.write_element($value) };
-    ($value:expr, $dest:expr, explicit $tag:literal) => { $dest.write_explicit_element($value, $tag) };
-    ($value:expr, $dest:expr, implicit $tag:literal) => { $dest.write_implicit_element($value, $tag) };
+    ($value:expr, $dest:expr) => { $crate::Asn1Writable::write($value, $dest) };
+    ($value:expr, $dest:expr, explicit $tag:literal) => { $crate::fields::write_explicit($value, $tag, $dest) };
+    ($value:expr, $dest:expr, implicit $tag:literal) => { $crate::fields::write_implicit($value, $tag, $dest) };
 }
 
 /// How many octets the encoding of the value in the variant has, if that is known: the body of `encoded_length`.
@@ -198,8 +198,8 @@ macro_rules! choice_length {
 #[macro_export]
 macro_rules! variant_length {
     ($value:expr) => { $crate::Asn1Writable::encoded_length($value) };
-    ($value:expr, explicit $tag:literal) => { $crate::fields::plain_length::<$crate::Explicit<_, $tag>, _>($value) };
-    ($value:expr, implicit $tag:literal) => { $crate::fields::plain_length::<$crate::Implicit<_, $tag>, _>($value) };
+    ($value:expr, explicit $tag:literal) => { $crate::fields::explicit_length($value, $tag) };
+    ($value:expr, implicit $tag:literal) => { $crate::fields::implicit_length($value, $tag) };
 }
 
 /// Moves the value of an alternative to its variant: the body of `from_one_of`. A list has eight alternatives at a time

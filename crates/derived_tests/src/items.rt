@@ -1,5 +1,5 @@
 //! Values that an item before them defines: each attribute of the original's derives for them, once.
-// Printed by tools/derive from declarations/items.rs, with the sum 7ee93c02.
+// Printed by tools/derive from declarations/items.rs, with the sum 9ef57679.
 
 ghost use Rattle.std.specs.Prelude.{◌≡◌, ◌⊎◌, ◌∷◌, [], true, false, ⊤, IsTrue, MatchOption, OnErr};
 ghost use Rattle.std.specs.Str.{bytes_eq};
@@ -16,8 +16,8 @@ ghost use Rattle.derived_tests.specs.declared.items.TheConstants.{SOME_OID_NUMBE
 
 use super::page::Tagged;
 use asn1::fields::{
-    Before, DefinedField, Field, Item, Last, LastValue, Row, Value, is_identifier,
-    known_identifier, plain_length, write_plain,
+    Before, DefinedField, Field, Item, Last, LastValue, Row, Value, explicit_length, is_identifier,
+    known_identifier, write_explicit,
 };
 use asn1::{
     Asn1DefinedBy, Asn1DefinedByReadable, Asn1DefinedByWritable, Asn1Type, Asn1Writable,
@@ -368,10 +368,7 @@ impl<'a> Asn1DefinedByWritable<ObjectIdentifier> for AnyContent<'a> {
     fn write(&self, dest: &mut Writer<'_>) -> WriteResult<()> {
         match self {
             AnyContent::Tagged(x) => x.write(dest),
-            AnyContent::Numbers(x) => write_plain::<
-                Explicit<SequenceOf<'a, u64, 0, { usize::MAX }>, 1>,
-                _,
-            >(x, dest),
+            AnyContent::Numbers(x) => write_explicit(x, 1, dest),
             AnyContent::Flag(x) => x.write(dest),
             AnyContent::Unknown(x) => x.value.write(dest),
         }
@@ -380,10 +377,7 @@ impl<'a> Asn1DefinedByWritable<ObjectIdentifier> for AnyContent<'a> {
     fn encoded_length(&self) -> Option<usize> {
         match self {
             AnyContent::Tagged(x) => x.encoded_length(),
-            AnyContent::Numbers(x) => plain_length::<
-                Explicit<SequenceOf<'a, u64, 0, { usize::MAX }>, 1>,
-                _,
-            >(x),
+            AnyContent::Numbers(x) => explicit_length(x, 1),
             AnyContent::Flag(x) => x.encoded_length(),
             AnyContent::Unknown(x) => x.value.encoded_length(),
         }

@@ -1,5 +1,5 @@
 //! Items that are numbers, and defaults that aren't literals: each form of the script for them, once.
-// Printed by tools/derive from declarations/numbers.rs, with the sum d335185a.
+// Printed by tools/derive from declarations/numbers.rs, with the sum 3aff9c4d.
 
 ghost use Rattle.std.specs.Prelude.{◌≡◌, ◌⊎◌, ◌∷◌, [], pos, negsuc, nat_eq, true, false, ⊤, IsTrue, MatchOption, OnErr};
 ghost use Rattle.std.specs.Cmp.{partial_equiv_from_equiv};
@@ -20,7 +20,7 @@ ghost use Rattle.asn1.specs.Variants.{any_variant, or_variant};
 ghost use Rattle.derived_tests.specs.declared.numbers.TheConstants.{SHA1_NUMBERS};
 
 use asn1::fields::{
-    DefinedField, Fields4, Item, LastValue, Row, known_identifier, plain_length, write_plain,
+    DefinedField, Fields4, Item, LastValue, Row, explicit_length, known_identifier, write_explicit,
 };
 use asn1::{
     Asn1DefinedBy, Asn1DefinedByReadable, Asn1DefinedByWritable, Asn1Type, Asn1Writable,
@@ -209,7 +209,7 @@ impl<'a> Asn1DefinedByWritable<i32> for PaValue<'a> {
     fn write(&self, dest: &mut Writer<'_>) -> WriteResult<()> {
         match self {
             PaValue::Timestamp(x) => x.write(dest),
-            PaValue::Fast(x) => write_plain::<Explicit<&'a [u8], 0>, _>(x, dest),
+            PaValue::Fast(x) => write_explicit(x, 0, dest),
             PaValue::Local(x) => x.write(dest),
             PaValue::Other(x) => x.value.write(dest),
         }
@@ -218,7 +218,7 @@ impl<'a> Asn1DefinedByWritable<i32> for PaValue<'a> {
     fn encoded_length(&self) -> Option<usize> {
         match self {
             PaValue::Timestamp(x) => x.encoded_length(),
-            PaValue::Fast(x) => plain_length::<Explicit<&'a [u8], 0>, _>(x),
+            PaValue::Fast(x) => explicit_length(x, 0),
             PaValue::Local(x) => x.encoded_length(),
             PaValue::Other(x) => x.value.encoded_length(),
         }

@@ -1,5 +1,5 @@
 //! Structures and choices: each attribute of the original's derives for them, once.
-// Printed by tools/derive from declarations/page.rs, with the sum 88e0e774.
+// Printed by tools/derive from declarations/page.rs, with the sum bd95fdaf.
 
 ghost use Rattle.std.specs.Prelude.{◌≡◌, ◌∷◌, [], negsuc, IsTrue, OnErr, IfOk};
 ghost use Rattle.asn1.specs.AlternativeLists.{after1, choice, first1};
@@ -9,7 +9,7 @@ ghost use Rattle.asn1.specs.Structures.{defaulted, explicit, field_names, implic
 ghost use Rattle.asn1.specs.Structures.{fields2, fields4};
 
 use asn1::alternatives::{Alternatives, AlternativesReadable, AsOneOf, OneOf2, read_choice};
-use asn1::fields::{Fields2, Fields4, Last, NoFields, Row, plain_length, write_plain};
+use asn1::fields::{Fields2, Fields4, Last, NoFields, Row, explicit_length, write_explicit};
 use asn1::{
     Asn1Readable, Asn1Type, Asn1Writable, DefaultValue, Defaulted, Explicit, Implicit, ParseResult,
     Parser, PrintableString, SequenceOf, SetOf, SetOfWriter, SimpleAsn1Readable,
@@ -290,15 +290,15 @@ impl<'a> Asn1Writable for ResponderId<'a> {
 
     fn write(&self, dest: &mut Writer<'_>) -> WriteResult<()> {
         match self {
-            ResponderId::ByName(x) => write_plain::<Explicit<Strings<'a>, 1>, _>(x, dest),
-            ResponderId::ByKey(x) => write_plain::<Explicit<&'a [u8], 2>, _>(x, dest),
+            ResponderId::ByName(x) => write_explicit(x, 1, dest),
+            ResponderId::ByKey(x) => write_explicit(x, 2, dest),
         }
     }
 
     fn encoded_length(&self) -> Option<usize> {
         match self {
-            ResponderId::ByName(x) => plain_length::<Explicit<Strings<'a>, 1>, _>(x),
-            ResponderId::ByKey(x) => plain_length::<Explicit<&'a [u8], 2>, _>(x),
+            ResponderId::ByName(x) => explicit_length(x, 1),
+            ResponderId::ByKey(x) => explicit_length(x, 2),
         }
     }
 

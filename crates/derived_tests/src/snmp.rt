@@ -1,5 +1,5 @@
 //! SNMPv3 messages (RFC 3412, RFC 3414, RFC 3416).
-// Printed by tools/derive from declarations/snmp.rs, with the sum 4dfe0683.
+// Printed by tools/derive from declarations/snmp.rs, with the sum 227b95c8.
 
 ghost use Rattle.std.specs.Prelude.{◌≡◌, ◌∷◌, [], IsTrue, OnErr, IfOk};
 ghost use Rattle.asn1.specs.AlternativeLists.{after1, after3, after8, choice, first1, first3, second3, third3, first8};
@@ -11,7 +11,7 @@ ghost use Rattle.asn1.specs.Structures.{field_names, implicit, structure, fields
 use asn1::alternatives::{
     Alternatives, AlternativesReadable, AsOneOf, OneOf2, OneOf5, OneOf8, OneOfEight, read_choice,
 };
-use asn1::fields::{Fields2, Fields3, Fields4, Fields6, Row, plain_length, write_plain};
+use asn1::fields::{Fields2, Fields3, Fields4, Fields6, Row};
 use asn1::{
     ApplicationImplicit, Asn1Readable, Asn1Type, Asn1Writable, Implicit, Null, ObjectIdentifier,
     OctetStringEncoded, ParseResult, Parser, SequenceOf, SimpleAsn1Readable, SimpleAsn1Writable,
@@ -303,17 +303,11 @@ impl<'a> Asn1Writable for ScopedPduData<'a> {
     type Error = WriteError;
 
     fn write(&self, dest: &mut Writer<'_>) -> WriteResult<()> {
-        match self {
-            ScopedPduData::Plaintext(x) => x.write(dest),
-            ScopedPduData::EncryptedPdu(x) => x.write(dest),
-        }
+        write_choice!(self, dest; ScopedPduData; Plaintext, EncryptedPdu)
     }
 
     fn encoded_length(&self) -> Option<usize> {
-        match self {
-            ScopedPduData::Plaintext(x) => x.encoded_length(),
-            ScopedPduData::EncryptedPdu(x) => x.encoded_length(),
-        }
+        choice_length!(self; ScopedPduData; Plaintext, EncryptedPdu)
     }
 
     fn writes_as_read() -> bool
@@ -487,29 +481,11 @@ impl<'a> Asn1Writable for Pdus<'a> {
     type Error = WriteError;
 
     fn write(&self, dest: &mut Writer<'_>) -> WriteResult<()> {
-        match self {
-            Pdus::GetRequest(x) => write_plain::<Implicit<Pdu<'a>, 0>, _>(x, dest),
-            Pdus::GetNextRequest(x) => write_plain::<Implicit<Pdu<'a>, 1>, _>(x, dest),
-            Pdus::Response(x) => write_plain::<Implicit<Pdu<'a>, 2>, _>(x, dest),
-            Pdus::SetRequest(x) => write_plain::<Implicit<Pdu<'a>, 3>, _>(x, dest),
-            Pdus::GetBulkRequest(x) => write_plain::<Implicit<BulkPdu<'a>, 5>, _>(x, dest),
-            Pdus::InformRequest(x) => write_plain::<Implicit<Pdu<'a>, 6>, _>(x, dest),
-            Pdus::Trap(x) => write_plain::<Implicit<Pdu<'a>, 7>, _>(x, dest),
-            Pdus::Report(x) => write_plain::<Implicit<Pdu<'a>, 8>, _>(x, dest),
-        }
+        variants_of_pdus!(write_choice, self, dest)
     }
 
     fn encoded_length(&self) -> Option<usize> {
-        match self {
-            Pdus::GetRequest(x) => plain_length::<Implicit<Pdu<'a>, 0>, _>(x),
-            Pdus::GetNextRequest(x) => plain_length::<Implicit<Pdu<'a>, 1>, _>(x),
-            Pdus::Response(x) => plain_length::<Implicit<Pdu<'a>, 2>, _>(x),
-            Pdus::SetRequest(x) => plain_length::<Implicit<Pdu<'a>, 3>, _>(x),
-            Pdus::GetBulkRequest(x) => plain_length::<Implicit<BulkPdu<'a>, 5>, _>(x),
-            Pdus::InformRequest(x) => plain_length::<Implicit<Pdu<'a>, 6>, _>(x),
-            Pdus::Trap(x) => plain_length::<Implicit<Pdu<'a>, 7>, _>(x),
-            Pdus::Report(x) => plain_length::<Implicit<Pdu<'a>, 8>, _>(x),
-        }
+        variants_of_pdus!(choice_length, self)
     }
 
     fn writes_as_read() -> bool

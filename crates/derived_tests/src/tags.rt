@@ -1,5 +1,5 @@
 //! Tags of every class, sets, and enums whose values have numbers: each form of the script for them, once.
-// Printed by tools/derive from declarations/tags.rs, with the sum 09c7b630.
+// Printed by tools/derive from declarations/tags.rs, with the sum b94bf7d6.
 
 ghost use Rattle.std.specs.Prelude.{◌≡◌, ◌∷◌, [], true, false, IsTrue, OnErr, IfOk};
 ghost use Rattle.asn1.specs.AlternativeLists.{after1, after8, choice, first1, first3, second3, third3, first8};
@@ -695,17 +695,11 @@ impl<'a> Asn1Writable for Both<'a> {
     type Error = WriteError;
 
     fn write(&self, dest: &mut Writer<'_>) -> WriteResult<()> {
-        match self {
-            Both::Either(x) => x.write(dest),
-            Both::Responder(x) => x.write(dest),
-        }
+        write_choice!(self, dest; Both; Either, Responder)
     }
 
     fn encoded_length(&self) -> Option<usize> {
-        match self {
-            Both::Either(x) => x.encoded_length(),
-            Both::Responder(x) => x.encoded_length(),
-        }
+        choice_length!(self; Both; Either, Responder)
     }
 
     fn writes_as_read() -> bool

@@ -12,6 +12,9 @@ use asn1_core::{Asn1Type, Asn1Writable, WriteError, Writer};
 mod explicit;
 mod implicit;
 
+pub use explicit::{explicit_length, write_explicit};
+pub use implicit::{implicit_length, write_implicit};
+
 /// A field's type in the encoding. A struct has its values as a `P`: without the tag, or with no mention of the
 /// default.
 pub trait Wraps<P>: Asn1Type {

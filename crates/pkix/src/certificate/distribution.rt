@@ -1,5 +1,5 @@
 //! Where revocation lists are found, and what they have (RFC 5280, 4.2.1.13 and 5.2.5).
-// Printed by tools/derive from declarations/certificate/distribution.rs, with the sum b9252c15.
+// Printed by tools/derive from declarations/certificate/distribution.rs, with the sum 78fcca57.
 
 ghost use Rattle.std.specs.Prelude.{◌≡◌, ◌∷◌, [], false, IsTrue, OnErr, IfOk};
 ghost use Rattle.asn1.specs.AlternativeLists.{after1, choice, first1};
@@ -10,7 +10,7 @@ ghost use Rattle.asn1.specs.Structures.{defaulted, explicit, field_names, implic
 
 use crate::common::{AttributeTypeAndValue, GeneralNames, NamedBits};
 use asn1::alternatives::{Alternatives, AlternativesReadable, AsOneOf, OneOf2, read_choice};
-use asn1::fields::{Fields3, Fields6, Row, plain_length, write_plain};
+use asn1::fields::{Fields3, Fields6, Row, implicit_length, write_implicit};
 use asn1::{
     Asn1Readable, Asn1Type, Asn1Writable, DefaultValue, Defaulted, Explicit, Implicit, ParseResult,
     Parser, SequenceOf, SetOf, SimpleAsn1Readable, SimpleAsn1Writable, Tag, WriteBuf, WriteError,
@@ -89,25 +89,15 @@ impl<'a> Asn1Writable for DistributionPointName<'a> {
 
     fn write(&self, dest: &mut Writer<'_>) -> WriteResult<()> {
         match self {
-            DistributionPointName::FullName(x) => write_plain::<Implicit<GeneralNames<'a>, 0>, _>(
-                x, dest,
-            ),
-            DistributionPointName::NameRelativeToCrlIssuer(x) => write_plain::<
-                Implicit<SetOf<'a, AttributeTypeAndValue<'a>>, 1>,
-                _,
-            >(x, dest),
+            DistributionPointName::FullName(x) => write_implicit(x, 0, dest),
+            DistributionPointName::NameRelativeToCrlIssuer(x) => write_implicit(x, 1, dest),
         }
     }
 
     fn encoded_length(&self) -> Option<usize> {
         match self {
-            DistributionPointName::FullName(x) => plain_length::<Implicit<GeneralNames<'a>, 0>, _>(
-                x,
-            ),
-            DistributionPointName::NameRelativeToCrlIssuer(x) => plain_length::<
-                Implicit<SetOf<'a, AttributeTypeAndValue<'a>>, 1>,
-                _,
-            >(x),
+            DistributionPointName::FullName(x) => implicit_length(x, 0),
+            DistributionPointName::NameRelativeToCrlIssuer(x) => implicit_length(x, 1),
         }
     }
 

@@ -1,5 +1,5 @@
 //! General names (RFC 5280, 4.2.1.6).
-// Printed by tools/derive from declarations/common/general_name.rs, with the sum c3624280.
+// Printed by tools/derive from declarations/common/general_name.rs, with the sum 63eed866.
 
 ghost use Rattle.std.specs.Prelude.{◌≡◌, ◌∷◌, [], IsTrue, OnErr, IfOk};
 ghost use Rattle.asn1.specs.AlternativeLists.{after8, choice, first1, first8, second8, third8, fourth8, fifth8};
@@ -11,7 +11,9 @@ ghost use Rattle.asn1.specs.Structures.{explicit, field_names, implicit, structu
 
 use crate::common::{DirectoryString, Name};
 use asn1::alternatives::{Alternatives, AlternativesReadable, AsOneOf, OneOf9, read_choice};
-use asn1::fields::{Fields2, Row, plain_length, write_plain};
+use asn1::fields::{
+    Fields2, Row, explicit_length, implicit_length, write_explicit, write_implicit,
+};
 use asn1::{
     Asn1Readable, Asn1Type, Asn1Writable, Explicit, IA5String, Implicit, ObjectIdentifier,
     ParseResult, Parser, Sequence, SequenceOf, SimpleAsn1Readable, SimpleAsn1Writable, Tag, Tlv,
@@ -270,39 +272,29 @@ impl<'a> Asn1Writable for GeneralName<'a> {
 
     fn write(&self, dest: &mut Writer<'_>) -> WriteResult<()> {
         match self {
-            GeneralName::OtherName(x) => write_plain::<Implicit<OtherName<'a>, 0>, _>(x, dest),
-            GeneralName::Rfc822Name(x) => write_plain::<Implicit<IA5String<'a>, 1>, _>(x, dest),
-            GeneralName::DnsName(x) => write_plain::<Implicit<IA5String<'a>, 2>, _>(x, dest),
-            GeneralName::X400Address(x) => write_plain::<Implicit<Sequence<'a>, 3>, _>(x, dest),
-            GeneralName::DirectoryName(x) => write_plain::<Explicit<Name<'a>, 4>, _>(x, dest),
-            GeneralName::EdiPartyName(x) => write_plain::<Implicit<EdiPartyName<'a>, 5>, _>(
-                x, dest,
-            ),
-            GeneralName::UniformResourceIdentifier(x) => write_plain::<
-                Implicit<IA5String<'a>, 6>,
-                _,
-            >(x, dest),
-            GeneralName::IpAddress(x) => write_plain::<Implicit<&'a [u8], 7>, _>(x, dest),
-            GeneralName::RegisteredId(x) => write_plain::<Implicit<ObjectIdentifier, 8>, _>(
-                x, dest,
-            ),
+            GeneralName::OtherName(x) => write_implicit(x, 0, dest),
+            GeneralName::Rfc822Name(x) => write_implicit(x, 1, dest),
+            GeneralName::DnsName(x) => write_implicit(x, 2, dest),
+            GeneralName::X400Address(x) => write_implicit(x, 3, dest),
+            GeneralName::DirectoryName(x) => write_explicit(x, 4, dest),
+            GeneralName::EdiPartyName(x) => write_implicit(x, 5, dest),
+            GeneralName::UniformResourceIdentifier(x) => write_implicit(x, 6, dest),
+            GeneralName::IpAddress(x) => write_implicit(x, 7, dest),
+            GeneralName::RegisteredId(x) => write_implicit(x, 8, dest),
         }
     }
 
     fn encoded_length(&self) -> Option<usize> {
         match self {
-            GeneralName::OtherName(x) => plain_length::<Implicit<OtherName<'a>, 0>, _>(x),
-            GeneralName::Rfc822Name(x) => plain_length::<Implicit<IA5String<'a>, 1>, _>(x),
-            GeneralName::DnsName(x) => plain_length::<Implicit<IA5String<'a>, 2>, _>(x),
-            GeneralName::X400Address(x) => plain_length::<Implicit<Sequence<'a>, 3>, _>(x),
-            GeneralName::DirectoryName(x) => plain_length::<Explicit<Name<'a>, 4>, _>(x),
-            GeneralName::EdiPartyName(x) => plain_length::<Implicit<EdiPartyName<'a>, 5>, _>(x),
-            GeneralName::UniformResourceIdentifier(x) => plain_length::<
-                Implicit<IA5String<'a>, 6>,
-                _,
-            >(x),
-            GeneralName::IpAddress(x) => plain_length::<Implicit<&'a [u8], 7>, _>(x),
-            GeneralName::RegisteredId(x) => plain_length::<Implicit<ObjectIdentifier, 8>, _>(x),
+            GeneralName::OtherName(x) => implicit_length(x, 0),
+            GeneralName::Rfc822Name(x) => implicit_length(x, 1),
+            GeneralName::DnsName(x) => implicit_length(x, 2),
+            GeneralName::X400Address(x) => implicit_length(x, 3),
+            GeneralName::DirectoryName(x) => explicit_length(x, 4),
+            GeneralName::EdiPartyName(x) => implicit_length(x, 5),
+            GeneralName::UniformResourceIdentifier(x) => implicit_length(x, 6),
+            GeneralName::IpAddress(x) => implicit_length(x, 7),
+            GeneralName::RegisteredId(x) => implicit_length(x, 8),
         }
     }
 

@@ -1,5 +1,5 @@
 //! Who signed (RFC 5652, 5.3), and the values of signed attributes (11.1 to 11.3).
-// Printed by tools/derive from declarations/signatures/signer.rs, with the sum c178cdc6.
+// Printed by tools/derive from declarations/signatures/signer.rs, with the sum e320399a.
 
 ghost use Rattle.std.specs.Prelude.{◌≡◌, ◌∷◌, [], IsTrue, OnErr, IfOk};
 ghost use Rattle.asn1.specs.AlternativeLists.{after1, choice, first1};
@@ -10,11 +10,12 @@ ghost use Rattle.asn1.specs.Structures.{field_names, implicit, structure, fields
 
 use crate::common::{AlgorithmIdentifier, Attributes, Name, Time};
 use asn1::alternatives::{Alternatives, AlternativesReadable, AsOneOf, OneOf2, read_choice};
-use asn1::fields::{Fields2, Fields7, Row, plain_length, write_plain};
+use asn1::fields::{Fields2, Fields7, Row};
 use asn1::{
     Asn1Readable, Asn1Type, Asn1Writable, BigInt, Implicit, ObjectIdentifier, ParseResult, Parser,
     SimpleAsn1Readable, SimpleAsn1Writable, Tag, WriteBuf, WriteError, WriteResult, Writer,
-    fields_length, known_choice, known_fields, read_fields, take_choice, write_fields,
+    choice_length, fields_length, known_choice, known_fields, read_fields, take_choice,
+    write_choice, write_fields,
 };
 use std::alloc::Global;
 
@@ -146,21 +147,13 @@ impl<'a> Asn1Writable for SignerIdentifier<'a> {
     type Error = WriteError;
 
     fn write(&self, dest: &mut Writer<'_>) -> WriteResult<()> {
-        match self {
-            SignerIdentifier::IssuerAndSerialNumber(x) => x.write(dest),
-            SignerIdentifier::SubjectKeyIdentifier(x) => write_plain::<Implicit<&'a [u8], 0>, _>(
-                x, dest,
-            ),
-        }
+        write_choice!(self, dest;
+            SignerIdentifier; IssuerAndSerialNumber, SubjectKeyIdentifier: implicit 0)
     }
 
     fn encoded_length(&self) -> Option<usize> {
-        match self {
-            SignerIdentifier::IssuerAndSerialNumber(x) => x.encoded_length(),
-            SignerIdentifier::SubjectKeyIdentifier(x) => plain_length::<Implicit<&'a [u8], 0>, _>(
-                x,
-            ),
-        }
+        choice_length!(self;
+            SignerIdentifier; IssuerAndSerialNumber, SubjectKeyIdentifier: implicit 0)
     }
 
     fn writes_as_read() -> bool

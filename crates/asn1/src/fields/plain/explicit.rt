@@ -1,10 +1,11 @@
 //! Fields under an explicit tag, as a struct has them: a value that is always there, that may be missing, or that has a
 //! default.
 
-ghost use Rattle.std.specs.Prelude.{◌≡◌};
+ghost use Rattle.std.specs.Prelude.{◌≡◌, OnOk, OnErr, IfErr};
+ghost use Rattle.asn1_core.specs.Buffer.{Appends, KeepsPrefix};
 ghost use Rattle.asn1_core.specs.Options.{option_meaning};
 ghost use Rattle.asn1_core.specs.Tag.{explicit_tag_of};
-ghost use Rattle.asn1_core.specs.Writing.{IsElementOf, GivesLength};
+ghost use Rattle.asn1_core.specs.Writing.{buffer_name, octets_of, IsElementOf, GivesLength, NamesError};
 ghost use Rattle.asn1.specs.Defaults.{same_encoding};
 ghost use Rattle.asn1.specs.Structures.{defaulted, encoded, explicit, owed};
 
@@ -13,8 +14,25 @@ use crate::wrappers::{DefaultValue, Defaulted, Explicit, MeaningEq};
 use asn1_core::writer::full_length;
 use asn1_core::{Asn1Type, Asn1Writable, Writer, explicit_tag};
 
+/// Appends the encoding of a value under the explicit tag with the number `tag` (X.690 8.14). Errors and what the
+/// caller has to prove are those of [`Asn1Writable::write`].
+pub fn write_explicit<T: Asn1Writable>(
+    value: &T,
+    tag: u32,
+    dest: &mut Writer<'_>,
+) -> Result<(), T::Error>
+    requires { T.der.closures (T.der.meaning value.now) }
+    ensures same_buffer { buffer_name dest.new ≡ buffer_name dest.old }
+    ensures ok { OnOk result (Appends (IsElementOf (explicit_tag_of tag)
+        (T.der.encodings (T.der.meaning value.now))) (octets_of dest.old) (octets_of dest.new)) }
+    ensures err { OnErr result (KeepsPrefix (octets_of dest.old) (octets_of dest.new)) }
+    ensures error { IfErr result (NamesError T.Error.from_gives (T.write_errors value.now)) }
+{
+    dest.write_explicit_element(value, tag)
+}
+
 /// How many octets the encoding of a value under an explicit tag has, if that is known.
-fn explicit_length<T: Asn1Writable>(value: &T, tag: u32) -> Option<usize>
+pub fn explicit_length<T: Asn1Writable>(value: &T, tag: u32) -> Option<usize>
     ensures { GivesLength (T.length_known value.now) (IsElementOf (explicit_tag_of tag)
         (T.der.encodings (T.der.meaning value.now))) result }
 {
