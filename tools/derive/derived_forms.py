@@ -288,17 +288,17 @@ class Choice(Form):
     """An enum whose variants are told by their tags; and what one has whose variants are told by an item."""
 
     def __str__(self):
-        row, own = self.item.own("Choice"), self.item.own()
-        text = f"\ntype {row} = {one_of([str(part.form) for part in self.parts])};\n"
+        row, values, own = self.item.own("Choice"), self.item.own("Values"), self.item.own()
+        text = f"\ntype {row} = {one_of([alternative(part) for part in self.parts])};\n"
+        text += f"\ntype {values} = <{row} as Alternatives>::Values;\n"
         words = ",".join(f" {part.name}{f': {part.tag} {part.number}' if part.tag else ''}" for part in self.parts)
         text += self.list_in_macro("variants", words, f" {self.name};")
         text += self.stated(part.base for part in self.parts)
-        seen = quoted(own, f"AsOneOf<{row}>") + ".seen"
-        values = [f"({part.tag} x)" if part.tag else "x" for part in self.parts]
-        values = [in_place(at, len(values), value) for at, value in enumerate(values)]
-        text += self.impl(f"AsOneOf<{row}>", self.variants(), f"""
-            ghost seen = {{ {self.elim(values)[1:-1]} }};
-            fn from_one_of(value: {row}) -> {own}
+        seen = quoted(own, f"AsOneOf<{values}>") + ".seen"
+        places = [in_place(at, len(self.parts), "x") for at in range(len(self.parts))]
+        text += self.impl(f"AsOneOf<{values}>", self.variants(), f"""
+            ghost seen = {{ {self.elim(places)[1:-1]} }};
+            fn from_one_of(value: {values}) -> {own}
                 ensures {{ {seen} result ≡ value.entry }}
             {{ {self.body("take_choice", "value")} }}""")
         text += self.impl("Asn1Type", f"""
@@ -475,6 +475,11 @@ impl<{life}> {of} {{
             ghost is_infallible = {{ λ _. ⊤ }};
             fn clone(&self) -> Result<{of}, AllocError>
             {{ Ok({kept} {{ item: self.item{'.clone()?' if item == ITEM else ''}, value: self.value }}) }}""", of=of)
+
+
+def alternative(part):
+    """The alternative of a variant in the list of its choice: its type, or that under a tag."""
+    return f"{part.tag.capitalize()}Tag<{part.base}, {part.number}>" if part.tag else str(part.base)
 
 
 def one_of(types):

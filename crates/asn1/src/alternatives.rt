@@ -3,16 +3,22 @@
 //! values are read, and moved to the user's enum ([`AsOneOf`]). The enum's bodies that write match on its variants.
 
 ghost use Rattle.std.specs.Prelude.{◌≡◌, IfOk, OnErr};
+ghost use Rattle.asn1_core.specs.Der.{Der};
+ghost use Rattle.asn1_core.specs.Element.{element_encoding};
 ghost use Rattle.asn1_core.specs.Reading.{EndsWith};
-ghost use Rattle.asn1_core.specs.Reads.{BeginsWithEncodingOf, ReadsPrefix};
+ghost use Rattle.asn1_core.specs.Reads.{BeginsWithEncodingOf, IsEncodingOf, ReadsPrefix, ReadsWhole};
+ghost use Rattle.asn1_core.specs.Tag.{explicit_tag_of, implicit_tag_of};
 ghost use Rattle.asn1_core.specs.Tlv.{element_of};
 ghost use Rattle.asn1.specs.AlternativeLists.{AlternativeList, IsAlternative, ReadsAlternative};
 ghost use Rattle.asn1.specs.AlternativeLists.{choice, no_list, one_of, one_of_eight, one_of_three};
+ghost use Rattle.asn1.specs.Types.{changed_der, inside_der};
 
 use asn1_core::{
-    Asn1Readable, Asn1Type, ParseError, ParseErrorKind, ParseResult, Parser, Tag, Tlv,
+    Asn1Readable, Asn1Type, ParseError, ParseErrorKind, ParseResult, Parser, SimpleAsn1Readable,
+    Tag, Tlv, explicit_tag, implicit_tag,
 };
 use std::alloc::Global;
+use std::marker::PhantomData;
 
 /// A value of the first alternative, or of one of the others.
 #[derive(Drop)]
@@ -64,16 +70,118 @@ pub enum OneOfEight<A, B, C, D, E, F, G, H, R> {
 #[derive(Drop)]
 pub enum NoOther {}
 
+/// An alternative: a type as it is, or a type under a tag, whose values have no tag ([`ExplicitTag`], [`ImplicitTag`]).
+pub trait Alternative: Sized {
+    /// The type of the values.
+    type Value;
+
+    ghost der: { Der Self.Value };
+}
+
+/// An alternative that is read.
+pub trait AlternativeReadable<'a>: Alternative {
+    /// Reads an element as a value, with the errors of [`Tlv::parse`].
+    fn read(tlv: Tlv<'a>, alloc: Global) -> ParseResult<Self::Value>
+        ensures exact { ReadsWhole Self.der (element_encoding (element_of tlv.entry)) result }
+        ensures found { IfOk result
+            (λ v. IsEncodingOf Self.der v (element_encoding (element_of tlv.entry))) };
+
+    /// Whether an element with this tag may be a value. Also states that each value has one encoding (`plain`).
+    fn accepts(tag: Tag) -> bool
+        ensures value { result ≡ Self.der.accepts tag }
+        ensures plain { Self.der.plain };
+}
+
+/// The alternative of the type `T` under the explicit tag with the number `TAG` (X.690 8.14.2).
+pub struct ExplicitTag<T, const TAG: u32> {
+    values: PhantomData<T>,
+}
+
+/// The alternative of the type `T` under the implicit tag with the number `TAG` (X.690 8.14.3).
+pub struct ImplicitTag<T, const TAG: u32> {
+    values: PhantomData<T>,
+}
+
+impl<T: Asn1Type> Alternative for T {
+    type Value = T;
+
+    ghost der = { T.der };
+}
+
+impl<T: Asn1Type, const TAG: u32> Alternative for ExplicitTag<T, TAG> {
+    type Value = T;
+
+    ghost der = { inside_der (explicit_tag_of TAG) (λ value. value) T.der };
+}
+
+impl<T: Asn1Type, const TAG: u32> Alternative for ImplicitTag<T, TAG> {
+    type Value = T;
+
+    ghost der = { changed_der (implicit_tag_of TAG) (λ value. value) T.der };
+}
+
+impl<'a, T: Asn1Readable<'a>> AlternativeReadable<'a> for T {
+    #[inline(always)]
+    fn read(tlv: Tlv<'a>, alloc: Global) -> ParseResult<T> {
+        tlv.parse::<T>(alloc)
+    }
+
+    #[inline(always)]
+    fn accepts(tag: Tag) -> bool {
+        T::can_parse(tag)
+    }
+}
+
+impl<'a, T: Asn1Readable<'a>, const TAG: u32> AlternativeReadable<'a> for ExplicitTag<T, TAG> {
+    #[inline(always)]
+    fn read(tlv: Tlv<'a>, alloc: Global) -> ParseResult<T> {
+        let mut parser = Parser::new(alloc, tlv.full_data());
+        let value = parser.read_explicit_element::<T>(TAG)?;
+        if !parser.is_empty() {
+            return Err(ParseError::new(ParseErrorKind::ExtraData));
+        }
+        Ok(value)
+    }
+
+    #[inline(always)]
+    fn accepts(tag: Tag) -> bool {
+        // By this call's contract each value of the type has one encoding.
+        let _is_accepted = T::can_parse(tag);
+        tag == explicit_tag(TAG)
+    }
+}
+
+impl<'a, T: SimpleAsn1Readable<'a>, const TAG: u32> AlternativeReadable<'a>
+    for ImplicitTag<T, TAG> {
+    #[inline(always)]
+    fn read(tlv: Tlv<'a>, alloc: Global) -> ParseResult<T> {
+        let mut parser = Parser::new(alloc, tlv.full_data());
+        let value = parser.read_implicit_element::<T>(TAG)?;
+        if !parser.is_empty() {
+            return Err(ParseError::new(ParseErrorKind::ExtraData));
+        }
+        Ok(value)
+    }
+
+    #[inline(always)]
+    fn accepts(tag: Tag) -> bool {
+        tag == implicit_tag(TAG, T::tag())
+    }
+}
+
 /// What a list of alternatives means, for contracts alone.
 pub trait Alternatives: Sized {
-    ghost list: { AlternativeList Self };
+    /// The type of the values.
+    type Values;
+
+    ghost list: { AlternativeList Self.Values };
 }
 
 /// Alternatives that are read.
-pub trait AlternativesReadable<'a>: Alternatives + Sized + Drop {
+pub trait AlternativesReadable<'a>: Alternatives {
     /// Reads an element as a value of the first alternative that accepts its tag. Errors: those of this alternative;
     /// `UnexpectedTag` if none accepts the tag.
-    fn read(tlv: Tlv<'a>, alloc: Global) -> ParseResult<Self>
+    fn read(tlv: Tlv<'a>, alloc: Global) -> ParseResult<Self::Values>
         ensures answers { ReadsAlternative Self.list (element_of tlv.entry) result }
         ensures found { IfOk result (λ v. IsAlternative Self.list v (element_of tlv.entry)) };
 
@@ -84,39 +192,57 @@ pub trait AlternativesReadable<'a>: Alternatives + Sized + Drop {
         ensures plain { Self.list.all.plain };
 }
 
-/// A choice of one's own, whose values are seen as values of the list of alternatives `R`.
-pub trait AsOneOf<R>: Sized {
-    ghost seen: { Self → R };
+/// A choice of one's own, whose values are seen as values `V` of a list of alternatives.
+pub trait AsOneOf<V>: Sized {
+    ghost seen: { Self → V };
 
     /// The value that is seen as this one: the body is [`crate::take_choice`].
-    fn from_one_of(value: R) -> Self
+    fn from_one_of(value: V) -> Self
         ensures { seen result ≡ value };
 }
 
 impl Alternatives for NoOther {
+    type Values = NoOther;
+
     ghost list = { no_list };
 }
 
-impl<A: Asn1Type, R: Alternatives> Alternatives for OneOf<A, R> {
+impl<A: Alternative, R: Alternatives> Alternatives for OneOf<A, R> {
+    type Values = OneOf<A::Value, R::Values>;
+
     ghost list = { one_of A.der R.list };
 }
 
-impl<A: Asn1Type, B: Asn1Type, C: Asn1Type, R: Alternatives> Alternatives
+impl<A: Alternative, B: Alternative, C: Alternative, R: Alternatives> Alternatives
     for OneOfThree<A, B, C, R> {
+    type Values = OneOfThree<A::Value, B::Value, C::Value, R::Values>;
+
     ghost list = { one_of_three A.der B.der C.der R.list };
 }
 
 impl<
-    A: Asn1Type,
-    B: Asn1Type,
-    C: Asn1Type,
-    D: Asn1Type,
-    E: Asn1Type,
-    F: Asn1Type,
-    G: Asn1Type,
-    H: Asn1Type,
+    A: Alternative,
+    B: Alternative,
+    C: Alternative,
+    D: Alternative,
+    E: Alternative,
+    F: Alternative,
+    G: Alternative,
+    H: Alternative,
     R: Alternatives,
 > Alternatives for OneOfEight<A, B, C, D, E, F, G, H, R> {
+    type Values = OneOfEight<
+        A::Value,
+        B::Value,
+        C::Value,
+        D::Value,
+        E::Value,
+        F::Value,
+        G::Value,
+        H::Value,
+        R::Values,
+    >;
+
     ghost list = { one_of_eight A.der B.der C.der D.der E.der F.der G.der H.der R.list };
 }
 
@@ -132,12 +258,12 @@ impl<'a> AlternativesReadable<'a> for NoOther {
     }
 }
 
-impl<'a, A: Asn1Readable<'a>, R: AlternativesReadable<'a>> AlternativesReadable<'a>
+impl<'a, A: AlternativeReadable<'a>, R: AlternativesReadable<'a>> AlternativesReadable<'a>
     for OneOf<A, R> {
     #[inline(always)]
-    fn read(tlv: Tlv<'a>, alloc: Global) -> ParseResult<Self> {
-        if A::can_parse(tlv.tag()) {
-            return Ok(OneOf::First(tlv.parse::<A>(alloc)?));
+    fn read(tlv: Tlv<'a>, alloc: Global) -> ParseResult<Self::Values> {
+        if A::accepts(tlv.tag()) {
+            return Ok(OneOf::First(A::read(tlv, alloc)?));
         }
         Ok(OneOf::Other(R::read(tlv, alloc)?))
     }
@@ -145,7 +271,7 @@ impl<'a, A: Asn1Readable<'a>, R: AlternativesReadable<'a>> AlternativesReadable<
     #[inline(always)]
     fn accepts(tag: Tag) -> bool {
         // Each alternative is called, since by each contract the values of that alternative have one encoding.
-        let first = A::can_parse(tag);
+        let first = A::accepts(tag);
         let others = R::accepts(tag);
         first || others
     }
@@ -153,21 +279,21 @@ impl<'a, A: Asn1Readable<'a>, R: AlternativesReadable<'a>> AlternativesReadable<
 
 impl<
     'a,
-    A: Asn1Readable<'a>,
-    B: Asn1Readable<'a>,
-    C: Asn1Readable<'a>,
+    A: AlternativeReadable<'a>,
+    B: AlternativeReadable<'a>,
+    C: AlternativeReadable<'a>,
     R: AlternativesReadable<'a>,
 > AlternativesReadable<'a> for OneOfThree<A, B, C, R> {
     #[inline(always)]
-    fn read(tlv: Tlv<'a>, alloc: Global) -> ParseResult<Self> {
-        if A::can_parse(tlv.tag()) {
-            return Ok(OneOfThree::First(tlv.parse::<A>(alloc)?));
+    fn read(tlv: Tlv<'a>, alloc: Global) -> ParseResult<Self::Values> {
+        if A::accepts(tlv.tag()) {
+            return Ok(OneOfThree::First(A::read(tlv, alloc)?));
         }
-        if B::can_parse(tlv.tag()) {
-            return Ok(OneOfThree::Second(tlv.parse::<B>(alloc)?));
+        if B::accepts(tlv.tag()) {
+            return Ok(OneOfThree::Second(B::read(tlv, alloc)?));
         }
-        if C::can_parse(tlv.tag()) {
-            return Ok(OneOfThree::Third(tlv.parse::<C>(alloc)?));
+        if C::accepts(tlv.tag()) {
+            return Ok(OneOfThree::Third(C::read(tlv, alloc)?));
         }
         Ok(OneOfThree::Others(R::read(tlv, alloc)?))
     }
@@ -175,9 +301,9 @@ impl<
     #[inline(always)]
     fn accepts(tag: Tag) -> bool {
         // Each is called, as in a list of one.
-        let first = A::can_parse(tag);
-        let second = B::can_parse(tag);
-        let third = C::can_parse(tag);
+        let first = A::accepts(tag);
+        let second = B::accepts(tag);
+        let third = C::accepts(tag);
         let others = R::accepts(tag);
         first || second || third || others
     }
@@ -185,41 +311,41 @@ impl<
 
 impl<
     'a,
-    A: Asn1Readable<'a>,
-    B: Asn1Readable<'a>,
-    C: Asn1Readable<'a>,
-    D: Asn1Readable<'a>,
-    E: Asn1Readable<'a>,
-    F: Asn1Readable<'a>,
-    G: Asn1Readable<'a>,
-    H: Asn1Readable<'a>,
+    A: AlternativeReadable<'a>,
+    B: AlternativeReadable<'a>,
+    C: AlternativeReadable<'a>,
+    D: AlternativeReadable<'a>,
+    E: AlternativeReadable<'a>,
+    F: AlternativeReadable<'a>,
+    G: AlternativeReadable<'a>,
+    H: AlternativeReadable<'a>,
     R: AlternativesReadable<'a>,
 > AlternativesReadable<'a> for OneOfEight<A, B, C, D, E, F, G, H, R> {
     #[inline(always)]
-    fn read(tlv: Tlv<'a>, alloc: Global) -> ParseResult<Self> {
-        if A::can_parse(tlv.tag()) {
-            return Ok(OneOfEight::First(tlv.parse::<A>(alloc)?));
+    fn read(tlv: Tlv<'a>, alloc: Global) -> ParseResult<Self::Values> {
+        if A::accepts(tlv.tag()) {
+            return Ok(OneOfEight::First(A::read(tlv, alloc)?));
         }
-        if B::can_parse(tlv.tag()) {
-            return Ok(OneOfEight::Second(tlv.parse::<B>(alloc)?));
+        if B::accepts(tlv.tag()) {
+            return Ok(OneOfEight::Second(B::read(tlv, alloc)?));
         }
-        if C::can_parse(tlv.tag()) {
-            return Ok(OneOfEight::Third(tlv.parse::<C>(alloc)?));
+        if C::accepts(tlv.tag()) {
+            return Ok(OneOfEight::Third(C::read(tlv, alloc)?));
         }
-        if D::can_parse(tlv.tag()) {
-            return Ok(OneOfEight::Fourth(tlv.parse::<D>(alloc)?));
+        if D::accepts(tlv.tag()) {
+            return Ok(OneOfEight::Fourth(D::read(tlv, alloc)?));
         }
-        if E::can_parse(tlv.tag()) {
-            return Ok(OneOfEight::Fifth(tlv.parse::<E>(alloc)?));
+        if E::accepts(tlv.tag()) {
+            return Ok(OneOfEight::Fifth(E::read(tlv, alloc)?));
         }
-        if F::can_parse(tlv.tag()) {
-            return Ok(OneOfEight::Sixth(tlv.parse::<F>(alloc)?));
+        if F::accepts(tlv.tag()) {
+            return Ok(OneOfEight::Sixth(F::read(tlv, alloc)?));
         }
-        if G::can_parse(tlv.tag()) {
-            return Ok(OneOfEight::Seventh(tlv.parse::<G>(alloc)?));
+        if G::accepts(tlv.tag()) {
+            return Ok(OneOfEight::Seventh(G::read(tlv, alloc)?));
         }
-        if H::can_parse(tlv.tag()) {
-            return Ok(OneOfEight::Eighth(tlv.parse::<H>(alloc)?));
+        if H::accepts(tlv.tag()) {
+            return Ok(OneOfEight::Eighth(H::read(tlv, alloc)?));
         }
         Ok(OneOfEight::Others(R::read(tlv, alloc)?))
     }
@@ -227,23 +353,23 @@ impl<
     #[inline(always)]
     fn accepts(tag: Tag) -> bool {
         // Each is called, as in a list of one.
-        let first = A::can_parse(tag);
-        let second = B::can_parse(tag);
-        let third = C::can_parse(tag);
-        let fourth = D::can_parse(tag);
-        let fifth = E::can_parse(tag);
-        let sixth = F::can_parse(tag);
-        let seventh = G::can_parse(tag);
-        let eighth = H::can_parse(tag);
+        let first = A::accepts(tag);
+        let second = B::accepts(tag);
+        let third = C::accepts(tag);
+        let fourth = D::accepts(tag);
+        let fifth = E::accepts(tag);
+        let sixth = F::accepts(tag);
+        let seventh = G::accepts(tag);
+        let eighth = H::accepts(tag);
         let others = R::accepts(tag);
         first || second || third || fourth || fifth || sixth || seventh || eighth || others
     }
 }
 
-/// Reads the next element as a value of the choice `C`: the body of its `parse`. The element is framed first. Errors
-/// after those of framing are those of [`AlternativesReadable::read`].
+/// Reads the next element as a value of the choice `C`, which has the alternatives `R`: the body of its `parse`. The
+/// element is framed first. Errors after those of framing are those of [`AlternativesReadable::read`].
 #[inline(always)]
-pub fn read_choice<'a, R: AlternativesReadable<'a>, C: AsOneOf<R>>(
+pub fn read_choice<'a, R: AlternativesReadable<'a>, C: AsOneOf<R::Values>>(
     parser: &mut Parser<'a>,
 ) -> ParseResult<C>
     ensures answers { ReadsPrefix (choice C.seen R.list) parser.old parser.new result }

@@ -11,7 +11,7 @@ ghost use Rattle.asn1.specs.Structures.{defaulted, explicit, implicit, IsEncoded
 ghost use Rattle.asn1.specs.Structures.{IsReadBehind, IsWrittenAs};
 
 use crate::alternatives::{
-    Alternatives, AsOneOf, EightOneByOne, NoOther, OneOf, OneOfEight, OneOfThree,
+    Alternative, Alternatives, AsOneOf, EightOneByOne, NoOther, OneOf, OneOfEight, OneOfThree,
 };
 use crate::fields::{
     Before, DefinedField, Field, FieldWritable, Item, ItemOf, Last, LastValue, NoFields, Plain,
@@ -70,7 +70,7 @@ pub fn choices_are_lawful<A: Asn1Type, B: Asn1Type, C: Asn1Type>()
 /// Each value of a list of alternatives has one encoding if it is so of the first alternative, which has to be an
 /// element, and of the others, and if no tag is accepted by the first and by one of the others. So the law holds of
 /// lists of any length.
-pub fn alternatives_are_lawful<A: Asn1Type, R: Alternatives>()
+pub fn alternatives_are_lawful<A: Alternative, R: Alternatives>()
     ensures none { EachHasOneEncoding ⟦<NoOther as Alternatives>⟧.list }
     ensures first { HasOneEncoding A.der → A.der.is_element → EachHasOneEncoding R.list
         → Disjoint A.der.accepts R.list.all.accepts
@@ -78,21 +78,26 @@ pub fn alternatives_are_lawful<A: Asn1Type, R: Alternatives>()
 {}
 
 /// The same of a list of three alternatives and others, if it is so of the list that has the three one by one.
-pub fn alternatives_by_three_are_lawful<A: Asn1Type, B: Asn1Type, C: Asn1Type, R: Alternatives>()
+pub fn alternatives_by_three_are_lawful<
+    A: Alternative,
+    B: Alternative,
+    C: Alternative,
+    R: Alternatives,
+>()
     ensures { EachHasOneEncoding ⟦<OneOf<A, OneOf<B, OneOf<C, R>>> as Alternatives>⟧.list
         → EachHasOneEncoding ⟦<OneOfThree<A, B, C, R> as Alternatives>⟧.list }
 {}
 
 /// The same of a list of eight.
 pub fn alternatives_by_eight_are_lawful<
-    A: Asn1Type,
-    B: Asn1Type,
-    C: Asn1Type,
-    D: Asn1Type,
-    E: Asn1Type,
-    F: Asn1Type,
-    G: Asn1Type,
-    H: Asn1Type,
+    A: Alternative,
+    B: Alternative,
+    C: Alternative,
+    D: Alternative,
+    E: Alternative,
+    F: Alternative,
+    G: Alternative,
+    H: Alternative,
     R: Alternatives,
 >()
     ensures { EachHasOneEncoding
@@ -101,7 +106,7 @@ pub fn alternatives_by_eight_are_lawful<
 {}
 
 /// So has a choice of one's own, whose values are seen as those of such a list; and it is an element.
-pub fn choices_of_alternatives_are_lawful<R: Alternatives, C: AsOneOf<R>>()
+pub fn choices_of_alternatives_are_lawful<R: Alternatives, C: AsOneOf<R::Values>>()
     ensures one { EachHasOneEncoding R.list → HasOneEncoding (choice C.seen R.list) }
     ensures element { (choice C.seen R.list).is_element }
 {}

@@ -217,30 +217,14 @@ macro_rules! take_choice {
         $g:ident $(: $g_kind:ident $g_tag:literal)?,
         $h:ident $(: $h_kind:ident $h_tag:literal)? $(, $($rest:tt)*)?) => {
         match $value {
-            $crate::alternatives::OneOfEight::First(x) => {
-                $choice::$a($crate::taken_variant!(x $(, $a_kind)?))
-            }
-            $crate::alternatives::OneOfEight::Second(x) => {
-                $choice::$b($crate::taken_variant!(x $(, $b_kind)?))
-            }
-            $crate::alternatives::OneOfEight::Third(x) => {
-                $choice::$c($crate::taken_variant!(x $(, $c_kind)?))
-            }
-            $crate::alternatives::OneOfEight::Fourth(x) => {
-                $choice::$d($crate::taken_variant!(x $(, $d_kind)?))
-            }
-            $crate::alternatives::OneOfEight::Fifth(x) => {
-                $choice::$e($crate::taken_variant!(x $(, $e_kind)?))
-            }
-            $crate::alternatives::OneOfEight::Sixth(x) => {
-                $choice::$f($crate::taken_variant!(x $(, $f_kind)?))
-            }
-            $crate::alternatives::OneOfEight::Seventh(x) => {
-                $choice::$g($crate::taken_variant!(x $(, $g_kind)?))
-            }
-            $crate::alternatives::OneOfEight::Eighth(x) => {
-                $choice::$h($crate::taken_variant!(x $(, $h_kind)?))
-            }
+            $crate::alternatives::OneOfEight::First(x) => $choice::$a(x),
+            $crate::alternatives::OneOfEight::Second(x) => $choice::$b(x),
+            $crate::alternatives::OneOfEight::Third(x) => $choice::$c(x),
+            $crate::alternatives::OneOfEight::Fourth(x) => $choice::$d(x),
+            $crate::alternatives::OneOfEight::Fifth(x) => $choice::$e(x),
+            $crate::alternatives::OneOfEight::Sixth(x) => $choice::$f(x),
+            $crate::alternatives::OneOfEight::Seventh(x) => $choice::$g(x),
+            $crate::alternatives::OneOfEight::Eighth(x) => $choice::$h(x),
             $crate::alternatives::OneOfEight::Others(others) => {
                 $crate::take_choice!(others; $choice; $($($rest)*)?)
             }
@@ -251,15 +235,9 @@ macro_rules! take_choice {
         $b:ident $(: $b_kind:ident $b_tag:literal)?,
         $c:ident $(: $c_kind:ident $c_tag:literal)? $(, $($rest:tt)*)?) => {
         match $value {
-            $crate::alternatives::OneOfThree::First(x) => {
-                $choice::$a($crate::taken_variant!(x $(, $a_kind)?))
-            }
-            $crate::alternatives::OneOfThree::Second(x) => {
-                $choice::$b($crate::taken_variant!(x $(, $b_kind)?))
-            }
-            $crate::alternatives::OneOfThree::Third(x) => {
-                $choice::$c($crate::taken_variant!(x $(, $c_kind)?))
-            }
+            $crate::alternatives::OneOfThree::First(x) => $choice::$a(x),
+            $crate::alternatives::OneOfThree::Second(x) => $choice::$b(x),
+            $crate::alternatives::OneOfThree::Third(x) => $choice::$c(x),
             $crate::alternatives::OneOfThree::Others(others) => {
                 $crate::take_choice!(others; $choice; $($($rest)*)?)
             }
@@ -268,19 +246,10 @@ macro_rules! take_choice {
     ($value:expr; $choice:ident;
         $name:ident $(: $kind:ident $tag:literal)? $(, $($rest:tt)*)?) => {
         match $value {
-            $crate::alternatives::OneOf::First(x) => {
-                $choice::$name($crate::taken_variant!(x $(, $kind)?))
-            }
+            $crate::alternatives::OneOf::First(x) => $choice::$name(x),
             $crate::alternatives::OneOf::Other(others) => {
                 $crate::take_choice!(others; $choice; $($($rest)*)?)
             }
         }
     };
-}
-
-/// The value of an alternative as a variant has it.
-#[macro_export]
-macro_rules! taken_variant {
-    ($value:expr) => { $value };
-    ($value:expr, $kind:ident) => { $value.into_inner() };
 }

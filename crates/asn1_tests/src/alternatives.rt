@@ -4,22 +4,26 @@ ghost use Rattle.asn1.specs.AlternativeLists.{choice, EachHasOneEncoding};
 ghost use Rattle.asn1.specs.Alternatives.{Disjoint};
 ghost use Rattle.asn1.specs.Reads.{HasOneEncoding};
 
+use asn1::Asn1Type;
 use asn1::alternatives::{
-    Alternatives, AsOneOf, EightOneByOne, NoOther, OneOf, OneOf1, OneOf2, OneOf3, OneOfEight,
-    OneOfThree,
+    Alternative, Alternatives, AsOneOf, EightOneByOne, ExplicitTag, NoOther, OneOf, OneOf1, OneOf2,
+    OneOf3, OneOfEight, OneOfThree,
 };
 use asn1::laws_wrappers::{
     alternatives_apart_are_lawful, alternatives_are_lawful, alternatives_by_eight_are_lawful,
     alternatives_by_three_are_lawful, choices_of_alternatives_are_lawful, tags_are_apart,
 };
-use asn1::{Asn1Type, Explicit};
 
 /// Alternatives with one tag each.
-type Tagged = OneOf3<bool, Explicit<u8, 1>, &'static [u8]>;
+type Tagged = OneOf3<bool, ExplicitTag<u8, 1>, &'static [u8]>;
 
 /// A choice of one's own has one encoding for each value, if its two alternatives are elements, have, and accept no tag
 /// in common.
-pub fn choices_of_two<T: Asn1Type, U: Asn1Type, C: AsOneOf<OneOf2<T, U>>>()
+pub fn choices_of_two<
+    T: Alternative,
+    U: Alternative,
+    C: AsOneOf<<OneOf2<T, U> as Alternatives>::Values>,
+>()
     requires one { HasOneEncoding T.der }
     requires element { T.der.is_element }
     requires other { HasOneEncoding U.der }
@@ -35,11 +39,11 @@ pub fn choices_of_two<T: Asn1Type, U: Asn1Type, C: AsOneOf<OneOf2<T, U>>>()
 
 /// A list of three alternatives at a time has one encoding for each value, if a list of the three one by one has.
 pub fn choices_by_three<
-    A: Asn1Type,
-    B: Asn1Type,
-    C: Asn1Type,
+    A: Alternative,
+    B: Alternative,
+    C: Alternative,
     R: Alternatives,
-    W: AsOneOf<OneOfThree<A, B, C, R>>,
+    W: AsOneOf<<OneOfThree<A, B, C, R> as Alternatives>::Values>,
 >()
     requires { EachHasOneEncoding ⟦<OneOf<A, OneOf<B, OneOf<C, R>>> as Alternatives>⟧.list }
     ensures { HasOneEncoding (choice W.seen ⟦<OneOfThree<A, B, C, R> as Alternatives>⟧.list) }
@@ -49,7 +53,7 @@ pub fn choices_by_three<
 }
 
 /// The same of eight.
-pub fn lists_by_eight<A: Asn1Type, R: Alternatives>()
+pub fn lists_by_eight<A: Alternative, R: Alternatives>()
     requires { EachHasOneEncoding
         ⟦<EightOneByOne<A, A, A, A, A, A, A, A, R> as Alternatives>⟧.list }
     ensures { EachHasOneEncoding ⟦<OneOfEight<A, A, A, A, A, A, A, A, R> as Alternatives>⟧.list }

@@ -1,5 +1,5 @@
 //! Structures and choices: each attribute of the original's derives for them, once.
-// Printed by tools/derive from declarations/page.rs, with the sum bd95fdaf.
+// Printed by tools/derive from declarations/page.rs, with the sum eadac610.
 
 ghost use Rattle.std.specs.Prelude.{◌≡◌, ◌∷◌, [], negsuc, IsTrue, OnErr, IfOk};
 ghost use Rattle.asn1.specs.AlternativeLists.{after1, choice, first1};
@@ -8,7 +8,9 @@ ghost use Rattle.asn1.specs.Reads.{BeginsWithEncodingOf, HasOneEncoding, ReadsCo
 ghost use Rattle.asn1.specs.Structures.{defaulted, explicit, field_names, implicit, structure, fields0, fields1};
 ghost use Rattle.asn1.specs.Structures.{fields2, fields4};
 
-use asn1::alternatives::{Alternatives, AlternativesReadable, AsOneOf, OneOf2, read_choice};
+use asn1::alternatives::{
+    Alternatives, AlternativesReadable, AsOneOf, ExplicitTag, OneOf2, read_choice,
+};
 use asn1::fields::{Fields2, Fields4, Last, NoFields, Row, explicit_length, write_explicit};
 use asn1::{
     Asn1Readable, Asn1Type, Asn1Writable, DefaultValue, Defaulted, Explicit, Implicit, ParseResult,
@@ -229,7 +231,9 @@ impl<'a> SimpleAsn1Writable for Tagged<'a> {
 /// Strings, in the order of a set.
 pub type Strings<'a> = SetOf<'a, PrintableString<'a>>;
 
-type ResponderIdChoice<'a> = OneOf2<Explicit<Strings<'a>, 1>, Explicit<&'a [u8], 2>>;
+type ResponderIdChoice<'a> = OneOf2<ExplicitTag<Strings<'a>, 1>, ExplicitTag<&'a [u8], 2>>;
+
+type ResponderIdValues<'a> = <ResponderIdChoice<'a> as Alternatives>::Values;
 
 /// Who answers (RFC 6960, 4.2.1).
 #[derive(Debug, Clone, PartialEq, Eq, Hash, Drop)]
@@ -240,23 +244,20 @@ pub enum ResponderId<'a> {
     ByKey(&'a [u8]),
 }
 
-impl<'a> AsOneOf<ResponderIdChoice<'a>> for ResponderId<'a> {
+impl<'a> AsOneOf<ResponderIdValues<'a>> for ResponderId<'a> {
     ghost use Rattle.derived_tests.specs.declared.page.ResponderId.TheVariants.{ByName, ByKey};
 
-    ghost seen = { elim [
-      | ByName x ↦ first1 (explicit x)
-      | ByKey x ↦ after1 (first1 (explicit x))
-    ] };
+    ghost seen = { elim [ ByName x ↦ first1 x | ByKey x ↦ after1 (first1 x) ] };
 
-    fn from_one_of(value: ResponderIdChoice<'a>) -> ResponderId<'a>
-        ensures { ⟦<ResponderId<'a> as AsOneOf<ResponderIdChoice<'a>>>⟧.seen result ≡ value.entry }
+    fn from_one_of(value: ResponderIdValues<'a>) -> ResponderId<'a>
+        ensures { ⟦<ResponderId<'a> as AsOneOf<ResponderIdValues<'a>>>⟧.seen result ≡ value.entry }
     {
         take_choice!(value; ResponderId; ByName: explicit 1, ByKey: explicit 2)
     }
 }
 
 impl<'a> Asn1Type for ResponderId<'a> {
-    ghost der = { choice ⟦<ResponderId<'a> as AsOneOf<ResponderIdChoice<'a>>>⟧.seen
+    ghost der = { choice ⟦<ResponderId<'a> as AsOneOf<ResponderIdValues<'a>>>⟧.seen
         ⟦<ResponderIdChoice<'a> as Alternatives>⟧.list };
 
     fn known(&self) {

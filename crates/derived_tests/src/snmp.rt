@@ -1,19 +1,20 @@
 //! SNMPv3 messages (RFC 3412, RFC 3414, RFC 3416).
-// Printed by tools/derive from declarations/snmp.rs, with the sum 227b95c8.
+// Printed by tools/derive from declarations/snmp.rs, with the sum 571471a7.
 
 ghost use Rattle.std.specs.Prelude.{◌≡◌, ◌∷◌, [], IsTrue, OnErr, IfOk};
 ghost use Rattle.asn1.specs.AlternativeLists.{after1, after3, after8, choice, first1, first3, second3, third3, first8};
 ghost use Rattle.asn1.specs.AlternativeLists.{second8, third8, fourth8, fifth8, sixth8, seventh8, eighth8};
 ghost use Rattle.asn1.specs.Reading.{EndsWith};
 ghost use Rattle.asn1.specs.Reads.{BeginsWithEncodingOf, HasOneEncoding, ReadsContents, ReadsPrefix};
-ghost use Rattle.asn1.specs.Structures.{field_names, implicit, structure, fields2, fields3, fields4, fields6};
+ghost use Rattle.asn1.specs.Structures.{field_names, structure, fields2, fields3, fields4, fields6};
 
 use asn1::alternatives::{
-    Alternatives, AlternativesReadable, AsOneOf, OneOf2, OneOf5, OneOf8, OneOfEight, read_choice,
+    Alternatives, AlternativesReadable, AsOneOf, ImplicitTag, OneOf2, OneOf5, OneOf8, OneOfEight,
+    read_choice,
 };
 use asn1::fields::{Fields2, Fields3, Fields4, Fields6, Row};
 use asn1::{
-    ApplicationImplicit, Asn1Readable, Asn1Type, Asn1Writable, Implicit, Null, ObjectIdentifier,
+    ApplicationImplicit, Asn1Readable, Asn1Type, Asn1Writable, Null, ObjectIdentifier,
     OctetStringEncoded, ParseResult, Parser, SequenceOf, SimpleAsn1Readable, SimpleAsn1Writable,
     Tag, WriteBuf, WriteError, WriteResult, Writer, choice_length, fields_length, known_choice,
     known_fields, read_fields, take_choice, write_choice, write_fields,
@@ -247,6 +248,8 @@ impl<'a> SimpleAsn1Writable for UsmSecurityParameters<'a> {
 
 type ScopedPduDataChoice<'a> = OneOf2<ScopedPdu<'a>, &'a [u8]>;
 
+type ScopedPduDataValues<'a> = <ScopedPduDataChoice<'a> as Alternatives>::Values;
+
 /// ScopedPduData.
 #[derive(Drop)]
 pub enum ScopedPduData<'a> {
@@ -256,13 +259,13 @@ pub enum ScopedPduData<'a> {
     EncryptedPdu(&'a [u8]),
 }
 
-impl<'a> AsOneOf<ScopedPduDataChoice<'a>> for ScopedPduData<'a> {
+impl<'a> AsOneOf<ScopedPduDataValues<'a>> for ScopedPduData<'a> {
     ghost use Rattle.derived_tests.specs.declared.snmp.ScopedPduData.TheVariants.{Plaintext, EncryptedPdu};
 
     ghost seen = { elim [ Plaintext x ↦ first1 x | EncryptedPdu x ↦ after1 (first1 x) ] };
 
-    fn from_one_of(value: ScopedPduDataChoice<'a>) -> ScopedPduData<'a>
-        ensures { ⟦<ScopedPduData<'a> as AsOneOf<ScopedPduDataChoice<'a>>>⟧.seen result ≡
+    fn from_one_of(value: ScopedPduDataValues<'a>) -> ScopedPduData<'a>
+        ensures { ⟦<ScopedPduData<'a> as AsOneOf<ScopedPduDataValues<'a>>>⟧.seen result ≡
             value.entry }
     {
         take_choice!(value; ScopedPduData; Plaintext, EncryptedPdu)
@@ -270,7 +273,7 @@ impl<'a> AsOneOf<ScopedPduDataChoice<'a>> for ScopedPduData<'a> {
 }
 
 impl<'a> Asn1Type for ScopedPduData<'a> {
-    ghost der = { choice ⟦<ScopedPduData<'a> as AsOneOf<ScopedPduDataChoice<'a>>>⟧.seen
+    ghost der = { choice ⟦<ScopedPduData<'a> as AsOneOf<ScopedPduDataValues<'a>>>⟧.seen
         ⟦<ScopedPduDataChoice<'a> as Alternatives>⟧.list };
 
     fn known(&self) {
@@ -388,15 +391,17 @@ impl<'a> SimpleAsn1Writable for ScopedPdu<'a> {
 }
 
 type PdusChoice<'a> = OneOf8<
-    Implicit<Pdu<'a>, 0>,
-    Implicit<Pdu<'a>, 1>,
-    Implicit<Pdu<'a>, 2>,
-    Implicit<Pdu<'a>, 3>,
-    Implicit<BulkPdu<'a>, 5>,
-    Implicit<Pdu<'a>, 6>,
-    Implicit<Pdu<'a>, 7>,
-    Implicit<Pdu<'a>, 8>,
+    ImplicitTag<Pdu<'a>, 0>,
+    ImplicitTag<Pdu<'a>, 1>,
+    ImplicitTag<Pdu<'a>, 2>,
+    ImplicitTag<Pdu<'a>, 3>,
+    ImplicitTag<BulkPdu<'a>, 5>,
+    ImplicitTag<Pdu<'a>, 6>,
+    ImplicitTag<Pdu<'a>, 7>,
+    ImplicitTag<Pdu<'a>, 8>,
 >;
+
+type PdusValues<'a> = <PdusChoice<'a> as Alternatives>::Values;
 
 macro_rules! variants_of_pdus {
     ($body:ident, $($of:tt)*) => { $body!($($of)*; Pdus;
@@ -426,31 +431,31 @@ pub enum Pdus<'a> {
     Report(Pdu<'a>),
 }
 
-impl<'a> AsOneOf<PdusChoice<'a>> for Pdus<'a> {
+impl<'a> AsOneOf<PdusValues<'a>> for Pdus<'a> {
     ghost use Rattle.derived_tests.specs.declared.snmp.Pdus.TheVariants.{GetRequest, GetNextRequest, Response};
     ghost use Rattle.derived_tests.specs.declared.snmp.Pdus.TheVariants.{SetRequest, GetBulkRequest, InformRequest};
     ghost use Rattle.derived_tests.specs.declared.snmp.Pdus.TheVariants.{Trap, Report};
 
     ghost seen = { elim [
-      | GetRequest x ↦ first8 (implicit x)
-      | GetNextRequest x ↦ second8 (implicit x)
-      | Response x ↦ third8 (implicit x)
-      | SetRequest x ↦ fourth8 (implicit x)
-      | GetBulkRequest x ↦ fifth8 (implicit x)
-      | InformRequest x ↦ sixth8 (implicit x)
-      | Trap x ↦ seventh8 (implicit x)
-      | Report x ↦ eighth8 (implicit x)
+      | GetRequest x ↦ first8 x
+      | GetNextRequest x ↦ second8 x
+      | Response x ↦ third8 x
+      | SetRequest x ↦ fourth8 x
+      | GetBulkRequest x ↦ fifth8 x
+      | InformRequest x ↦ sixth8 x
+      | Trap x ↦ seventh8 x
+      | Report x ↦ eighth8 x
     ] };
 
-    fn from_one_of(value: PdusChoice<'a>) -> Pdus<'a>
-        ensures { ⟦<Pdus<'a> as AsOneOf<PdusChoice<'a>>>⟧.seen result ≡ value.entry }
+    fn from_one_of(value: PdusValues<'a>) -> Pdus<'a>
+        ensures { ⟦<Pdus<'a> as AsOneOf<PdusValues<'a>>>⟧.seen result ≡ value.entry }
     {
         variants_of_pdus!(take_choice, value)
     }
 }
 
 impl<'a> Asn1Type for Pdus<'a> {
-    ghost der = { choice ⟦<Pdus<'a> as AsOneOf<PdusChoice<'a>>>⟧.seen
+    ghost der = { choice ⟦<Pdus<'a> as AsOneOf<PdusValues<'a>>>⟧.seen
         ⟦<PdusChoice<'a> as Alternatives>⟧.list };
 
     fn known(&self) {
@@ -706,11 +711,13 @@ type ObjectSyntaxChoice<'a> = OneOfEight<
     OneOf5<
         ApplicationImplicit<u64, 6>,
         Null,
-        Implicit<Null, 0>,
-        Implicit<Null, 1>,
-        Implicit<Null, 2>,
+        ImplicitTag<Null, 0>,
+        ImplicitTag<Null, 1>,
+        ImplicitTag<Null, 2>,
     >,
 >;
+
+type ObjectSyntaxValues<'a> = <ObjectSyntaxChoice<'a> as Alternatives>::Values;
 
 macro_rules! variants_of_object_syntax {
     ($body:ident, $($of:tt)*) => { $body!($($of)*; ObjectSyntax;
@@ -750,7 +757,7 @@ pub enum ObjectSyntax<'a> {
     EndOfMibView(Null),
 }
 
-impl<'a> AsOneOf<ObjectSyntaxChoice<'a>> for ObjectSyntax<'a> {
+impl<'a> AsOneOf<ObjectSyntaxValues<'a>> for ObjectSyntax<'a> {
     ghost use Rattle.derived_tests.specs.declared.snmp.ObjectSyntax.TheVariants.{Integer, String, ObjectId};
     ghost use Rattle.derived_tests.specs.declared.snmp.ObjectSyntax.TheVariants.{IpAddress, Counter, Unsigned};
     ghost use Rattle.derived_tests.specs.declared.snmp.ObjectSyntax.TheVariants.{TimeTicks, Arbitrary, BigCounter};
@@ -768,13 +775,13 @@ impl<'a> AsOneOf<ObjectSyntaxChoice<'a>> for ObjectSyntax<'a> {
       | Arbitrary x ↦ eighth8 x
       | BigCounter x ↦ after8 (first3 x)
       | UnSpecified x ↦ after8 (second3 x)
-      | NoSuchObject x ↦ after8 (third3 (implicit x))
-      | NoSuchInstance x ↦ after8 (after3 (first1 (implicit x)))
-      | EndOfMibView x ↦ after8 (after3 (after1 (first1 (implicit x))))
+      | NoSuchObject x ↦ after8 (third3 x)
+      | NoSuchInstance x ↦ after8 (after3 (first1 x))
+      | EndOfMibView x ↦ after8 (after3 (after1 (first1 x)))
     ] };
 
-    fn from_one_of(value: ObjectSyntaxChoice<'a>) -> ObjectSyntax<'a>
-        ensures { ⟦<ObjectSyntax<'a> as AsOneOf<ObjectSyntaxChoice<'a>>>⟧.seen result ≡
+    fn from_one_of(value: ObjectSyntaxValues<'a>) -> ObjectSyntax<'a>
+        ensures { ⟦<ObjectSyntax<'a> as AsOneOf<ObjectSyntaxValues<'a>>>⟧.seen result ≡
             value.entry }
     {
         variants_of_object_syntax!(take_choice, value)
@@ -782,7 +789,7 @@ impl<'a> AsOneOf<ObjectSyntaxChoice<'a>> for ObjectSyntax<'a> {
 }
 
 impl<'a> Asn1Type for ObjectSyntax<'a> {
-    ghost der = { choice ⟦<ObjectSyntax<'a> as AsOneOf<ObjectSyntaxChoice<'a>>>⟧.seen
+    ghost der = { choice ⟦<ObjectSyntax<'a> as AsOneOf<ObjectSyntaxValues<'a>>>⟧.seen
         ⟦<ObjectSyntaxChoice<'a> as Alternatives>⟧.list };
 
     fn known(&self) {

@@ -1,5 +1,5 @@
 //! Tags of every class, sets, and enums whose values have numbers: each form of the script for them, once.
-// Printed by tools/derive from declarations/tags.rs, with the sum b94bf7d6.
+// Printed by tools/derive from declarations/tags.rs, with the sum 9331049c.
 
 ghost use Rattle.std.specs.Prelude.{◌≡◌, ◌∷◌, [], true, false, IsTrue, OnErr, IfOk};
 ghost use Rattle.asn1.specs.AlternativeLists.{after1, after8, choice, first1, first3, second3, third3, first8};
@@ -8,13 +8,14 @@ ghost use Rattle.asn1.specs.Listing.{set_tag};
 ghost use Rattle.asn1.specs.Numbered.{numbered};
 ghost use Rattle.asn1.specs.Reading.{EndsWith};
 ghost use Rattle.asn1.specs.Reads.{BeginsWithEncodingOf, HasOneEncoding, ReadsContents, ReadsPrefix};
-ghost use Rattle.asn1.specs.Structures.{defaulted, explicit, field_names, implicit, structure_with_tag, fields3};
+ghost use Rattle.asn1.specs.Structures.{defaulted, field_names, implicit, structure_with_tag, fields3};
 ghost use Rattle.asn1.specs.Tag.{universal};
 ghost use Rattle.asn1.specs.Tagged.{application_tag, private_tag};
 
 use super::page::ResponderId;
 use asn1::alternatives::{
-    Alternatives, AlternativesReadable, AsOneOf, OneOf2, OneOf3, OneOf9, read_choice,
+    Alternatives, AlternativesReadable, AsOneOf, ExplicitTag, ImplicitTag, OneOf2, OneOf3, OneOf9,
+    read_choice,
 };
 use asn1::fields::{Fields3, Row};
 use asn1::{
@@ -392,6 +393,8 @@ impl SimpleAsn1Writable for Settings {
 
 type EntryChoice<'a> = OneOf3<Report<'a>, Explicit<Either<'a>, 1>, ApplicationImplicit<u16, 9>>;
 
+type EntryValues<'a> = <EntryChoice<'a> as Alternatives>::Values;
+
 /// A choice of a report, a choice under a tag, and a number under a tag of the application.
 #[derive(PartialEq, Drop)]
 pub enum Entry<'a> {
@@ -403,20 +406,20 @@ pub enum Entry<'a> {
     Number(ApplicationImplicit<u16, 9>),
 }
 
-impl<'a> AsOneOf<EntryChoice<'a>> for Entry<'a> {
+impl<'a> AsOneOf<EntryValues<'a>> for Entry<'a> {
     ghost use Rattle.derived_tests.specs.declared.tags.Entry.TheVariants.{Report, Either, Number};
 
     ghost seen = { elim [ Report x ↦ first3 x | Either x ↦ second3 x | Number x ↦ third3 x ] };
 
-    fn from_one_of(value: EntryChoice<'a>) -> Entry<'a>
-        ensures { ⟦<Entry<'a> as AsOneOf<EntryChoice<'a>>>⟧.seen result ≡ value.entry }
+    fn from_one_of(value: EntryValues<'a>) -> Entry<'a>
+        ensures { ⟦<Entry<'a> as AsOneOf<EntryValues<'a>>>⟧.seen result ≡ value.entry }
     {
         take_choice!(value; Entry; Report, Either, Number)
     }
 }
 
 impl<'a> Asn1Type for Entry<'a> {
-    ghost der = { choice ⟦<Entry<'a> as AsOneOf<EntryChoice<'a>>>⟧.seen
+    ghost der = { choice ⟦<Entry<'a> as AsOneOf<EntryValues<'a>>>⟧.seen
         ⟦<EntryChoice<'a> as Alternatives>⟧.list };
 
     fn known(&self) {
@@ -463,6 +466,8 @@ impl<'a> Asn1Writable for Entry<'a> {
 
 type EitherChoice<'a> = OneOf2<&'a [u8], Null>;
 
+type EitherValues<'a> = <EitherChoice<'a> as Alternatives>::Values;
+
 /// Octets, or none.
 #[derive(PartialEq, Drop)]
 pub enum Either<'a> {
@@ -472,20 +477,20 @@ pub enum Either<'a> {
     None(Null),
 }
 
-impl<'a> AsOneOf<EitherChoice<'a>> for Either<'a> {
+impl<'a> AsOneOf<EitherValues<'a>> for Either<'a> {
     ghost use Rattle.derived_tests.specs.declared.tags.Either.TheVariants.{Octets, None};
 
     ghost seen = { elim [ Octets x ↦ first1 x | None x ↦ after1 (first1 x) ] };
 
-    fn from_one_of(value: EitherChoice<'a>) -> Either<'a>
-        ensures { ⟦<Either<'a> as AsOneOf<EitherChoice<'a>>>⟧.seen result ≡ value.entry }
+    fn from_one_of(value: EitherValues<'a>) -> Either<'a>
+        ensures { ⟦<Either<'a> as AsOneOf<EitherValues<'a>>>⟧.seen result ≡ value.entry }
     {
         take_choice!(value; Either; Octets, None)
     }
 }
 
 impl<'a> Asn1Type for Either<'a> {
-    ghost der = { choice ⟦<Either<'a> as AsOneOf<EitherChoice<'a>>>⟧.seen
+    ghost der = { choice ⟦<Either<'a> as AsOneOf<EitherValues<'a>>>⟧.seen
         ⟦<EitherChoice<'a> as Alternatives>⟧.list };
 
     fn known(&self) {
@@ -531,16 +536,18 @@ impl<'a> Asn1Writable for Either<'a> {
 }
 
 type NineChoice<'a> = OneOf9<
-    Implicit<u8, 0>,
-    Implicit<u8, 1>,
-    Implicit<u8, 2>,
-    Explicit<u8, 3>,
+    ImplicitTag<u8, 0>,
+    ImplicitTag<u8, 1>,
+    ImplicitTag<u8, 2>,
+    ExplicitTag<u8, 3>,
     ApplicationImplicit<u8, 4>,
     PrivateImplicit<u8, 5>,
     ResultCode,
     Either<'a>,
     bool,
 >;
+
+type NineValues<'a> = <NineChoice<'a> as Alternatives>::Values;
 
 macro_rules! variants_of_nine {
     ($body:ident, $($of:tt)*) => { $body!($($of)*; Nine;
@@ -571,15 +578,15 @@ pub enum Nine<'a> {
     Flag(bool),
 }
 
-impl<'a> AsOneOf<NineChoice<'a>> for Nine<'a> {
+impl<'a> AsOneOf<NineValues<'a>> for Nine<'a> {
     ghost use Rattle.derived_tests.specs.declared.tags.Nine.TheVariants.{First, Second, Third, Fourth, Fifth, Sixth};
     ghost use Rattle.derived_tests.specs.declared.tags.Nine.TheVariants.{Code, Either, Flag};
 
     ghost seen = { elim [
-      | First x ↦ first8 (implicit x)
-      | Second x ↦ second8 (implicit x)
-      | Third x ↦ third8 (implicit x)
-      | Fourth x ↦ fourth8 (explicit x)
+      | First x ↦ first8 x
+      | Second x ↦ second8 x
+      | Third x ↦ third8 x
+      | Fourth x ↦ fourth8 x
       | Fifth x ↦ fifth8 x
       | Sixth x ↦ sixth8 x
       | Code x ↦ seventh8 x
@@ -587,15 +594,15 @@ impl<'a> AsOneOf<NineChoice<'a>> for Nine<'a> {
       | Flag x ↦ after8 (first1 x)
     ] };
 
-    fn from_one_of(value: NineChoice<'a>) -> Nine<'a>
-        ensures { ⟦<Nine<'a> as AsOneOf<NineChoice<'a>>>⟧.seen result ≡ value.entry }
+    fn from_one_of(value: NineValues<'a>) -> Nine<'a>
+        ensures { ⟦<Nine<'a> as AsOneOf<NineValues<'a>>>⟧.seen result ≡ value.entry }
     {
         variants_of_nine!(take_choice, value)
     }
 }
 
 impl<'a> Asn1Type for Nine<'a> {
-    ghost der = { choice ⟦<Nine<'a> as AsOneOf<NineChoice<'a>>>⟧.seen
+    ghost der = { choice ⟦<Nine<'a> as AsOneOf<NineValues<'a>>>⟧.seen
         ⟦<NineChoice<'a> as Alternatives>⟧.list };
 
     fn known(&self) {
@@ -642,6 +649,8 @@ impl<'a> Asn1Writable for Nine<'a> {
 
 type BothChoice<'a> = OneOf2<Either<'a>, ResponderId<'a>>;
 
+type BothValues<'a> = <BothChoice<'a> as Alternatives>::Values;
+
 /// Two choices without a tag of their own, of which one is declared elsewhere.
 #[derive(Drop)]
 pub enum Both<'a> {
@@ -651,20 +660,20 @@ pub enum Both<'a> {
     Responder(ResponderId<'a>),
 }
 
-impl<'a> AsOneOf<BothChoice<'a>> for Both<'a> {
+impl<'a> AsOneOf<BothValues<'a>> for Both<'a> {
     ghost use Rattle.derived_tests.specs.declared.tags.Both.TheVariants.{Either, Responder};
 
     ghost seen = { elim [ Either x ↦ first1 x | Responder x ↦ after1 (first1 x) ] };
 
-    fn from_one_of(value: BothChoice<'a>) -> Both<'a>
-        ensures { ⟦<Both<'a> as AsOneOf<BothChoice<'a>>>⟧.seen result ≡ value.entry }
+    fn from_one_of(value: BothValues<'a>) -> Both<'a>
+        ensures { ⟦<Both<'a> as AsOneOf<BothValues<'a>>>⟧.seen result ≡ value.entry }
     {
         take_choice!(value; Both; Either, Responder)
     }
 }
 
 impl<'a> Asn1Type for Both<'a> {
-    ghost der = { choice ⟦<Both<'a> as AsOneOf<BothChoice<'a>>>⟧.seen
+    ghost der = { choice ⟦<Both<'a> as AsOneOf<BothValues<'a>>>⟧.seen
         ⟦<BothChoice<'a> as Alternatives>⟧.list };
 
     fn known(&self) {

@@ -1,5 +1,5 @@
 //! Where revocation lists are found, and what they have (RFC 5280, 4.2.1.13 and 5.2.5).
-// Printed by tools/derive from declarations/certificate/distribution.rs, with the sum 78fcca57.
+// Printed by tools/derive from declarations/certificate/distribution.rs, with the sum f9b97532.
 
 ghost use Rattle.std.specs.Prelude.{◌≡◌, ◌∷◌, [], false, IsTrue, OnErr, IfOk};
 ghost use Rattle.asn1.specs.AlternativeLists.{after1, choice, first1};
@@ -9,7 +9,9 @@ ghost use Rattle.asn1.specs.Reads.{BeginsWithEncodingOf, HasOneEncoding, ReadsCo
 ghost use Rattle.asn1.specs.Structures.{defaulted, explicit, field_names, implicit, structure, fields3, fields6};
 
 use crate::common::{AttributeTypeAndValue, GeneralNames, NamedBits};
-use asn1::alternatives::{Alternatives, AlternativesReadable, AsOneOf, OneOf2, read_choice};
+use asn1::alternatives::{
+    Alternatives, AlternativesReadable, AsOneOf, ImplicitTag, OneOf2, read_choice,
+};
 use asn1::fields::{Fields3, Fields6, Row, implicit_length, write_implicit};
 use asn1::{
     Asn1Readable, Asn1Type, Asn1Writable, DefaultValue, Defaulted, Explicit, Implicit, ParseResult,
@@ -20,9 +22,11 @@ use asn1::{
 use std::alloc::Global;
 
 type DistributionPointNameChoice<'a> = OneOf2<
-    Implicit<GeneralNames<'a>, 0>,
-    Implicit<SetOf<'a, AttributeTypeAndValue<'a>>, 1>,
+    ImplicitTag<GeneralNames<'a>, 0>,
+    ImplicitTag<SetOf<'a, AttributeTypeAndValue<'a>>, 1>,
 >;
+
+type DistributionPointNameValues<'a> = <DistributionPointNameChoice<'a> as Alternatives>::Values;
 
 /// DistributionPointName (RFC 5280, 4.2.1.13), a CHOICE.
 #[derive(Debug, Clone, PartialEq, Eq, Drop)]
@@ -34,17 +38,14 @@ pub enum DistributionPointName<'a> {
     NameRelativeToCrlIssuer(SetOf<'a, AttributeTypeAndValue<'a>>),
 }
 
-impl<'a> AsOneOf<DistributionPointNameChoice<'a>> for DistributionPointName<'a> {
+impl<'a> AsOneOf<DistributionPointNameValues<'a>> for DistributionPointName<'a> {
     ghost use Rattle.pkix.specs.declared.certificate.distribution.DistributionPointName.TheVariants.{FullName};
     ghost use Rattle.pkix.specs.declared.certificate.distribution.DistributionPointName.TheVariants.{NameRelativeToCrlIssuer};
 
-    ghost seen = { elim [
-      | FullName x ↦ first1 (implicit x)
-      | NameRelativeToCrlIssuer x ↦ after1 (first1 (implicit x))
-    ] };
+    ghost seen = { elim [ FullName x ↦ first1 x | NameRelativeToCrlIssuer x ↦ after1 (first1 x) ] };
 
-    fn from_one_of(value: DistributionPointNameChoice<'a>) -> DistributionPointName<'a>
-        ensures { ⟦<DistributionPointName<'a> as AsOneOf<DistributionPointNameChoice<'a>>>⟧.seen
+    fn from_one_of(value: DistributionPointNameValues<'a>) -> DistributionPointName<'a>
+        ensures { ⟦<DistributionPointName<'a> as AsOneOf<DistributionPointNameValues<'a>>>⟧.seen
             result ≡ value.entry }
     {
         take_choice!(value;
@@ -54,7 +55,7 @@ impl<'a> AsOneOf<DistributionPointNameChoice<'a>> for DistributionPointName<'a> 
 
 impl<'a> Asn1Type for DistributionPointName<'a> {
     ghost der = { choice
-        ⟦<DistributionPointName<'a> as AsOneOf<DistributionPointNameChoice<'a>>>⟧.seen
+        ⟦<DistributionPointName<'a> as AsOneOf<DistributionPointNameValues<'a>>>⟧.seen
         ⟦<DistributionPointNameChoice<'a> as Alternatives>⟧.list };
 
     fn known(&self) {

@@ -1,6 +1,6 @@
 //! The policies of a certificate, and what it demands of those that follow it in a path (RFC 5280, 4.2.1.4, 4.2.1.5,
 //! 4.2.1.10, 4.2.1.11 and 4.2.1.14).
-// Printed by tools/derive from declarations/certificate/policies.rs, with the sum 1c85ec35.
+// Printed by tools/derive from declarations/certificate/policies.rs, with the sum cba4aaee.
 
 ghost use Rattle.std.specs.Prelude.{◌≡◌, ◌∷◌, [], IsTrue, OnErr, IfOk};
 ghost use Rattle.asn1.specs.AlternativeLists.{after3, choice, first1, first3, second3, third3};
@@ -98,6 +98,8 @@ type DisplayTextChoice<'a> = OneOf4<
     Utf8String<'a>,
 >;
 
+type DisplayTextValues<'a> = <DisplayTextChoice<'a> as Alternatives>::Values;
+
 /// DisplayText (RFC 5280, 4.2.1.4), a CHOICE: words for people. Of each string the RFC says `SIZE (1..200)`, which
 /// isn't checked.
 #[derive(Debug, Clone, Copy, PartialEq, Eq)]
@@ -112,7 +114,7 @@ pub enum DisplayText<'a> {
     Utf8(Utf8String<'a>),
 }
 
-impl<'a> AsOneOf<DisplayTextChoice<'a>> for DisplayText<'a> {
+impl<'a> AsOneOf<DisplayTextValues<'a>> for DisplayText<'a> {
     ghost use Rattle.pkix.specs.declared.certificate.policies.DisplayText.TheVariants.{Ia5, Visible, Bmp, Utf8};
 
     ghost seen = { elim [
@@ -122,15 +124,15 @@ impl<'a> AsOneOf<DisplayTextChoice<'a>> for DisplayText<'a> {
       | Utf8 x ↦ after3 (first1 x)
     ] };
 
-    fn from_one_of(value: DisplayTextChoice<'a>) -> DisplayText<'a>
-        ensures { ⟦<DisplayText<'a> as AsOneOf<DisplayTextChoice<'a>>>⟧.seen result ≡ value.entry }
+    fn from_one_of(value: DisplayTextValues<'a>) -> DisplayText<'a>
+        ensures { ⟦<DisplayText<'a> as AsOneOf<DisplayTextValues<'a>>>⟧.seen result ≡ value.entry }
     {
         take_choice!(value; DisplayText; Ia5, Visible, Bmp, Utf8)
     }
 }
 
 impl<'a> Asn1Type for DisplayText<'a> {
-    ghost der = { choice ⟦<DisplayText<'a> as AsOneOf<DisplayTextChoice<'a>>>⟧.seen
+    ghost der = { choice ⟦<DisplayText<'a> as AsOneOf<DisplayTextValues<'a>>>⟧.seen
         ⟦<DisplayTextChoice<'a> as Alternatives>⟧.list };
 
     fn known(&self) {

@@ -1,5 +1,5 @@
 //! General names (RFC 5280, 4.2.1.6).
-// Printed by tools/derive from declarations/common/general_name.rs, with the sum 63eed866.
+// Printed by tools/derive from declarations/common/general_name.rs, with the sum f1a8ffaf.
 
 ghost use Rattle.std.specs.Prelude.{◌≡◌, ◌∷◌, [], IsTrue, OnErr, IfOk};
 ghost use Rattle.asn1.specs.AlternativeLists.{after8, choice, first1, first8, second8, third8, fourth8, fifth8};
@@ -7,18 +7,20 @@ ghost use Rattle.asn1.specs.AlternativeLists.{sixth8, seventh8, eighth8};
 ghost use Rattle.asn1.specs.Options.{option_meaning};
 ghost use Rattle.asn1.specs.Reading.{EndsWith};
 ghost use Rattle.asn1.specs.Reads.{BeginsWithEncodingOf, HasOneEncoding, ReadsContents, ReadsPrefix};
-ghost use Rattle.asn1.specs.Structures.{explicit, field_names, implicit, structure, fields2};
+ghost use Rattle.asn1.specs.Structures.{explicit, field_names, structure, fields2};
 
 use crate::common::{DirectoryString, Name};
-use asn1::alternatives::{Alternatives, AlternativesReadable, AsOneOf, OneOf9, read_choice};
+use asn1::alternatives::{
+    Alternatives, AlternativesReadable, AsOneOf, ExplicitTag, ImplicitTag, OneOf9, read_choice,
+};
 use asn1::fields::{
     Fields2, Row, explicit_length, implicit_length, write_explicit, write_implicit,
 };
 use asn1::{
-    Asn1Readable, Asn1Type, Asn1Writable, Explicit, IA5String, Implicit, ObjectIdentifier,
-    ParseResult, Parser, Sequence, SequenceOf, SimpleAsn1Readable, SimpleAsn1Writable, Tag, Tlv,
-    WriteBuf, WriteError, WriteResult, Writer, fields_length, known_choice, known_fields,
-    read_fields, take_choice, write_fields,
+    Asn1Readable, Asn1Type, Asn1Writable, Explicit, IA5String, ObjectIdentifier, ParseResult,
+    Parser, Sequence, SequenceOf, SimpleAsn1Readable, SimpleAsn1Writable, Tag, Tlv, WriteBuf,
+    WriteError, WriteResult, Writer, fields_length, known_choice, known_fields, read_fields,
+    take_choice, write_fields,
 };
 use std::alloc::Global;
 
@@ -169,16 +171,18 @@ impl<'a> SimpleAsn1Writable for EdiPartyName<'a> {
 }
 
 type GeneralNameChoice<'a> = OneOf9<
-    Implicit<OtherName<'a>, 0>,
-    Implicit<IA5String<'a>, 1>,
-    Implicit<IA5String<'a>, 2>,
-    Implicit<Sequence<'a>, 3>,
-    Explicit<Name<'a>, 4>,
-    Implicit<EdiPartyName<'a>, 5>,
-    Implicit<IA5String<'a>, 6>,
-    Implicit<&'a [u8], 7>,
-    Implicit<ObjectIdentifier, 8>,
+    ImplicitTag<OtherName<'a>, 0>,
+    ImplicitTag<IA5String<'a>, 1>,
+    ImplicitTag<IA5String<'a>, 2>,
+    ImplicitTag<Sequence<'a>, 3>,
+    ExplicitTag<Name<'a>, 4>,
+    ImplicitTag<EdiPartyName<'a>, 5>,
+    ImplicitTag<IA5String<'a>, 6>,
+    ImplicitTag<&'a [u8], 7>,
+    ImplicitTag<ObjectIdentifier, 8>,
 >;
+
+type GeneralNameValues<'a> = <GeneralNameChoice<'a> as Alternatives>::Values;
 
 macro_rules! variants_of_general_name {
     ($body:ident, $($of:tt)*) => { $body!($($of)*; GeneralName;
@@ -211,7 +215,7 @@ pub enum GeneralName<'a> {
     RegisteredId(ObjectIdentifier),
 }
 
-impl<'a> AsOneOf<GeneralNameChoice<'a>> for GeneralName<'a> {
+impl<'a> AsOneOf<GeneralNameValues<'a>> for GeneralName<'a> {
     ghost use Rattle.pkix.specs.declared.common.general_name.GeneralName.TheVariants.{OtherName, Rfc822Name, DnsName};
     ghost use Rattle.pkix.specs.declared.common.general_name.GeneralName.TheVariants.{X400Address, DirectoryName};
     ghost use Rattle.pkix.specs.declared.common.general_name.GeneralName.TheVariants.{EdiPartyName};
@@ -219,26 +223,26 @@ impl<'a> AsOneOf<GeneralNameChoice<'a>> for GeneralName<'a> {
     ghost use Rattle.pkix.specs.declared.common.general_name.GeneralName.TheVariants.{IpAddress, RegisteredId};
 
     ghost seen = { elim [
-      | OtherName x ↦ first8 (implicit x)
-      | Rfc822Name x ↦ second8 (implicit x)
-      | DnsName x ↦ third8 (implicit x)
-      | X400Address x ↦ fourth8 (implicit x)
-      | DirectoryName x ↦ fifth8 (explicit x)
-      | EdiPartyName x ↦ sixth8 (implicit x)
-      | UniformResourceIdentifier x ↦ seventh8 (implicit x)
-      | IpAddress x ↦ eighth8 (implicit x)
-      | RegisteredId x ↦ after8 (first1 (implicit x))
+      | OtherName x ↦ first8 x
+      | Rfc822Name x ↦ second8 x
+      | DnsName x ↦ third8 x
+      | X400Address x ↦ fourth8 x
+      | DirectoryName x ↦ fifth8 x
+      | EdiPartyName x ↦ sixth8 x
+      | UniformResourceIdentifier x ↦ seventh8 x
+      | IpAddress x ↦ eighth8 x
+      | RegisteredId x ↦ after8 (first1 x)
     ] };
 
-    fn from_one_of(value: GeneralNameChoice<'a>) -> GeneralName<'a>
-        ensures { ⟦<GeneralName<'a> as AsOneOf<GeneralNameChoice<'a>>>⟧.seen result ≡ value.entry }
+    fn from_one_of(value: GeneralNameValues<'a>) -> GeneralName<'a>
+        ensures { ⟦<GeneralName<'a> as AsOneOf<GeneralNameValues<'a>>>⟧.seen result ≡ value.entry }
     {
         variants_of_general_name!(take_choice, value)
     }
 }
 
 impl<'a> Asn1Type for GeneralName<'a> {
-    ghost der = { choice ⟦<GeneralName<'a> as AsOneOf<GeneralNameChoice<'a>>>⟧.seen
+    ghost der = { choice ⟦<GeneralName<'a> as AsOneOf<GeneralNameValues<'a>>>⟧.seen
         ⟦<GeneralNameChoice<'a> as Alternatives>⟧.list };
 
     fn known(&self) {

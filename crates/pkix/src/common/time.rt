@@ -1,5 +1,5 @@
 //! Times (RFC 5280, 4.1.2.5).
-// Printed by tools/derive from declarations/common/time.rs, with the sum aff24ebb.
+// Printed by tools/derive from declarations/common/time.rs, with the sum eb780057.
 
 ghost use Rattle.asn1.specs.AlternativeLists.{after1, choice, first1};
 ghost use Rattle.asn1.specs.Reads.{HasOneEncoding};
@@ -13,6 +13,8 @@ use asn1::{
 
 type TimeChoice = OneOf2<UtcTime, X509GeneralizedTime>;
 
+type TimeValues = <TimeChoice as Alternatives>::Values;
+
 /// Time (RFC 5280, 4.1), a CHOICE of two forms of a time in UTC, distinguished by the tag. Which form a year has to
 /// have isn't checked.
 #[derive(Debug, Clone, Copy, PartialEq, Eq)]
@@ -23,18 +25,18 @@ pub enum Time {
     GeneralTime(X509GeneralizedTime),
 }
 
-impl AsOneOf<TimeChoice> for Time {
+impl AsOneOf<TimeValues> for Time {
     ghost use Rattle.pkix.specs.declared.common.time.Time.TheVariants.{UtcTime, GeneralTime};
 
     ghost seen = { elim [ UtcTime x ↦ first1 x | GeneralTime x ↦ after1 (first1 x) ] };
 
-    fn from_one_of(value: TimeChoice) -> Time {
+    fn from_one_of(value: TimeValues) -> Time {
         take_choice!(value; Time; UtcTime, GeneralTime)
     }
 }
 
 impl Asn1Type for Time {
-    ghost der = { choice ⟦<Time as AsOneOf<TimeChoice>>⟧.seen ⟦<TimeChoice as Alternatives>⟧.list };
+    ghost der = { choice ⟦<Time as AsOneOf<TimeValues>>⟧.seen ⟦<TimeChoice as Alternatives>⟧.list };
 
     fn known(&self) {
         known_choice!(self; Time; UtcTime, GeneralTime)

@@ -1,5 +1,5 @@
 //! Who signed (RFC 5652, 5.3), and the values of signed attributes (11.1 to 11.3).
-// Printed by tools/derive from declarations/signatures/signer.rs, with the sum e320399a.
+// Printed by tools/derive from declarations/signatures/signer.rs, with the sum ec186630.
 
 ghost use Rattle.std.specs.Prelude.{◌≡◌, ◌∷◌, [], IsTrue, OnErr, IfOk};
 ghost use Rattle.asn1.specs.AlternativeLists.{after1, choice, first1};
@@ -9,7 +9,9 @@ ghost use Rattle.asn1.specs.Reads.{BeginsWithEncodingOf, HasOneEncoding, ReadsCo
 ghost use Rattle.asn1.specs.Structures.{field_names, implicit, structure, fields2, fields7};
 
 use crate::common::{AlgorithmIdentifier, Attributes, Name, Time};
-use asn1::alternatives::{Alternatives, AlternativesReadable, AsOneOf, OneOf2, read_choice};
+use asn1::alternatives::{
+    Alternatives, AlternativesReadable, AsOneOf, ImplicitTag, OneOf2, read_choice,
+};
 use asn1::fields::{Fields2, Fields7, Row};
 use asn1::{
     Asn1Readable, Asn1Type, Asn1Writable, BigInt, Implicit, ObjectIdentifier, ParseResult, Parser,
@@ -83,7 +85,9 @@ impl<'a> SimpleAsn1Writable for IssuerAndSerialNumber<'a> {
     }
 }
 
-type SignerIdentifierChoice<'a> = OneOf2<IssuerAndSerialNumber<'a>, Implicit<&'a [u8], 0>>;
+type SignerIdentifierChoice<'a> = OneOf2<IssuerAndSerialNumber<'a>, ImplicitTag<&'a [u8], 0>>;
+
+type SignerIdentifierValues<'a> = <SignerIdentifierChoice<'a> as Alternatives>::Values;
 
 /// SignerIdentifier (RFC 5652, 5.3), a CHOICE.
 #[derive(Debug, Clone, PartialEq, Eq, Drop)]
@@ -94,17 +98,17 @@ pub enum SignerIdentifier<'a> {
     SubjectKeyIdentifier(&'a [u8]),
 }
 
-impl<'a> AsOneOf<SignerIdentifierChoice<'a>> for SignerIdentifier<'a> {
+impl<'a> AsOneOf<SignerIdentifierValues<'a>> for SignerIdentifier<'a> {
     ghost use Rattle.pkix.specs.declared.signatures.signer.SignerIdentifier.TheVariants.{IssuerAndSerialNumber};
     ghost use Rattle.pkix.specs.declared.signatures.signer.SignerIdentifier.TheVariants.{SubjectKeyIdentifier};
 
     ghost seen = { elim [
       | IssuerAndSerialNumber x ↦ first1 x
-      | SubjectKeyIdentifier x ↦ after1 (first1 (implicit x))
+      | SubjectKeyIdentifier x ↦ after1 (first1 x)
     ] };
 
-    fn from_one_of(value: SignerIdentifierChoice<'a>) -> SignerIdentifier<'a>
-        ensures { ⟦<SignerIdentifier<'a> as AsOneOf<SignerIdentifierChoice<'a>>>⟧.seen result ≡
+    fn from_one_of(value: SignerIdentifierValues<'a>) -> SignerIdentifier<'a>
+        ensures { ⟦<SignerIdentifier<'a> as AsOneOf<SignerIdentifierValues<'a>>>⟧.seen result ≡
             value.entry }
     {
         take_choice!(value;
@@ -113,7 +117,7 @@ impl<'a> AsOneOf<SignerIdentifierChoice<'a>> for SignerIdentifier<'a> {
 }
 
 impl<'a> Asn1Type for SignerIdentifier<'a> {
-    ghost der = { choice ⟦<SignerIdentifier<'a> as AsOneOf<SignerIdentifierChoice<'a>>>⟧.seen
+    ghost der = { choice ⟦<SignerIdentifier<'a> as AsOneOf<SignerIdentifierValues<'a>>>⟧.seen
         ⟦<SignerIdentifierChoice<'a> as Alternatives>⟧.list };
 
     fn known(&self) {
