@@ -313,7 +313,7 @@ class Choice(Form):
                 ensures value {{ result ≡ {self.means}.accepts tag }}
                 ensures plain {{ {self.means}.plain }}
             {{ <{row} as AlternativesReadable<{self.item.life or "'_"}>>::accepts(tag) }}""")
-        if self.item.writes and self.module.has_tagged_list(self.item):
+        if self.item.writes and self.module.has_list(self.item):
             text += self.written("Asn1Writable", last=self.writes_as_read())
         elif self.item.writes:
             text += self.impl("Asn1Writable", ERROR, f"""

@@ -48,6 +48,16 @@ pub enum ResponderId<'a> {
     ByKey(&'a [u8]),
 }
 
+/// Who may answer: the list has no tag but its own, and is one of choices that hold lists.
+#[derive(asn1::Asn1Read, asn1::Asn1Write)]
+pub enum Responders<'a> {
+    /// Each by itself.
+    Listed(asn1::SequenceOf<'a, ResponderId<'a>, 1>),
+    /// By a name for all.
+    #[implicit(0)]
+    Named(asn1::Utf8String<'a>),
+}
+
 /// A choice in a structure, which may be missing.
 #[derive(asn1::Asn1Read, asn1::Asn1Write)]
 pub struct Alternative<'a> {

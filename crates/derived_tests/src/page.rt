@@ -1,5 +1,5 @@
 //! Structures and choices: each attribute of the original's derives for them, once.
-// Printed by tools/derive from declarations/page.rs, with the sum eadac610.
+// Printed by tools/derive from declarations/page.rs, with the sum 30864e2a.
 
 ghost use Rattle.std.specs.Prelude.{◌≡◌, ◌∷◌, [], negsuc, IsTrue, OnErr, IfOk};
 ghost use Rattle.asn1.specs.AlternativeLists.{after1, choice, first1};
@@ -9,13 +9,16 @@ ghost use Rattle.asn1.specs.Structures.{defaulted, explicit, field_names, implic
 ghost use Rattle.asn1.specs.Structures.{fields2, fields4};
 
 use asn1::alternatives::{
-    Alternatives, AlternativesReadable, AsOneOf, ExplicitTag, OneOf2, read_choice,
+    Alternatives, AlternativesReadable, AsOneOf, ExplicitTag, ImplicitTag, OneOf2, read_choice,
 };
-use asn1::fields::{Fields2, Fields4, Last, NoFields, Row, explicit_length, write_explicit};
+use asn1::fields::{
+    Fields2, Fields4, Last, NoFields, Row, explicit_length, implicit_length, write_explicit,
+    write_implicit,
+};
 use asn1::{
     Asn1Readable, Asn1Type, Asn1Writable, DefaultValue, Defaulted, Explicit, Implicit, ParseResult,
     Parser, PrintableString, SequenceOf, SetOf, SetOfWriter, SimpleAsn1Readable,
-    SimpleAsn1Writable, Tag, WriteBuf, WriteError, WriteResult, Writer, fields_length,
+    SimpleAsn1Writable, Tag, Utf8String, WriteBuf, WriteError, WriteResult, Writer, fields_length,
     known_choice, known_fields, read_fields, take_choice, write_fields,
 };
 use std::alloc::Global;
@@ -310,6 +313,88 @@ impl<'a> Asn1Writable for ResponderId<'a> {
     }
 }
 
+type RespondersChoice<'a> = OneOf2<
+    SequenceOf<'a, ResponderId<'a>, 1, { usize::MAX }>,
+    ImplicitTag<Utf8String<'a>, 0>,
+>;
+
+type RespondersValues<'a> = <RespondersChoice<'a> as Alternatives>::Values;
+
+/// Who may answer: the list has no tag but its own, and is one of choices that hold lists.
+#[derive(Drop)]
+pub enum Responders<'a> {
+    /// Each by itself.
+    Listed(SequenceOf<'a, ResponderId<'a>, 1, { usize::MAX }>),
+    /// By a name for all.
+    Named(Utf8String<'a>),
+}
+
+impl<'a> AsOneOf<RespondersValues<'a>> for Responders<'a> {
+    ghost use Rattle.derived_tests.specs.declared.page.Responders.TheVariants.{Listed, Named};
+
+    ghost seen = { elim [ Listed x ↦ first1 x | Named x ↦ after1 (first1 x) ] };
+
+    fn from_one_of(value: RespondersValues<'a>) -> Responders<'a>
+        ensures { ⟦<Responders<'a> as AsOneOf<RespondersValues<'a>>>⟧.seen result ≡ value.entry }
+    {
+        take_choice!(value; Responders; Listed, Named: implicit 0)
+    }
+}
+
+impl<'a> Asn1Type for Responders<'a> {
+    ghost der = { choice ⟦<Responders<'a> as AsOneOf<RespondersValues<'a>>>⟧.seen
+        ⟦<RespondersChoice<'a> as Alternatives>⟧.list };
+
+    fn known(&self) {
+        known_choice!(self; Responders; Listed, Named: implicit 0)
+    }
+}
+
+impl<'a> Asn1Readable<'a> for Responders<'a> {
+    fn parse(parser: &mut Parser<'a>) -> ParseResult<Responders<'a>>
+        ensures answers { ReadsPrefix ⟦<Responders<'a> as Asn1Type>⟧.der parser.old parser.new
+            result }
+        ensures found { IfOk result (λ v. BeginsWithEncodingOf ⟦<Responders<'a> as Asn1Type>⟧.der v
+            parser.old parser.new) }
+        ensures rest { EndsWith parser.old parser.new }
+        ensures stops { OnErr result (⟦<Responders<'a> as Asn1Type>⟧.der.stops parser.old
+            parser.new) }
+    {
+        read_choice::<RespondersChoice<'a>, Responders<'a>>(parser)
+    }
+
+    fn can_parse(tag: Tag) -> bool
+        ensures value { result ≡ ⟦<Responders<'a> as Asn1Type>⟧.der.accepts tag }
+        ensures plain { ⟦<Responders<'a> as Asn1Type>⟧.der.plain }
+    {
+        <RespondersChoice<'a> as AlternativesReadable<'a>>::accepts(tag)
+    }
+}
+
+impl<'a> Asn1Writable for Responders<'a> {
+    type Error = WriteError;
+
+    fn write(&self, dest: &mut Writer<'_>) -> WriteResult<()> {
+        match self {
+            Responders::Listed(x) => x.write(dest),
+            Responders::Named(x) => write_implicit(x, 0, dest),
+        }
+    }
+
+    fn encoded_length(&self) -> Option<usize> {
+        match self {
+            Responders::Listed(x) => x.encoded_length(),
+            Responders::Named(x) => implicit_length(x, 0),
+        }
+    }
+
+    fn writes_as_read() -> bool
+        ensures { IsTrue result }
+    {
+        true
+    }
+}
+
 /// A choice in a structure, which may be missing.
 #[derive(Drop)]
 pub struct Alternative<'a> {
@@ -415,7 +500,10 @@ impl<'a> SimpleAsn1Writable for Bag<'a> {
 
 /// The laws of the types, which do nothing.
 pub mod laws {
-    use super::{Alternative, Nothing, ResponderId, ResponderIdChoice, Signature, Strings, Tagged};
+    use super::{
+        Alternative, Nothing, ResponderId, ResponderIdChoice, Responders, RespondersChoice,
+        Signature, Strings, Tagged,
+    };
     use asn1::Asn1Type;
     use asn1::laws_wrappers::alternatives_apart_are_lawful;
 
@@ -448,6 +536,14 @@ pub mod laws {
     {
         strings_is_lawful();
         alternatives_apart_are_lawful::<ResponderIdChoice<'static>>();
+    }
+
+    /// Each value of `Responders` has one encoding, which is read back.
+    pub fn responders_is_lawful()
+        ensures { HasOneEncoding ⟦<Responders<'static> as Asn1Type>⟧.der }
+    {
+        responder_id_is_lawful();
+        alternatives_apart_are_lawful::<RespondersChoice<'static>>();
     }
 
     /// Each value of `Alternative` has one encoding, which is read back.

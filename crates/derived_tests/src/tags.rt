@@ -1,5 +1,5 @@
 //! Tags of every class, sets, and enums whose values have numbers: each form of the script for them, once.
-// Printed by tools/derive from declarations/tags.rs, with the sum 9331049c.
+// Printed by tools/derive from declarations/tags.rs, with the sum 80282130.
 
 ghost use Rattle.std.specs.Prelude.{◌≡◌, ◌∷◌, [], true, false, IsTrue, OnErr, IfOk};
 ghost use Rattle.asn1.specs.AlternativeLists.{after1, after8, choice, first1, first3, second3, third3, first8};
@@ -704,11 +704,17 @@ impl<'a> Asn1Writable for Both<'a> {
     type Error = WriteError;
 
     fn write(&self, dest: &mut Writer<'_>) -> WriteResult<()> {
-        write_choice!(self, dest; Both; Either, Responder)
+        match self {
+            Both::Either(x) => x.write(dest),
+            Both::Responder(x) => x.write(dest),
+        }
     }
 
     fn encoded_length(&self) -> Option<usize> {
-        choice_length!(self; Both; Either, Responder)
+        match self {
+            Both::Either(x) => x.encoded_length(),
+            Both::Responder(x) => x.encoded_length(),
+        }
     }
 
     fn writes_as_read() -> bool

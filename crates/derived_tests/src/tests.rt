@@ -11,7 +11,7 @@ use crate::items::{
     AnyContent, AnyContentUnknown, AnySequence, Content, Entry, Letter, Listed, MySequence,
     other_oid, sha256_with_rsa, some_oid,
 };
-use crate::page::{Alternative, Bag, Nothing, ResponderId, Signature, Tagged};
+use crate::page::{Alternative, Bag, Nothing, ResponderId, Responders, Signature, Tagged};
 use asn1::{
     Asn1Readable, Asn1Writable, DefinedByMarker, Explicit, ObjectIdentifier, OctetStringEncoded,
     ParseError, ParseErrorKind, ParseLocation, SequenceOf, SetOfWriter, Tag, Tlv, WriteError,
@@ -170,6 +170,19 @@ fn who_answers(rt: HostRuntime) -> Result<(), Fail> {
     let name = &[0xa1, 7, 0x31, 5, 0x13, 3, b'a', b'b', b'c'];
     are_written_back::<ResponderId<'_>>(alloc, &[name])?;
     is_at(refusal::<ResponderId<'_>>(alloc, &[5, 0]), "", other_tag(5))
+}
+
+#[test]
+fn who_may_answer(rt: HostRuntime) -> Result<(), Fail> {
+    let alloc = rt.alloc();
+    let listed: &[u8] = &[0x30, 6, 0xa2, 4, 4, 2, b'a', b'b'];
+    are_written_back::<Responders<'_>>(alloc, &[listed, &[0x80, 1, b'a']])?;
+    let none = ParseErrorKind::InvalidSize {
+        min: 1,
+        max: usize::MAX,
+        actual: 0,
+    };
+    is_at(refusal::<Responders<'_>>(alloc, &[0x30, 0]), "", none)
 }
 
 #[test]
