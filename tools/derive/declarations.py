@@ -413,12 +413,6 @@ class Module:
             found += one.inner if not item else [item.type] if item.type else []
         return found
 
-    def has_list(self, item):
-        """Whether an alternative of a choice is a list, or may be one, since its type is imported. In arms that the
-        library's macros make the prover's search ends at its limit for lists under a tag, and for lists of choices."""
-        types = [type for part in item.parts for type in self.within(part.base)]
-        return any(type.name in (*LISTS, *self.imported) for type in types)
-
     def known(self, type):
         """What is known of a type; nothing if it is declared elsewhere."""
         name, item = type.name, self.items.get(type.name)

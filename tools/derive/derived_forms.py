@@ -292,7 +292,7 @@ class Choice(Form):
         text = f"\ntype {row} = {one_of([alternative(part) for part in self.parts])};\n"
         text += f"\ntype {values} = <{row} as Alternatives>::Values;\n"
         words = ",".join(f" {part.name}{f': {part.tag} {part.number}' if part.tag else ''}" for part in self.parts)
-        text += self.list_in_macro("variants", words, f" {self.name};")
+        text += self.list_in_macro("variants", words, f" {self.name}(x);")
         text += self.stated(part.base for part in self.parts)
         seen = quoted(own, f"AsOneOf<{values}>") + ".seen"
         places = [in_place(at, len(self.parts), "x") for at in range(len(self.parts))]
@@ -313,9 +313,7 @@ class Choice(Form):
                 ensures value {{ result ≡ {self.means}.accepts tag }}
                 ensures plain {{ {self.means}.plain }}
             {{ <{row} as AlternativesReadable<{self.item.life or "'_"}>>::accepts(tag) }}""")
-        if self.item.writes and self.module.has_list(self.item):
-            text += self.written("Asn1Writable", last=self.writes_as_read())
-        elif self.item.writes:
+        if self.item.writes:
             text += self.impl("Asn1Writable", ERROR, f"""
             fn write(&self, dest: &mut Writer<'_>) -> WriteResult<()> {{ {self.body("write_choice", "self, dest")} }}
             fn encoded_length(&self) -> Option<usize> {{ {self.body("choice_length", "self")} }}""",
@@ -330,19 +328,6 @@ class Choice(Form):
         """What each variant means: its value in its place of the sum."""
         return f"(elim [ {' | '.join(f'{part.name} x ↦ {value}' for part, value in zip(self.parts, values))} ])"
 
-    def match(self, body, other="", name="x", tagged=""):
-        """A match with an arm for each variant: of the default, and of those under a tag, it may be another."""
-        arms = []
-        for part in self.parts:
-            is_other = "default" in part.attributes
-            form = other if is_other else tagged if tagged and part.tag else body
-            arms.append(f"{self.name}::{part.name}({'x' if is_other else name}) => {form.format(**vars(part))},")
-        return f"match self {{ {' '.join(arms)} }}"
-
-    def made(self, part, value):
-        """A variant of a value that was read, maybe under a tag."""
-        return f"{self.name}::{part.name}({value}{'.into_inner()' if part.tag else ''})"
-
     def parse(self, known, body, reads, stops, found=""):
         """The method that reads a value, of which this is known before."""
         found = f"\n ensures found {{ {found} }}" if found else ""
@@ -352,14 +337,6 @@ class Choice(Form):
                 ensures rest {{ EndsWith parser.old parser.new }}
                 ensures stops {{ OnErr result ({stops} parser.old parser.new) }}
             {{ {body} }}"""
-
-    def written(self, trait, *members, other="", last=""):
-        """The impl of writing: a variant's value is written, and its length told."""
-        write = self.match("x.write(dest)", f"{other}.write(dest)", tagged="write_{tag}(x, {number}, dest)")
-        length = self.match("x.encoded_length()", f"{other}.encoded_length()", tagged="{tag}_length(x, {number})")
-        return self.impl(trait, ERROR, *members, f"""
-            fn write(&self, dest: &mut Writer<'_>) -> WriteResult<()> {{ {write} }}
-            fn encoded_length(&self) -> Option<usize> {{ {length} }}""", last)
 
 
 class Defined(Choice):
@@ -425,9 +402,26 @@ class Defined(Choice):
             {{}}""")
         if self.item.writes:
             kept = "x.item.clone().unwrap()" if of == ITEM else "x.item"
-            told = f"fn item(&self) -> {of} {{ {self.match('{call}', kept, '_')} }}"
-            text += self.written(f"Asn1DefinedByWritable<{of}>", told, other="x.value")
+            write = self.match("x.write(dest)", "x.value.write(dest)", tagged="write_{tag}(x, {number}, dest)")
+            length = self.match("x.encoded_length()", "x.value.encoded_length()", tagged="{tag}_length(x, {number})")
+            text += self.impl(f"Asn1DefinedByWritable<{of}>", ERROR, f"""
+            fn item(&self) -> {of} {{ {self.match('{call}', kept, '_')} }}
+            fn write(&self, dest: &mut Writer<'_>) -> WriteResult<()> {{ {write} }}
+            fn encoded_length(&self) -> Option<usize> {{ {length} }}""")
         return text
+
+    def match(self, body, other="", name="x", tagged=""):
+        """A match with an arm for each variant: of the default, and of those under a tag, it may be another."""
+        arms = []
+        for part in self.parts:
+            is_other = "default" in part.attributes
+            form = other if is_other else tagged if tagged and part.tag else body
+            arms.append(f"{self.name}::{part.name}({'x' if is_other else name}) => {form.format(**vars(part))},")
+        return f"match self {{ {' '.join(arms)} }}"
+
+    def made(self, part, value):
+        """A variant of a value that was read, maybe under a tag."""
+        return f"{self.name}::{part.name}({value}{'.into_inner()' if part.tag else ''})"
 
     def set_item(self, part, name, constant):
         """Gives a variant its item and the test for it, in code and in clauses. Returns what tells it from others."""

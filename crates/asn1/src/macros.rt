@@ -6,11 +6,15 @@
 //! - `name of value: Type`, the position of an item of this type, which the field `value` determines;
 //! - `name by Type`, a value that an item of this type defines.
 //!
-//! Macros for the bodies of a choice's impls have the enum and a list of its variants, in the order of the
-//! alternatives, as in `ResponderId; ByName: explicit 1, ByKey: explicit 2, Other`. An entry is
+//! Macros for the bodies of a choice's impls have the enum with a name for the value in a variant, and a list of its
+//! variants, in the order of the alternatives, as in `ResponderId(x); ByName: explicit 1, ByKey: explicit 2, Other`. An
+//! entry is
 //!
 //! - `Name`, a variant whose value is encoded as it is;
 //! - `Name: explicit 1` or `Name: implicit 1`, one under this tag, without which the variant has the value.
+//!
+//! The name is the caller's, so that the prover's search tries what is known of the value. A name of these macros' own
+//! it doesn't try, and ends at its limit where an alternative is a list.
 
 /// States that the fields are valid: the body of `known`. `known_fields!(self; r, s)`
 #[macro_export]
@@ -151,25 +155,25 @@ macro_rules! row {
 }
 
 /// States that the value in each variant is valid: the body of `known`.
-/// `known_choice!(self; ResponderId; ByName: explicit 1, ByKey: explicit 2)`
+/// `known_choice!(self; ResponderId(x); ByName: explicit 1, ByKey: explicit 2)`
 #[macro_export]
 macro_rules! known_choice {
-    ($of:expr; $choice:ident;
+    ($of:expr; $choice:ident($x:ident);
         $($name:ident $(: $kind:ident $tag:literal)?),+ $(,)?) => {
         match $of {
-            $($choice::$name(x) => $crate::Asn1Type::known(x),)+
+            $($choice::$name($x) => $crate::Asn1Type::known($x),)+
         }
     };
 }
 
 /// Appends the encoding of the value in the variant: the body of `write`. Errors are those of the variant's write.
-/// `write_choice!(self, dest; ResponderId; ByName: explicit 1, ByKey: explicit 2)`
+/// `write_choice!(self, dest; ResponderId(x); ByName: explicit 1, ByKey: explicit 2)`
 #[macro_export]
 macro_rules! write_choice {
-    ($of:expr, $dest:expr; $choice:ident;
+    ($of:expr, $dest:expr; $choice:ident($x:ident);
         $($name:ident $(: $kind:ident $tag:literal)?),+ $(,)?) => {
         match $of {
-            $($choice::$name(x) => $crate::write_variant!(x, $dest $(, $kind $tag)?),)+
+            $($choice::$name($x) => $crate::write_variant!($x, $dest $(, $kind $tag)?),)+
         }
     };
 }
@@ -183,13 +187,13 @@ macro_rules! write_variant {
 }
 
 /// How many octets the encoding of the value in the variant has, if that is known: the body of `encoded_length`.
-/// `choice_length!(self; ResponderId; ByName: explicit 1, ByKey: explicit 2)`
+/// `choice_length!(self; ResponderId(x); ByName: explicit 1, ByKey: explicit 2)`
 #[macro_export]
 macro_rules! choice_length {
-    ($of:expr; $choice:ident;
+    ($of:expr; $choice:ident($x:ident);
         $($name:ident $(: $kind:ident $tag:literal)?),+ $(,)?) => {
         match $of {
-            $($choice::$name(x) => $crate::variant_length!(x $(, $kind $tag)?),)+
+            $($choice::$name($x) => $crate::variant_length!($x $(, $kind $tag)?),)+
         }
     };
 }
@@ -203,11 +207,12 @@ macro_rules! variant_length {
 }
 
 /// Moves the value of an alternative to its variant: the body of `from_one_of`. A list has eight alternatives at a time
-/// while there are as many, and then three. `take_choice!(value; ResponderId; ByName: explicit 1, ByKey: explicit 2)`
+/// while there are as many, and then three.
+/// `take_choice!(value; ResponderId(x); ByName: explicit 1, ByKey: explicit 2)`
 #[macro_export]
 macro_rules! take_choice {
-    ($value:expr; $choice:ident;) => { match $value {} };
-    ($value:expr; $choice:ident;
+    ($value:expr; $choice:ident($x:ident);) => { match $value {} };
+    ($value:expr; $choice:ident($x:ident);
         $a:ident $(: $a_kind:ident $a_tag:literal)?,
         $b:ident $(: $b_kind:ident $b_tag:literal)?,
         $c:ident $(: $c_kind:ident $c_tag:literal)?,
@@ -217,38 +222,38 @@ macro_rules! take_choice {
         $g:ident $(: $g_kind:ident $g_tag:literal)?,
         $h:ident $(: $h_kind:ident $h_tag:literal)? $(, $($rest:tt)*)?) => {
         match $value {
-            $crate::alternatives::OneOfEight::First(x) => $choice::$a(x),
-            $crate::alternatives::OneOfEight::Second(x) => $choice::$b(x),
-            $crate::alternatives::OneOfEight::Third(x) => $choice::$c(x),
-            $crate::alternatives::OneOfEight::Fourth(x) => $choice::$d(x),
-            $crate::alternatives::OneOfEight::Fifth(x) => $choice::$e(x),
-            $crate::alternatives::OneOfEight::Sixth(x) => $choice::$f(x),
-            $crate::alternatives::OneOfEight::Seventh(x) => $choice::$g(x),
-            $crate::alternatives::OneOfEight::Eighth(x) => $choice::$h(x),
+            $crate::alternatives::OneOfEight::First($x) => $choice::$a($x),
+            $crate::alternatives::OneOfEight::Second($x) => $choice::$b($x),
+            $crate::alternatives::OneOfEight::Third($x) => $choice::$c($x),
+            $crate::alternatives::OneOfEight::Fourth($x) => $choice::$d($x),
+            $crate::alternatives::OneOfEight::Fifth($x) => $choice::$e($x),
+            $crate::alternatives::OneOfEight::Sixth($x) => $choice::$f($x),
+            $crate::alternatives::OneOfEight::Seventh($x) => $choice::$g($x),
+            $crate::alternatives::OneOfEight::Eighth($x) => $choice::$h($x),
             $crate::alternatives::OneOfEight::Others(others) => {
-                $crate::take_choice!(others; $choice; $($($rest)*)?)
+                $crate::take_choice!(others; $choice($x); $($($rest)*)?)
             }
         }
     };
-    ($value:expr; $choice:ident;
+    ($value:expr; $choice:ident($x:ident);
         $a:ident $(: $a_kind:ident $a_tag:literal)?,
         $b:ident $(: $b_kind:ident $b_tag:literal)?,
         $c:ident $(: $c_kind:ident $c_tag:literal)? $(, $($rest:tt)*)?) => {
         match $value {
-            $crate::alternatives::OneOfThree::First(x) => $choice::$a(x),
-            $crate::alternatives::OneOfThree::Second(x) => $choice::$b(x),
-            $crate::alternatives::OneOfThree::Third(x) => $choice::$c(x),
+            $crate::alternatives::OneOfThree::First($x) => $choice::$a($x),
+            $crate::alternatives::OneOfThree::Second($x) => $choice::$b($x),
+            $crate::alternatives::OneOfThree::Third($x) => $choice::$c($x),
             $crate::alternatives::OneOfThree::Others(others) => {
-                $crate::take_choice!(others; $choice; $($($rest)*)?)
+                $crate::take_choice!(others; $choice($x); $($($rest)*)?)
             }
         }
     };
-    ($value:expr; $choice:ident;
+    ($value:expr; $choice:ident($x:ident);
         $name:ident $(: $kind:ident $tag:literal)? $(, $($rest:tt)*)?) => {
         match $value {
-            $crate::alternatives::OneOf::First(x) => $choice::$name(x),
+            $crate::alternatives::OneOf::First($x) => $choice::$name($x),
             $crate::alternatives::OneOf::Other(others) => {
-                $crate::take_choice!(others; $choice; $($($rest)*)?)
+                $crate::take_choice!(others; $choice($x); $($($rest)*)?)
             }
         }
     };

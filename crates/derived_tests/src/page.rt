@@ -1,5 +1,5 @@
 //! Structures and choices: each attribute of the original's derives for them, once.
-// Printed by tools/derive from declarations/page.rs, with the sum 30864e2a.
+// Printed by tools/derive from declarations/page.rs, with the sum 3171f6fa.
 
 ghost use Rattle.std.specs.Prelude.{◌≡◌, ◌∷◌, [], negsuc, IsTrue, OnErr, IfOk};
 ghost use Rattle.asn1.specs.AlternativeLists.{after1, choice, first1};
@@ -11,15 +11,13 @@ ghost use Rattle.asn1.specs.Structures.{fields2, fields4};
 use asn1::alternatives::{
     Alternatives, AlternativesReadable, AsOneOf, ExplicitTag, ImplicitTag, OneOf2, read_choice,
 };
-use asn1::fields::{
-    Fields2, Fields4, Last, NoFields, Row, explicit_length, implicit_length, write_explicit,
-    write_implicit,
-};
+use asn1::fields::{Fields2, Fields4, Last, NoFields, Row};
 use asn1::{
     Asn1Readable, Asn1Type, Asn1Writable, DefaultValue, Defaulted, Explicit, Implicit, ParseResult,
     Parser, PrintableString, SequenceOf, SetOf, SetOfWriter, SimpleAsn1Readable,
-    SimpleAsn1Writable, Tag, Utf8String, WriteBuf, WriteError, WriteResult, Writer, fields_length,
-    known_choice, known_fields, read_fields, take_choice, write_fields,
+    SimpleAsn1Writable, Tag, Utf8String, WriteBuf, WriteError, WriteResult, Writer, choice_length,
+    fields_length, known_choice, known_fields, read_fields, take_choice, write_choice,
+    write_fields,
 };
 use std::alloc::Global;
 
@@ -255,7 +253,7 @@ impl<'a> AsOneOf<ResponderIdValues<'a>> for ResponderId<'a> {
     fn from_one_of(value: ResponderIdValues<'a>) -> ResponderId<'a>
         ensures { ⟦<ResponderId<'a> as AsOneOf<ResponderIdValues<'a>>>⟧.seen result ≡ value.entry }
     {
-        take_choice!(value; ResponderId; ByName: explicit 1, ByKey: explicit 2)
+        take_choice!(value; ResponderId(x); ByName: explicit 1, ByKey: explicit 2)
     }
 }
 
@@ -264,7 +262,7 @@ impl<'a> Asn1Type for ResponderId<'a> {
         ⟦<ResponderIdChoice<'a> as Alternatives>⟧.list };
 
     fn known(&self) {
-        known_choice!(self; ResponderId; ByName: explicit 1, ByKey: explicit 2)
+        known_choice!(self; ResponderId(x); ByName: explicit 1, ByKey: explicit 2)
     }
 }
 
@@ -293,17 +291,11 @@ impl<'a> Asn1Writable for ResponderId<'a> {
     type Error = WriteError;
 
     fn write(&self, dest: &mut Writer<'_>) -> WriteResult<()> {
-        match self {
-            ResponderId::ByName(x) => write_explicit(x, 1, dest),
-            ResponderId::ByKey(x) => write_explicit(x, 2, dest),
-        }
+        write_choice!(self, dest; ResponderId(x); ByName: explicit 1, ByKey: explicit 2)
     }
 
     fn encoded_length(&self) -> Option<usize> {
-        match self {
-            ResponderId::ByName(x) => explicit_length(x, 1),
-            ResponderId::ByKey(x) => explicit_length(x, 2),
-        }
+        choice_length!(self; ResponderId(x); ByName: explicit 1, ByKey: explicit 2)
     }
 
     fn writes_as_read() -> bool
@@ -337,7 +329,7 @@ impl<'a> AsOneOf<RespondersValues<'a>> for Responders<'a> {
     fn from_one_of(value: RespondersValues<'a>) -> Responders<'a>
         ensures { ⟦<Responders<'a> as AsOneOf<RespondersValues<'a>>>⟧.seen result ≡ value.entry }
     {
-        take_choice!(value; Responders; Listed, Named: implicit 0)
+        take_choice!(value; Responders(x); Listed, Named: implicit 0)
     }
 }
 
@@ -346,7 +338,7 @@ impl<'a> Asn1Type for Responders<'a> {
         ⟦<RespondersChoice<'a> as Alternatives>⟧.list };
 
     fn known(&self) {
-        known_choice!(self; Responders; Listed, Named: implicit 0)
+        known_choice!(self; Responders(x); Listed, Named: implicit 0)
     }
 }
 
@@ -375,17 +367,11 @@ impl<'a> Asn1Writable for Responders<'a> {
     type Error = WriteError;
 
     fn write(&self, dest: &mut Writer<'_>) -> WriteResult<()> {
-        match self {
-            Responders::Listed(x) => x.write(dest),
-            Responders::Named(x) => write_implicit(x, 0, dest),
-        }
+        write_choice!(self, dest; Responders(x); Listed, Named: implicit 0)
     }
 
     fn encoded_length(&self) -> Option<usize> {
-        match self {
-            Responders::Listed(x) => x.encoded_length(),
-            Responders::Named(x) => implicit_length(x, 0),
-        }
+        choice_length!(self; Responders(x); Listed, Named: implicit 0)
     }
 
     fn writes_as_read() -> bool

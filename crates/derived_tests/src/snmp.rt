@@ -1,5 +1,5 @@
 //! SNMPv3 messages (RFC 3412, RFC 3414, RFC 3416).
-// Printed by tools/derive from declarations/snmp.rs, with the sum 571471a7.
+// Printed by tools/derive from declarations/snmp.rs, with the sum a62f1ce0.
 
 ghost use Rattle.std.specs.Prelude.{◌≡◌, ◌∷◌, [], IsTrue, OnErr, IfOk};
 ghost use Rattle.asn1.specs.AlternativeLists.{after1, after3, after8, choice, first1, first3, second3, third3, first8};
@@ -268,7 +268,7 @@ impl<'a> AsOneOf<ScopedPduDataValues<'a>> for ScopedPduData<'a> {
         ensures { ⟦<ScopedPduData<'a> as AsOneOf<ScopedPduDataValues<'a>>>⟧.seen result ≡
             value.entry }
     {
-        take_choice!(value; ScopedPduData; Plaintext, EncryptedPdu)
+        take_choice!(value; ScopedPduData(x); Plaintext, EncryptedPdu)
     }
 }
 
@@ -277,7 +277,7 @@ impl<'a> Asn1Type for ScopedPduData<'a> {
         ⟦<ScopedPduDataChoice<'a> as Alternatives>⟧.list };
 
     fn known(&self) {
-        known_choice!(self; ScopedPduData; Plaintext, EncryptedPdu)
+        known_choice!(self; ScopedPduData(x); Plaintext, EncryptedPdu)
     }
 }
 
@@ -306,11 +306,11 @@ impl<'a> Asn1Writable for ScopedPduData<'a> {
     type Error = WriteError;
 
     fn write(&self, dest: &mut Writer<'_>) -> WriteResult<()> {
-        write_choice!(self, dest; ScopedPduData; Plaintext, EncryptedPdu)
+        write_choice!(self, dest; ScopedPduData(x); Plaintext, EncryptedPdu)
     }
 
     fn encoded_length(&self) -> Option<usize> {
-        choice_length!(self; ScopedPduData; Plaintext, EncryptedPdu)
+        choice_length!(self; ScopedPduData(x); Plaintext, EncryptedPdu)
     }
 
     fn writes_as_read() -> bool
@@ -404,7 +404,7 @@ type PdusChoice<'a> = OneOf8<
 type PdusValues<'a> = <PdusChoice<'a> as Alternatives>::Values;
 
 macro_rules! variants_of_pdus {
-    ($body:ident, $($of:tt)*) => { $body!($($of)*; Pdus;
+    ($body:ident, $($of:tt)*) => { $body!($($of)*; Pdus(x);
         GetRequest: implicit 0, GetNextRequest: implicit 1, Response: implicit 2,
         SetRequest: implicit 3, GetBulkRequest: implicit 5, InformRequest: implicit 6,
         Trap: implicit 7, Report: implicit 8) };
@@ -720,7 +720,7 @@ type ObjectSyntaxChoice<'a> = OneOfEight<
 type ObjectSyntaxValues<'a> = <ObjectSyntaxChoice<'a> as Alternatives>::Values;
 
 macro_rules! variants_of_object_syntax {
-    ($body:ident, $($of:tt)*) => { $body!($($of)*; ObjectSyntax;
+    ($body:ident, $($of:tt)*) => { $body!($($of)*; ObjectSyntax(x);
         Integer, String, ObjectId, IpAddress, Counter, Unsigned, TimeTicks, Arbitrary, BigCounter,
         UnSpecified, NoSuchObject: implicit 0, NoSuchInstance: implicit 1,
         EndOfMibView: implicit 2) };

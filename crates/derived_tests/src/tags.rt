@@ -1,5 +1,5 @@
 //! Tags of every class, sets, and enums whose values have numbers: each form of the script for them, once.
-// Printed by tools/derive from declarations/tags.rs, with the sum 80282130.
+// Printed by tools/derive from declarations/tags.rs, with the sum 96318e98.
 
 ghost use Rattle.std.specs.Prelude.{◌≡◌, ◌∷◌, [], true, false, IsTrue, OnErr, IfOk};
 ghost use Rattle.asn1.specs.AlternativeLists.{after1, after8, choice, first1, first3, second3, third3, first8};
@@ -414,7 +414,7 @@ impl<'a> AsOneOf<EntryValues<'a>> for Entry<'a> {
     fn from_one_of(value: EntryValues<'a>) -> Entry<'a>
         ensures { ⟦<Entry<'a> as AsOneOf<EntryValues<'a>>>⟧.seen result ≡ value.entry }
     {
-        take_choice!(value; Entry; Report, Either, Number)
+        take_choice!(value; Entry(x); Report, Either, Number)
     }
 }
 
@@ -423,7 +423,7 @@ impl<'a> Asn1Type for Entry<'a> {
         ⟦<EntryChoice<'a> as Alternatives>⟧.list };
 
     fn known(&self) {
-        known_choice!(self; Entry; Report, Either, Number)
+        known_choice!(self; Entry(x); Report, Either, Number)
     }
 }
 
@@ -450,11 +450,11 @@ impl<'a> Asn1Writable for Entry<'a> {
     type Error = WriteError;
 
     fn write(&self, dest: &mut Writer<'_>) -> WriteResult<()> {
-        write_choice!(self, dest; Entry; Report, Either, Number)
+        write_choice!(self, dest; Entry(x); Report, Either, Number)
     }
 
     fn encoded_length(&self) -> Option<usize> {
-        choice_length!(self; Entry; Report, Either, Number)
+        choice_length!(self; Entry(x); Report, Either, Number)
     }
 
     fn writes_as_read() -> bool
@@ -485,7 +485,7 @@ impl<'a> AsOneOf<EitherValues<'a>> for Either<'a> {
     fn from_one_of(value: EitherValues<'a>) -> Either<'a>
         ensures { ⟦<Either<'a> as AsOneOf<EitherValues<'a>>>⟧.seen result ≡ value.entry }
     {
-        take_choice!(value; Either; Octets, None)
+        take_choice!(value; Either(x); Octets, None)
     }
 }
 
@@ -494,7 +494,7 @@ impl<'a> Asn1Type for Either<'a> {
         ⟦<EitherChoice<'a> as Alternatives>⟧.list };
 
     fn known(&self) {
-        known_choice!(self; Either; Octets, None)
+        known_choice!(self; Either(x); Octets, None)
     }
 }
 
@@ -521,11 +521,11 @@ impl<'a> Asn1Writable for Either<'a> {
     type Error = WriteError;
 
     fn write(&self, dest: &mut Writer<'_>) -> WriteResult<()> {
-        write_choice!(self, dest; Either; Octets, None)
+        write_choice!(self, dest; Either(x); Octets, None)
     }
 
     fn encoded_length(&self) -> Option<usize> {
-        choice_length!(self; Either; Octets, None)
+        choice_length!(self; Either(x); Octets, None)
     }
 
     fn writes_as_read() -> bool
@@ -550,7 +550,7 @@ type NineChoice<'a> = OneOf9<
 type NineValues<'a> = <NineChoice<'a> as Alternatives>::Values;
 
 macro_rules! variants_of_nine {
-    ($body:ident, $($of:tt)*) => { $body!($($of)*; Nine;
+    ($body:ident, $($of:tt)*) => { $body!($($of)*; Nine(x);
         First: implicit 0, Second: implicit 1, Third: implicit 2, Fourth: explicit 3, Fifth, Sixth,
         Code, Either, Flag) };
 }
@@ -668,7 +668,7 @@ impl<'a> AsOneOf<BothValues<'a>> for Both<'a> {
     fn from_one_of(value: BothValues<'a>) -> Both<'a>
         ensures { ⟦<Both<'a> as AsOneOf<BothValues<'a>>>⟧.seen result ≡ value.entry }
     {
-        take_choice!(value; Both; Either, Responder)
+        take_choice!(value; Both(x); Either, Responder)
     }
 }
 
@@ -677,7 +677,7 @@ impl<'a> Asn1Type for Both<'a> {
         ⟦<BothChoice<'a> as Alternatives>⟧.list };
 
     fn known(&self) {
-        known_choice!(self; Both; Either, Responder)
+        known_choice!(self; Both(x); Either, Responder)
     }
 }
 
@@ -704,17 +704,11 @@ impl<'a> Asn1Writable for Both<'a> {
     type Error = WriteError;
 
     fn write(&self, dest: &mut Writer<'_>) -> WriteResult<()> {
-        match self {
-            Both::Either(x) => x.write(dest),
-            Both::Responder(x) => x.write(dest),
-        }
+        write_choice!(self, dest; Both(x); Either, Responder)
     }
 
     fn encoded_length(&self) -> Option<usize> {
-        match self {
-            Both::Either(x) => x.encoded_length(),
-            Both::Responder(x) => x.encoded_length(),
-        }
+        choice_length!(self; Both(x); Either, Responder)
     }
 
     fn writes_as_read() -> bool

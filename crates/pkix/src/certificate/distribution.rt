@@ -1,5 +1,5 @@
 //! Where revocation lists are found, and what they have (RFC 5280, 4.2.1.13 and 5.2.5).
-// Printed by tools/derive from declarations/certificate/distribution.rs, with the sum f9b97532.
+// Printed by tools/derive from declarations/certificate/distribution.rs, with the sum 753c41c8.
 
 ghost use Rattle.std.specs.Prelude.{◌≡◌, ◌∷◌, [], false, IsTrue, OnErr, IfOk};
 ghost use Rattle.asn1.specs.AlternativeLists.{after1, choice, first1};
@@ -12,12 +12,12 @@ use crate::common::{AttributeTypeAndValue, GeneralNames, NamedBits};
 use asn1::alternatives::{
     Alternatives, AlternativesReadable, AsOneOf, ImplicitTag, OneOf2, read_choice,
 };
-use asn1::fields::{Fields3, Fields6, Row, implicit_length, write_implicit};
+use asn1::fields::{Fields3, Fields6, Row};
 use asn1::{
     Asn1Readable, Asn1Type, Asn1Writable, DefaultValue, Defaulted, Explicit, Implicit, ParseResult,
     Parser, SequenceOf, SetOf, SimpleAsn1Readable, SimpleAsn1Writable, Tag, WriteBuf, WriteError,
-    WriteResult, Writer, fields_length, known_choice, known_fields, read_fields, take_choice,
-    write_fields,
+    WriteResult, Writer, choice_length, fields_length, known_choice, known_fields, read_fields,
+    take_choice, write_choice, write_fields,
 };
 use std::alloc::Global;
 
@@ -49,7 +49,7 @@ impl<'a> AsOneOf<DistributionPointNameValues<'a>> for DistributionPointName<'a> 
             result ≡ value.entry }
     {
         take_choice!(value;
-            DistributionPointName; FullName: implicit 0, NameRelativeToCrlIssuer: implicit 1)
+            DistributionPointName(x); FullName: implicit 0, NameRelativeToCrlIssuer: implicit 1)
     }
 }
 
@@ -60,7 +60,7 @@ impl<'a> Asn1Type for DistributionPointName<'a> {
 
     fn known(&self) {
         known_choice!(self;
-            DistributionPointName; FullName: implicit 0, NameRelativeToCrlIssuer: implicit 1)
+            DistributionPointName(x); FullName: implicit 0, NameRelativeToCrlIssuer: implicit 1)
     }
 }
 
@@ -89,17 +89,13 @@ impl<'a> Asn1Writable for DistributionPointName<'a> {
     type Error = WriteError;
 
     fn write(&self, dest: &mut Writer<'_>) -> WriteResult<()> {
-        match self {
-            DistributionPointName::FullName(x) => write_implicit(x, 0, dest),
-            DistributionPointName::NameRelativeToCrlIssuer(x) => write_implicit(x, 1, dest),
-        }
+        write_choice!(self, dest;
+            DistributionPointName(x); FullName: implicit 0, NameRelativeToCrlIssuer: implicit 1)
     }
 
     fn encoded_length(&self) -> Option<usize> {
-        match self {
-            DistributionPointName::FullName(x) => implicit_length(x, 0),
-            DistributionPointName::NameRelativeToCrlIssuer(x) => implicit_length(x, 1),
-        }
+        choice_length!(self;
+            DistributionPointName(x); FullName: implicit 0, NameRelativeToCrlIssuer: implicit 1)
     }
 
     fn writes_as_read() -> bool

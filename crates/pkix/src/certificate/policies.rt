@@ -1,6 +1,6 @@
 //! The policies of a certificate, and what it demands of those that follow it in a path (RFC 5280, 4.2.1.4, 4.2.1.5,
 //! 4.2.1.10, 4.2.1.11 and 4.2.1.14).
-// Printed by tools/derive from declarations/certificate/policies.rs, with the sum cba4aaee.
+// Printed by tools/derive from declarations/certificate/policies.rs, with the sum e653a126.
 
 ghost use Rattle.std.specs.Prelude.{◌≡◌, ◌∷◌, [], IsTrue, OnErr, IfOk};
 ghost use Rattle.asn1.specs.AlternativeLists.{after3, choice, first1, first3, second3, third3};
@@ -127,7 +127,7 @@ impl<'a> AsOneOf<DisplayTextValues<'a>> for DisplayText<'a> {
     fn from_one_of(value: DisplayTextValues<'a>) -> DisplayText<'a>
         ensures { ⟦<DisplayText<'a> as AsOneOf<DisplayTextValues<'a>>>⟧.seen result ≡ value.entry }
     {
-        take_choice!(value; DisplayText; Ia5, Visible, Bmp, Utf8)
+        take_choice!(value; DisplayText(x); Ia5, Visible, Bmp, Utf8)
     }
 }
 
@@ -136,7 +136,7 @@ impl<'a> Asn1Type for DisplayText<'a> {
         ⟦<DisplayTextChoice<'a> as Alternatives>⟧.list };
 
     fn known(&self) {
-        known_choice!(self; DisplayText; Ia5, Visible, Bmp, Utf8)
+        known_choice!(self; DisplayText(x); Ia5, Visible, Bmp, Utf8)
     }
 }
 
@@ -165,11 +165,11 @@ impl<'a> Asn1Writable for DisplayText<'a> {
     type Error = WriteError;
 
     fn write(&self, dest: &mut Writer<'_>) -> WriteResult<()> {
-        write_choice!(self, dest; DisplayText; Ia5, Visible, Bmp, Utf8)
+        write_choice!(self, dest; DisplayText(x); Ia5, Visible, Bmp, Utf8)
     }
 
     fn encoded_length(&self) -> Option<usize> {
-        choice_length!(self; DisplayText; Ia5, Visible, Bmp, Utf8)
+        choice_length!(self; DisplayText(x); Ia5, Visible, Bmp, Utf8)
     }
 
     fn writes_as_read() -> bool

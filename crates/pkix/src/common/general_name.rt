@@ -1,5 +1,5 @@
 //! General names (RFC 5280, 4.2.1.6).
-// Printed by tools/derive from declarations/common/general_name.rs, with the sum f1a8ffaf.
+// Printed by tools/derive from declarations/common/general_name.rs, with the sum 60717e8f.
 
 ghost use Rattle.std.specs.Prelude.{◌≡◌, ◌∷◌, [], IsTrue, OnErr, IfOk};
 ghost use Rattle.asn1.specs.AlternativeLists.{after8, choice, first1, first8, second8, third8, fourth8, fifth8};
@@ -13,14 +13,12 @@ use crate::common::{DirectoryString, Name};
 use asn1::alternatives::{
     Alternatives, AlternativesReadable, AsOneOf, ExplicitTag, ImplicitTag, OneOf9, read_choice,
 };
-use asn1::fields::{
-    Fields2, Row, explicit_length, implicit_length, write_explicit, write_implicit,
-};
+use asn1::fields::{Fields2, Row};
 use asn1::{
     Asn1Readable, Asn1Type, Asn1Writable, Explicit, IA5String, ObjectIdentifier, ParseResult,
     Parser, Sequence, SequenceOf, SimpleAsn1Readable, SimpleAsn1Writable, Tag, Tlv, WriteBuf,
-    WriteError, WriteResult, Writer, fields_length, known_choice, known_fields, read_fields,
-    take_choice, write_fields,
+    WriteError, WriteResult, Writer, choice_length, fields_length, known_choice, known_fields,
+    read_fields, take_choice, write_choice, write_fields,
 };
 use std::alloc::Global;
 
@@ -185,7 +183,7 @@ type GeneralNameChoice<'a> = OneOf9<
 type GeneralNameValues<'a> = <GeneralNameChoice<'a> as Alternatives>::Values;
 
 macro_rules! variants_of_general_name {
-    ($body:ident, $($of:tt)*) => { $body!($($of)*; GeneralName;
+    ($body:ident, $($of:tt)*) => { $body!($($of)*; GeneralName(x);
         OtherName: implicit 0, Rfc822Name: implicit 1, DnsName: implicit 2, X400Address: implicit 3,
         DirectoryName: explicit 4, EdiPartyName: implicit 5, UniformResourceIdentifier: implicit 6,
         IpAddress: implicit 7, RegisteredId: implicit 8) };
@@ -275,31 +273,11 @@ impl<'a> Asn1Writable for GeneralName<'a> {
     type Error = WriteError;
 
     fn write(&self, dest: &mut Writer<'_>) -> WriteResult<()> {
-        match self {
-            GeneralName::OtherName(x) => write_implicit(x, 0, dest),
-            GeneralName::Rfc822Name(x) => write_implicit(x, 1, dest),
-            GeneralName::DnsName(x) => write_implicit(x, 2, dest),
-            GeneralName::X400Address(x) => write_implicit(x, 3, dest),
-            GeneralName::DirectoryName(x) => write_explicit(x, 4, dest),
-            GeneralName::EdiPartyName(x) => write_implicit(x, 5, dest),
-            GeneralName::UniformResourceIdentifier(x) => write_implicit(x, 6, dest),
-            GeneralName::IpAddress(x) => write_implicit(x, 7, dest),
-            GeneralName::RegisteredId(x) => write_implicit(x, 8, dest),
-        }
+        variants_of_general_name!(write_choice, self, dest)
     }
 
     fn encoded_length(&self) -> Option<usize> {
-        match self {
-            GeneralName::OtherName(x) => implicit_length(x, 0),
-            GeneralName::Rfc822Name(x) => implicit_length(x, 1),
-            GeneralName::DnsName(x) => implicit_length(x, 2),
-            GeneralName::X400Address(x) => implicit_length(x, 3),
-            GeneralName::DirectoryName(x) => explicit_length(x, 4),
-            GeneralName::EdiPartyName(x) => implicit_length(x, 5),
-            GeneralName::UniformResourceIdentifier(x) => implicit_length(x, 6),
-            GeneralName::IpAddress(x) => implicit_length(x, 7),
-            GeneralName::RegisteredId(x) => implicit_length(x, 8),
-        }
+        variants_of_general_name!(choice_length, self)
     }
 
     fn writes_as_read() -> bool

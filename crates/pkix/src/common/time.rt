@@ -1,5 +1,5 @@
 //! Times (RFC 5280, 4.1.2.5).
-// Printed by tools/derive from declarations/common/time.rs, with the sum eb780057.
+// Printed by tools/derive from declarations/common/time.rs, with the sum 63b2f459.
 
 ghost use Rattle.asn1.specs.AlternativeLists.{after1, choice, first1};
 ghost use Rattle.asn1.specs.Reads.{HasOneEncoding};
@@ -31,7 +31,7 @@ impl AsOneOf<TimeValues> for Time {
     ghost seen = { elim [ UtcTime x ↦ first1 x | GeneralTime x ↦ after1 (first1 x) ] };
 
     fn from_one_of(value: TimeValues) -> Time {
-        take_choice!(value; Time; UtcTime, GeneralTime)
+        take_choice!(value; Time(x); UtcTime, GeneralTime)
     }
 }
 
@@ -39,7 +39,7 @@ impl Asn1Type for Time {
     ghost der = { choice ⟦<Time as AsOneOf<TimeValues>>⟧.seen ⟦<TimeChoice as Alternatives>⟧.list };
 
     fn known(&self) {
-        known_choice!(self; Time; UtcTime, GeneralTime)
+        known_choice!(self; Time(x); UtcTime, GeneralTime)
     }
 }
 
@@ -57,11 +57,11 @@ impl Asn1Writable for Time {
     type Error = WriteError;
 
     fn write(&self, dest: &mut Writer<'_>) -> WriteResult<()> {
-        write_choice!(self, dest; Time; UtcTime, GeneralTime)
+        write_choice!(self, dest; Time(x); UtcTime, GeneralTime)
     }
 
     fn encoded_length(&self) -> Option<usize> {
-        choice_length!(self; Time; UtcTime, GeneralTime)
+        choice_length!(self; Time(x); UtcTime, GeneralTime)
     }
 
     fn writes_as_read() -> bool {

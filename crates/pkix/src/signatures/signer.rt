@@ -1,5 +1,5 @@
 //! Who signed (RFC 5652, 5.3), and the values of signed attributes (11.1 to 11.3).
-// Printed by tools/derive from declarations/signatures/signer.rs, with the sum ec186630.
+// Printed by tools/derive from declarations/signatures/signer.rs, with the sum 6cb539a0.
 
 ghost use Rattle.std.specs.Prelude.{◌≡◌, ◌∷◌, [], IsTrue, OnErr, IfOk};
 ghost use Rattle.asn1.specs.AlternativeLists.{after1, choice, first1};
@@ -112,7 +112,7 @@ impl<'a> AsOneOf<SignerIdentifierValues<'a>> for SignerIdentifier<'a> {
             value.entry }
     {
         take_choice!(value;
-            SignerIdentifier; IssuerAndSerialNumber, SubjectKeyIdentifier: implicit 0)
+            SignerIdentifier(x); IssuerAndSerialNumber, SubjectKeyIdentifier: implicit 0)
     }
 }
 
@@ -122,7 +122,7 @@ impl<'a> Asn1Type for SignerIdentifier<'a> {
 
     fn known(&self) {
         known_choice!(self;
-            SignerIdentifier; IssuerAndSerialNumber, SubjectKeyIdentifier: implicit 0)
+            SignerIdentifier(x); IssuerAndSerialNumber, SubjectKeyIdentifier: implicit 0)
     }
 }
 
@@ -152,12 +152,12 @@ impl<'a> Asn1Writable for SignerIdentifier<'a> {
 
     fn write(&self, dest: &mut Writer<'_>) -> WriteResult<()> {
         write_choice!(self, dest;
-            SignerIdentifier; IssuerAndSerialNumber, SubjectKeyIdentifier: implicit 0)
+            SignerIdentifier(x); IssuerAndSerialNumber, SubjectKeyIdentifier: implicit 0)
     }
 
     fn encoded_length(&self) -> Option<usize> {
         choice_length!(self;
-            SignerIdentifier; IssuerAndSerialNumber, SubjectKeyIdentifier: implicit 0)
+            SignerIdentifier(x); IssuerAndSerialNumber, SubjectKeyIdentifier: implicit 0)
     }
 
     fn writes_as_read() -> bool
