@@ -3,9 +3,10 @@
 //! An error keeps no octet, so that reading doesn't compute any. It is found afterwards: by reading copies of the input
 //! in which the octets from some place on are replaced. As long as these decide the error, it changes.
 
-ghost use Rattle.std.specs.Prelude.{◌≡◌, ℕ, Option, true, false, IfSome, IsTrue};
+ghost use Rattle.std.specs.Prelude.{◌≡◌, ◌⊎◌, ◌<◌, ◌≤◌, ℕ, Option, length, true, false, IfNone, IfSome, IsTrue};
 ghost use Rattle.std.specs.Fn.{FnReturnsAt};
 ghost use Rattle.asn1_core.specs.ReadError.{ReadError};
+ghost use Rattle.asn1_core.specs.Tag.{tag_number};
 ghost use Rattle.asn1.specs.ErrorOctets.{Decide, IsElement, IsErrorOctet, IsWrongElement, IsWrongHeader};
 ghost use Rattle.asn1.specs.ErrorOctets.{LeaveOpen, kept, replacement, takes_tag, with_tag};
 
@@ -92,7 +93,8 @@ fn kept_in<'a>(
     count: usize,
     other: u8,
 ) -> Option<&'a mut [u8]>
-    ensures { IfSome result (λ copy. copy.now ≡ kept count other octets.now) }
+    ensures copy { IfSome result (λ copy. copy.now ≡ kept count other octets.now) }
+    ensures none { IfNone result (length scratch.old < length octets.now) }
 {
     let copy = scratch.get_mut(..octets.len())?;
     let count = count.min(copy.len());
@@ -111,7 +113,9 @@ fn with_tag_in<'a>(
     end: usize,
     tag: Tag,
 ) -> Option<&'a mut [u8]>
-    ensures { IfSome result (λ copy. copy.now ≡ with_tag octet end tag octets.now) }
+    ensures copy { IfSome result (λ copy. copy.now ≡ with_tag octet end tag octets.now) }
+    ensures none { IfNone result ((31 ≤ tag_number tag)
+        ⊎ ((length scratch.old < length octets.now) ⊎ (length octets.now ≤ octet))) }
 {
     let identifier = tag.as_u8()?;
     let copy = kept_in(scratch, octets, end, 0)?;
@@ -408,9 +412,12 @@ pub fn expects_tag<F: Fn(&[u8]) -> Option<ParseError>>(
     rejects: F,
 ) -> Option<bool>
     requires { F.IsAlwaysCallable rejects }
-    ensures { IfSome result (λ yes. (end : ℕ) × (other : Option ReadError)
+    ensures answer { IfSome result (λ yes. (end : ℕ) × (other : Option ReadError)
+        × (IsElement «data».now octet end ⊎ (end ≡ octet))
         × FnReturnsAt F.Fn rejects (with_tag octet end tag «data».now) other
         × (yes ≡ takes_tag tag error.now other)) }
+    ensures none { IfNone result ((length «data».now ≤ octet)
+        ⊎ ((31 ≤ tag_number tag) ⊎ (length scratch.old < length «data».now))) }
 {
     // Of an element whose tag has several octets none is kept.
     let end = match data.get(octet)? & 0x1f {

@@ -90,7 +90,9 @@ pub fn writes_alike<T: Asn1Writable, U: Asn1Writable<Error = T::Error>>(
     requires other_plain { U.der.plain }
     requires same { T.der.encoding (T.der.meaning one.now) ≡ U.der.encoding
         (U.der.meaning other.now) }
-    ensures { IfOk result (λ both. both.0.items ≡ both.1.items) }
+    ensures alike { IfOk result (λ both. both.0.items ≡ both.1.items) }
+    ensures encoding { IfOk result (λ both. both.0.items ≡ T.der.encoding
+        (T.der.meaning one.now)) }
 {
     let octets = write_single(alloc, one)?;
     let other_octets = write_single(alloc, other)?;

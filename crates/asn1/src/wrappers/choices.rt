@@ -16,14 +16,14 @@ use asn1_core::{
 /// Reading frames the element first. The error is `UnexpectedTag` if the alternative doesn't accept the element's
 /// tag, and else the alternative's. Writing returns `AllocationError`, or an error that the alternative names.
 #[derive(Debug, Clone, Copy, PartialEq, Eq, Hash)]
-pub enum Choice1<T1> {
+pub enum Choice1<A> {
     /// A value of the first type.
-    ChoiceA(T1),
+    ChoiceA(A),
 }
 
-impl<T1: Asn1Type> Asn1Type for Choice1<T1> {
-    ghost der = { choice_der (choice1_meaning T1.der.meaning) (only (encoding_of T1.der))
-        (only_laws T1.der.laws) };
+impl<A: Asn1Type> Asn1Type for Choice1<A> {
+    ghost der = { choice_der (choice1_meaning A.der.meaning) (only (encoding_of A.der))
+        (only_laws A.der.laws) };
 
     fn known(&self) {
         match self {
@@ -32,26 +32,26 @@ impl<T1: Asn1Type> Asn1Type for Choice1<T1> {
     }
 }
 
-impl<'a, T1: Asn1Readable<'a>> Asn1Readable<'a> for Choice1<T1> {
+impl<'a, A: Asn1Readable<'a>> Asn1Readable<'a> for Choice1<A> {
     fn parse(parser: &mut Parser<'a>) -> ParseResult<Self> {
         let tlv = parser.read_element::<Tlv<'a>>()?;
-        if T1::can_parse(tlv.tag()) {
-            return Ok(Choice1::ChoiceA(tlv.parse::<T1>(parser.alloc())?));
+        if A::can_parse(tlv.tag()) {
+            return Ok(Choice1::ChoiceA(tlv.parse::<A>(parser.alloc())?));
         }
         Err(ParseError::new(ParseErrorKind::UnexpectedTag { actual: tlv.tag() }))
     }
 
     fn can_parse(tag: Tag) -> bool {
-        T1::can_parse(tag)
+        A::can_parse(tag)
     }
 }
 
-impl<T1: Asn1Writable<Error = WriteError>> Asn1Writable for Choice1<T1> {
+impl<A: Asn1Writable<Error = WriteError>> Asn1Writable for Choice1<A> {
     type Error = WriteError;
 
-    ghost write_errors = { λ v e. OfChoice1 (λ a. T1.write_errors a e) v };
+    ghost write_errors = { λ v e. OfChoice1 (λ a. A.write_errors a e) v };
 
-    ghost length_known = { OfChoice1 T1.length_known };
+    ghost length_known = { OfChoice1 A.length_known };
 
     fn write(&self, dest: &mut Writer<'_>) -> WriteResult<()> {
         match self {
@@ -66,7 +66,7 @@ impl<T1: Asn1Writable<Error = WriteError>> Asn1Writable for Choice1<T1> {
     }
 
     fn writes_as_read() -> bool {
-        T1::writes_as_read()
+        A::writes_as_read()
     }
 }
 
@@ -86,17 +86,17 @@ impl<T1: Asn1Writable<Error = WriteError>> Asn1Writable for Choice1<T1> {
 /// )?;
 /// ```
 #[derive(Debug, Clone, Copy, PartialEq, Eq, Hash)]
-pub enum Choice2<T1, T2> {
+pub enum Choice2<A, B> {
     /// A value of the first type.
-    ChoiceA(T1),
+    ChoiceA(A),
     /// A value of the second type.
-    ChoiceB(T2),
+    ChoiceB(B),
 }
 
-impl<T1: Asn1Type, T2: Asn1Type> Asn1Type for Choice2<T1, T2> {
-    ghost der = { choice_der (choice2_meaning T1.der.meaning T2.der.meaning)
-        (or (encoding_of T1.der) (only (encoding_of T2.der)))
-        (or_laws T1.der.laws (only_laws T2.der.laws)) };
+impl<A: Asn1Type, B: Asn1Type> Asn1Type for Choice2<A, B> {
+    ghost der = { choice_der (choice2_meaning A.der.meaning B.der.meaning)
+        (or (encoding_of A.der) (only (encoding_of B.der)))
+        (or_laws A.der.laws (only_laws B.der.laws)) };
 
     fn known(&self) {
         match self {
@@ -106,34 +106,34 @@ impl<T1: Asn1Type, T2: Asn1Type> Asn1Type for Choice2<T1, T2> {
     }
 }
 
-impl<'a, T1: Asn1Readable<'a>, T2: Asn1Readable<'a>> Asn1Readable<'a> for Choice2<T1, T2> {
+impl<'a, A: Asn1Readable<'a>, B: Asn1Readable<'a>> Asn1Readable<'a> for Choice2<A, B> {
     fn parse(parser: &mut Parser<'a>) -> ParseResult<Self> {
         let tlv = parser.read_element::<Tlv<'a>>()?;
-        if T1::can_parse(tlv.tag()) {
-            return Ok(Choice2::ChoiceA(tlv.parse::<T1>(parser.alloc())?));
+        if A::can_parse(tlv.tag()) {
+            return Ok(Choice2::ChoiceA(tlv.parse::<A>(parser.alloc())?));
         }
-        if T2::can_parse(tlv.tag()) {
-            return Ok(Choice2::ChoiceB(tlv.parse::<T2>(parser.alloc())?));
+        if B::can_parse(tlv.tag()) {
+            return Ok(Choice2::ChoiceB(tlv.parse::<B>(parser.alloc())?));
         }
         Err(ParseError::new(ParseErrorKind::UnexpectedTag { actual: tlv.tag() }))
     }
 
     fn can_parse(tag: Tag) -> bool {
         // Each alternative is called, since by each contract the values of that alternative have one encoding.
-        let first = T1::can_parse(tag);
-        let second = T2::can_parse(tag);
+        let first = A::can_parse(tag);
+        let second = B::can_parse(tag);
         first || second
     }
 }
 
-impl<T1: Asn1Writable<Error = WriteError>, T2: Asn1Writable<Error = WriteError>> Asn1Writable
-    for Choice2<T1, T2> {
+impl<A: Asn1Writable<Error = WriteError>, B: Asn1Writable<Error = WriteError>> Asn1Writable
+    for Choice2<A, B> {
     type Error = WriteError;
 
-    ghost write_errors = { λ v e. OfChoice2 (λ a. T1.write_errors a e)
-        (λ b. T2.write_errors b e) v };
+    ghost write_errors = { λ v e. OfChoice2 (λ a. A.write_errors a e)
+        (λ b. B.write_errors b e) v };
 
-    ghost length_known = { OfChoice2 T1.length_known T2.length_known };
+    ghost length_known = { OfChoice2 A.length_known B.length_known };
 
     fn write(&self, dest: &mut Writer<'_>) -> WriteResult<()> {
         match self {
@@ -150,7 +150,7 @@ impl<T1: Asn1Writable<Error = WriteError>, T2: Asn1Writable<Error = WriteError>>
     }
 
     fn writes_as_read() -> bool {
-        T1::writes_as_read() && T2::writes_as_read()
+        A::writes_as_read() && B::writes_as_read()
     }
 }
 
@@ -160,19 +160,19 @@ impl<T1: Asn1Writable<Error = WriteError>, T2: Asn1Writable<Error = WriteError>>
 /// alternative rejects the element, no further one is tried. The error is `UnexpectedTag` if none accepts the tag.
 /// What is written is read back if no tag is accepted by two ([`crate::laws_wrappers::choices_are_lawful`]).
 #[derive(Debug, Clone, Copy, PartialEq, Eq, Hash)]
-pub enum Choice3<T1, T2, T3> {
+pub enum Choice3<A, B, C> {
     /// A value of the first type.
-    ChoiceA(T1),
+    ChoiceA(A),
     /// A value of the second type.
-    ChoiceB(T2),
+    ChoiceB(B),
     /// A value of the third type.
-    ChoiceC(T3),
+    ChoiceC(C),
 }
 
-impl<T1: Asn1Type, T2: Asn1Type, T3: Asn1Type> Asn1Type for Choice3<T1, T2, T3> {
-    ghost der = { choice_der (choice3_meaning T1.der.meaning T2.der.meaning T3.der.meaning)
-        (or (encoding_of T1.der) (or (encoding_of T2.der) (only (encoding_of T3.der))))
-        (or_laws T1.der.laws (or_laws T2.der.laws (only_laws T3.der.laws))) };
+impl<A: Asn1Type, B: Asn1Type, C: Asn1Type> Asn1Type for Choice3<A, B, C> {
+    ghost der = { choice_der (choice3_meaning A.der.meaning B.der.meaning C.der.meaning)
+        (or (encoding_of A.der) (or (encoding_of B.der) (only (encoding_of C.der))))
+        (or_laws A.der.laws (or_laws B.der.laws (only_laws C.der.laws))) };
 
     fn known(&self) {
         match self {
@@ -183,42 +183,42 @@ impl<T1: Asn1Type, T2: Asn1Type, T3: Asn1Type> Asn1Type for Choice3<T1, T2, T3> 
     }
 }
 
-impl<'a, T1: Asn1Readable<'a>, T2: Asn1Readable<'a>, T3: Asn1Readable<'a>> Asn1Readable<'a>
-    for Choice3<T1, T2, T3> {
+impl<'a, A: Asn1Readable<'a>, B: Asn1Readable<'a>, C: Asn1Readable<'a>> Asn1Readable<'a>
+    for Choice3<A, B, C> {
     fn parse(parser: &mut Parser<'a>) -> ParseResult<Self> {
         let tlv = parser.read_element::<Tlv<'a>>()?;
-        if T1::can_parse(tlv.tag()) {
-            return Ok(Choice3::ChoiceA(tlv.parse::<T1>(parser.alloc())?));
+        if A::can_parse(tlv.tag()) {
+            return Ok(Choice3::ChoiceA(tlv.parse::<A>(parser.alloc())?));
         }
-        if T2::can_parse(tlv.tag()) {
-            return Ok(Choice3::ChoiceB(tlv.parse::<T2>(parser.alloc())?));
+        if B::can_parse(tlv.tag()) {
+            return Ok(Choice3::ChoiceB(tlv.parse::<B>(parser.alloc())?));
         }
-        if T3::can_parse(tlv.tag()) {
-            return Ok(Choice3::ChoiceC(tlv.parse::<T3>(parser.alloc())?));
+        if C::can_parse(tlv.tag()) {
+            return Ok(Choice3::ChoiceC(tlv.parse::<C>(parser.alloc())?));
         }
         Err(ParseError::new(ParseErrorKind::UnexpectedTag { actual: tlv.tag() }))
     }
 
     fn can_parse(tag: Tag) -> bool {
         // Each alternative is called, since by each contract the values of that alternative have one encoding.
-        let first = T1::can_parse(tag);
-        let second = T2::can_parse(tag);
-        let third = T3::can_parse(tag);
+        let first = A::can_parse(tag);
+        let second = B::can_parse(tag);
+        let third = C::can_parse(tag);
         first || second || third
     }
 }
 
 impl<
-    T1: Asn1Writable<Error = WriteError>,
-    T2: Asn1Writable<Error = WriteError>,
-    T3: Asn1Writable<Error = WriteError>,
-> Asn1Writable for Choice3<T1, T2, T3> {
+    A: Asn1Writable<Error = WriteError>,
+    B: Asn1Writable<Error = WriteError>,
+    C: Asn1Writable<Error = WriteError>,
+> Asn1Writable for Choice3<A, B, C> {
     type Error = WriteError;
 
-    ghost write_errors = { λ v e. OfChoice3 (λ a. T1.write_errors a e)
-        (λ b. T2.write_errors b e) (λ c. T3.write_errors c e) v };
+    ghost write_errors = { λ v e. OfChoice3 (λ a. A.write_errors a e)
+        (λ b. B.write_errors b e) (λ c. C.write_errors c e) v };
 
-    ghost length_known = { OfChoice3 T1.length_known T2.length_known T3.length_known };
+    ghost length_known = { OfChoice3 A.length_known B.length_known C.length_known };
 
     fn write(&self, dest: &mut Writer<'_>) -> WriteResult<()> {
         match self {
@@ -237,6 +237,6 @@ impl<
     }
 
     fn writes_as_read() -> bool {
-        T1::writes_as_read() && T2::writes_as_read() && T3::writes_as_read()
+        A::writes_as_read() && B::writes_as_read() && C::writes_as_read()
     }
 }
