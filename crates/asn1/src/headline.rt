@@ -113,9 +113,15 @@ pub fn sets_tell_multisets<'a, T: Asn1Writable>(
     requires element { T.der.is_element }
     requires fit { AllFit T.der (map T.der.meaning items.now) }
     requires others_fit { AllFit T.der (map T.der.meaning others.now) }
-    ensures { IfOk result (λ both. (both.0.items ≡ both.1.items)
+    ensures tell { IfOk result (λ both. (both.0.items ≡ both.1.items)
         ↔ SameEncodings (map T.der.encoding (map T.der.meaning items.entry.now))
         (map T.der.encoding (map T.der.meaning others.entry.now))) }
+
+    // The first octets are the encoding of the set of the items, the second that of the set of the others.
+    ensures sets { IfOk result (λ both. (both.0.items
+        ≡ ⟦<SetOfWriter<'a, T> as Asn1Type>⟧.der.encoding (map T.der.meaning items.entry.now))
+        × (both.1.items
+        ≡ ⟦<SetOfWriter<'a, T> as Asn1Type>⟧.der.encoding (map T.der.meaning others.entry.now))) }
 {
     equal_multisets::<T>();
     let first = SetOfWriter::new(items);

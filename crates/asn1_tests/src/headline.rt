@@ -200,6 +200,15 @@ fn sets_without_items(rt: HostRuntime) -> Result<(), Fail> {
 }
 
 #[test]
+fn each_set_in_its_place(rt: HostRuntime) -> Result<(), Fail> {
+    let (octets, others_octets) = sets_tell_multisets(rt.alloc(), &[true], &[])?;
+    same(
+        (octets.as_slice(), others_octets.as_slice()),
+        (&[0x31, 3, 1, 1, 0xff], &[0x31, 0]),
+    )
+}
+
+#[test]
 fn an_element_is_cut_off() -> Result<(), Fail> {
     let (tlv, rest) = cuts_off_the_element(&[5, 0, 1])?;
     same((tlv.full_data(), rest), (&[5, 0], &[1]))

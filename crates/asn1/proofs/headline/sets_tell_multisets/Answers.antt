@@ -11,8 +11,15 @@ are_elements d law lawful element [] valid fit = tt
 are_elements d law lawful element (m ∷ ms) valid fit =
     (law lawful element m valid.0 fit.0, are_elements d law lawful element ms valid.1 fit.1)
 
-pub returns : goal.returns
-returns g c =
+-- The octets of each set are its encoding.
+pub returns-clause-sets : goal.returns-clause-sets
+returns-clause-sets g c = (
+  rw c.new-first.ensures at (c.in_ok-octets.ensures.encoding c.requires.plain),
+  rw c.new-second.ensures at (c.in_ok-others_octets.ensures.encoding c.requires.plain),
+)
+
+pub returns-clause-tell : goal.returns-clause-tell
+returns-clause-tell g c =
     let d = g.T.Asn1Type.der in
     let ms = map d.meaning c.args.items.now in
     let ns = map d.meaning c.args.others.now in
