@@ -2,6 +2,7 @@
 
 use asn1::{Asn1Read, Asn1Write};
 use super::page::Tagged;
+use super::tags::Either;
 
 /// The identifier 1.2.3.
 pub const SOME_OID: asn1::ObjectIdentifier = asn1::oid!(1, 2, 3);
@@ -103,4 +104,34 @@ pub struct Entry<'a> {
     pub listed: Listed<'a>,
     /// A note, which may be missing.
     pub note: Option<bool>,
+}
+
+/// What may be missing between an identifier and what it defines, behind a choice.
+#[derive(asn1::Asn1Read, asn1::Asn1Write, PartialEq)]
+pub struct Order<'a> {
+    /// The identifier, which the content tells.
+    pub kind: asn1::DefinedByMarker<asn1::ObjectIdentifier>,
+    /// Octets or none.
+    pub by: Either<'a>,
+    /// A number.
+    #[explicit(0)]
+    pub number: Option<u8>,
+    /// Octets or none.
+    #[explicit(1)]
+    pub from: Option<Either<'a>>,
+    /// Octets.
+    #[implicit(2)]
+    pub octets: Option<&'a [u8]>,
+    /// A letter.
+    #[explicit(3)]
+    pub letter: Option<Letter>,
+    /// Whether.
+    #[implicit(4)]
+    pub flag: Option<bool>,
+    /// Another number.
+    #[implicit(5)]
+    pub count: Option<u64>,
+    /// The content.
+    #[defined_by(kind)]
+    pub content: Content,
 }

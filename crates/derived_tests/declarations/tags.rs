@@ -127,3 +127,31 @@ pub enum Both<'a> {
     /// Who answers.
     Responder(ResponderId<'a>),
 }
+
+/// What may be missing behind a choice, with choices among it.
+#[derive(asn1::Asn1Read, asn1::Asn1Write, PartialEq)]
+pub struct Header<'a> {
+    /// Octets or none.
+    pub by: Either<'a>,
+    /// A number.
+    #[explicit(0)]
+    pub number: Option<u8>,
+    /// A code.
+    #[explicit(1)]
+    pub code: Option<ResultCode>,
+    /// A choice.
+    #[explicit(2)]
+    pub entry: Option<Entry<'a>>,
+    /// Octets.
+    #[implicit(3)]
+    pub octets: Option<&'a [u8]>,
+    /// A report.
+    #[explicit(4)]
+    pub report: Option<Report<'a>>,
+    /// Whether.
+    #[implicit(5)]
+    pub flag: Option<bool>,
+    /// Who answers.
+    #[explicit(6)]
+    pub responder: Option<ResponderId<'a>>,
+}

@@ -1,5 +1,5 @@
 //! Values that an item before them defines: each attribute of the original's derives for them, once.
-// Printed by tools/derive from declarations/items.rs, with the sum 9ef57679.
+// Printed by tools/derive from declarations/items.rs, with the sum f1d51cfe.
 
 ghost use Rattle.std.specs.Prelude.{◌≡◌, ◌⊎◌, ◌∷◌, [], true, false, ⊤, IsTrue, MatchOption, OnErr};
 ghost use Rattle.std.specs.Str.{bytes_eq};
@@ -9,12 +9,13 @@ ghost use Rattle.asn1.specs.ItemsAndValues.{by_item, word_for_word};
 ghost use Rattle.asn1.specs.Options.{option_meaning};
 ghost use Rattle.asn1.specs.Reading.{EndsWith};
 ghost use Rattle.asn1.specs.Reads.{HasOneEncoding, ReadsContents, ReadsDefined};
-ghost use Rattle.asn1.specs.Structures.{defaulted, field_names, implicit, structure, fields1};
+ghost use Rattle.asn1.specs.Structures.{defaulted, explicit, field_names, implicit, structure, fields1};
 ghost use Rattle.asn1.specs.Variants.{any_variant, identifier_with, or_variant, variant};
 ghost use Rattle.derived_tests.specs.declared.items.TheConstants.{OTHER_OID_NUMBERS, SHA256_WITH_RSA_NUMBERS};
 ghost use Rattle.derived_tests.specs.declared.items.TheConstants.{SOME_OID_NUMBERS};
 
 use super::page::Tagged;
+use super::tags::Either;
 use asn1::fields::{
     Before, DefinedField, Field, Item, Last, LastValue, Row, Value, explicit_length, is_identifier,
     known_identifier, write_explicit,
@@ -756,10 +757,173 @@ impl<'a> SimpleAsn1Writable for Entry<'a> {
     }
 }
 
+/// What may be missing between an identifier and what it defines, behind a choice.
+#[derive(PartialEq, Drop)]
+pub struct Order<'a> {
+    /// The identifier, which the content tells.
+    pub kind: DefinedByMarker<ObjectIdentifier>,
+    /// Octets or none.
+    pub by: Either<'a>,
+    /// A number.
+    pub number: Option<u8>,
+    /// Octets or none.
+    pub from: Option<Either<'a>>,
+    /// Octets.
+    pub octets: Option<&'a [u8]>,
+    /// A letter.
+    pub letter: Option<Letter>,
+    /// Whether.
+    pub flag: Option<bool>,
+    /// Another number.
+    pub count: Option<u64>,
+    /// The content.
+    pub content: Content,
+}
+
+type OrderNumberField = Option<Explicit<u8, 0>>;
+
+type OrderFromField<'a> = Option<Explicit<Either<'a>, 1>>;
+
+type OrderOctetsField<'a> = Option<Implicit<&'a [u8], 2>>;
+
+type OrderLetterField = Option<Explicit<Letter, 3>>;
+
+type OrderFlagField = Option<Implicit<bool, 4>>;
+
+type OrderCountField = Option<Implicit<u64, 5>>;
+
+type OrderFields<'a> = Item<
+    ObjectIdentifier,
+    Before<
+        Either<'a>,
+        Before<
+            OrderNumberField,
+            Before<
+                OrderFromField<'a>,
+                Before<
+                    OrderOctetsField<'a>,
+                    Before<
+                        OrderLetterField,
+                        Before<OrderFlagField, Before<OrderCountField, LastValue<Content>>>,
+                    >,
+                >,
+            >,
+        >,
+    >,
+>;
+
+type OrderFrom3<'a> = Before<
+    OrderNumberField,
+    Before<
+        OrderFromField<'a>,
+        Before<
+            OrderOctetsField<'a>,
+            Before<
+                OrderLetterField,
+                Before<OrderFlagField, Before<OrderCountField, LastValue<Content>>>,
+            >,
+        >,
+    >,
+>;
+
+type OrderFrom5<'a> = Before<
+    OrderOctetsField<'a>,
+    Before<OrderLetterField, Before<OrderFlagField, Before<OrderCountField, LastValue<Content>>>>,
+>;
+
+type OrderFrom7 = Before<OrderFlagField, Before<OrderCountField, LastValue<Content>>>;
+
+macro_rules! fields_of_order {
+    ($body:ident, $($of:tt)*) => { $body!($($of)*;
+        kind of content: ObjectIdentifier, by, number: OrderNumberField, from: OrderFromField<'a>,
+        octets: OrderOctetsField<'a>, letter: OrderLetterField, flag: OrderFlagField,
+        count: OrderCountField, content by ObjectIdentifier) };
+}
+
+impl<'a> Asn1Type for Order<'a> {
+    ghost der = { structure (λ v. record {
+      value = v.kind;
+      rest = record {
+        value = v.by;
+        rest = record {
+          value = option_meaning explicit v.number;
+          rest = record {
+            value = option_meaning explicit v.from;
+            rest = record {
+              value = option_meaning implicit v.octets;
+              rest = record {
+                value = option_meaning explicit v.letter;
+                rest = record {
+                  value = option_meaning implicit v.flag;
+                  rest = record {
+                    value = option_meaning implicit v.count;
+                    rest = record {
+                      value = v.content;
+                    };
+                  };
+                };
+              };
+            };
+          };
+        };
+      };
+    }) ⟦<OrderFields<'a> as Row>⟧.list (field_names "Order" ("kind" ∷ "by" ∷ "number" ∷
+        "from" ∷ "octets" ∷ "letter" ∷ "flag" ∷ "count" ∷ "content" ∷ [])) };
+
+    fn known(&self) {
+        fields_of_order!(known_fields, self)
+    }
+}
+
+impl<'a> SimpleAsn1Readable<'a> for Order<'a> {
+    fn tag() -> Tag
+        ensures value { result ≡ ⟦<Order<'a> as Asn1Type>⟧.der.content.tag }
+        ensures simple { ⟦<Order<'a> as Asn1Type>⟧.der.is_simple }
+        ensures plain { ⟦<Order<'a> as Asn1Type>⟧.der.plain }
+    {
+        Tag::constructed(0x10)
+    }
+
+    fn parse_data(alloc: Global, data: &'a [u8]) -> ParseResult<Order<'a>>
+        ensures { ReadsContents ⟦<Order<'a> as Asn1Type>⟧.der «data».entry.now result }
+    {
+        fields_of_order!(read_fields, OrderFields<'a>, alloc, data => Order)
+    }
+}
+
+impl<'a> SimpleAsn1Writable for Order<'a> {
+    type Error = WriteError;
+
+    fn tag() -> Tag
+        ensures value { result ≡ ⟦<Order<'a> as Asn1Type>⟧.der.content.tag }
+        ensures simple { ⟦<Order<'a> as Asn1Type>⟧.der.is_simple }
+    {
+        Tag::constructed(0x10)
+    }
+
+    fn write_data(&self, dest: &mut WriteBuf) -> WriteResult<()> {
+        fields_of_order!(write_fields, self, dest)
+    }
+
+    fn data_length(&self) -> Option<usize> {
+        fields_of_order!(fields_length, self)
+    }
+
+    fn writes_as_read() -> bool
+        ensures { IsTrue result }
+    {
+        true
+    }
+}
+
 /// The laws of the types, which do nothing.
 pub mod laws {
-    use super::{AnySequence, Entry, Letter, MySequence};
+    use super::{
+        AnySequence, Entry, Letter, MySequence, ObjectIdentifier, Order, OrderFrom3, OrderFrom5,
+        OrderFrom7,
+    };
     use asn1::Asn1Type;
+    use asn1::fields::RowBehind;
 
     /// Each value of `MySequence` has one encoding, which is read back.
     pub fn my_sequence_is_lawful()
@@ -783,4 +947,37 @@ pub mod laws {
     pub fn entry_is_lawful()
         ensures { HasOneEncoding ⟦<Entry<'static> as Asn1Type>⟧.der }
     {}
+
+    /// Tags tell which fields of `OrderFrom7` are missing.
+    #[tactic(auto, using(asn1::specs::Lemmas::Fields::tags_differ))]
+    pub fn order_from7_is_lawful()
+        ensures { ⟦<OrderFrom7 as RowBehind<ObjectIdentifier>>⟧.behind.fields.lawful }
+    {}
+
+    /// Tags tell which fields of `OrderFrom5` are missing.
+    #[tactic(auto, using(asn1::specs::Lemmas::Fields::tags_differ))]
+    pub fn order_from5_is_lawful()
+        ensures { ⟦<OrderFrom5<'static> as RowBehind<ObjectIdentifier>>⟧.behind.fields.lawful }
+    {
+        letter_is_lawful();
+        order_from7_is_lawful();
+    }
+
+    /// Tags tell which fields of `OrderFrom3` are missing.
+    #[tactic(auto, using(asn1::specs::Lemmas::Fields::tags_differ))]
+    pub fn order_from3_is_lawful()
+        ensures { ⟦<OrderFrom3<'static> as RowBehind<ObjectIdentifier>>⟧.behind.fields.lawful }
+    {
+        super::super::tags::laws::either_is_lawful();
+        order_from5_is_lawful();
+    }
+
+    /// Each value of `Order` has one encoding, which is read back.
+    #[tactic(auto, using(asn1::specs::Lemmas::Fields::tags_differ))]
+    pub fn order_is_lawful()
+        ensures { HasOneEncoding ⟦<Order<'static> as Asn1Type>⟧.der }
+    {
+        super::super::tags::laws::either_is_lawful();
+        order_from3_is_lawful();
+    }
 }

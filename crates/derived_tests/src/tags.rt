@@ -1,14 +1,16 @@
 //! Tags of every class, sets, and enums whose values have numbers: each form of the script for them, once.
-// Printed by tools/derive from declarations/tags.rs, with the sum 96318e98.
+// Printed by tools/derive from declarations/tags.rs, with the sum 4b7b70da.
 
 ghost use Rattle.std.specs.Prelude.{◌≡◌, ◌∷◌, [], true, false, IsTrue, OnErr, IfOk};
 ghost use Rattle.asn1.specs.AlternativeLists.{after1, after8, choice, first1, first3, second3, third3, first8};
 ghost use Rattle.asn1.specs.AlternativeLists.{second8, third8, fourth8, fifth8, sixth8, seventh8, eighth8};
 ghost use Rattle.asn1.specs.Listing.{set_tag};
 ghost use Rattle.asn1.specs.Numbered.{numbered};
+ghost use Rattle.asn1.specs.Options.{option_meaning};
 ghost use Rattle.asn1.specs.Reading.{EndsWith};
 ghost use Rattle.asn1.specs.Reads.{BeginsWithEncodingOf, HasOneEncoding, ReadsContents, ReadsPrefix};
-ghost use Rattle.asn1.specs.Structures.{defaulted, field_names, implicit, structure_with_tag, fields3};
+ghost use Rattle.asn1.specs.Structures.{defaulted, explicit, field_names, implicit, structure, structure_with_tag};
+ghost use Rattle.asn1.specs.Structures.{fields3, fields8};
 ghost use Rattle.asn1.specs.Tag.{universal};
 ghost use Rattle.asn1.specs.Tagged.{application_tag, private_tag};
 
@@ -17,7 +19,7 @@ use asn1::alternatives::{
     Alternatives, AlternativesReadable, AsOneOf, ExplicitTag, ImplicitTag, OneOf2, OneOf3, OneOf9,
     read_choice,
 };
-use asn1::fields::{Fields3, Row};
+use asn1::fields::{Fields3, Fields4, Fields7, Fields8, Row};
 use asn1::{
     ApplicationExplicit, ApplicationImplicit, Asn1Readable, Asn1Type, Asn1Writable, DefaultValue,
     Defaulted, Explicit, IA5String, Implicit, Null, Numbered, ParseResult, Parser, PrivateExplicit,
@@ -718,13 +720,138 @@ impl<'a> Asn1Writable for Both<'a> {
     }
 }
 
+/// What may be missing behind a choice, with choices among it.
+#[derive(PartialEq, Drop)]
+pub struct Header<'a> {
+    /// Octets or none.
+    pub by: Either<'a>,
+    /// A number.
+    pub number: Option<u8>,
+    /// A code.
+    pub code: Option<ResultCode>,
+    /// A choice.
+    pub entry: Option<Entry<'a>>,
+    /// Octets.
+    pub octets: Option<&'a [u8]>,
+    /// A report.
+    pub report: Option<Report<'a>>,
+    /// Whether.
+    pub flag: Option<bool>,
+    /// Who answers.
+    pub responder: Option<ResponderId<'a>>,
+}
+
+type HeaderNumberField = Option<Explicit<u8, 0>>;
+
+type HeaderCodeField = Option<Explicit<ResultCode, 1>>;
+
+type HeaderEntryField<'a> = Option<Explicit<Entry<'a>, 2>>;
+
+type HeaderOctetsField<'a> = Option<Implicit<&'a [u8], 3>>;
+
+type HeaderReportField<'a> = Option<Explicit<Report<'a>, 4>>;
+
+type HeaderFlagField = Option<Implicit<bool, 5>>;
+
+type HeaderResponderField<'a> = Option<Explicit<ResponderId<'a>, 6>>;
+
+type HeaderFields<'a> = Fields8<
+    Either<'a>,
+    HeaderNumberField,
+    HeaderCodeField,
+    HeaderEntryField<'a>,
+    HeaderOctetsField<'a>,
+    HeaderReportField<'a>,
+    HeaderFlagField,
+    HeaderResponderField<'a>,
+>;
+
+type HeaderFrom2<'a> = Fields7<
+    HeaderNumberField,
+    HeaderCodeField,
+    HeaderEntryField<'a>,
+    HeaderOctetsField<'a>,
+    HeaderReportField<'a>,
+    HeaderFlagField,
+    HeaderResponderField<'a>,
+>;
+
+type HeaderFrom5<'a> = Fields4<
+    HeaderOctetsField<'a>,
+    HeaderReportField<'a>,
+    HeaderFlagField,
+    HeaderResponderField<'a>,
+>;
+
+macro_rules! fields_of_header {
+    ($body:ident, $($of:tt)*) => { $body!($($of)*;
+        by, number: HeaderNumberField, code: HeaderCodeField, entry: HeaderEntryField<'a>,
+        octets: HeaderOctetsField<'a>, report: HeaderReportField<'a>, flag: HeaderFlagField,
+        responder: HeaderResponderField<'a>) };
+}
+
+impl<'a> Asn1Type for Header<'a> {
+    ghost der = { structure (λ v. fields8 v.by (option_meaning explicit v.number) (option_meaning
+        explicit v.code) (option_meaning explicit v.entry) (option_meaning implicit v.octets)
+        (option_meaning explicit v.report) (option_meaning implicit v.flag) (option_meaning explicit
+        v.responder)) ⟦<HeaderFields<'a> as Row>⟧.list (field_names "Header" ("by" ∷ "number" ∷
+        "code" ∷ "entry" ∷ "octets" ∷ "report" ∷ "flag" ∷ "responder" ∷ [])) };
+
+    fn known(&self) {
+        fields_of_header!(known_fields, self)
+    }
+}
+
+impl<'a> SimpleAsn1Readable<'a> for Header<'a> {
+    fn tag() -> Tag
+        ensures value { result ≡ ⟦<Header<'a> as Asn1Type>⟧.der.content.tag }
+        ensures simple { ⟦<Header<'a> as Asn1Type>⟧.der.is_simple }
+        ensures plain { ⟦<Header<'a> as Asn1Type>⟧.der.plain }
+    {
+        Tag::constructed(0x10)
+    }
+
+    fn parse_data(alloc: Global, data: &'a [u8]) -> ParseResult<Header<'a>>
+        ensures { ReadsContents ⟦<Header<'a> as Asn1Type>⟧.der «data».entry.now result }
+    {
+        fields_of_header!(read_fields, HeaderFields<'a>, alloc, data => Header)
+    }
+}
+
+impl<'a> SimpleAsn1Writable for Header<'a> {
+    type Error = WriteError;
+
+    fn tag() -> Tag
+        ensures value { result ≡ ⟦<Header<'a> as Asn1Type>⟧.der.content.tag }
+        ensures simple { ⟦<Header<'a> as Asn1Type>⟧.der.is_simple }
+    {
+        Tag::constructed(0x10)
+    }
+
+    fn write_data(&self, dest: &mut WriteBuf) -> WriteResult<()> {
+        fields_of_header!(write_fields, self, dest)
+    }
+
+    fn data_length(&self) -> Option<usize> {
+        fields_of_header!(fields_length, self)
+    }
+
+    fn writes_as_read() -> bool
+        ensures { IsTrue result }
+    {
+        true
+    }
+}
+
 /// The laws of the types, which do nothing.
 pub mod laws {
     use super::{
-        Both, BothChoice, Either, EitherChoice, Entry, EntryChoice, Nine, NineChoice, Numeric,
-        Report, ResponderId, ResultCode, Sealed, Settings, Switch, Version,
+        Both, BothChoice, Either, EitherChoice, Entry, EntryChoice, Header, HeaderFrom2,
+        HeaderFrom5, Nine, NineChoice, Numeric, Report, ResponderId, ResultCode, Sealed, Settings,
+        Switch, Version,
     };
     use asn1::Asn1Type;
+    use asn1::fields::Row;
     use asn1::laws_wrappers::{alternatives_apart_are_lawful, tags_are_apart};
 
     /// Each value of `ResultCode` has one encoding, which is read back.
@@ -806,5 +933,31 @@ pub mod laws {
         super::super::page::laws::responder_id_is_lawful();
         tags_are_apart::<Either<'static>, ResponderId<'static>>();
         alternatives_apart_are_lawful::<BothChoice<'static>>();
+    }
+
+    /// Tags tell which fields of `HeaderFrom5` are missing.
+    #[tactic(auto, using(asn1::specs::Lemmas::Fields::tags_differ))]
+    pub fn header_from5_is_lawful()
+        ensures { ⟦<HeaderFrom5<'static> as Row>⟧.list.fields.lawful }
+    {
+        super::super::page::laws::responder_id_is_lawful();
+    }
+
+    /// Tags tell which fields of `HeaderFrom2` are missing.
+    #[tactic(auto, using(asn1::specs::Lemmas::Fields::tags_differ))]
+    pub fn header_from2_is_lawful()
+        ensures { ⟦<HeaderFrom2<'static> as Row>⟧.list.fields.lawful }
+    {
+        entry_is_lawful();
+        header_from5_is_lawful();
+    }
+
+    /// Each value of `Header` has one encoding, which is read back.
+    #[tactic(auto, using(asn1::specs::Lemmas::Fields::tags_differ))]
+    pub fn header_is_lawful()
+        ensures { HasOneEncoding ⟦<Header<'static> as Asn1Type>⟧.der }
+    {
+        either_is_lawful();
+        header_from2_is_lawful();
     }
 }

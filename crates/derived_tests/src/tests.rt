@@ -8,14 +8,14 @@ mod spellings;
 mod tags;
 
 use crate::items::{
-    AnyContent, AnyContentUnknown, AnySequence, Content, Entry, Letter, Listed, MySequence,
+    AnyContent, AnyContentUnknown, AnySequence, Content, Entry, Letter, Listed, MySequence, Order,
     other_oid, sha256_with_rsa, some_oid,
 };
 use crate::page::{Alternative, Bag, Nothing, ResponderId, Responders, Signature, Tagged};
 use asn1::{
     Asn1Readable, Asn1Writable, DefinedByMarker, Explicit, ObjectIdentifier, OctetStringEncoded,
-    ParseError, ParseErrorKind, ParseLocation, SequenceOf, SetOfWriter, Tag, Tlv, WriteError,
-    parse_single, write_readable,
+    ParseError, ParseErrorKind, ParseLocation, SequenceOf, SetOfWriter, Tag, TagClass, Tlv,
+    WriteError, parse_single, write_readable,
 };
 use std::alloc::Global;
 use std::test::Fail;
@@ -280,6 +280,39 @@ fn two_fields_between_an_identifier_and_its_content(rt: HostRuntime) -> Result<(
         refusal::<Letter>(alloc, &[0x30, 10, 2, 1, 9, 6, 2, 0x2a, 3, 2, 1, 5]),
         "Letter::is_read",
         SHORT,
+    )
+}
+
+/// Fields that may be missing between an identifier and its content: each by itself, and in their order alone.
+#[test]
+fn what_may_be_missing_between_them(rt: HostRuntime) -> Result<(), Fail> {
+    let alloc = rt.alloc();
+    are_written_back::<Order<'_>>(
+        alloc,
+        &[
+            &[0x30, 9, 6, 2, 0x2a, 3, 5, 0, 2, 1, 5],
+            &[0x30, 14, 6, 2, 0x2a, 3, 5, 0, 0xa0, 3, 2, 1, 7, 2, 1, 5],
+            &[0x30, 14, 6, 2, 0x2a, 3, 5, 0, 0xa1, 3, 4, 1, 9, 2, 1, 5],
+            &[0x30, 12, 6, 2, 0x2a, 3, 5, 0, 0x82, 1, 9, 2, 1, 5],
+            &[
+                0x30, 26, 6, 2, 0x2a, 3, 5, 0, 0xa3, 15, 0x30, 13, 2, 1, 9, 6, 2, 0x2a, 3, 2, 1, 5,
+                1, 1, 0xff, 2, 1, 5,
+            ],
+            &[0x30, 12, 6, 2, 0x2a, 3, 5, 0, 0x84, 1, 0xff, 2, 1, 5],
+            &[
+                0x30, 16, 6, 2, 0x2a, 3, 4, 1, 9, 0x82, 1, 9, 0x85, 1, 3, 2, 1, 5,
+            ],
+        ],
+    )?;
+    let octets = &[
+        0x30, 15, 6, 2, 0x2a, 3, 5, 0, 0x85, 1, 3, 0x82, 1, 9, 2, 1, 5,
+    ];
+    is_at(
+        refusal::<Order<'_>>(alloc, octets),
+        "Order::content",
+        ParseErrorKind::UnexpectedTag {
+            actual: Tag::new(2, TagClass::ContextSpecific, false),
+        },
     )
 }
 

@@ -2,7 +2,7 @@
 
 use super::are_written_back;
 use crate::tags::{
-    Both, Either, Entry, Nine, Report, ResultCode, Sealed, Settings, Switch, Version,
+    Both, Either, Entry, Header, Nine, Report, ResultCode, Sealed, Settings, Switch, Version,
 };
 use asn1::{Explicit, ParseErrorKind, Tag, TagClass};
 use std::test::Fail;
@@ -89,6 +89,41 @@ fn settings(rt: HostRuntime) -> Result<(), Fail> {
             (
                 &[0x31, 10, 2, 1, 1, 0x80, 1, 7, 0xdf, 0x1f, 1, 0],
                 ParseErrorKind::EncodedDefault,
+            ),
+        ],
+    )
+}
+
+/// Fields that may be missing behind a choice: each by itself, and in their order alone.
+#[test]
+fn headers(rt: HostRuntime) -> Result<(), Fail> {
+    let alloc = rt.alloc();
+    are_written_back::<Header<'_>>(
+        alloc,
+        &[
+            &[0x30, 2, 5, 0],
+            &[0x30, 7, 5, 0, 0xa0, 3, 2, 1, 7],
+            &[0x30, 7, 5, 0, 0xa1, 3, 0x0a, 1, 80],
+            &[0x30, 8, 4, 1, 9, 0xa2, 3, 0x49, 1, 5],
+            &[0x30, 5, 5, 0, 0x83, 1, 9],
+            &[
+                0x30, 14, 5, 0, 0xa4, 10, 0x63, 8, 0x0a, 1, 0, 0xe2, 3, 0x12, 1, b'0',
+            ],
+            &[0x30, 5, 5, 0, 0x85, 1, 0xff],
+            &[0x30, 9, 5, 0, 0xa6, 5, 0xa2, 3, 4, 1, 9],
+            &[0x30, 8, 5, 0, 0x83, 1, 9, 0x85, 1, 0],
+        ],
+    )?;
+    let number = ParseErrorKind::UnexpectedTag {
+        actual: Tag::new(0, TagClass::ContextSpecific, true),
+    };
+    are_refused::<Header<'_>>(
+        alloc,
+        &[
+            (&[0x30, 5, 0xa0, 3, 2, 1, 7], number),
+            (
+                &[0x30, 8, 5, 0, 0x85, 1, 0, 0x83, 1, 9],
+                ParseErrorKind::ExtraData,
             ),
         ],
     )

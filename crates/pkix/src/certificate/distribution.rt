@@ -1,5 +1,5 @@
 //! Where revocation lists are found, and what they have (RFC 5280, 4.2.1.13 and 5.2.5).
-// Printed by tools/derive from declarations/certificate/distribution.rs, with the sum 753c41c8.
+// Printed by tools/derive from declarations/certificate/distribution.rs, with the sum f8b9c362.
 
 ghost use Rattle.std.specs.Prelude.{◌≡◌, ◌∷◌, [], false, IsTrue, OnErr, IfOk};
 ghost use Rattle.asn1.specs.AlternativeLists.{after1, choice, first1};
@@ -12,7 +12,7 @@ use crate::common::{AttributeTypeAndValue, GeneralNames, NamedBits};
 use asn1::alternatives::{
     Alternatives, AlternativesReadable, AsOneOf, ImplicitTag, OneOf2, read_choice,
 };
-use asn1::fields::{Fields3, Fields6, Row};
+use asn1::fields::{Fields2, Fields3, Fields5, Fields6, Row};
 use asn1::{
     Asn1Readable, Asn1Type, Asn1Writable, DefaultValue, Defaulted, Explicit, Implicit, ParseResult,
     Parser, SequenceOf, SetOf, SimpleAsn1Readable, SimpleAsn1Writable, Tag, WriteBuf, WriteError,
@@ -309,6 +309,19 @@ type IssuingDistributionPointFields<'a> = Fields6<
     IssuingDistributionPointOnlyContainsAttributeCertsField,
 >;
 
+type IssuingDistributionPointFrom2<'a> = Fields5<
+    IssuingDistributionPointOnlyContainsUserCertsField,
+    IssuingDistributionPointOnlyContainsCaCertsField,
+    IssuingDistributionPointOnlySomeReasonsField<'a>,
+    IssuingDistributionPointIndirectCrlField,
+    IssuingDistributionPointOnlyContainsAttributeCertsField,
+>;
+
+type IssuingDistributionPointFrom5 = Fields2<
+    IssuingDistributionPointIndirectCrlField,
+    IssuingDistributionPointOnlyContainsAttributeCertsField,
+>;
+
 macro_rules! fields_of_issuing_distribution_point {
     ($body:ident, $($of:tt)*) => { $body!($($of)*;
         distribution_point: IssuingDistributionPointDistributionPointField<'a>,
@@ -380,9 +393,11 @@ impl<'a> SimpleAsn1Writable for IssuingDistributionPoint<'a> {
 pub mod laws {
     use super::{
         CrlDistributionPoints, DistributionPoint, DistributionPointName,
-        DistributionPointNameChoice, IssuingDistributionPoint,
+        DistributionPointNameChoice, IssuingDistributionPoint, IssuingDistributionPointFrom2,
+        IssuingDistributionPointFrom5,
     };
     use asn1::Asn1Type;
+    use asn1::fields::Row;
     use asn1::laws_wrappers::alternatives_apart_are_lawful;
 
     /// Each value of `DistributionPointName` has one encoding, which is read back.
@@ -411,12 +426,27 @@ pub mod laws {
         distribution_point_is_lawful();
     }
 
+    /// Tags tell which fields of `IssuingDistributionPointFrom5` are missing.
+    #[tactic(auto, using(asn1::specs::Lemmas::Fields::tags_differ))]
+    pub fn issuing_distribution_point_from5_is_lawful()
+        ensures { ⟦<IssuingDistributionPointFrom5 as Row>⟧.list.fields.lawful }
+    {}
+
+    /// Tags tell which fields of `IssuingDistributionPointFrom2` are missing.
+    #[tactic(auto, using(asn1::specs::Lemmas::Fields::tags_differ))]
+    pub fn issuing_distribution_point_from2_is_lawful()
+        ensures { ⟦<IssuingDistributionPointFrom2<'static> as Row>⟧.list.fields.lawful }
+    {
+        crate::common::laws::named_bits_is_lawful();
+        issuing_distribution_point_from5_is_lawful();
+    }
+
     /// Each value of `IssuingDistributionPoint` has one encoding, which is read back.
     #[tactic(auto, using(asn1::specs::Lemmas::Fields::tags_differ))]
     pub fn issuing_distribution_point_is_lawful()
         ensures { HasOneEncoding ⟦<IssuingDistributionPoint<'static> as Asn1Type>⟧.der }
     {
         distribution_point_name_is_lawful();
-        crate::common::laws::named_bits_is_lawful();
+        issuing_distribution_point_from2_is_lawful();
     }
 }
