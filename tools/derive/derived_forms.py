@@ -528,8 +528,8 @@ def ends_of(item, module):
     ends = []
     for at, after in zip(starts, [*starts[1:], len(parts)]):
         life = f"<{item.life}>" if any("'" in str(part.form) for part in parts[at:]) else ""
-        items = [part.value.item for part in parts[:at] if part.value in parts[at:]]
-        ends.append(End(f"{item.name}From{at + 1}{life}", parts[at:], parts[at:after], *items or [None]))
+        defining = next((part.value.item for part in parts[:at] if part.value in parts[at:]), None)
+        ends.append(End(f"{item.name}From{at + 1}{life}", parts[at:], parts[at:after], defining))
     return ends
 
 
