@@ -516,8 +516,8 @@ def within_laws(type):
 
 
 def ends_of(item, module):
-    """The ends of a structure whose laws are told by themselves: those behind choices, and from each fourth field on.
-    They are told if more fields may be missing than the prover's search tells apart beside other laws."""
+    """The ends of a structure whose laws are told by themselves: each begins behind a choice, or four fields after the
+    end before it. They are told if more fields may be missing than the search tells apart beside other laws."""
     parts = item.parts if item.kind == "struct" else []
     if sum(module.known(part.form).is_missing for part in parts) <= MOST_MISSING:
         return []
@@ -563,7 +563,7 @@ def lawful(item, module):
 
 
 def law(name, what, fact, called, item, is_told):
-    """A function that says a fact, which others that it calls say in part."""
+    """A function that states this fact, and calls the laws that it follows from."""
     return f"""
 /// {what}
 {BY_TAGS if is_told else ''}{item.visibility} fn {name}()
