@@ -473,7 +473,7 @@ class Module:
         item.reject(not (item.reads or item.writes), "derives neither `Asn1Read` nor `Asn1Write`")
         parts = [(part.name, self.known(part.form)) for part in item.parts]
         # What a default keeps isn't copied.
-        parts += [(part.name, Known(ANY, ALL)) for part in item.parts if part.parts[1:]]
+        parts += [(part.name, Known(ANY, ALL, has_length=True)) for part in item.parts if part.parts[1:]]
         lacks, left = {name: part for part, known in reversed(parts) for name in COPY - known.derives}, {}
         item.derives = [name for name in KEPT if name in item.wanted and name not in lacks]
         for name in item.wanted:
@@ -487,14 +487,14 @@ class Module:
             item.derives = [name for name in KEPT if name in (*item.derives, "Clone", "Copy")]
         item.derives += [] if "Copy" in item.derives else ["Drop"]
         tags, derives = [known.tags for _, known in parts], frozenset(item.derives)
+        has_length = all(known.has_length for _, known in parts)
         if item.kind != "enum":
             own = ("universal", 10 if item.kind == "numbers" else 17 if item.is_set else 16)
             tag = tag_in(*(item.tag or own), item.kind == "struct")
             self.check_order(item)
-            has_length = all(known.has_length for _, known in parts)
             return Known({tag}, derives, fails=any(known.fails for _, known in parts), has_length=has_length)
         tags = None if None in tags else ANY if ANY in tags else set().union(*tags)
-        return Known(tags, derives, any(known.is_missing for _, known in parts), False)
+        return Known(tags, derives, any(known.is_missing for _, known in parts), False, has_length=has_length)
 
     def check_order(self, item):
         """The fields of a set are in the order of their tags (X.680 8.6), of which each has one."""

@@ -2,22 +2,17 @@
 
 import re
 import textwrap
-from collections import namedtuple
 
 from declarations import ANY, ITEM, Type, reject
 
 BY_TAGS = "#[tactic(auto, using(asn1::specs::Lemmas::Fields::tags_differ))]\n"
 BY_NUMBERS = "#[tactic(auto, using(asn1::specs::Lemmas::DefaultIdentifiers::identifier_of_default))] "
 ERROR = "type Error = WriteError;"
-LENGTH = "ghost length_known = { λ _. Unit {0} };"
+ALWAYS = "Unit {0}"
+LENGTH = f"ghost length_known = {{ λ _. {ALWAYS} }};"
 WIDTH = 100
 # The longest list of fields that stands in each body: it takes one line.
 MOST_IN_BODY = WIDTH - 12
-# The most fields that may be missing of a structure whose law is told whole; of others, how many fields are told at once.
-MOST_MISSING, MOST_TOLD = 5, 4
-# An end of such a structure: its row, its fields, those that are told at once, and the type of an item before it, if that
-# defines one of them.
-End = namedtuple("End", "row parts told item")
 UNKNOWN = "Err(ParseError::new(ParseErrorKind::UnknownDefinedBy))"
 ANSWER = "\npub {0} : goal.{0}\n{2}{0} c = {1}\n"
 # What the proofs of an identifier's function use, and the proofs: the numbers that its octets are read as are computed.
@@ -104,6 +99,14 @@ macro_rules! {self.listed} {{
     def body(self, macro, of):
         """The body of a method: a macro with the list, or with this list from another macro."""
         return f"{self.listed}!({macro}, {of})" if self.listed else f"{macro}!({of};{self.words})"
+
+    def length(self, type, value, item=None):
+        """When the length of this value of a type is known; an item of a type may define it."""
+        if self.module.known(type).has_length:
+            return ALWAYS
+        if item:
+            return f"{quoted(type, f'Asn1DefinedByWritable<{item}>')}.length_known_by {group(value)}"
+        return f"{quoted(type, 'Asn1Writable')}.length_known {group(value)}"
 
     def writes_as_read(self):
         """Says that no write of a type that is also read fails but for memory."""
@@ -196,8 +199,6 @@ class Structure(Form):
         text += "".join(f"\ntype {part.row} = {part.form};\n" for part in self.parts if part.is_wrapped)
         names = "".join(f'"{part.name}" ∷ ' for part in self.parts)
         text += f"\ntype {row} = {row_type};\n"
-        for end in ends_of(self.item, self.module)[1:]:
-            text += f"\ntype {end.row} = {self.row(end.parts, end.item)[0]};\n"
         text += self.list_in_macro("fields", ",".join(f" {part.words}" for part in self.parts))
         text += self.impl("Asn1Type", f"""
             ghost der = {{ {word} (λ v. {view}) {quoted(row, 'Row')}.list (field_names "{self.name}" ({names}[])) }};
@@ -217,7 +218,9 @@ class Structure(Form):
             lists = [part for part in self.parts if part.fails]
             errors = (f"{quoted(part.form, part.fails)}.write_errors {group(part.seen)} e" for part in lists)
             failing = f"ghost write_errors = {{ λ v e. {' ⊎ '.join(errors)} }};" if lists else ""
-            length = LENGTH if self.module.seen[self.name].has_length else ""
+            lengths = [self.length(part.form, part.seen, part.item) for part in self.parts]
+            lengths = [length for length in lengths if length != ALWAYS]
+            length = f"ghost length_known = {{ λ v. {' × '.join(lengths)} }};" if lengths else LENGTH
             text += self.impl("SimpleAsn1Writable", ERROR, failing, length, f"""{tag}
             {{ {made} }}
             fn write_data(&self, dest: &mut WriteBuf) -> WriteResult<()> {{ {self.body("write_fields", "self, dest")} }}
@@ -322,7 +325,7 @@ class Choice(Form):
                 ensures plain {{ {self.means}.plain }}
             {{ <{row} as AlternativesReadable<{self.item.life or "'_"}>>::accepts(tag) }}""")
         if self.item.writes:
-            text += self.impl("Asn1Writable", ERROR, f"""
+            text += self.impl("Asn1Writable", ERROR, self.lengths(), f"""
             fn write(&self, dest: &mut Writer<'_>) -> WriteResult<()> {{ {self.body("write_choice", "self, dest")} }}
             fn encoded_length(&self) -> Option<usize> {{ {self.body("choice_length", "self")} }}""",
             self.writes_as_read())
@@ -331,6 +334,13 @@ class Choice(Form):
     def variants(self):
         """The import of the variants."""
         return uses_of_variants(self.module, self.item, self.parts)
+
+    def lengths(self, member="length_known"):
+        """Says of which values the length is known."""
+        if self.module.known(Type(self.name, [self.item.life] if self.item.life else [])).has_length:
+            return f"ghost {member} = {{ λ _. {ALWAYS} }};"
+        lengths = self.elim(self.length(part.base, "x") for part in self.parts)
+        return f"{self.variants()} ghost {member} = {{ {lengths[1:-1]} }};"
 
     def elim(self, values):
         """What each variant means: its value in its place of the sum."""
@@ -412,7 +422,7 @@ class Defined(Choice):
             kept = "x.item.clone().unwrap()" if of == ITEM else "x.item"
             write = self.match("x.write(dest)", "x.value.write(dest)", tagged="write_{tag}(x, {number}, dest)")
             length = self.match("x.encoded_length()", "x.value.encoded_length()", tagged="{tag}_length(x, {number})")
-            text += self.impl(f"Asn1DefinedByWritable<{of}>", ERROR, f"""
+            text += self.impl(f"Asn1DefinedByWritable<{of}>", ERROR, self.lengths("length_known_by"), f"""
             fn item(&self) -> {of} {{ {self.match('{call}', kept, '_')} }}
             fn write(&self, dest: &mut Writer<'_>) -> WriteResult<()> {{ {write} }}
             fn encoded_length(&self) -> Option<usize> {{ {length} }}""")
@@ -515,101 +525,50 @@ def within_laws(type):
     return "super::" * (type.split("::")[0] in ("self", "super")) + of_static(type).removeprefix("self::")
 
 
-def ends_of(item, module):
-    """The ends of a structure whose laws are told by themselves: each begins behind a choice, or four fields after the
-    end before it. They are told if more fields may be missing than the search tells apart beside other laws."""
-    parts = item.parts if item.kind == "struct" else []
-    if sum(module.known(part.form).is_missing for part in parts) <= MOST_MISSING:
-        return []
-    starts, is_choice = [0], [has_choice(module, part.form) for part in parts]
-    for at in range(1, len(parts)):
-        if at - starts[-1] == MOST_TOLD or is_choice[at - 1] and not is_choice[at]:
-            starts.append(at)
-    ends = []
-    for at, after in zip(starts, [*starts[1:], len(parts)]):
-        life = f"<{item.life}>" if any("'" in str(part.form) for part in parts[at:]) else ""
-        defining = next((part.value.item for part in parts[:at] if part.value in parts[at:]), None)
-        ends.append(End(f"{item.name}From{at + 1}{life}", parts[at:], parts[at:after], defining))
-    return ends
+def are_computed(tags, others):
+    """Whether a field's tags are compared with those of the fields after it by computing: each has one, and no other
+    has this one."""
+    return tags not in others and all(one not in (None, ANY) and len(one) == 1 for one in (tags, *others))
 
 
 def lawful(item, module):
-    """The function that says that each value of the type has one encoding, after those of its ends. It calls the laws
-    of the types in the type, or, if it has ends, those of choices alone, and the law of the next end. If one of the
-    types may be missing, tags differ. So they do in a choice: the library compares the tags of alternatives that have
-    one each with all others."""
+    """The function that says that each value of the type has one encoding. It calls the laws of the types in the type.
+    The search compares the tags of fields unless each has one that is known, and those of alternatives that may have
+    several each."""
     if item.kind in ("const", "number") or item.is_defined or item.kind != "type" and not item.reads:
         return ""
     parts = [item.type] if item.type else [part.form for part in item.parts]
-    called = laws_of_types(module, [item.type]) if item.type else laws_of_fields(module, item.parts)
-    is_told = any(module.known(part).is_missing for part in parts[:-1])
+    # An imported type that an item defines has no law by itself.
+    others = [part.form for part in item.parts if "defined_by" in part.attributes and part.base.name not in module.items]
+    called = list(dict.fromkeys(law for part in parts if part not in others for law in laws_of(module, part)))
+    tags = [module.known(part).tags for part in parts]
+    missing = [at for at, part in enumerate(parts[:-1]) if module.known(part).is_missing]
+    is_told = not all(are_computed(tags[at], tags[at + 1 :]) for at in missing)
     if item.kind == "enum":
         untagged = [part for part in parts if not module.known(part).tags or not module.known(part).is_simple]
         named = [within_laws(str(type)) for type in untagged]
         pairs = [f"tags_are_apart::<{one}, {other}>" for at, one in enumerate(named) for other in named[at + 1 :]]
         is_told = bool(pairs)
         called += [*pairs, f"alternatives_apart_are_lawful::<{within_laws(item.own('Choice'))}>"]
-    text, last, ends = "", [], ends_of(item, module)
-    for end in ends[:0:-1]:
-        name, trait = end.row.partition("<")[0], f"RowBehind<{end.item}>" if end.item else "Row"
-        fact = quoted(of_static(end.row), trait) + (".behind" if end.item else ".list") + ".fields.lawful"
-        calls, last = [*laws_of_choices(module, end.told), *last], [f"{snake(name)}_is_lawful"]
-        text += law(last[0], f"Tags tell which fields of `{name}` are missing.", fact, calls, item, True)
-    if ends:
-        called = [*laws_of_choices(module, ends[0].told), *last]
-    what = f"Each value of `{item.name}` has one encoding, which is read back."
-    fact = f"HasOneEncoding {der(of_static(item.own()))}"
-    return text + law(f"{snake(item.name)}_is_lawful", what, fact, called, item, is_told)
-
-
-def law(name, what, fact, called, item, is_told):
-    """A function that states this fact, and calls the laws that it follows from."""
     return f"""
-/// {what}
-{BY_TAGS if is_told else ''}{item.visibility} fn {name}()
-    ensures {{ {fact} }}
+/// Each value of `{item.name}` has one encoding, which is read back.
+{BY_TAGS if is_told else ''}{item.visibility} fn {snake(item.name)}_is_lawful()
+    ensures {{ HasOneEncoding {der(of_static(item.own()))} }}
 {{ {' '.join(f'{law}();' for law in called)} }}
 """
-
-
-def laws_of_choices(module, parts):
-    """The laws of the types of these fields that rest on a choice's, or may, since a type is imported."""
-    return laws_of_fields(module, [part for part in parts if has_choice(module, part.form)])
-
-
-def laws_of_fields(module, parts):
-    """The laws of the types of these fields. An imported type that an item defines has no law by itself."""
-    kept = (part for part in parts if "defined_by" not in part.attributes or part.base.name in module.items)
-    return laws_of_types(module, [part.form for part in kept])
-
-
-def laws_of_types(module, types):
-    """The laws of these types, each once."""
-    return list(dict.fromkeys(law for type in types for law in laws_of(module, type)))
-
-
-def has_choice(module, type):
-    """Whether a choice, or an imported type, is in the type."""
-    item = module.items.get(type.name)
-    inner = [*([item.type] if item.type else []), *(part.form for part in item.parts)] if item else type.inner
-    is_one = type.name in module.imported or item and item.kind == "enum"
-    return bool(is_one) or any(has_choice(module, one) for one in inner)
 
 
 def module_of_laws(laws):
     """The module of these laws, if there are any."""
     called = re.findall(r"(\w+)::<(.*)>\(\);", laws)
-    within = [*(types for _, types in called), *re.findall(r" as RowBehind<(\w+)>", laws)]
-    named = [name for types in within for name in re.findall(r"(?<![:\w'])[A-Z]\w*", types)]
-    types = ", ".join(sorted({*re.findall(r"^/// (?:Each value|Tags tell which fields) of `(\w+)`", laws, re.M), *named}))
-    rows = ", ".join(sorted({*re.findall(r" as (Row(?:Behind)?)\b", laws)}))
+    named = [name for _, types in called for name in re.findall(r"(?<![:\w'])[A-Z]\w*", types)]
+    types = ", ".join(sorted({*re.findall(r"^/// Each value of `(\w+)`", laws, re.M), *named}))
     library = ", ".join(sorted({law for law, _ in called}))
     return types and f"""
 /// The laws of the types, which do nothing.
 pub mod laws {{
     use super::{{{types}}};
     use asn1::Asn1Type;
-    {f"use asn1::fields::{{{rows}}};" if rows else ""}
     {f"use asn1::laws_wrappers::{{{library}}};" if library else ""}
     {laws}
 }}

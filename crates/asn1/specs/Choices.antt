@@ -7,13 +7,10 @@ use Rattle.asn1_core.specs.Base256.{IsOctets}
 use Rattle.asn1_core.specs.Element.{Element, element_encoding, IsReadable, ◌>>=◌}
 use Rattle.asn1_core.specs.ReadError.{ReadError, read_error, IsOfInput}
 use Rattle.asn1_core.specs.Reading.{IsOneElement, IsNothingOrElement, simple_stops}
+use Rattle.asn1_core.specs.Apart.{HasOneTagOutside, tags_of}
 use Rattle.asn1_core.specs.Encoding.{Encoding, no_content}
 use Rattle.asn1.specs.Among.{Among3, Among8, three, three_encoding, eight, eight_encoding, among_three, among_eight}
 use Rattle.asn1.specs.Alternatives.{Disjoint, either, either_encoding, only_read, or_read, only_out, or_out, choice_read, choice_out}
-
--- A simple type, whose one tag isn't among these.
-abbrev pub HasTagOutside : {M : Type 0} → (Tag → Bool) → Encoding M → Type 0
-HasTagOutside tags d = d.is_simple × (tags d.content.tag ≡ false)
 
 -- One or more alternatives, whose abstract values are an M: what an element is read as.
 pub record Alternatives (M : Type 0) : Type 1 where
@@ -35,12 +32,12 @@ pub record Alternatives (M : Type 0) : Type 1 where
   pub accepts : Tag → Bool
   pub read : Element → Result M ReadError
 
--- A lawful alternative, none of whose tags those after it accept. Of a simple one, or before simple ones, this is
+-- A lawful alternative, none of whose tags those after it accept. Of one with one tag, or before such ones, this is
 -- computed. These are records, and no tuple: the prover's search doesn't find one that is nested 36 deep.
 pub record IsApart {M N : Type 0} (d : Encoding M) (others : Alternatives N) : Type 0 where
   pub lawful : d.lawful
   pub is_element : d.is_element
-  pub tags : HasTagOutside others.accepts d ⊎ others.apart_from d.accepts
+  pub tags : HasOneTagOutside others.accepts (tags_of d) ⊎ others.apart_from d.accepts
 
 -- an alternative, and those after it
 pub record OneApart {M N : Type 0} (d : Encoding M) (others : Alternatives N) : Type 0 where
@@ -74,7 +71,7 @@ only d = record {
   bounded = d.bounded;
   plain = d.plain;
   lawful = d.lawful × d.is_element;
-  apart_from = λ tags. HasTagOutside tags d ⊎ Disjoint tags d.accepts;
+  apart_from = λ tags. HasOneTagOutside tags (tags_of d) ⊎ Disjoint tags d.accepts;
   each_apart = d.lawful × d.is_element;
   takes_memory = d.takes_memory;
   is_read = d.is_read;
@@ -94,7 +91,7 @@ or d c = record {
   bounded = d.bounded ⊎ c.bounded;
   plain = d.plain × c.plain;
   lawful = d.lawful × d.is_element × c.lawful × Disjoint d.accepts c.accepts;
-  apart_from = λ tags. (HasTagOutside tags d ⊎ Disjoint tags d.accepts) × c.apart_from tags;
+  apart_from = λ tags. (HasOneTagOutside tags (tags_of d) ⊎ Disjoint tags d.accepts) × c.apart_from tags;
   each_apart = OneApart d c;
   takes_memory = d.takes_memory ⊎ c.takes_memory;
   is_read = d.is_read × c.is_read;

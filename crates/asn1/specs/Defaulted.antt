@@ -1,7 +1,7 @@
 -- What a field with a default means (X.690 11.5), and what is required of the equality of its type.
 use Rattle.std.specs.Prelude.{◌≡◌, ◌⊎◌, ℕ, Bool, true, false, List, Ok}
 use Rattle.asn1_core.specs.Options.{option_out}
-use Rattle.asn1_core.specs.Encoding.{Encoding, no_content}
+use Rattle.asn1_core.specs.Encoding.{Encoding, no_content_but}
 use Rattle.asn1.specs.Defaults.{same_encoding, unless, default_text, default_read}
 
 -- Equal values mean the same, and values with the same encoding are equal.
@@ -37,5 +37,5 @@ default_encoding {A} d default = record {
   read = default_read d.accepts d.encoding d.read default;
   stops = λ t rest. d.stops t rest ⊎ ((m : A) × (d.read t ≡ Ok (m, rest)));
   is_simple = ⊥;
-  content = no_content;
+  content = no_content_but d.content.tag;
 }

@@ -1,11 +1,12 @@
 -- The encodings of types that an item defines: a variant for each known item, or for any; under an explicit tag.
-use Rattle.std.specs.Prelude.{ℕ, ◌≡◌, ◌<◌, ◌^◌, ◌⊎◌, ◌&&◌, if◌then◌else◌, true, false, List, Ok}
+use Rattle.std.specs.Prelude.{ℕ, ◌≡◌, ◌<◌, ◌^◌, ◌⊎◌, ◌&&◌, if◌then◌else◌, true, false, List, [], ◌∷◌, Ok}
 use Rattle.asn1_core.specs.declared.tag.Tag.{Tag}
 use Rattle.asn1_core.specs.declared.parser.Place.{Place}
 use Rattle.asn1_core.specs.Tag.{tag_eq}
 use Rattle.asn1_core.specs.Element.{Element, element, element_encoding, ◌>>=◌}
 use Rattle.asn1_core.specs.Writing.{IsElementOf}
 use Rattle.asn1_core.specs.Reading.{simple, simple_out, simple_stops, framed_element, whole}
+use Rattle.asn1_core.specs.Apart.{tags_of}
 use Rattle.asn1_core.specs.Encoding.{Encoding}
 use Rattle.asn1_core.specs.DefinedBy.{DefinedEncoding}
 use Rattle.asn1.specs.Alternatives.{either, either_encoding}
@@ -25,6 +26,7 @@ variant_encoding k d = record {
   lawful = d.lawful;
   is_element = λ i. d.is_element;
   is_told = λ starts. d.is_element ⊎ ((tag : Tag) → starts tag → d.accepts tag ≡ false);
+  tags = tags_of d ∷ [];
   takes_memory = d.takes_memory;
   is_read = d.is_read;
   runs_out = λ i t places. (k.is i ≡ true) × d.runs_out t places;
@@ -47,6 +49,7 @@ or_variant_encoding k d others = record {
   lawful = d.lawful × others.lawful;
   is_element = λ i. (k.is i ≡ true → d.is_element) × (k.is i ≡ false → others.is_element i);
   is_told = λ starts. (d.is_element ⊎ ((tag : Tag) → starts tag → d.accepts tag ≡ false)) × others.is_told starts;
+  tags = tags_of d ∷ others.tags;
   takes_memory = d.takes_memory ⊎ others.takes_memory;
   is_read = d.is_read × others.is_read;
   runs_out = λ i t places. ((k.is i ≡ true) × d.runs_out t places) ⊎ ((k.is i ≡ false) × others.runs_out i t places);
@@ -69,6 +72,7 @@ any_variant_encoding d = record {
   lawful = d.lawful;
   is_element = λ i. d.is_element;
   is_told = λ starts. d.is_element ⊎ ((tag : Tag) → starts tag → d.accepts tag ≡ false);
+  tags = tags_of d ∷ [];
   takes_memory = d.takes_memory;
   is_read = d.is_read;
   runs_out = λ i. d.runs_out;
@@ -95,6 +99,7 @@ inside_encoding {I} tag d = record {
   lawful = d.lawful × ((i : I) → d.is_element i) × (tag.value < 2 ^ 32);
   is_element = λ i. Unit {0};
   is_told = λ starts. Unit {0};
+  tags = record { accepts = λ t. tag_eq t tag; own = tag; is_element = Unit {0} } ∷ [];
   takes_memory = d.takes_memory;
   is_read = d.is_read;
   runs_out = λ i. simple_out tag (element_out (d.runs_out i));

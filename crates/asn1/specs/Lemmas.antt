@@ -18,6 +18,7 @@ pub use Rattle.asn1_core.specs.Lemmas.Octets
 pub use Rattle.asn1_core.specs.Lemmas.Items
 pub use Rattle.asn1_core.specs.Lemmas.Listing
 pub use Rattle.asn1_core.specs.Lemmas.Same
+pub mod Apart
 pub mod Choices
 pub mod Defined
 pub mod Variants

@@ -3,6 +3,7 @@
 
 ghost use Rattle.std.specs.Prelude.{◌≡◌, ◌<◌, ◌^◌, List, false, ℕ, length};
 ghost use Rattle.asn1_core.specs.declared.tag.Tag.{Tag};
+ghost use Rattle.asn1_core.specs.Apart.{IsFirst};
 ghost use Rattle.asn1_core.specs.Reading.{Fits};
 ghost use Rattle.asn1_core.specs.SetWriting.{IsElementWritten};
 ghost use Rattle.asn1.specs.Structures.{structure};
@@ -153,7 +154,7 @@ pub fn rows_are_lawful<A: Asn1Type, R: Row>()
     ensures element { A.der.lawful → A.der.is_element → R.list.fields.lawful →
         ⟦<Field<A, R> as Row>⟧.list.fields.lawful }
     ensures missing { A.der.lawful →
-        ((tag : Tag) → R.list.fields.starts tag → A.der.accepts tag ≡ false) →
+        ((tag : Tag) → IsFirst R.list.fields.tags tag → A.der.accepts tag ≡ false) →
         R.list.fields.lawful → ⟦<Field<A, R> as Row>⟧.list.fields.lawful }
 {}
 

@@ -117,10 +117,10 @@ basic b = record {
   read = b.read;
 }
 
--- no content: the type is not simple
-abbrev pub no_content : {M : Type 0} → Content M
-no_content = record {
-  tag = universal 0;
+-- No content: the type is not simple. A type that may be missing keeps the tag that it has if it is there.
+abbrev pub no_content_but : {M : Type 0} → Tag → Content M
+no_content_but tag = record {
+  tag = tag;
   encoding = λ m. [];
   encodings = λ m t. ⊥;
   closures = λ m. Unit {0};
@@ -134,6 +134,10 @@ no_content = record {
   runs_out = λ c places. ⊥;
   read = rejects_all;
 }
+
+-- the same without a tag
+abbrev pub no_content : {M : Type 0} → Content M
+no_content = no_content_but (universal 0)
 
 -- any element, as its tag and contents octets
 abbrev pub tlv_encoding : Encoding Element
@@ -176,5 +180,5 @@ option_encoding e = record {
   read = option_read e.accepts e.read;
   stops = e.stops;
   is_simple = ⊥;
-  content = no_content;
+  content = no_content_but e.content.tag;
 }

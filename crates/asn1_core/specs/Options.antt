@@ -1,6 +1,6 @@
 -- Options: a value of the type, or nothing.
 use Rattle.std.specs.Prelude.{ℕ, ◌≡◌, List, [], if◌then◌else◌, Result, Ok, Bool, true, Option, Some, None}
-use Rattle.std.specs.Option.{option_map, option_map_or, IfSome, IsSomeAnd}
+use Rattle.std.specs.Option.{option_map, option_map_or, IfSome}
 use Rattle.asn1_core.specs.declared.tag.Tag.{Tag}
 use Rattle.asn1_core.specs.declared.parser.Place.{Place}
 use Rattle.asn1_core.specs.Element.{◌>>=◌}
@@ -14,6 +14,10 @@ option_meaning meaning o = option_map meaning o
 -- What is required of the value, if there is one.
 abbrev pub IfThere : {M : Type 0} → (M → Type 0) → Option M → Type 0
 IfThere good o = IfSome o good
+
+-- The same, said of each value that the option may be.
+abbrev pub OfValue : {V : Type 0} → (V → Type 0) → Option V → Type 0
+OfValue {V} good o = (v : V) → o ≡ Some v → good v
 
 -- The encoding of the value, or nothing if there is none.
 abbrev pub option_octets : {M : Type 0} → (M → List ℕ) → Option M → List ℕ
@@ -33,4 +37,4 @@ option_out accepts out t places = (begins_accepted accepts t ≡ true) × out t 
 
 -- The errors of the value, if there is one.
 abbrev pub OptionErrors : {T E : Type 0} → (T → E → Type 0) → Option T → E → Type 0
-OptionErrors named o e = IsSomeAnd o (λ v. named v e)
+OptionErrors {T} named o e = (v : T) × (o ≡ Some v) × named v e

@@ -195,7 +195,6 @@ impl SimpleAsn1Writable for Defaults {
 }
 
 /// Each value has one encoding, which is read back.
-#[tactic(auto, using(asn1::specs::Lemmas::Fields::tags_differ))]
 pub fn defaults_are_lawful()
     ensures { HasOneEncoding ⟦<Defaults as Asn1Type>⟧.der }
 {}

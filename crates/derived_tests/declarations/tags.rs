@@ -155,3 +155,92 @@ pub struct Header<'a> {
     #[explicit(6)]
     pub responder: Option<ResponderId<'a>>,
 }
+
+/// Twenty fields in a row that may be missing, and a choice without a tag before them.
+#[derive(asn1::Asn1Read, asn1::Asn1Write)]
+pub struct Inventory<'a> {
+    /// Octets or none.
+    pub by: Option<Either<'a>>,
+    /// A number.
+    #[explicit(0)]
+    pub number: Option<u8>,
+    /// A choice.
+    #[explicit(1)]
+    pub entry: Option<Entry<'a>>,
+    /// A report.
+    #[implicit(2)]
+    pub report: Option<Report<'a>>,
+    /// Octets or none.
+    #[explicit(3)]
+    pub either: Option<Either<'a>>,
+    /// A code.
+    #[explicit(4)]
+    pub code: Option<ResultCode>,
+    /// Octets.
+    #[implicit(5)]
+    pub octets: Option<&'a [u8]>,
+    /// Whether.
+    #[implicit(6)]
+    pub flag: Option<bool>,
+    /// Who answers.
+    #[explicit(7)]
+    pub responder: Option<ResponderId<'a>>,
+    /// Reports.
+    #[implicit(8)]
+    pub reports: Option<asn1::SequenceOf<'a, Report<'a>>>,
+    /// A set.
+    #[implicit(9)]
+    pub settings: Option<Settings>,
+    /// A version.
+    #[implicit(10)]
+    pub version: Option<Version>,
+    /// Whether it is on.
+    #[explicit(11)]
+    pub switch: Option<Switch>,
+    /// A choice.
+    #[explicit(12)]
+    pub second_entry: Option<Entry<'a>>,
+    /// A report.
+    #[explicit(13)]
+    pub second_report: Option<Report<'a>>,
+    /// Octets or none.
+    #[explicit(14)]
+    pub second_either: Option<Either<'a>>,
+    /// A code.
+    #[implicit(15)]
+    pub second_code: Option<ResultCode>,
+    /// Octets.
+    #[explicit(16)]
+    pub second_octets: Option<&'a [u8]>,
+    /// Whether.
+    #[explicit(17)]
+    pub second_flag: Option<bool>,
+    /// Who answers.
+    #[explicit(18)]
+    pub second_responder: Option<ResponderId<'a>>,
+    /// A sealed report.
+    #[explicit(19)]
+    pub sealed: Option<Sealed<'a>>,
+}
+
+/// Two choices without a tag of their own that may be missing, of which one is declared elsewhere.
+#[derive(asn1::Asn1Read, asn1::Asn1Write)]
+pub struct Neither<'a> {
+    /// Octets or none.
+    pub either: Option<Either<'a>>,
+    /// Who answers.
+    pub responder: Option<ResponderId<'a>>,
+}
+
+/// A field that may be missing, and another with its tag, behind one that is always there.
+#[derive(asn1::Asn1Read, asn1::Asn1Write, Debug, Clone, Copy, PartialEq)]
+pub struct Around {
+    /// A number.
+    #[implicit(0)]
+    pub before: Option<u8>,
+    /// Whether.
+    pub flag: bool,
+    /// Another number.
+    #[implicit(0)]
+    pub after: Option<u8>,
+}

@@ -1,12 +1,12 @@
 //! Kerberos messages (RFC 4120, 5): a ticket, and the requests and replies of AS and TGS.
-// Printed by tools/derive from declarations/kerberos.rs, with the sum 13fab8e5.
+// Printed by tools/derive from declarations/kerberos.rs, with the sum f1532ec5.
 
 ghost use Rattle.std.specs.Prelude.{◌≡◌, ◌∷◌, [], IsTrue};
 ghost use Rattle.asn1.specs.Options.{option_meaning};
 ghost use Rattle.asn1.specs.Reads.{HasOneEncoding, ReadsContents};
 ghost use Rattle.asn1.specs.Structures.{explicit, field_names, structure, fields2, fields3, fields4, fields7, fields12};
 
-use asn1::fields::{Fields2, Fields3, Fields4, Fields7, Fields8, Fields12, Row};
+use asn1::fields::{Fields2, Fields3, Fields4, Fields7, Fields12, Row};
 use asn1::{
     ApplicationExplicit, Asn1Type, BitString, Explicit, IA5String, ParseResult, SequenceOf,
     SimpleAsn1Readable, SimpleAsn1Writable, Tag, UniversalImplicit, WriteBuf, WriteError,
@@ -484,24 +484,6 @@ type KdcReqBodyFields<'a> = Fields12<
     KdcReqBodyAdditionalTicketsField<'a>,
 >;
 
-type KdcReqBodyFrom5<'a> = Fields8<
-    KdcReqBodyFromField,
-    KdcReqBodyTillField,
-    KdcReqBodyRtimeField,
-    KdcReqBodyNonceField,
-    KdcReqBodyEtypeField<'a>,
-    KdcReqBodyAddressesField<'a>,
-    KdcReqBodyEncAuthorizationDataField<'a>,
-    KdcReqBodyAdditionalTicketsField<'a>,
->;
-
-type KdcReqBodyFrom9<'a> = Fields4<
-    KdcReqBodyEtypeField<'a>,
-    KdcReqBodyAddressesField<'a>,
-    KdcReqBodyEncAuthorizationDataField<'a>,
-    KdcReqBodyAdditionalTicketsField<'a>,
->;
-
 macro_rules! fields_of_kdc_req_body {
     ($body:ident, $($of:tt)*) => { $body!($($of)*;
         kdc_options: KdcReqBodyKdcOptionsField<'a>, cname: KdcReqBodyCnameField<'a>,
@@ -776,11 +758,10 @@ pub type TgsRep<'a> = ApplicationExplicit<KdcRep<'a>, 13>;
 /// The laws of the types, which do nothing.
 pub mod laws {
     use super::{
-        AsRep, AsReq, EncryptedData, HostAddress, KdcRep, KdcReq, KdcReqBody, KdcReqBodyFrom5,
-        KdcReqBodyFrom9, KerberosString, PaData, PrincipalName, TgsRep, TgsReq, Ticket, TicketBody,
+        AsRep, AsReq, EncryptedData, HostAddress, KdcRep, KdcReq, KdcReqBody, KerberosString,
+        PaData, PrincipalName, TgsRep, TgsReq, Ticket, TicketBody,
     };
     use asn1::Asn1Type;
-    use asn1::fields::Row;
 
     /// Each value of `KerberosString` has one encoding, which is read back.
     pub fn kerberos_string_is_lawful()
@@ -805,7 +786,6 @@ pub mod laws {
     {}
 
     /// Each value of `EncryptedData` has one encoding, which is read back.
-    #[tactic(auto, using(asn1::specs::Lemmas::Fields::tags_differ))]
     pub fn encrypted_data_is_lawful()
         ensures { HasOneEncoding ⟦<EncryptedData<'static> as Asn1Type>⟧.der }
     {}
@@ -826,30 +806,18 @@ pub mod laws {
         ticket_body_is_lawful();
     }
 
-    /// Tags tell which fields of `KdcReqBodyFrom9` are missing.
-    #[tactic(auto, using(asn1::specs::Lemmas::Fields::tags_differ))]
-    pub fn kdc_req_body_from9_is_lawful()
-        ensures { ⟦<KdcReqBodyFrom9<'static> as Row>⟧.list.fields.lawful }
-    {}
-
-    /// Tags tell which fields of `KdcReqBodyFrom5` are missing.
-    #[tactic(auto, using(asn1::specs::Lemmas::Fields::tags_differ))]
-    pub fn kdc_req_body_from5_is_lawful()
-        ensures { ⟦<KdcReqBodyFrom5<'static> as Row>⟧.list.fields.lawful }
-    {
-        kdc_req_body_from9_is_lawful();
-    }
-
     /// Each value of `KdcReqBody` has one encoding, which is read back.
-    #[tactic(auto, using(asn1::specs::Lemmas::Fields::tags_differ))]
     pub fn kdc_req_body_is_lawful()
         ensures { HasOneEncoding ⟦<KdcReqBody<'static> as Asn1Type>⟧.der }
     {
-        kdc_req_body_from5_is_lawful();
+        principal_name_is_lawful();
+        kerberos_string_is_lawful();
+        host_address_is_lawful();
+        encrypted_data_is_lawful();
+        ticket_is_lawful();
     }
 
     /// Each value of `KdcReq` has one encoding, which is read back.
-    #[tactic(auto, using(asn1::specs::Lemmas::Fields::tags_differ))]
     pub fn kdc_req_is_lawful()
         ensures { HasOneEncoding ⟦<KdcReq<'static> as Asn1Type>⟧.der }
     {
@@ -872,7 +840,6 @@ pub mod laws {
     }
 
     /// Each value of `KdcRep` has one encoding, which is read back.
-    #[tactic(auto, using(asn1::specs::Lemmas::Fields::tags_differ))]
     pub fn kdc_rep_is_lawful()
         ensures { HasOneEncoding ⟦<KdcRep<'static> as Asn1Type>⟧.der }
     {

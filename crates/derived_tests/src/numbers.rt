@@ -1,5 +1,5 @@
 //! Items that are numbers, and defaults that aren't literals: each form of the script for them, once.
-// Printed by tools/derive from declarations/numbers.rs, with the sum 3aff9c4d.
+// Printed by tools/derive from declarations/numbers.rs, with the sum fef7e248.
 
 ghost use Rattle.std.specs.Prelude.{◌≡◌, ◌⊎◌, ◌∷◌, [], pos, negsuc, nat_eq, true, false, ⊤, IsTrue, MatchOption, OnErr};
 ghost use Rattle.std.specs.Cmp.{partial_equiv_from_equiv};
@@ -197,6 +197,8 @@ impl<'a> Asn1DefinedByReadable<'a, i32> for PaValue<'a> {
 impl<'a> Asn1DefinedByWritable<i32> for PaValue<'a> {
     type Error = WriteError;
 
+    ghost length_known_by = { λ _. Unit {0} };
+
     fn item(&self) -> i32 {
         match self {
             PaValue::Timestamp(_) => ENC_TIMESTAMP,
@@ -268,6 +270,8 @@ impl<'a> SimpleAsn1Readable<'a> for PaData<'a> {
 
 impl<'a> SimpleAsn1Writable for PaData<'a> {
     type Error = WriteError;
+
+    ghost length_known = { λ _. Unit {0} };
 
     fn tag() -> Tag
         ensures value { result ≡ ⟦<PaData<'a> as Asn1Type>⟧.der.content.tag }
@@ -404,6 +408,8 @@ impl<'a> Asn1DefinedByReadable<'a, u8> for OfVersion<'a> {
 impl<'a> Asn1DefinedByWritable<u8> for OfVersion<'a> {
     type Error = WriteError;
 
+    ghost length_known_by = { λ _. Unit {0} };
+
     fn item(&self) -> u8 {
         match self {
             OfVersion::Number(_) => VERSION,
@@ -470,6 +476,8 @@ impl<'a> SimpleAsn1Readable<'a> for Versioned<'a> {
 
 impl<'a> SimpleAsn1Writable for Versioned<'a> {
     type Error = WriteError;
+
+    ghost length_known = { λ _. Unit {0} };
 
     fn tag() -> Tag
         ensures value { result ≡ ⟦<Versioned<'a> as Asn1Type>⟧.der.content.tag }
@@ -841,7 +849,6 @@ pub mod laws {
     {}
 
     /// Each value of `Defaults` has one encoding, which is read back.
-    #[tactic(auto, using(asn1::specs::Lemmas::Fields::tags_differ))]
     pub(crate) fn defaults_is_lawful()
         ensures { HasOneEncoding ⟦<Defaults as Asn1Type>⟧.der }
     {
@@ -849,7 +856,6 @@ pub mod laws {
     }
 
     /// Each value of `Named` has one encoding, which is read back.
-    #[tactic(auto, using(asn1::specs::Lemmas::Fields::tags_differ))]
     pub(crate) fn named_is_lawful()
         ensures { HasOneEncoding ⟦<Named<'static> as Asn1Type>⟧.der }
     {}

@@ -1,5 +1,5 @@
 //! Structures and choices: each attribute of the original's derives for them, once.
-// Printed by tools/derive from declarations/page.rs, with the sum 3171f6fa.
+// Printed by tools/derive from declarations/page.rs, with the sum b0798fda.
 
 ghost use Rattle.std.specs.Prelude.{◌≡◌, ◌∷◌, [], negsuc, IsTrue, OnErr, IfOk};
 ghost use Rattle.asn1.specs.AlternativeLists.{after1, choice, first1};
@@ -290,6 +290,8 @@ impl<'a> Asn1Readable<'a> for ResponderId<'a> {
 impl<'a> Asn1Writable for ResponderId<'a> {
     type Error = WriteError;
 
+    ghost length_known = { λ _. Unit {0} };
+
     fn write(&self, dest: &mut Writer<'_>) -> WriteResult<()> {
         write_choice!(self, dest; ResponderId(x); ByName: explicit 1, ByKey: explicit 2)
     }
@@ -366,6 +368,8 @@ impl<'a> Asn1Readable<'a> for Responders<'a> {
 impl<'a> Asn1Writable for Responders<'a> {
     type Error = WriteError;
 
+    ghost length_known = { λ _. Unit {0} };
+
     fn write(&self, dest: &mut Writer<'_>) -> WriteResult<()> {
         write_choice!(self, dest; Responders(x); Listed, Named: implicit 0)
     }
@@ -417,6 +421,8 @@ impl<'a> SimpleAsn1Readable<'a> for Alternative<'a> {
 
 impl<'a> SimpleAsn1Writable for Alternative<'a> {
     type Error = WriteError;
+
+    ghost length_known = { λ _. Unit {0} };
 
     fn tag() -> Tag
         ensures value { result ≡ ⟦<Alternative<'a> as Asn1Type>⟧.der.content.tag }
@@ -504,7 +510,6 @@ pub mod laws {
     {}
 
     /// Each value of `Tagged` has one encoding, which is read back.
-    #[tactic(auto, using(asn1::specs::Lemmas::Fields::tags_differ))]
     pub fn tagged_is_lawful()
         ensures { HasOneEncoding ⟦<Tagged<'static> as Asn1Type>⟧.der }
     {

@@ -1,5 +1,5 @@
 //! SNMPv3 messages (RFC 3412, RFC 3414, RFC 3416).
-// Printed by tools/derive from declarations/snmp.rs, with the sum a62f1ce0.
+// Printed by tools/derive from declarations/snmp.rs, with the sum 90146cda.
 
 ghost use Rattle.std.specs.Prelude.{◌≡◌, ◌∷◌, [], IsTrue, OnErr, IfOk};
 ghost use Rattle.asn1.specs.AlternativeLists.{after1, after3, after8, choice, first1, first3, second3, third3, first8};
@@ -70,6 +70,8 @@ impl<'a> SimpleAsn1Readable<'a> for SnmpV3Message<'a> {
 
 impl<'a> SimpleAsn1Writable for SnmpV3Message<'a> {
     type Error = WriteError;
+
+    ghost length_known = { λ _. Unit {0} };
 
     fn tag() -> Tag
         ensures value { result ≡ ⟦<SnmpV3Message<'a> as Asn1Type>⟧.der.content.tag }
@@ -305,6 +307,8 @@ impl<'a> Asn1Readable<'a> for ScopedPduData<'a> {
 impl<'a> Asn1Writable for ScopedPduData<'a> {
     type Error = WriteError;
 
+    ghost length_known = { λ _. Unit {0} };
+
     fn write(&self, dest: &mut Writer<'_>) -> WriteResult<()> {
         write_choice!(self, dest; ScopedPduData(x); Plaintext, EncryptedPdu)
     }
@@ -367,6 +371,8 @@ impl<'a> SimpleAsn1Readable<'a> for ScopedPdu<'a> {
 
 impl<'a> SimpleAsn1Writable for ScopedPdu<'a> {
     type Error = WriteError;
+
+    ghost length_known = { λ _. Unit {0} };
 
     fn tag() -> Tag
         ensures value { result ≡ ⟦<ScopedPdu<'a> as Asn1Type>⟧.der.content.tag }
@@ -484,6 +490,8 @@ impl<'a> Asn1Readable<'a> for Pdus<'a> {
 
 impl<'a> Asn1Writable for Pdus<'a> {
     type Error = WriteError;
+
+    ghost length_known = { λ _. Unit {0} };
 
     fn write(&self, dest: &mut Writer<'_>) -> WriteResult<()> {
         variants_of_pdus!(write_choice, self, dest)
@@ -677,6 +685,8 @@ impl<'a> SimpleAsn1Readable<'a> for VarBind<'a> {
 impl<'a> SimpleAsn1Writable for VarBind<'a> {
     type Error = WriteError;
 
+    ghost length_known = { λ _. Unit {0} };
+
     fn tag() -> Tag
         ensures value { result ≡ ⟦<VarBind<'a> as Asn1Type>⟧.der.content.tag }
         ensures simple { ⟦<VarBind<'a> as Asn1Type>⟧.der.is_simple }
@@ -820,6 +830,8 @@ impl<'a> Asn1Readable<'a> for ObjectSyntax<'a> {
 
 impl<'a> Asn1Writable for ObjectSyntax<'a> {
     type Error = WriteError;
+
+    ghost length_known = { λ _. Unit {0} };
 
     fn write(&self, dest: &mut Writer<'_>) -> WriteResult<()> {
         variants_of_object_syntax!(write_choice, self, dest)

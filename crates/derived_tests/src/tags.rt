@@ -1,5 +1,5 @@
 //! Tags of every class, sets, and enums whose values have numbers: each form of the script for them, once.
-// Printed by tools/derive from declarations/tags.rs, with the sum 4b7b70da.
+// Printed by tools/derive from declarations/tags.rs, with the sum 835f41a9.
 
 ghost use Rattle.std.specs.Prelude.{◌≡◌, ◌∷◌, [], true, false, IsTrue, OnErr, IfOk};
 ghost use Rattle.asn1.specs.AlternativeLists.{after1, after8, choice, first1, first3, second3, third3, first8};
@@ -10,7 +10,7 @@ ghost use Rattle.asn1.specs.Options.{option_meaning};
 ghost use Rattle.asn1.specs.Reading.{EndsWith};
 ghost use Rattle.asn1.specs.Reads.{BeginsWithEncodingOf, HasOneEncoding, ReadsContents, ReadsPrefix};
 ghost use Rattle.asn1.specs.Structures.{defaulted, explicit, field_names, implicit, structure, structure_with_tag};
-ghost use Rattle.asn1.specs.Structures.{fields3, fields8};
+ghost use Rattle.asn1.specs.Structures.{fields2, fields3, fields8, fields16};
 ghost use Rattle.asn1.specs.Tag.{universal};
 ghost use Rattle.asn1.specs.Tagged.{application_tag, private_tag};
 
@@ -19,13 +19,14 @@ use asn1::alternatives::{
     Alternatives, AlternativesReadable, AsOneOf, ExplicitTag, ImplicitTag, OneOf2, OneOf3, OneOf9,
     read_choice,
 };
-use asn1::fields::{Fields3, Fields4, Fields7, Fields8, Row};
+use asn1::fields::{Field, Fields2, Fields3, Fields8, Fields16, Row};
 use asn1::{
     ApplicationExplicit, ApplicationImplicit, Asn1Readable, Asn1Type, Asn1Writable, DefaultValue,
     Defaulted, Explicit, IA5String, Implicit, Null, Numbered, ParseResult, Parser, PrivateExplicit,
-    PrivateImplicit, SimpleAsn1Readable, SimpleAsn1Writable, Tag, TagClass, UniversalImplicit,
-    WriteBuf, WriteError, WriteResult, Writer, choice_length, fields_length, known_choice,
-    known_fields, known_number, read_fields, read_number, take_choice, write_choice, write_fields,
+    PrivateImplicit, SequenceOf, SimpleAsn1Readable, SimpleAsn1Writable, Tag, TagClass,
+    UniversalImplicit, WriteBuf, WriteError, WriteResult, Writer, choice_length, fields_length,
+    known_choice, known_fields, known_number, read_fields, read_number, take_choice, write_choice,
+    write_fields,
 };
 use std::alloc::Global;
 
@@ -451,6 +452,8 @@ impl<'a> Asn1Readable<'a> for Entry<'a> {
 impl<'a> Asn1Writable for Entry<'a> {
     type Error = WriteError;
 
+    ghost length_known = { λ _. Unit {0} };
+
     fn write(&self, dest: &mut Writer<'_>) -> WriteResult<()> {
         write_choice!(self, dest; Entry(x); Report, Either, Number)
     }
@@ -521,6 +524,8 @@ impl<'a> Asn1Readable<'a> for Either<'a> {
 
 impl<'a> Asn1Writable for Either<'a> {
     type Error = WriteError;
+
+    ghost length_known = { λ _. Unit {0} };
 
     fn write(&self, dest: &mut Writer<'_>) -> WriteResult<()> {
         write_choice!(self, dest; Either(x); Octets, None)
@@ -634,6 +639,8 @@ impl<'a> Asn1Readable<'a> for Nine<'a> {
 impl<'a> Asn1Writable for Nine<'a> {
     type Error = WriteError;
 
+    ghost length_known = { λ _. Unit {0} };
+
     fn write(&self, dest: &mut Writer<'_>) -> WriteResult<()> {
         variants_of_nine!(write_choice, self, dest)
     }
@@ -705,6 +712,13 @@ impl<'a> Asn1Readable<'a> for Both<'a> {
 impl<'a> Asn1Writable for Both<'a> {
     type Error = WriteError;
 
+    ghost use Rattle.derived_tests.specs.declared.tags.Both.TheVariants.{Either, Responder};
+
+    ghost length_known = { elim [
+      | Either x ↦ Unit {0}
+      | Responder x ↦ ⟦<ResponderId<'a> as Asn1Writable>⟧.length_known x
+    ] };
+
     fn write(&self, dest: &mut Writer<'_>) -> WriteResult<()> {
         write_choice!(self, dest; Both(x); Either, Responder)
     }
@@ -766,23 +780,6 @@ type HeaderFields<'a> = Fields8<
     HeaderResponderField<'a>,
 >;
 
-type HeaderFrom2<'a> = Fields7<
-    HeaderNumberField,
-    HeaderCodeField,
-    HeaderEntryField<'a>,
-    HeaderOctetsField<'a>,
-    HeaderReportField<'a>,
-    HeaderFlagField,
-    HeaderResponderField<'a>,
->;
-
-type HeaderFrom5<'a> = Fields4<
-    HeaderOctetsField<'a>,
-    HeaderReportField<'a>,
-    HeaderFlagField,
-    HeaderResponderField<'a>,
->;
-
 macro_rules! fields_of_header {
     ($body:ident, $($of:tt)*) => { $body!($($of)*;
         by, number: HeaderNumberField, code: HeaderCodeField, entry: HeaderEntryField<'a>,
@@ -821,6 +818,10 @@ impl<'a> SimpleAsn1Readable<'a> for Header<'a> {
 impl<'a> SimpleAsn1Writable for Header<'a> {
     type Error = WriteError;
 
+    ghost length_known = { λ v.
+        ⟦<Option<Explicit<ResponderId<'a>, 6>> as Asn1Writable>⟧.length_known (option_meaning
+        explicit v.responder) };
+
     fn tag() -> Tag
         ensures value { result ≡ ⟦<Header<'a> as Asn1Type>⟧.der.content.tag }
         ensures simple { ⟦<Header<'a> as Asn1Type>⟧.der.is_simple }
@@ -843,15 +844,354 @@ impl<'a> SimpleAsn1Writable for Header<'a> {
     }
 }
 
+/// Twenty fields in a row that may be missing, and a choice without a tag before them.
+#[derive(Drop)]
+pub struct Inventory<'a> {
+    /// Octets or none.
+    pub by: Option<Either<'a>>,
+    /// A number.
+    pub number: Option<u8>,
+    /// A choice.
+    pub entry: Option<Entry<'a>>,
+    /// A report.
+    pub report: Option<Report<'a>>,
+    /// Octets or none.
+    pub either: Option<Either<'a>>,
+    /// A code.
+    pub code: Option<ResultCode>,
+    /// Octets.
+    pub octets: Option<&'a [u8]>,
+    /// Whether.
+    pub flag: Option<bool>,
+    /// Who answers.
+    pub responder: Option<ResponderId<'a>>,
+    /// Reports.
+    pub reports: Option<SequenceOf<'a, Report<'a>, 0, { usize::MAX }>>,
+    /// A set.
+    pub settings: Option<Settings>,
+    /// A version.
+    pub version: Option<Version>,
+    /// Whether it is on.
+    pub switch: Option<Switch>,
+    /// A choice.
+    pub second_entry: Option<Entry<'a>>,
+    /// A report.
+    pub second_report: Option<Report<'a>>,
+    /// Octets or none.
+    pub second_either: Option<Either<'a>>,
+    /// A code.
+    pub second_code: Option<ResultCode>,
+    /// Octets.
+    pub second_octets: Option<&'a [u8]>,
+    /// Whether.
+    pub second_flag: Option<bool>,
+    /// Who answers.
+    pub second_responder: Option<ResponderId<'a>>,
+    /// A sealed report.
+    pub sealed: Option<Sealed<'a>>,
+}
+
+type InventoryNumberField = Option<Explicit<u8, 0>>;
+
+type InventoryEntryField<'a> = Option<Explicit<Entry<'a>, 1>>;
+
+type InventoryReportField<'a> = Option<Implicit<Report<'a>, 2>>;
+
+type InventoryEitherField<'a> = Option<Explicit<Either<'a>, 3>>;
+
+type InventoryCodeField = Option<Explicit<ResultCode, 4>>;
+
+type InventoryOctetsField<'a> = Option<Implicit<&'a [u8], 5>>;
+
+type InventoryFlagField = Option<Implicit<bool, 6>>;
+
+type InventoryResponderField<'a> = Option<Explicit<ResponderId<'a>, 7>>;
+
+type InventoryReportsField<'a> = Option<Implicit<SequenceOf<'a, Report<'a>, 0, { usize::MAX }>, 8>>;
+
+type InventorySettingsField = Option<Implicit<Settings, 9>>;
+
+type InventoryVersionField = Option<Implicit<Version, 10>>;
+
+type InventorySwitchField = Option<Explicit<Switch, 11>>;
+
+type InventorySecondEntryField<'a> = Option<Explicit<Entry<'a>, 12>>;
+
+type InventorySecondReportField<'a> = Option<Explicit<Report<'a>, 13>>;
+
+type InventorySecondEitherField<'a> = Option<Explicit<Either<'a>, 14>>;
+
+type InventorySecondCodeField = Option<Implicit<ResultCode, 15>>;
+
+type InventorySecondOctetsField<'a> = Option<Explicit<&'a [u8], 16>>;
+
+type InventorySecondFlagField = Option<Explicit<bool, 17>>;
+
+type InventorySecondResponderField<'a> = Option<Explicit<ResponderId<'a>, 18>>;
+
+type InventorySealedField<'a> = Option<Explicit<Sealed<'a>, 19>>;
+
+type InventoryFields<'a> = Field<
+    Option<Either<'a>>,
+    Field<
+        InventoryNumberField,
+        Field<
+            InventoryEntryField<'a>,
+            Field<
+                InventoryReportField<'a>,
+                Field<
+                    InventoryEitherField<'a>,
+                    Fields16<
+                        InventoryCodeField,
+                        InventoryOctetsField<'a>,
+                        InventoryFlagField,
+                        InventoryResponderField<'a>,
+                        InventoryReportsField<'a>,
+                        InventorySettingsField,
+                        InventoryVersionField,
+                        InventorySwitchField,
+                        InventorySecondEntryField<'a>,
+                        InventorySecondReportField<'a>,
+                        InventorySecondEitherField<'a>,
+                        InventorySecondCodeField,
+                        InventorySecondOctetsField<'a>,
+                        InventorySecondFlagField,
+                        InventorySecondResponderField<'a>,
+                        InventorySealedField<'a>,
+                    >,
+                >,
+            >,
+        >,
+    >,
+>;
+
+macro_rules! fields_of_inventory {
+    ($body:ident, $($of:tt)*) => { $body!($($of)*;
+        by, number: InventoryNumberField, entry: InventoryEntryField<'a>,
+        report: InventoryReportField<'a>, either: InventoryEitherField<'a>,
+        code: InventoryCodeField, octets: InventoryOctetsField<'a>, flag: InventoryFlagField,
+        responder: InventoryResponderField<'a>, reports: InventoryReportsField<'a>,
+        settings: InventorySettingsField, version: InventoryVersionField,
+        switch: InventorySwitchField, second_entry: InventorySecondEntryField<'a>,
+        second_report: InventorySecondReportField<'a>,
+        second_either: InventorySecondEitherField<'a>, second_code: InventorySecondCodeField,
+        second_octets: InventorySecondOctetsField<'a>, second_flag: InventorySecondFlagField,
+        second_responder: InventorySecondResponderField<'a>, sealed: InventorySealedField<'a>) };
+}
+
+impl<'a> Asn1Type for Inventory<'a> {
+    ghost der = { structure (λ v. record {
+      value = v.by;
+      rest = record {
+        value = option_meaning explicit v.number;
+        rest = record {
+          value = option_meaning explicit v.entry;
+          rest = record {
+            value = option_meaning implicit v.report;
+            rest = record {
+              value = option_meaning explicit v.either;
+              rest = fields16 (option_meaning explicit v.code) (option_meaning implicit v.octets)
+                  (option_meaning implicit v.flag) (option_meaning explicit v.responder)
+                  (option_meaning implicit v.reports) (option_meaning implicit v.settings)
+                  (option_meaning implicit v.version) (option_meaning explicit v.switch)
+                  (option_meaning explicit v.second_entry) (option_meaning explicit v.second_report)
+                  (option_meaning explicit v.second_either) (option_meaning implicit v.second_code)
+                  (option_meaning explicit v.second_octets) (option_meaning explicit v.second_flag)
+                  (option_meaning explicit v.second_responder) (option_meaning explicit v.sealed);
+            };
+          };
+        };
+      };
+    }) ⟦<InventoryFields<'a> as Row>⟧.list (field_names "Inventory" ("by" ∷ "number" ∷
+        "entry" ∷ "report" ∷ "either" ∷ "code" ∷ "octets" ∷ "flag" ∷ "responder" ∷
+        "reports" ∷ "settings" ∷ "version" ∷ "switch" ∷ "second_entry" ∷ "second_report"
+        ∷ "second_either" ∷ "second_code" ∷ "second_octets" ∷ "second_flag" ∷
+        "second_responder" ∷ "sealed" ∷ [])) };
+
+    fn known(&self) {
+        fields_of_inventory!(known_fields, self)
+    }
+}
+
+impl<'a> SimpleAsn1Readable<'a> for Inventory<'a> {
+    fn tag() -> Tag
+        ensures value { result ≡ ⟦<Inventory<'a> as Asn1Type>⟧.der.content.tag }
+        ensures simple { ⟦<Inventory<'a> as Asn1Type>⟧.der.is_simple }
+        ensures plain { ⟦<Inventory<'a> as Asn1Type>⟧.der.plain }
+    {
+        Tag::constructed(0x10)
+    }
+
+    fn parse_data(alloc: Global, data: &'a [u8]) -> ParseResult<Inventory<'a>>
+        ensures { ReadsContents ⟦<Inventory<'a> as Asn1Type>⟧.der «data».entry.now result }
+    {
+        fields_of_inventory!(read_fields, InventoryFields<'a>, alloc, data => Inventory)
+    }
+}
+
+impl<'a> SimpleAsn1Writable for Inventory<'a> {
+    type Error = WriteError;
+
+    ghost length_known = { λ v.
+        ⟦<Option<Explicit<ResponderId<'a>, 7>> as Asn1Writable>⟧.length_known (option_meaning
+        explicit v.responder) ×
+        ⟦<Option<Explicit<ResponderId<'a>, 18>> as Asn1Writable>⟧.length_known (option_meaning
+        explicit v.second_responder) };
+
+    fn tag() -> Tag
+        ensures value { result ≡ ⟦<Inventory<'a> as Asn1Type>⟧.der.content.tag }
+        ensures simple { ⟦<Inventory<'a> as Asn1Type>⟧.der.is_simple }
+    {
+        Tag::constructed(0x10)
+    }
+
+    fn write_data(&self, dest: &mut WriteBuf) -> WriteResult<()> {
+        fields_of_inventory!(write_fields, self, dest)
+    }
+
+    fn data_length(&self) -> Option<usize> {
+        fields_of_inventory!(fields_length, self)
+    }
+
+    fn writes_as_read() -> bool
+        ensures { IsTrue result }
+    {
+        true
+    }
+}
+
+/// Two choices without a tag of their own that may be missing, of which one is declared elsewhere.
+#[derive(Drop)]
+pub struct Neither<'a> {
+    /// Octets or none.
+    pub either: Option<Either<'a>>,
+    /// Who answers.
+    pub responder: Option<ResponderId<'a>>,
+}
+
+type NeitherFields<'a> = Fields2<Option<Either<'a>>, Option<ResponderId<'a>>>;
+
+impl<'a> Asn1Type for Neither<'a> {
+    ghost der = { structure (λ v. fields2 v.either v.responder) ⟦<NeitherFields<'a> as Row>⟧.list
+        (field_names "Neither" ("either" ∷ "responder" ∷ [])) };
+
+    fn known(&self) {
+        known_fields!(self; either, responder)
+    }
+}
+
+impl<'a> SimpleAsn1Readable<'a> for Neither<'a> {
+    fn tag() -> Tag
+        ensures value { result ≡ ⟦<Neither<'a> as Asn1Type>⟧.der.content.tag }
+        ensures simple { ⟦<Neither<'a> as Asn1Type>⟧.der.is_simple }
+        ensures plain { ⟦<Neither<'a> as Asn1Type>⟧.der.plain }
+    {
+        Tag::constructed(0x10)
+    }
+
+    fn parse_data(alloc: Global, data: &'a [u8]) -> ParseResult<Neither<'a>>
+        ensures { ReadsContents ⟦<Neither<'a> as Asn1Type>⟧.der «data».entry.now result }
+    {
+        read_fields!(NeitherFields<'a>, alloc, data => Neither; either, responder)
+    }
+}
+
+impl<'a> SimpleAsn1Writable for Neither<'a> {
+    type Error = WriteError;
+
+    ghost length_known = { λ v. ⟦<Option<ResponderId<'a>> as Asn1Writable>⟧.length_known
+        v.responder };
+
+    fn tag() -> Tag
+        ensures value { result ≡ ⟦<Neither<'a> as Asn1Type>⟧.der.content.tag }
+        ensures simple { ⟦<Neither<'a> as Asn1Type>⟧.der.is_simple }
+    {
+        Tag::constructed(0x10)
+    }
+
+    fn write_data(&self, dest: &mut WriteBuf) -> WriteResult<()> {
+        write_fields!(self, dest; either, responder)
+    }
+
+    fn data_length(&self) -> Option<usize> {
+        fields_length!(self; either, responder)
+    }
+
+    fn writes_as_read() -> bool
+        ensures { IsTrue result }
+    {
+        true
+    }
+}
+
+/// A field that may be missing, and another with its tag, behind one that is always there.
+#[derive(Debug, Clone, Copy, PartialEq)]
+pub struct Around {
+    /// A number.
+    pub before: Option<u8>,
+    /// Whether.
+    pub flag: bool,
+    /// Another number.
+    pub after: Option<u8>,
+}
+
+type AroundBeforeField = Option<Implicit<u8, 0>>;
+
+type AroundAfterField = Option<Implicit<u8, 0>>;
+
+type AroundFields = Fields3<AroundBeforeField, bool, AroundAfterField>;
+
+impl Asn1Type for Around {
+    ghost der = { structure (λ v. fields3 (option_meaning implicit v.before) v.flag (option_meaning
+        implicit v.after)) ⟦<AroundFields as Row>⟧.list (field_names "Around" ("before" ∷ "flag" ∷
+        "after" ∷ [])) };
+
+    fn known(&self) {
+        known_fields!(self; before: AroundBeforeField, flag, after: AroundAfterField)
+    }
+}
+
+impl<'a> SimpleAsn1Readable<'a> for Around {
+    fn tag() -> Tag {
+        Tag::constructed(0x10)
+    }
+
+    fn parse_data(alloc: Global, data: &'a [u8]) -> ParseResult<Around> {
+        read_fields!(AroundFields, alloc, data => Around;
+            before: AroundBeforeField, flag, after: AroundAfterField)
+    }
+}
+
+impl SimpleAsn1Writable for Around {
+    type Error = WriteError;
+
+    ghost length_known = { λ _. Unit {0} };
+
+    fn tag() -> Tag {
+        Tag::constructed(0x10)
+    }
+
+    fn write_data(&self, dest: &mut WriteBuf) -> WriteResult<()> {
+        write_fields!(self, dest; before: AroundBeforeField, flag, after: AroundAfterField)
+    }
+
+    fn data_length(&self) -> Option<usize> {
+        fields_length!(self; before: AroundBeforeField, flag, after: AroundAfterField)
+    }
+
+    fn writes_as_read() -> bool {
+        true
+    }
+}
+
 /// The laws of the types, which do nothing.
 pub mod laws {
     use super::{
-        Both, BothChoice, Either, EitherChoice, Entry, EntryChoice, Header, HeaderFrom2,
-        HeaderFrom5, Nine, NineChoice, Numeric, Report, ResponderId, ResultCode, Sealed, Settings,
+        Around, Both, BothChoice, Either, EitherChoice, Entry, EntryChoice, Header, Inventory,
+        Neither, Nine, NineChoice, Numeric, Report, ResponderId, ResultCode, Sealed, Settings,
         Switch, Version,
     };
     use asn1::Asn1Type;
-    use asn1::fields::Row;
     use asn1::laws_wrappers::{alternatives_apart_are_lawful, tags_are_apart};
 
     /// Each value of `ResultCode` has one encoding, which is read back.
@@ -875,7 +1215,6 @@ pub mod laws {
     {}
 
     /// Each value of `Report` has one encoding, which is read back.
-    #[tactic(auto, using(asn1::specs::Lemmas::Fields::tags_differ))]
     pub fn report_is_lawful()
         ensures { HasOneEncoding ⟦<Report<'static> as Asn1Type>⟧.der }
     {
@@ -891,7 +1230,6 @@ pub mod laws {
     }
 
     /// Each value of `Settings` has one encoding, which is read back.
-    #[tactic(auto, using(asn1::specs::Lemmas::Fields::tags_differ))]
     pub fn settings_is_lawful()
         ensures { HasOneEncoding ⟦<Settings as Asn1Type>⟧.der }
     {
@@ -935,29 +1273,45 @@ pub mod laws {
         alternatives_apart_are_lawful::<BothChoice<'static>>();
     }
 
-    /// Tags tell which fields of `HeaderFrom5` are missing.
-    #[tactic(auto, using(asn1::specs::Lemmas::Fields::tags_differ))]
-    pub fn header_from5_is_lawful()
-        ensures { ⟦<HeaderFrom5<'static> as Row>⟧.list.fields.lawful }
-    {
-        super::super::page::laws::responder_id_is_lawful();
-    }
-
-    /// Tags tell which fields of `HeaderFrom2` are missing.
-    #[tactic(auto, using(asn1::specs::Lemmas::Fields::tags_differ))]
-    pub fn header_from2_is_lawful()
-        ensures { ⟦<HeaderFrom2<'static> as Row>⟧.list.fields.lawful }
-    {
-        entry_is_lawful();
-        header_from5_is_lawful();
-    }
-
     /// Each value of `Header` has one encoding, which is read back.
-    #[tactic(auto, using(asn1::specs::Lemmas::Fields::tags_differ))]
     pub fn header_is_lawful()
         ensures { HasOneEncoding ⟦<Header<'static> as Asn1Type>⟧.der }
     {
         either_is_lawful();
-        header_from2_is_lawful();
+        result_code_is_lawful();
+        entry_is_lawful();
+        report_is_lawful();
+        super::super::page::laws::responder_id_is_lawful();
     }
+
+    /// Each value of `Inventory` has one encoding, which is read back.
+    #[tactic(auto, using(asn1::specs::Lemmas::Fields::tags_differ))]
+    pub fn inventory_is_lawful()
+        ensures { HasOneEncoding ⟦<Inventory<'static> as Asn1Type>⟧.der }
+    {
+        either_is_lawful();
+        entry_is_lawful();
+        report_is_lawful();
+        result_code_is_lawful();
+        super::super::page::laws::responder_id_is_lawful();
+        settings_is_lawful();
+        version_is_lawful();
+        switch_is_lawful();
+        sealed_is_lawful();
+    }
+
+    /// Each value of `Neither` has one encoding, which is read back.
+    #[tactic(auto, using(asn1::specs::Lemmas::Fields::tags_differ))]
+    pub fn neither_is_lawful()
+        ensures { HasOneEncoding ⟦<Neither<'static> as Asn1Type>⟧.der }
+    {
+        either_is_lawful();
+        super::super::page::laws::responder_id_is_lawful();
+    }
+
+    /// Each value of `Around` has one encoding, which is read back.
+    #[tactic(auto, using(asn1::specs::Lemmas::Fields::tags_differ))]
+    pub fn around_is_lawful()
+        ensures { HasOneEncoding ⟦<Around as Asn1Type>⟧.der }
+    {}
 }

@@ -1,5 +1,5 @@
 //! Keys, and the parameters of their algorithms (RFC 5958, 8017, 5915, 5480, 3279 and 4055).
-// Printed by tools/derive from declarations/keys.rs, with the sum efaa3fe4.
+// Printed by tools/derive from declarations/keys.rs, with the sum 20585ea3.
 
 ghost use Rattle.std.specs.Prelude.{◌≡◌, ◌∷◌, [], IsTrue};
 ghost use Rattle.asn1.specs.Options.{option_meaning};
@@ -10,9 +10,9 @@ ghost use Rattle.asn1.specs.Structures.{fields4, fields5, fields10};
 use crate::common::{AlgorithmIdentifier, Attributes};
 use asn1::fields::{Fields2, Fields3, Fields4, Fields5, Fields10, Row};
 use asn1::{
-    Asn1Type, BigUint, BitString, DefaultValue, Defaulted, Explicit, Implicit, ObjectIdentifier,
-    ParseResult, SequenceOf, SimpleAsn1Readable, SimpleAsn1Writable, Tag, WriteBuf, WriteError,
-    WriteResult, fields_length, known_fields, read_fields, write_fields,
+    Asn1Type, Asn1Writable, BigUint, BitString, DefaultValue, Defaulted, Explicit, Implicit,
+    ObjectIdentifier, ParseResult, SequenceOf, SimpleAsn1Readable, SimpleAsn1Writable, Tag,
+    WriteBuf, WriteError, WriteResult, fields_length, known_fields, read_fields, write_fields,
 };
 use std::alloc::Global;
 
@@ -83,6 +83,11 @@ impl<'a> SimpleAsn1Readable<'a> for OneAsymmetricKey<'a> {
 impl<'a> SimpleAsn1Writable for OneAsymmetricKey<'a> {
     type Error = WriteError;
 
+    ghost length_known = { λ v. ⟦<AlgorithmIdentifier<'a> as Asn1Writable>⟧.length_known
+        v.private_key_algorithm ×
+        ⟦<Option<Implicit<Attributes<'a>, 0>> as Asn1Writable>⟧.length_known (option_meaning
+        implicit v.attributes) };
+
     fn tag() -> Tag
         ensures value { result ≡ ⟦<OneAsymmetricKey<'a> as Asn1Type>⟧.der.content.tag }
         ensures simple { ⟦<OneAsymmetricKey<'a> as Asn1Type>⟧.der.is_simple }
@@ -146,6 +151,9 @@ impl<'a> SimpleAsn1Readable<'a> for EncryptedPrivateKeyInfo<'a> {
 
 impl<'a> SimpleAsn1Writable for EncryptedPrivateKeyInfo<'a> {
     type Error = WriteError;
+
+    ghost length_known = { λ v. ⟦<AlgorithmIdentifier<'a> as Asn1Writable>⟧.length_known
+        v.encryption_algorithm };
 
     fn tag() -> Tag
         ensures value { result ≡ ⟦<EncryptedPrivateKeyInfo<'a> as Asn1Type>⟧.der.content.tag }
@@ -642,6 +650,12 @@ impl<'a> SimpleAsn1Readable<'a> for RsassaPssParams<'a> {
 impl<'a> SimpleAsn1Writable for RsassaPssParams<'a> {
     type Error = WriteError;
 
+    ghost length_known = { λ v.
+        ⟦<Option<Explicit<AlgorithmIdentifier<'a>, 0>> as Asn1Writable>⟧.length_known
+        (option_meaning explicit v.hash_algorithm) ×
+        ⟦<Option<Explicit<AlgorithmIdentifier<'a>, 1>> as Asn1Writable>⟧.length_known
+        (option_meaning explicit v.mask_gen_algorithm) };
+
     fn tag() -> Tag
         ensures value { result ≡ ⟦<RsassaPssParams<'a> as Asn1Type>⟧.der.content.tag }
         ensures simple { ⟦<RsassaPssParams<'a> as Asn1Type>⟧.der.is_simple }
@@ -673,7 +687,6 @@ pub mod laws {
     use asn1::Asn1Type;
 
     /// Each value of `OneAsymmetricKey` has one encoding, which is read back.
-    #[tactic(auto, using(asn1::specs::Lemmas::Fields::tags_differ))]
     pub fn one_asymmetric_key_is_lawful()
         ensures { HasOneEncoding ⟦<OneAsymmetricKey<'static> as Asn1Type>⟧.der }
     {
@@ -713,7 +726,6 @@ pub mod laws {
     }
 
     /// Each value of `EcPrivateKey` has one encoding, which is read back.
-    #[tactic(auto, using(asn1::specs::Lemmas::Fields::tags_differ))]
     pub fn ec_private_key_is_lawful()
         ensures { HasOneEncoding ⟦<EcPrivateKey<'static> as Asn1Type>⟧.der }
     {}
@@ -724,7 +736,6 @@ pub mod laws {
     {}
 
     /// Each value of `RsassaPssParams` has one encoding, which is read back.
-    #[tactic(auto, using(asn1::specs::Lemmas::Fields::tags_differ))]
     pub fn rsassa_pss_params_is_lawful()
         ensures { HasOneEncoding ⟦<RsassaPssParams<'static> as Asn1Type>⟧.der }
     {

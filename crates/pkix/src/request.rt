@@ -1,5 +1,5 @@
 //! Requests for certificates (RFC 2986).
-// Printed by tools/derive from declarations/request.rs, with the sum 318c1b9e.
+// Printed by tools/derive from declarations/request.rs, with the sum 1d4170cf.
 
 ghost use Rattle.std.specs.Prelude.{◌≡◌, ◌∷◌, [], IsTrue};
 ghost use Rattle.asn1.specs.Reads.{HasOneEncoding, ReadsContents};
@@ -8,8 +8,9 @@ ghost use Rattle.asn1.specs.Structures.{field_names, implicit, structure, fields
 use crate::common::{AlgorithmIdentifier, Attributes, Name, SubjectPublicKeyInfo};
 use asn1::fields::{Fields3, Fields4, Row};
 use asn1::{
-    Asn1Type, BitString, Implicit, ParseResult, SimpleAsn1Readable, SimpleAsn1Writable, Tag,
-    WriteBuf, WriteError, WriteResult, fields_length, known_fields, read_fields, write_fields,
+    Asn1Type, Asn1Writable, BitString, Implicit, ParseResult, SimpleAsn1Readable,
+    SimpleAsn1Writable, Tag, WriteBuf, WriteError, WriteResult, fields_length, known_fields,
+    read_fields, write_fields,
 };
 use std::alloc::Global;
 
@@ -81,6 +82,10 @@ impl<'a> SimpleAsn1Readable<'a> for CertificationRequestInfo<'a> {
 impl<'a> SimpleAsn1Writable for CertificationRequestInfo<'a> {
     type Error = WriteError;
 
+    ghost length_known = { λ v. ⟦<Name<'a> as Asn1Writable>⟧.length_known v.subject ×
+        ⟦<SubjectPublicKeyInfo<'a> as Asn1Writable>⟧.length_known v.subject_pk_info ×
+        ⟦<Implicit<Attributes<'a>, 0> as Asn1Writable>⟧.length_known (implicit v.attributes) };
+
     fn tag() -> Tag
         ensures value { result ≡ ⟦<CertificationRequestInfo<'a> as Asn1Type>⟧.der.content.tag }
         ensures simple { ⟦<CertificationRequestInfo<'a> as Asn1Type>⟧.der.is_simple }
@@ -151,6 +156,10 @@ impl<'a> SimpleAsn1Readable<'a> for CertificationRequest<'a> {
 
 impl<'a> SimpleAsn1Writable for CertificationRequest<'a> {
     type Error = WriteError;
+
+    ghost length_known = { λ v. ⟦<CertificationRequestInfo<'a> as Asn1Writable>⟧.length_known
+        v.certification_request_info × ⟦<AlgorithmIdentifier<'a> as Asn1Writable>⟧.length_known
+        v.signature_algorithm };
 
     fn tag() -> Tag
         ensures value { result ≡ ⟦<CertificationRequest<'a> as Asn1Type>⟧.der.content.tag }

@@ -6,6 +6,7 @@ use Rattle.asn1_core.specs.declared.parser.ParseErrorKind.TheVariants.{Unexpecte
 use Rattle.asn1_core.specs.Element.{Element, element_encoding}
 use Rattle.asn1_core.specs.ReadError.{read_error, IsOfInput}
 use Rattle.asn1_core.specs.Reading.{Fits, begins_accepted}
+use Rattle.asn1_core.specs.Apart.{HasOneTagOutside, tags_of}
 use Rattle.asn1_core.specs.Encoding.{Encoding}
 use Rattle.asn1_core.specs.EncodingLaws.{EncodingLaws}
 use Rattle.asn1_core.specs.LawsOf.Encodings.{no_content_laws, no_content_errors}
@@ -13,22 +14,19 @@ use Rattle.asn1_core.specs.Lemmas.Elements.{element_encoding-not_nil}
 use Rattle.asn1_core.specs.Lemmas.Options.{IsOneElement-not_empty}
 use Rattle.asn1_core.specs.Lemmas.Wholes.{Fits-short, one_value}
 use Rattle.asn1.specs.Alternatives.{Disjoint, choice_read}
-use Rattle.asn1.specs.Choices.{Alternatives, AlternativesLaws, HasTagOutside, only, or, none, choice_encoding}
-use Rattle.asn1.specs.Lemmas.Fields.{no_other_accepts}
-use Rattle.asn1.specs.Lemmas.Choices.{not_first, only_consumes, only_read_back, only_errors, or_consumes, or_read_back, or_errors, or_nothing_or_element, or_accepted, or_one_encoding, or_has_encoding, or_at_most_one, or_both, or_pair, or_weaker, or_all, or_memory, choice_consumes, choice_read_back, choice_errors}
+use Rattle.asn1.specs.Choices.{Alternatives, AlternativesLaws, only, or, none, choice_encoding}
+use Rattle.asn1.specs.Lemmas.Apart.{one_tag_disjoint, others_disjoint}
+use Rattle.asn1.specs.Lemmas.Choices.{only_consumes, only_read_back, only_errors, or_consumes, or_read_back, or_errors, or_nothing_or_element, or_accepted, or_one_encoding, or_has_encoding, or_at_most_one, or_both, or_pair, or_weaker, or_all, or_memory, choice_consumes, choice_read_back, choice_errors}
 
--- ---- tags that no other accepts, since a simple type has one
+-- ---- tags that no other accepts, since a type has one
 
-tag_disjoint : {A : Type 0} {d : Encoding A} → EncodingLaws d → (tags : Tag → Bool) → HasTagOutside tags d → Disjoint d.accepts tags
-tag_disjoint {d = d} ld tags outside tag is = no_other_accepts d.content.tag tags outside.1 tag (sym (ld.as_accepts outside.0 tag) ∙ is)
+disjoint_by_tag : {A : Type 0} (d : Encoding A) (tags : Tag → Bool) → HasOneTagOutside tags (tags_of d) ⊎ Disjoint tags d.accepts → Disjoint tags d.accepts
+disjoint_by_tag d tags (inl outside) tag is = others_disjoint tags (tags_of d) outside tag is
+disjoint_by_tag d tags (inr apart) tag is = apart tag is
 
-disjoint_by_tag : {A : Type 0} {d : Encoding A} → EncodingLaws d → (tags : Tag → Bool) → HasTagOutside tags d ⊎ Disjoint tags d.accepts → Disjoint tags d.accepts
-disjoint_by_tag {d = d} ld tags (inl outside) tag is = not_first (d.accepts tag) (tags tag) (tag_disjoint ld tags outside tag) is
-disjoint_by_tag ld tags (inr apart) tag is = apart tag is
-
-apart_either : {A : Type 0} {d : Encoding A} → EncodingLaws d → (others : Tag → Bool) {P : Type 0} → (P → Disjoint d.accepts others) → HasTagOutside others d ⊎ P → Disjoint d.accepts others
-apart_either ld others apart (inl outside) = tag_disjoint ld others outside
-apart_either ld others apart (inr p) = apart p
+apart_either : {A : Type 0} (d : Encoding A) (others : Tag → Bool) {P : Type 0} → (P → Disjoint d.accepts others) → HasOneTagOutside others (tags_of d) ⊎ P → Disjoint d.accepts others
+apart_either d others apart (inl outside) = one_tag_disjoint others (tags_of d) outside
+apart_either d others apart (inr p) = apart p
 
 -- ---- the laws
 
@@ -39,7 +37,7 @@ only_laws {d = d} ld = record {
   at_most_one = ld.at_most_one;
   no_closures = ld.no_closures;
   consumes = only_consumes d.accepts d.encoding (λ m. d.valid m × d.allowed m) d.read ld.consumes;
-  disjoint = λ tags. disjoint_by_tag ld tags;
+  disjoint = λ tags. disjoint_by_tag d tags;
   lawful_if_apart = λ each. each;
   nothing_or_element = λ m l v. IsOneElement-not_empty (ld.nothing_or_element m l.0 v) (ld.not_empty m l.0 l.1 v);
   accepted = ld.accepted;
@@ -58,8 +56,8 @@ or_laws {d = d} {c = c} ld lc = record {
   consumes = λ e m is h.
       let got = or_consumes d.accepts d.encoding (λ x. d.valid x × d.allowed x) d.read c.accepts c.encoding (λ x. c.valid x × c.allowed x) c.read ld.consumes lc.consumes e m is h in
       (got.0, or_both d.valid d.allowed c.valid c.allowed m got.1);
-  disjoint = λ tags apart tag is. rw (disjoint_by_tag ld tags apart.0 tag is, lc.disjoint tags apart.1 tag is) refl;
-  lawful_if_apart = λ each. (each.first.lawful, each.first.is_element, lc.lawful_if_apart each.rest, apart_either ld c.accepts (lc.disjoint d.accepts) each.first.tags);
+  disjoint = λ tags apart tag is. rw (disjoint_by_tag d tags apart.0 tag is, lc.disjoint tags apart.1 tag is) refl;
+  lawful_if_apart = λ each. (each.first.lawful, each.first.is_element, lc.lawful_if_apart each.rest, apart_either d c.accepts (lc.disjoint d.accepts) each.first.tags);
   nothing_or_element = λ m l v. or_nothing_or_element d.encoding d.valid c.encoding c.valid (λ x w. IsOneElement-not_empty (ld.nothing_or_element x l.0 w) (ld.not_empty x l.0 l.1 w)) (λ x w. lc.nothing_or_element x l.2 w) m v;
   accepted = or_accepted d.encoding d.valid c.encoding c.valid d.accepts c.accepts ld.accepted lc.accepted;
   read_back = λ m e l v a readable same. or_read_back d.accepts d.encoding (λ x. d.valid x × d.allowed x) d.read c.accepts c.encoding (λ x. c.valid x × c.allowed x) c.read l.3 m e same readable (or_pair d.valid d.allowed c.valid c.allowed m v a)

@@ -2,9 +2,11 @@
 use Rattle.std.specs.Prelude.{ℕ, ◌≡◌, List, [], true, false}
 use Rattle.std.proofs.Common.{refl, inl, inr, sym}
 use Rattle.std.specs.Str.{bytes_eq}
+use Rattle.std.proofs.lemmas.Bool.{and_parts}
 use Rattle.std.proofs.lemmas.Slice.Eq.{bytes_eq-Decides}
 use Rattle.asn1_core.specs.declared.tag.Tag.{Tag}
 use Rattle.asn1_core.specs.Element.{element, element_encoding}
+use Rattle.asn1_core.specs.Apart.{one_accepts}
 use Rattle.asn1_core.specs.Encoding.{Encoding}
 use Rattle.asn1_core.specs.EncodingLaws.{EncodingLaws}
 use Rattle.asn1_core.specs.DefinedBy.{DefinedEncoding, DefinedLaws}
@@ -14,6 +16,7 @@ use Rattle.asn1_core.specs.Lemmas.Options.{IsOneElement-not_empty}
 use Rattle.asn1_core.specs.Lemmas.Faults.{simple_errors}
 use Rattle.asn1.specs.DefinedReads.{Known, element_read}
 use Rattle.asn1.specs.DefinedEncodings.{variant_encoding, or_variant_encoding, any_variant_encoding, inside_encoding}
+use Rattle.asn1.specs.Lemmas.Apart.{one_side}
 use Rattle.asn1.specs.Lemmas.Defined.{element_consumes, element_read_back, element_errors}
 use Rattle.asn1.specs.Lemmas.Variants.{variant_consumes, variant_read_back, variant_accepted, variant_errors, variant_element_or_apart, or_variant_consumes, or_variant_element_or_apart, or_variant_read_back, or_variant_accepted, or_variant_nothing_or_element, or_variant_not_empty, or_variant_errors, or_variant_both, or_variant_pair, or_variant_memory, or_variant_leading_element, any_consumes, any_read_back, any_errors}
 use Rattle.asn1.specs.Lemmas.Choices.{or_one_encoding, or_has_encoding, or_all, or_weaker}
@@ -34,6 +37,7 @@ variant_laws k {d = d} ld = record {
   accepted = λ m e v same. variant_accepted k d.accepts e.tag (ld.accepted m e v same);
   not_empty = ld.not_empty;
   told = λ starts is_told m v. variant_element_or_apart k d.accepts d.is_element starts is_told;
+  of_variant = λ i tag is. rw (and_parts (k.is i) (d.accepts tag) is).1 refl;
   read_back = λ m rest l v a fits none. variant_read_back k d.accepts d.encoding d.read m rest (ld.read_back m rest l v a fits) none;
   unbounded = ld.unbounded;
   memory = λ i t places out. ld.memory t places out.1;
@@ -52,6 +56,7 @@ or_variant_laws k {d = d} {others = others} ld lo = record {
   nothing_or_element = λ m l v. or_variant_nothing_or_element k d.encoding others.encoding others.item d.valid others.valid (λ x w. ld.nothing_or_element x l.0 w) (λ x w. lo.nothing_or_element x l.1 w) m v;
   accepted = or_variant_accepted k d.encoding others.encoding others.item d.accepts others.accepts d.valid others.valid ld.accepted lo.accepted;
   not_empty = λ m l i v e. or_variant_not_empty k d.encoding others.encoding others.item d.valid others.valid d.is_element others.is_element (λ x. ld.not_empty x l.0) (λ x. lo.not_empty x l.1) m i v e;
+  of_variant = λ i tag. one_side (k.is i) (d.accepts tag) (others.accepts i tag) (one_accepts others.tags tag) (lo.of_variant i tag);
   told = λ starts is_told. or_variant_element_or_apart k others.item d.accepts others.accepts d.valid others.valid d.is_element others.is_element starts is_told.0 (lo.told starts is_told.1);
   read_back = λ m rest l v a fits none. or_variant_read_back k d.encoding others.encoding others.item d.accepts others.accepts (λ x. d.valid x × d.allowed x) (λ x. others.valid x × others.allowed x) d.read others.read rest
       (λ x w. ld.read_back x rest l.0 w.0 w.1) (λ x w. lo.read_back x rest l.1 w.0 w.1) m (or_variant_pair d.valid d.allowed others.valid others.allowed (λ n. k.is (others.item n) ≡ false) m v a) fits none;
@@ -71,6 +76,7 @@ any_variant_laws {d = d} ld = record {
   accepted = λ m. ld.accepted m.1;
   not_empty = λ m. ld.not_empty m.1;
   told = λ starts is_told m v. is_told;
+  of_variant = λ i tag is. rw is refl;
   read_back = λ m rest l v a fits none. any_read_back d.encoding d.read m rest (ld.read_back m.1 rest l v a fits none);
   unbounded = λ free m. ld.unbounded free m.1;
   memory = λ i. ld.memory;
@@ -88,6 +94,7 @@ defined_inside_laws tag {d = d} ld = record {
   accepted = λ m e v same. simple_accepted tag (d.encoding m) e same;
   not_empty = λ m l i v e. element_encoding-not_nil (element tag (d.encoding m)) e;
   told = λ starts is_told m v. inl tt;
+  of_variant = λ i t is. rw is refl;
   read_back = λ m rest l v a fits none. simple_read_back tag d.encoding (element_read (d.read (d.item m))) m rest l.2
       (element_read_back d.encoding (d.read (d.item m)) (d.accepts (d.item m)) m (IsOneElement-not_empty (ld.nothing_or_element m l.0 v) (ld.not_empty m l.0 (l.1 (d.item m)) v)) (ld.read_back m [] l.0 v a)) fits;
   unbounded = ld.unbounded;

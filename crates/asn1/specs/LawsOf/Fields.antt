@@ -1,12 +1,13 @@
 -- The laws of fields, from those of their types. They are lemmas, which don't unfold, so that long rows stay cheap to
 -- compare.
 use Rattle.std.specs.Prelude.{ℕ, ◌≡◌, ◌<◌, ◌^◌, ◌⊎◌, List, [], ◌∷◌, ◌++◌, length, Ok, IfErr, Bool, true, false}
-use Rattle.std.proofs.Common.{refl, inl, inr}
+use Rattle.std.proofs.Common.{refl, inl, inr, ⊎_elim}
 use Rattle.asn1_core.specs.declared.tag.Tag.{Tag}
 use Rattle.asn1_core.specs.declared.parser.Place.{Place}
 use Rattle.asn1_core.specs.Base256.{IsOctets}
 use Rattle.asn1_core.specs.ReadError.{IsOfInput}
 use Rattle.asn1_core.specs.Reading.{begins_accepted, rest_rejected}
+use Rattle.asn1_core.specs.Apart.{IsFirst, one_accepts, Tags, tags_of}
 use Rattle.asn1_core.specs.Encoding.{Encoding, simple_encoding}
 use Rattle.asn1_core.specs.EncodingLaws.{ContentLaws, EncodingLaws}
 use Rattle.asn1_core.specs.LawsOf.Encodings.{simple_laws}
@@ -16,8 +17,19 @@ use Rattle.asn1_core.specs.DefinedBy.{DefinedEncoding, DefinedLaws}
 use Rattle.asn1_core.specs.Lemmas.Options.{IsOneElement-not_empty}
 use Rattle.asn1_core.specs.Lemmas.Wholes.{begins_accepted-nil}
 use Rattle.asn1.specs.FieldReads.{Both, field_out, others_out, last_read, field_read, item_read, behind_out}
-use Rattle.asn1.specs.Fields.{first_name, other_names, Fields, FieldsLaws, FieldsBy, FieldsByLaws, last, field, no_fields, value_last, value_field, between, with_item, sequence}
-use Rattle.asn1.specs.Lemmas.Fields.{last_consumes, last_read_back, last_errors, field_consumes, field_read_back, field_faults_all, begins_accepted-last, begins_accepted-append, begins_accepted-nil_append, both_one_encoding, both_has_encoding, field_memory, item_consumes, item_read_back, item_errors, item_memory, begins_accepted-first_element}
+use Rattle.asn1.specs.Fields.{first_name, other_names, Fields, IsTold, LawfulFields, FieldsLaws, FieldsBy, FieldsByLaws, last, field, no_fields, value_last, value_field, between, with_item, sequence}
+use Rattle.asn1.specs.Lemmas.Fields.{last_consumes, last_read_back, last_errors, field_consumes, field_read_back, field_faults_all, begins_accepted-last, begins_accepted-append, begins_accepted-nil_append, both_one_encoding, both_has_encoding, field_memory, item_consumes, item_read_back, item_errors, item_memory, begins_accepted-first_element, variants_then-variant, variants_then-others}
+use Rattle.asn1.specs.Lemmas.Apart.{IsApartFromEach-disjoint, one_accepts-first, others_disjoint}
+
+-- ---- what tells a type that may be missing
+
+or_else : {P Q R : Type 0} → (Q → R) → P ⊎ Q → P ⊎ R
+or_else implies (inl p) = inl p
+or_else implies (inr q) = inr (implies q)
+
+by_tags : (own : Tags) (others : List Tags) → IsTold own others → (tag : Tag) → IsFirst others tag → own.accepts tag ≡ false
+by_tags own others told tag first = ⊎_elim (λ outside. others_disjoint (one_accepts others) own outside tag (one_accepts-first others tag first))
+    (λ more. ⊎_elim (λ apart. IsApartFromEach-disjoint own others apart tag first) (λ said. said tag first) more) told.by
 
 module _ {A : Type 0} (d : Encoding A) (ld : EncodingLaws d) where
   pub last_law_consumes : (names : List (List ℕ)) (c : List ℕ) (m : A) → IsOctets c → last_read (first_name names) d.read c ≡ Ok m → (c ≡ d.encoding m) × (d.valid m × d.allowed m)
@@ -45,15 +57,15 @@ module _ {A : Type 0} (d : Encoding A) (ld : EncodingLaws d) where
         let got = field_consumes (first_name names) d.encoding d.read others.encoding (others.read (other_names names)) (λ x. d.valid x × d.allowed x) (λ x. others.valid x × others.allowed x) ld.consumes (lo.consumes (other_names names)) c m is h in
         (got.0, ((got.1.0.0, got.1.1.0), (got.1.0.1, got.1.1.1)))
 
-    pub field_law_apart : (m : A × N) → d.lawful × others.lawful × (d.is_element ⊎ ((tag : Tag) → others.starts tag → d.accepts tag ≡ false)) → d.valid m.0 × others.valid m.1 → (asked : Tag → Bool) →
-        ((tag : Tag) → (d.accepts tag ≡ true) ⊎ ((d.is_element → ⊥) × others.starts tag) → asked tag ≡ false) → begins_accepted asked (d.encoding m.0 ++ others.encoding m.1) ≡ false
-    field_law_apart m l v asked free = begins_accepted-append (d.encoding m.0) (others.encoding m.1) (λ tag. (d.accepts tag ≡ true) ⊎ ((d.is_element → ⊥) × others.starts tag)) others.starts (ld.nothing_or_element m.0 l.0 v.0)
-        (λ e same. inl (ld.accepted m.0 e v.0 same)) (λ none tag o. inr (λ i. ld.not_empty m.0 l.0 i v.0 none, o)) asked free (lo.apart m.1 l.1 v.1 asked)
+    pub field_law_apart : (m : A × N) → LawfulFields d.lawful (d.is_element ⊎ IsTold (tags_of d) others.tags) others.lawful → d.valid m.0 × others.valid m.1 → (asked : Tag → Bool) →
+        ((tag : Tag) → (d.accepts tag ≡ true) ⊎ ((d.is_element → ⊥) × IsFirst others.tags tag) → asked tag ≡ false) → begins_accepted asked (d.encoding m.0 ++ others.encoding m.1) ≡ false
+    field_law_apart m l v asked free = begins_accepted-append (d.encoding m.0) (others.encoding m.1) (λ tag. (d.accepts tag ≡ true) ⊎ ((d.is_element → ⊥) × IsFirst others.tags tag)) (IsFirst others.tags) (ld.nothing_or_element m.0 l.first v.0)
+        (λ e same. inl (ld.accepted m.0 e v.0 same)) (λ none tag o. inr (λ i. ld.not_empty m.0 l.first i v.0 none, o)) asked free (lo.apart m.1 l.rest v.1 asked)
 
-    pub field_law_read_back : (names : List (List ℕ)) (m : A × N) → d.lawful × others.lawful × (d.is_element ⊎ ((tag : Tag) → others.starts tag → d.accepts tag ≡ false)) → d.valid m.0 × others.valid m.1 →
+    pub field_law_read_back : (names : List (List ℕ)) (m : A × N) → LawfulFields d.lawful (d.is_element ⊎ IsTold (tags_of d) others.tags) others.lawful → d.valid m.0 × others.valid m.1 →
         d.allowed m.0 × others.allowed m.1 → length (d.encoding m.0 ++ others.encoding m.1) < 2 ^ 32 → field_read (first_name names) d.read (others.read (other_names names)) (d.encoding m.0 ++ others.encoding m.1) ≡ Ok m
-    field_law_read_back names m l v a s = field_read_back (first_name names) d.encoding d.read others.encoding (others.read (other_names names)) d.accepts m (ld.nothing_or_element m.0 l.0 v.0) (λ rest fits none. ld.read_back m.0 rest l.0 v.0 a.0 fits none)
-        (begins_accepted-nil_append (d.encoding m.0) d.accepts (others.encoding m.1) (λ i e. ld.not_empty m.0 l.0 i v.0 e) (lo.apart m.1 l.1 v.1 d.accepts) l.2) (lo.read_back (other_names names) m.1 l.1 v.1 a.1) s
+    field_law_read_back names m l v a s = field_read_back (first_name names) d.encoding d.read others.encoding (others.read (other_names names)) d.accepts m (ld.nothing_or_element m.0 l.first v.0) (λ rest fits none. ld.read_back m.0 rest l.first v.0 a.0 fits none)
+        (begins_accepted-nil_append (d.encoding m.0) d.accepts (others.encoding m.1) (λ i e. ld.not_empty m.0 l.first i v.0 e) (lo.apart m.1 l.rest v.1 d.accepts) (or_else (by_tags (tags_of d) others.tags) l.is_told)) (lo.read_back (other_names names) m.1 l.rest v.1 a.1) s
 
     pub field_law_unbounded : (d.bounded ⊎ others.bounded → ⊥) → (m : A × N) → d.valid m.0 × others.valid m.1 → d.allowed m.0 × others.allowed m.1
     field_law_unbounded free m v = (ld.unbounded (λ b. free (inl b)) m.0 v.0, lo.unbounded (λ b. free (inr b)) m.1 v.1)
@@ -70,7 +82,7 @@ last_laws {d = d} ld = record {
   has_encoding = ld.has_encoding;
   no_closures = ld.no_closures;
   consumes = last_law_consumes d ld;
-  apart = last_law_apart d ld;
+  apart = λ m l v asked free. last_law_apart d ld m l v asked (λ tag is. free tag (inl is));
   read_back = last_law_read_back d ld;
   unbounded = ld.unbounded;
   memory = last_law_memory d ld;
@@ -147,15 +159,15 @@ module _ {I A : Type 0} (by : DefinedEncoding I A) (lby : DefinedLaws by) where
         let got = field_consumes (first_name names) by.encoding (by.read i) others.encoding (others.read (other_names names)) (λ x. (by.item x ≡ i) × (by.valid x × by.allowed x)) (λ x. others.valid x × others.allowed x) (lby.consumes i) (lo.consumes (other_names names)) c m is h in
         (got.0, (got.1.0.0, ((got.1.0.1.0, got.1.1.0), (got.1.0.1.1, got.1.1.1))))
 
-    pub value_law_apart : (m : A × N) → by.lawful × others.lawful × by.is_told others.starts → by.valid m.0 × others.valid m.1 → (asked : Tag → Bool) →
-        ((tag : Tag) → (by.accepts (by.item m.0) tag ≡ true) ⊎ ((by.is_element (by.item m.0) → ⊥) × others.starts tag) → asked tag ≡ false) → begins_accepted asked (by.encoding m.0 ++ others.encoding m.1) ≡ false
-    value_law_apart m l v asked free = begins_accepted-append (by.encoding m.0) (others.encoding m.1) (λ tag. (by.accepts (by.item m.0) tag ≡ true) ⊎ ((by.is_element (by.item m.0) → ⊥) × others.starts tag)) others.starts (lby.nothing_or_element m.0 l.0 v.0)
+    pub value_law_apart : (m : A × N) → by.lawful × others.lawful × by.is_told (IsFirst others.tags) → by.valid m.0 × others.valid m.1 → (asked : Tag → Bool) →
+        ((tag : Tag) → (by.accepts (by.item m.0) tag ≡ true) ⊎ ((by.is_element (by.item m.0) → ⊥) × IsFirst others.tags tag) → asked tag ≡ false) → begins_accepted asked (by.encoding m.0 ++ others.encoding m.1) ≡ false
+    value_law_apart m l v asked free = begins_accepted-append (by.encoding m.0) (others.encoding m.1) (λ tag. (by.accepts (by.item m.0) tag ≡ true) ⊎ ((by.is_element (by.item m.0) → ⊥) × IsFirst others.tags tag)) (IsFirst others.tags) (lby.nothing_or_element m.0 l.0 v.0)
         (λ e same. inl (lby.accepted m.0 e v.0 same)) (λ none tag o. inr (λ i. lby.not_empty m.0 l.0 i v.0 none, o)) asked free (lo.apart m.1 l.1 v.1 asked)
 
-    pub value_law_read_back : (names : List (List ℕ)) (m : A × N) → by.lawful × others.lawful × by.is_told others.starts → by.valid m.0 × others.valid m.1 →
+    pub value_law_read_back : (names : List (List ℕ)) (m : A × N) → by.lawful × others.lawful × by.is_told (IsFirst others.tags) → by.valid m.0 × others.valid m.1 →
         by.allowed m.0 × others.allowed m.1 → length (by.encoding m.0 ++ others.encoding m.1) < 2 ^ 32 → field_read (first_name names) (by.read (by.item m.0)) (others.read (other_names names)) (by.encoding m.0 ++ others.encoding m.1) ≡ Ok m
     value_law_read_back names m l v a s = field_read_back (first_name names) by.encoding (by.read (by.item m.0)) others.encoding (others.read (other_names names)) (by.accepts (by.item m.0)) m (lby.nothing_or_element m.0 l.0 v.0) (λ rest fits none. lby.read_back m.0 rest l.0 v.0 a.0 fits none)
-        (begins_accepted-nil_append (by.encoding m.0) (by.accepts (by.item m.0)) (others.encoding m.1) (λ i e. lby.not_empty m.0 l.0 i v.0 e) (lo.apart m.1 l.1 v.1 (by.accepts (by.item m.0))) (lby.told others.starts l.2 m.0 v.0)) (lo.read_back (other_names names) m.1 l.1 v.1 a.1) s
+        (begins_accepted-nil_append (by.encoding m.0) (by.accepts (by.item m.0)) (others.encoding m.1) (λ i e. lby.not_empty m.0 l.0 i v.0 e) (lo.apart m.1 l.1 v.1 (by.accepts (by.item m.0))) (lby.told (IsFirst others.tags) l.2 m.0 v.0)) (lo.read_back (other_names names) m.1 l.1 v.1 a.1) s
 
     pub value_law_unbounded : (by.bounded ⊎ others.bounded → ⊥) → (m : A × N) → by.valid m.0 × others.valid m.1 → by.allowed m.0 × others.allowed m.1
     value_law_unbounded free m v = (lby.unbounded (λ b. free (inl b)) m.0 v.0, lo.unbounded (λ b. free (inr b)) m.1 v.1)
@@ -173,6 +185,7 @@ value_last_laws {by = by} lby = record {
   no_closures = lby.no_closures;
   consumes = value_last_law_consumes by lby;
   apart = value_last_law_apart by lby;
+  of_first = λ i tag start. variants_then-variant by.tags [] tag (lby.of_variant i tag start);
   read_back = value_last_law_read_back by lby;
   unbounded = lby.unbounded;
   memory = value_last_law_memory by lby;
@@ -186,6 +199,7 @@ value_field_laws {by = by} {others = others} lby lo = record {
   no_closures = λ p m. (lby.no_closures p.0 m.0, lo.no_closures p.1 m.1);
   consumes = value_law_consumes by lby others lo;
   apart = value_law_apart by lby others lo;
+  of_first = λ i tag start. ⊎_elim (λ is. variants_then-variant by.tags others.tags tag (lby.of_variant i tag is)) (λ behind. variants_then-others by.tags others.tags tag behind.1) start;
   read_back = value_law_read_back by lby others lo;
   unbounded = value_law_unbounded by lby others lo;
   memory = value_law_memory by lby others lo;
@@ -193,6 +207,9 @@ value_field_laws {by = by} {others = others} lby lo = record {
 }
 
 module _ {I A M : Type 0} (d : Encoding A) (behind : FieldsBy I M) (ld : EncodingLaws d) (lb : FieldsByLaws behind) where
+  told_behind : IsTold (tags_of d) behind.tags ⊎ ((i : I) (tag : Tag) → behind.starts i tag → d.accepts tag ≡ false) → (i : I) (tag : Tag) → behind.starts i tag → d.accepts tag ≡ false
+  told_behind told i tag start = ⊎_elim (λ by. by_tags (tags_of d) behind.tags by tag (lb.of_first i tag start)) (λ said. said i tag start) told
+
   pub between_law_one_encoding : d.plain × behind.plain → (m : A × M) (t : List ℕ) → Both (d.encodings m.0) (behind.encodings m.1) t → t ≡ d.encoding m.0 ++ behind.encoding m.1
   between_law_one_encoding p m = both_one_encoding (d.encoding m.0) (d.encodings m.0) (behind.encoding m.1) (behind.encodings m.1) (ld.one_encoding p.0 m.0) (lb.one_encoding p.1 m.1)
 
@@ -202,15 +219,15 @@ module _ {I A M : Type 0} (d : Encoding A) (behind : FieldsBy I M) (ld : Encodin
       let got = field_consumes (first_name names) d.encoding d.read behind.encoding (behind.read (other_names names) i) (λ x. d.valid x × d.allowed x) (λ x. (behind.item x ≡ i) × (behind.valid x × behind.allowed x)) ld.consumes (lb.consumes (other_names names) i) c m is h in
       (got.0, (got.1.1.0, ((got.1.0.0, got.1.1.1.0), (got.1.0.1, got.1.1.1.1))))
 
-  pub between_law_apart : (m : A × M) → d.lawful × behind.lawful × (d.is_element ⊎ ((i : I) (tag : Tag) → behind.starts i tag → d.accepts tag ≡ false)) → d.valid m.0 × behind.valid m.1 → (asked : Tag → Bool) →
+  pub between_law_apart : (m : A × M) → LawfulFields d.lawful (d.is_element ⊎ (IsTold (tags_of d) behind.tags ⊎ ((i : I) (tag : Tag) → behind.starts i tag → d.accepts tag ≡ false))) behind.lawful → d.valid m.0 × behind.valid m.1 → (asked : Tag → Bool) →
       ((tag : Tag) → (d.accepts tag ≡ true) ⊎ ((d.is_element → ⊥) × behind.starts (behind.item m.1) tag) → asked tag ≡ false) → begins_accepted asked (d.encoding m.0 ++ behind.encoding m.1) ≡ false
-  between_law_apart m l v asked free = begins_accepted-append (d.encoding m.0) (behind.encoding m.1) (λ tag. (d.accepts tag ≡ true) ⊎ ((d.is_element → ⊥) × behind.starts (behind.item m.1) tag)) (behind.starts (behind.item m.1)) (ld.nothing_or_element m.0 l.0 v.0)
-      (λ e same. inl (ld.accepted m.0 e v.0 same)) (λ none tag o. inr (λ i. ld.not_empty m.0 l.0 i v.0 none, o)) asked free (lb.apart m.1 l.1 v.1 asked)
+  between_law_apart m l v asked free = begins_accepted-append (d.encoding m.0) (behind.encoding m.1) (λ tag. (d.accepts tag ≡ true) ⊎ ((d.is_element → ⊥) × behind.starts (behind.item m.1) tag)) (behind.starts (behind.item m.1)) (ld.nothing_or_element m.0 l.first v.0)
+      (λ e same. inl (ld.accepted m.0 e v.0 same)) (λ none tag o. inr (λ i. ld.not_empty m.0 l.first i v.0 none, o)) asked free (lb.apart m.1 l.rest v.1 asked)
 
-  pub between_law_read_back : (names : List (List ℕ)) (m : A × M) → d.lawful × behind.lawful × (d.is_element ⊎ ((i : I) (tag : Tag) → behind.starts i tag → d.accepts tag ≡ false)) → d.valid m.0 × behind.valid m.1 →
+  pub between_law_read_back : (names : List (List ℕ)) (m : A × M) → LawfulFields d.lawful (d.is_element ⊎ (IsTold (tags_of d) behind.tags ⊎ ((i : I) (tag : Tag) → behind.starts i tag → d.accepts tag ≡ false))) behind.lawful → d.valid m.0 × behind.valid m.1 →
       d.allowed m.0 × behind.allowed m.1 → length (d.encoding m.0 ++ behind.encoding m.1) < 2 ^ 32 → field_read (first_name names) d.read (behind.read (other_names names) (behind.item m.1)) (d.encoding m.0 ++ behind.encoding m.1) ≡ Ok m
-  between_law_read_back names m l v a s = field_read_back (first_name names) d.encoding d.read behind.encoding (behind.read (other_names names) (behind.item m.1)) d.accepts m (ld.nothing_or_element m.0 l.0 v.0) (λ rest fits none. ld.read_back m.0 rest l.0 v.0 a.0 fits none)
-      (begins_accepted-nil_append (d.encoding m.0) d.accepts (behind.encoding m.1) (λ i e. ld.not_empty m.0 l.0 i v.0 e) (λ free. lb.apart m.1 l.1 v.1 d.accepts (free (behind.item m.1))) l.2) (lb.read_back (other_names names) m.1 l.1 v.1 a.1) s
+  between_law_read_back names m l v a s = field_read_back (first_name names) d.encoding d.read behind.encoding (behind.read (other_names names) (behind.item m.1)) d.accepts m (ld.nothing_or_element m.0 l.first v.0) (λ rest fits none. ld.read_back m.0 rest l.first v.0 a.0 fits none)
+      (begins_accepted-nil_append (d.encoding m.0) d.accepts (behind.encoding m.1) (λ i e. ld.not_empty m.0 l.first i v.0 e) (lb.apart m.1 l.rest v.1 d.accepts) (or_else (λ told. told_behind told (behind.item m.1)) l.is_told)) (lb.read_back (other_names names) m.1 l.rest v.1 a.1) s
 
   pub between_law_unbounded : (d.bounded ⊎ behind.bounded → ⊥) → (m : A × M) → d.valid m.0 × behind.valid m.1 → d.allowed m.0 × behind.allowed m.1
   between_law_unbounded free m v = (ld.unbounded (λ b. free (inl b)) m.0 v.0, lb.unbounded (λ b. free (inr b)) m.1 v.1)
@@ -228,6 +245,7 @@ between_laws {d = d} {behind = behind} ld lb = record {
   no_closures = λ p m. (ld.no_closures p.0 m.0, lb.no_closures p.1 m.1);
   consumes = between_law_consumes d behind ld lb;
   apart = between_law_apart d behind ld lb;
+  of_first = λ i tag start. ⊎_elim (λ is. inl is) (λ rest. inr (rest.0, lb.of_first i tag rest.1)) start;
   read_back = between_law_read_back d behind ld lb;
   unbounded = between_law_unbounded d behind ld lb;
   memory = between_law_memory d behind ld lb;
@@ -270,7 +288,7 @@ with_item_laws {d = d} {behind = behind} ld lb = record {
   has_encoding = λ p m v. both_has_encoding (d.encoding (behind.item m)) (behind.encoding m) (d.encodings (behind.item m)) (behind.encodings m) (ld.has_encoding p.0 (behind.item m) v.0) (lb.has_encoding p.1 m v.1);
   no_closures = λ p m. (ld.no_closures p.0 (behind.item m), lb.no_closures p.1 m);
   consumes = item_law_consumes d behind ld lb;
-  apart = item_law_apart d behind ld lb;
+  apart = λ m l v asked free. item_law_apart d behind ld lb m l v asked (λ tag is. free tag (inl is));
   read_back = item_law_read_back d behind ld lb;
   unbounded = item_law_unbounded d behind ld lb;
   memory = item_law_memory d behind ld lb;

@@ -3,6 +3,7 @@
 -- comparison of two types compares their data, and no proofs.
 use Rattle.std.specs.Prelude.{ℕ, ◌<◌, ◌^◌, ◌≡◌, ◌⊎◌, List, [], ◌++◌, length, Result, Ok, IfErr, true, false, Option}
 use Rattle.std.proofs.Common.{inr, refl}
+use Rattle.asn1_core.specs.declared.tag.Tag.{Tag}
 use Rattle.asn1_core.specs.declared.parser.Place.{Place}
 use Rattle.asn1_core.specs.Base256.{IsOctets}
 use Rattle.asn1_core.specs.Tag.{tag_eq}
@@ -11,7 +12,7 @@ use Rattle.asn1_core.specs.ReadError.{ReadError, IsOfInput}
 use Rattle.asn1_core.specs.Writing.{IsElementOf}
 use Rattle.asn1_core.specs.Reading.{Returns, Consumes, Fits, IsOneElement, IsNothingOrElement, simple, simple_out, framed_element, begins_accepted, rejects_all}
 use Rattle.asn1_core.specs.Options.{IfThere, option_octets, option_read}
-use Rattle.asn1_core.specs.Encoding.{Content, Basic, Encoding, simple_encoding, basic, no_content, tlv_encoding, option_encoding}
+use Rattle.asn1_core.specs.Encoding.{Content, Basic, Encoding, simple_encoding, basic, no_content_but, tlv_encoding, option_encoding}
 use Rattle.asn1_core.specs.EncodingLaws.{ContentLaws, BasicLaws, EncodingLaws}
 use Rattle.asn1_core.specs.Boxed.{boxed, boxed_encoding}
 use Rattle.asn1_core.specs.Lemmas.Options.{option_consumes, option_nothing_or_element, option_accepted, option_read_back, option_both, option_pair, option_weaker, option_one_encoding, option_has_encoding, option_at_most_one, option_all, option_errors}
@@ -112,7 +113,7 @@ basic_laws b laws = record {
   errors = laws.errors;
 }
 
-pub no_content_laws : {M : Type 0} → ContentLaws (no_content {M = M})
+pub no_content_laws : {M : Type 0} {tag : Tag} → ContentLaws (no_content_but {M = M} tag)
 no_content_laws {M = M} = record {
   one_encoding = λ p. absurd p;
   has_encoding = λ p. absurd p;

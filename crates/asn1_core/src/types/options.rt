@@ -1,7 +1,7 @@
 //! OPTIONAL components (X.690 8.9): a value of a type, or nothing.
 
 ghost use Rattle.asn1_core.specs.Der.{option_der};
-ghost use Rattle.asn1_core.specs.Options.{IfThere, OptionErrors};
+ghost use Rattle.asn1_core.specs.Options.{OfValue, OptionErrors};
 
 use crate::parser::{ParseResult, Parser};
 use crate::tag::Tag;
@@ -39,7 +39,7 @@ impl<T: Asn1Writable> Asn1Writable for Option<T> {
 
     ghost write_errors = { OptionErrors T.write_errors };
 
-    ghost length_known = { IfThere T.length_known };
+    ghost length_known = { OfValue T.length_known };
 
     fn write(&self, dest: &mut Writer<'_>) -> Result<(), T::Error> {
         match self {

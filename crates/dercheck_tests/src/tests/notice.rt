@@ -147,7 +147,6 @@ impl SimpleAsn1Writable for Letter {
 }
 
 /// Each value of the types here has one encoding, which is read back.
-#[tactic(auto, using(asn1::specs::Lemmas::Fields::tags_differ))]
 pub fn notices_are_lawful()
     ensures notice { HasOneEncoding ⟦<Notice as Asn1Type>⟧.der }
     ensures letter { HasOneEncoding ⟦<Letter as Asn1Type>⟧.der }

@@ -2,7 +2,8 @@
 
 use super::are_written_back;
 use crate::tags::{
-    Both, Either, Entry, Header, Nine, Report, ResultCode, Sealed, Settings, Switch, Version,
+    Around, Both, Either, Entry, Header, Inventory, Neither, Nine, Report, ResultCode, Sealed,
+    Settings, Switch, Version,
 };
 use asn1::{Explicit, ParseErrorKind, Tag, TagClass};
 use std::test::Fail;
@@ -127,6 +128,115 @@ fn headers(rt: HostRuntime) -> Result<(), Fail> {
             ),
         ],
     )
+}
+
+/// Twenty fields that may be missing: none, each by itself, all, and in their order alone.
+#[test]
+fn inventories(rt: HostRuntime) -> Result<(), Fail> {
+    let alloc = rt.alloc();
+    are_written_back::<Inventory<'_>>(
+        alloc,
+        &[
+            b"\x30\x00",
+            b"\x30\x03\x04\x01\x09",
+            b"\x30\x05\xa0\x03\x02\x01\x07",
+            b"\x30\x05\xa1\x03\x49\x01\x05",
+            b"\x30\x0a\xa2\x08\x0a\x01\x00\xe2\x03\x12\x01\x30",
+            b"\x30\x04\xa3\x02\x05\x00",
+            b"\x30\x05\xa4\x03\x0a\x01\x50",
+            b"\x30\x03\x85\x01\x09",
+            b"\x30\x03\x86\x01\xff",
+            b"\x30\x07\xa7\x05\xa2\x03\x04\x01\x09",
+            b"\x30\x0c\xa8\x0a\x63\x08\x0a\x01\x00\xe2\x03\x12\x01\x30",
+            b"\x30\x09\xa9\x07\x02\x01\x00\xdf\x1f\x01\x01",
+            b"\x30\x03\x8a\x01\x02",
+            b"\x30\x06\xab\x04\xdf\x1f\x01\x01",
+            b"\x30\x05\xac\x03\x49\x01\x05",
+            b"\x30\x0c\xad\x0a\x63\x08\x0a\x01\x00\xe2\x03\x12\x01\x30",
+            b"\x30\x04\xae\x02\x05\x00",
+            b"\x30\x03\x8f\x01\x50",
+            b"\x30\x05\xb0\x03\x04\x01\x09",
+            b"\x30\x05\xb1\x03\x01\x01\x00",
+            b"\x30\x07\xb2\x05\xa2\x03\x04\x01\x09",
+            b"\x30\x0e\xb3\x0c\x64\x0a\x63\x08\x0a\x01\x00\xe2\x03\x12\x01\x30",
+            b"\x30\x81\x82\x04\x01\x09\xa0\x03\x02\x01\x07\xa1\x03\x49\x01\x05\xa2\x08\x0a\x01\x00\xe2\x03\x12\
+\x01\x30\xa3\x02\x05\x00\xa4\x03\x0a\x01\x50\x85\x01\x09\x86\x01\xff\xa7\x05\xa2\x03\x04\x01\x09\
+\xa8\x0a\x63\x08\x0a\x01\x00\xe2\x03\x12\x01\x30\xa9\x07\x02\x01\x00\xdf\x1f\x01\x01\x8a\x01\x02\
+\xab\x04\xdf\x1f\x01\x01\xac\x03\x49\x01\x05\xad\x0a\x63\x08\x0a\x01\x00\xe2\x03\x12\x01\x30\xae\
+\x02\x05\x00\x8f\x01\x50\xb0\x03\x04\x01\x09\xb1\x03\x01\x01\x00\xb2\x05\xa2\x03\x04\x01\x09\xb3\
+\x0c\x64\x0a\x63\x08\x0a\x01\x00\xe2\x03\x12\x01\x30",
+        ],
+    )?;
+    are_refused::<Inventory<'_>>(
+        alloc,
+        &[
+            // The second field before the first, the last before the first, one twice, and the choice behind a field.
+            (
+                b"\x30\x0a\xa1\x03\x49\x01\x05\xa0\x03\x02\x01\x07",
+                ParseErrorKind::ExtraData,
+            ),
+            (
+                b"\x30\x13\xb3\x0c\x64\x0a\x63\x08\x0a\x01\x00\xe2\x03\x12\x01\x30\xa0\x03\x02\x01\x07",
+                ParseErrorKind::ExtraData,
+            ),
+            (
+                b"\x30\x06\x8f\x01\x50\x8f\x01\x50",
+                ParseErrorKind::ExtraData,
+            ),
+            (
+                b"\x30\x08\xa0\x03\x02\x01\x07\x04\x01\x09",
+                ParseErrorKind::ExtraData,
+            ),
+        ],
+    )
+}
+
+/// Two choices that may be missing: both, either, none, and in their order alone.
+#[test]
+fn neither_choice(rt: HostRuntime) -> Result<(), Fail> {
+    let alloc = rt.alloc();
+    are_written_back::<Neither<'_>>(
+        alloc,
+        &[
+            b"\x30\x00",
+            b"\x30\x02\x05\x00",
+            b"\x30\x05\xa2\x03\x04\x01\x09",
+            b"\x30\x08\x04\x01\x07\xa2\x03\x04\x01\x09",
+        ],
+    )?;
+    are_refused::<Neither<'_>>(
+        alloc,
+        &[(
+            b"\x30\x07\xa2\x03\x04\x01\x09\x05\x00",
+            ParseErrorKind::ExtraData,
+        )],
+    )
+}
+
+/// One tag in front of a field and behind it.
+#[test]
+fn one_tag_twice(rt: HostRuntime) -> Result<(), Fail> {
+    let alloc = rt.alloc();
+    are_both_ways(
+        alloc,
+        &[
+            (around(None, None), b"\x30\x03\x01\x01\xff"),
+            (around(Some(7), None), b"\x30\x06\x80\x01\x07\x01\x01\xff"),
+            (around(None, Some(7)), b"\x30\x06\x01\x01\xff\x80\x01\x07"),
+            (
+                around(Some(7), Some(8)),
+                b"\x30\x09\x80\x01\x07\x01\x01\xff\x80\x01\x08",
+            ),
+        ],
+    )
+}
+
+fn around(before: Option<u8>, after: Option<u8>) -> Around {
+    Around {
+        before,
+        flag: true,
+        after,
+    }
 }
 
 /// A choice under a tag is the alternative under the tag, and no structure.

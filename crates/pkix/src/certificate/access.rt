@@ -1,5 +1,5 @@
 //! Where other data of an issuer or a subject is (RFC 5280, 4.2.2).
-// Printed by tools/derive from declarations/certificate/access.rs, with the sum 03311605.
+// Printed by tools/derive from declarations/certificate/access.rs, with the sum e023ce45.
 
 ghost use Rattle.std.specs.Prelude.{◌≡◌, ◌∷◌, [], IsTrue};
 ghost use Rattle.asn1.specs.Reads.{HasOneEncoding, ReadsContents};
@@ -8,8 +8,9 @@ ghost use Rattle.asn1.specs.Structures.{field_names, structure, fields2};
 use crate::common::GeneralName;
 use asn1::fields::{Fields2, Row};
 use asn1::{
-    Asn1Type, ObjectIdentifier, ParseResult, SequenceOf, SimpleAsn1Readable, SimpleAsn1Writable,
-    Tag, WriteBuf, WriteError, WriteResult, fields_length, known_fields, read_fields, write_fields,
+    Asn1Type, Asn1Writable, ObjectIdentifier, ParseResult, SequenceOf, SimpleAsn1Readable,
+    SimpleAsn1Writable, Tag, WriteBuf, WriteError, WriteResult, fields_length, known_fields,
+    read_fields, write_fields,
 };
 use std::alloc::Global;
 
@@ -53,6 +54,9 @@ impl<'a> SimpleAsn1Readable<'a> for AccessDescription<'a> {
 
 impl<'a> SimpleAsn1Writable for AccessDescription<'a> {
     type Error = WriteError;
+
+    ghost length_known = { λ v. ⟦<GeneralName<'a> as Asn1Writable>⟧.length_known
+        v.access_location };
 
     fn tag() -> Tag
         ensures value { result ≡ ⟦<AccessDescription<'a> as Asn1Type>⟧.der.content.tag }

@@ -1,5 +1,5 @@
 //! Where revocation lists are found, and what they have (RFC 5280, 4.2.1.13 and 5.2.5).
-// Printed by tools/derive from declarations/certificate/distribution.rs, with the sum f8b9c362.
+// Printed by tools/derive from declarations/certificate/distribution.rs, with the sum f35c7ecd.
 
 ghost use Rattle.std.specs.Prelude.{◌≡◌, ◌∷◌, [], false, IsTrue, OnErr, IfOk};
 ghost use Rattle.asn1.specs.AlternativeLists.{after1, choice, first1};
@@ -12,7 +12,7 @@ use crate::common::{AttributeTypeAndValue, GeneralNames, NamedBits};
 use asn1::alternatives::{
     Alternatives, AlternativesReadable, AsOneOf, ImplicitTag, OneOf2, read_choice,
 };
-use asn1::fields::{Fields2, Fields3, Fields5, Fields6, Row};
+use asn1::fields::{Fields3, Fields6, Row};
 use asn1::{
     Asn1Readable, Asn1Type, Asn1Writable, DefaultValue, Defaulted, Explicit, Implicit, ParseResult,
     Parser, SequenceOf, SetOf, SimpleAsn1Readable, SimpleAsn1Writable, Tag, WriteBuf, WriteError,
@@ -87,6 +87,14 @@ impl<'a> Asn1Readable<'a> for DistributionPointName<'a> {
 
 impl<'a> Asn1Writable for DistributionPointName<'a> {
     type Error = WriteError;
+
+    ghost use Rattle.pkix.specs.declared.certificate.distribution.DistributionPointName.TheVariants.{FullName};
+    ghost use Rattle.pkix.specs.declared.certificate.distribution.DistributionPointName.TheVariants.{NameRelativeToCrlIssuer};
+
+    ghost length_known = { elim [
+      | FullName x ↦ ⟦<GeneralNames<'a> as Asn1Writable>⟧.length_known x
+      | NameRelativeToCrlIssuer x ↦ Unit {0}
+    ] };
 
     fn write(&self, dest: &mut Writer<'_>) -> WriteResult<()> {
         write_choice!(self, dest;
@@ -174,6 +182,13 @@ impl<'a> SimpleAsn1Readable<'a> for DistributionPoint<'a> {
 
 impl<'a> SimpleAsn1Writable for DistributionPoint<'a> {
     type Error = WriteError;
+
+    ghost length_known = { λ v.
+        ⟦<Option<Explicit<DistributionPointName<'a>, 0>> as Asn1Writable>⟧.length_known
+        (option_meaning explicit v.distribution_point) ×
+        ⟦<Option<Implicit<NamedBits<'a>, 1>> as Asn1Writable>⟧.length_known (option_meaning implicit
+        v.reasons) × ⟦<Option<Implicit<GeneralNames<'a>, 2>> as Asn1Writable>⟧.length_known
+        (option_meaning implicit v.crl_issuer) };
 
     fn tag() -> Tag
         ensures value { result ≡ ⟦<DistributionPoint<'a> as Asn1Type>⟧.der.content.tag }
@@ -309,19 +324,6 @@ type IssuingDistributionPointFields<'a> = Fields6<
     IssuingDistributionPointOnlyContainsAttributeCertsField,
 >;
 
-type IssuingDistributionPointFrom2<'a> = Fields5<
-    IssuingDistributionPointOnlyContainsUserCertsField,
-    IssuingDistributionPointOnlyContainsCaCertsField,
-    IssuingDistributionPointOnlySomeReasonsField<'a>,
-    IssuingDistributionPointIndirectCrlField,
-    IssuingDistributionPointOnlyContainsAttributeCertsField,
->;
-
-type IssuingDistributionPointFrom5 = Fields2<
-    IssuingDistributionPointIndirectCrlField,
-    IssuingDistributionPointOnlyContainsAttributeCertsField,
->;
-
 macro_rules! fields_of_issuing_distribution_point {
     ($body:ident, $($of:tt)*) => { $body!($($of)*;
         distribution_point: IssuingDistributionPointDistributionPointField<'a>,
@@ -367,6 +369,12 @@ impl<'a> SimpleAsn1Readable<'a> for IssuingDistributionPoint<'a> {
 impl<'a> SimpleAsn1Writable for IssuingDistributionPoint<'a> {
     type Error = WriteError;
 
+    ghost length_known = { λ v.
+        ⟦<Option<Explicit<DistributionPointName<'a>, 0>> as Asn1Writable>⟧.length_known
+        (option_meaning explicit v.distribution_point) ×
+        ⟦<Option<Implicit<NamedBits<'a>, 3>> as Asn1Writable>⟧.length_known (option_meaning implicit
+        v.only_some_reasons) };
+
     fn tag() -> Tag
         ensures value { result ≡ ⟦<IssuingDistributionPoint<'a> as Asn1Type>⟧.der.content.tag }
         ensures simple { ⟦<IssuingDistributionPoint<'a> as Asn1Type>⟧.der.is_simple }
@@ -393,11 +401,9 @@ impl<'a> SimpleAsn1Writable for IssuingDistributionPoint<'a> {
 pub mod laws {
     use super::{
         CrlDistributionPoints, DistributionPoint, DistributionPointName,
-        DistributionPointNameChoice, IssuingDistributionPoint, IssuingDistributionPointFrom2,
-        IssuingDistributionPointFrom5,
+        DistributionPointNameChoice, IssuingDistributionPoint,
     };
     use asn1::Asn1Type;
-    use asn1::fields::Row;
     use asn1::laws_wrappers::alternatives_apart_are_lawful;
 
     /// Each value of `DistributionPointName` has one encoding, which is read back.
@@ -410,7 +416,6 @@ pub mod laws {
     }
 
     /// Each value of `DistributionPoint` has one encoding, which is read back.
-    #[tactic(auto, using(asn1::specs::Lemmas::Fields::tags_differ))]
     pub fn distribution_point_is_lawful()
         ensures { HasOneEncoding ⟦<DistributionPoint<'static> as Asn1Type>⟧.der }
     {
@@ -426,27 +431,11 @@ pub mod laws {
         distribution_point_is_lawful();
     }
 
-    /// Tags tell which fields of `IssuingDistributionPointFrom5` are missing.
-    #[tactic(auto, using(asn1::specs::Lemmas::Fields::tags_differ))]
-    pub fn issuing_distribution_point_from5_is_lawful()
-        ensures { ⟦<IssuingDistributionPointFrom5 as Row>⟧.list.fields.lawful }
-    {}
-
-    /// Tags tell which fields of `IssuingDistributionPointFrom2` are missing.
-    #[tactic(auto, using(asn1::specs::Lemmas::Fields::tags_differ))]
-    pub fn issuing_distribution_point_from2_is_lawful()
-        ensures { ⟦<IssuingDistributionPointFrom2<'static> as Row>⟧.list.fields.lawful }
-    {
-        crate::common::laws::named_bits_is_lawful();
-        issuing_distribution_point_from5_is_lawful();
-    }
-
     /// Each value of `IssuingDistributionPoint` has one encoding, which is read back.
-    #[tactic(auto, using(asn1::specs::Lemmas::Fields::tags_differ))]
     pub fn issuing_distribution_point_is_lawful()
         ensures { HasOneEncoding ⟦<IssuingDistributionPoint<'static> as Asn1Type>⟧.der }
     {
         distribution_point_name_is_lawful();
-        issuing_distribution_point_from2_is_lawful();
+        crate::common::laws::named_bits_is_lawful();
     }
 }

@@ -1,5 +1,5 @@
 //! Values of extensions (RFC 5280, 4.2.1 and 4.2.2): each type is what the octets of an extension hold.
-// Printed by tools/derive from declarations/certificate/extensions.rs, with the sum 5ff674e7.
+// Printed by tools/derive from declarations/certificate/extensions.rs, with the sum 7cb8b66e.
 
 ghost use Rattle.std.specs.Prelude.{◌≡◌, ◌∷◌, [], false, IsTrue};
 ghost use Rattle.asn1.specs.Options.{option_meaning};
@@ -9,9 +9,9 @@ ghost use Rattle.asn1.specs.Structures.{defaulted, field_names, implicit, struct
 use crate::common::{Attribute, GeneralNames, NamedBits};
 use asn1::fields::{Fields2, Fields3, Row};
 use asn1::{
-    Asn1Type, BigInt, BigUint, DefaultValue, Defaulted, Implicit, ObjectIdentifier, ParseResult,
-    SequenceOf, SimpleAsn1Readable, SimpleAsn1Writable, Tag, WriteBuf, WriteError, WriteResult,
-    fields_length, known_fields, read_fields, write_fields,
+    Asn1Type, Asn1Writable, BigInt, BigUint, DefaultValue, Defaulted, Implicit, ObjectIdentifier,
+    ParseResult, SequenceOf, SimpleAsn1Readable, SimpleAsn1Writable, Tag, WriteBuf, WriteError,
+    WriteResult, fields_length, known_fields, read_fields, write_fields,
 };
 use std::alloc::Global;
 
@@ -161,6 +161,10 @@ impl<'a> SimpleAsn1Readable<'a> for AuthorityKeyIdentifier<'a> {
 impl<'a> SimpleAsn1Writable for AuthorityKeyIdentifier<'a> {
     type Error = WriteError;
 
+    ghost length_known = { λ v.
+        ⟦<Option<Implicit<GeneralNames<'a>, 1>> as Asn1Writable>⟧.length_known (option_meaning
+        implicit v.authority_cert_issuer) };
+
     fn tag() -> Tag
         ensures value { result ≡ ⟦<AuthorityKeyIdentifier<'a> as Asn1Type>⟧.der.content.tag }
         ensures simple { ⟦<AuthorityKeyIdentifier<'a> as Asn1Type>⟧.der.is_simple }
@@ -208,13 +212,11 @@ pub mod laws {
     use asn1::Asn1Type;
 
     /// Each value of `BasicConstraints` has one encoding, which is read back.
-    #[tactic(auto, using(asn1::specs::Lemmas::Fields::tags_differ))]
     pub fn basic_constraints_is_lawful()
         ensures { HasOneEncoding ⟦<BasicConstraints<'static> as Asn1Type>⟧.der }
     {}
 
     /// Each value of `AuthorityKeyIdentifier` has one encoding, which is read back.
-    #[tactic(auto, using(asn1::specs::Lemmas::Fields::tags_differ))]
     pub fn authority_key_identifier_is_lawful()
         ensures { HasOneEncoding ⟦<AuthorityKeyIdentifier<'static> as Asn1Type>⟧.der }
     {

@@ -1,6 +1,6 @@
 //! The policies of a certificate, and what it demands of those that follow it in a path (RFC 5280, 4.2.1.4, 4.2.1.5,
 //! 4.2.1.10, 4.2.1.11 and 4.2.1.14).
-// Printed by tools/derive from declarations/certificate/policies.rs, with the sum e653a126.
+// Printed by tools/derive from declarations/certificate/policies.rs, with the sum e6b0a87a.
 
 ghost use Rattle.std.specs.Prelude.{◌≡◌, ◌∷◌, [], IsTrue, OnErr, IfOk};
 ghost use Rattle.asn1.specs.AlternativeLists.{after3, choice, first1, first3, second3, third3};
@@ -164,6 +164,8 @@ impl<'a> Asn1Readable<'a> for DisplayText<'a> {
 impl<'a> Asn1Writable for DisplayText<'a> {
     type Error = WriteError;
 
+    ghost length_known = { λ _. Unit {0} };
+
     fn write(&self, dest: &mut Writer<'_>) -> WriteResult<()> {
         write_choice!(self, dest; DisplayText(x); Ia5, Visible, Bmp, Utf8)
     }
@@ -222,6 +224,8 @@ impl<'a> SimpleAsn1Readable<'a> for NoticeReference<'a> {
 
 impl<'a> SimpleAsn1Writable for NoticeReference<'a> {
     type Error = WriteError;
+
+    ghost length_known = { λ _. Unit {0} };
 
     fn tag() -> Tag
         ensures value { result ≡ ⟦<NoticeReference<'a> as Asn1Type>⟧.der.content.tag }
@@ -285,6 +289,8 @@ impl<'a> SimpleAsn1Readable<'a> for UserNotice<'a> {
 
 impl<'a> SimpleAsn1Writable for UserNotice<'a> {
     type Error = WriteError;
+
+    ghost length_known = { λ _. Unit {0} };
 
     fn tag() -> Tag
         ensures value { result ≡ ⟦<UserNotice<'a> as Asn1Type>⟧.der.content.tag }
@@ -500,6 +506,8 @@ impl<'a> SimpleAsn1Readable<'a> for GeneralSubtree<'a> {
 
 impl<'a> SimpleAsn1Writable for GeneralSubtree<'a> {
     type Error = WriteError;
+
+    ghost length_known = { λ v. ⟦<GeneralName<'a> as Asn1Writable>⟧.length_known v.base };
 
     fn tag() -> Tag
         ensures value { result ≡ ⟦<GeneralSubtree<'a> as Asn1Type>⟧.der.content.tag }
@@ -761,7 +769,6 @@ pub mod laws {
     }
 
     /// Each value of `GeneralSubtree` has one encoding, which is read back.
-    #[tactic(auto, using(asn1::specs::Lemmas::Fields::tags_differ))]
     pub fn general_subtree_is_lawful()
         ensures { HasOneEncoding ⟦<GeneralSubtree<'static> as Asn1Type>⟧.der }
     {
@@ -776,7 +783,6 @@ pub mod laws {
     }
 
     /// Each value of `NameConstraints` has one encoding, which is read back.
-    #[tactic(auto, using(asn1::specs::Lemmas::Fields::tags_differ))]
     pub fn name_constraints_is_lawful()
         ensures { HasOneEncoding ⟦<NameConstraints<'static> as Asn1Type>⟧.der }
     {
@@ -784,7 +790,6 @@ pub mod laws {
     }
 
     /// Each value of `PolicyConstraints` has one encoding, which is read back.
-    #[tactic(auto, using(asn1::specs::Lemmas::Fields::tags_differ))]
     pub fn policy_constraints_is_lawful()
         ensures { HasOneEncoding ⟦<PolicyConstraints<'static> as Asn1Type>⟧.der }
     {}

@@ -1,5 +1,5 @@
 //! General names (RFC 5280, 4.2.1.6).
-// Printed by tools/derive from declarations/common/general_name.rs, with the sum 60717e8f.
+// Printed by tools/derive from declarations/common/general_name.rs, with the sum 51356cbb.
 
 ghost use Rattle.std.specs.Prelude.{◌≡◌, ◌∷◌, [], IsTrue, OnErr, IfOk};
 ghost use Rattle.asn1.specs.AlternativeLists.{after8, choice, first1, first8, second8, third8, fourth8, fifth8};
@@ -146,6 +146,11 @@ impl<'a> SimpleAsn1Readable<'a> for EdiPartyName<'a> {
 impl<'a> SimpleAsn1Writable for EdiPartyName<'a> {
     type Error = WriteError;
 
+    ghost length_known = { λ v.
+        ⟦<Option<Explicit<DirectoryString<'a>, 0>> as Asn1Writable>⟧.length_known (option_meaning
+        explicit v.name_assigner) ×
+        ⟦<Explicit<DirectoryString<'a>, 1> as Asn1Writable>⟧.length_known (explicit v.party_name) };
+
     fn tag() -> Tag
         ensures value { result ≡ ⟦<EdiPartyName<'a> as Asn1Type>⟧.der.content.tag }
         ensures simple { ⟦<EdiPartyName<'a> as Asn1Type>⟧.der.is_simple }
@@ -272,6 +277,24 @@ impl<'a> Asn1Readable<'a> for GeneralName<'a> {
 impl<'a> Asn1Writable for GeneralName<'a> {
     type Error = WriteError;
 
+    ghost use Rattle.pkix.specs.declared.common.general_name.GeneralName.TheVariants.{OtherName, Rfc822Name, DnsName};
+    ghost use Rattle.pkix.specs.declared.common.general_name.GeneralName.TheVariants.{X400Address, DirectoryName};
+    ghost use Rattle.pkix.specs.declared.common.general_name.GeneralName.TheVariants.{EdiPartyName};
+    ghost use Rattle.pkix.specs.declared.common.general_name.GeneralName.TheVariants.{UniformResourceIdentifier};
+    ghost use Rattle.pkix.specs.declared.common.general_name.GeneralName.TheVariants.{IpAddress, RegisteredId};
+
+    ghost length_known = { elim [
+      | OtherName x ↦ Unit {0}
+      | Rfc822Name x ↦ Unit {0}
+      | DnsName x ↦ Unit {0}
+      | X400Address x ↦ Unit {0}
+      | DirectoryName x ↦ ⟦<Name<'a> as Asn1Writable>⟧.length_known x
+      | EdiPartyName x ↦ ⟦<EdiPartyName<'a> as Asn1Writable>⟧.length_known x
+      | UniformResourceIdentifier x ↦ Unit {0}
+      | IpAddress x ↦ Unit {0}
+      | RegisteredId x ↦ Unit {0}
+    ] };
+
     fn write(&self, dest: &mut Writer<'_>) -> WriteResult<()> {
         variants_of_general_name!(write_choice, self, dest)
     }
@@ -302,7 +325,6 @@ pub mod laws {
     {}
 
     /// Each value of `EdiPartyName` has one encoding, which is read back.
-    #[tactic(auto, using(asn1::specs::Lemmas::Fields::tags_differ))]
     pub fn edi_party_name_is_lawful()
         ensures { HasOneEncoding ⟦<EdiPartyName<'static> as Asn1Type>⟧.der }
     {

@@ -1,5 +1,5 @@
 //! Times (RFC 5280, 4.1.2.5).
-// Printed by tools/derive from declarations/common/time.rs, with the sum 63b2f459.
+// Printed by tools/derive from declarations/common/time.rs, with the sum a170c4c8.
 
 ghost use Rattle.asn1.specs.AlternativeLists.{after1, choice, first1};
 ghost use Rattle.asn1.specs.Reads.{HasOneEncoding};
@@ -55,6 +55,8 @@ impl<'a> Asn1Readable<'a> for Time {
 
 impl Asn1Writable for Time {
     type Error = WriteError;
+
+    ghost length_known = { λ _. Unit {0} };
 
     fn write(&self, dest: &mut Writer<'_>) -> WriteResult<()> {
         write_choice!(self, dest; Time(x); UtcTime, GeneralTime)

@@ -1,5 +1,5 @@
 //! Revocation lists (RFC 5280, 5.1 to 5.3).
-// Printed by tools/derive from declarations/revocation/lists.rs, with the sum 24855b33.
+// Printed by tools/derive from declarations/revocation/lists.rs, with the sum f61ce340.
 
 ghost use Rattle.std.specs.Prelude.{◌≡◌, ◌∷◌, [], IsTrue};
 ghost use Rattle.asn1.specs.Options.{option_meaning};
@@ -9,9 +9,9 @@ ghost use Rattle.asn1.specs.Structures.{explicit, field_names, structure, fields
 use crate::common::{AlgorithmIdentifier, Extensions, Name, Time};
 use asn1::fields::{Fields3, Fields7, Row};
 use asn1::{
-    Asn1Type, BigInt, BitString, Explicit, ParseResult, SequenceOf, SimpleAsn1Readable,
-    SimpleAsn1Writable, Tag, WriteBuf, WriteError, WriteResult, fields_length, known_fields,
-    read_fields, write_fields,
+    Asn1Type, Asn1Writable, BigInt, BitString, Explicit, ParseResult, SequenceOf,
+    SimpleAsn1Readable, SimpleAsn1Writable, Tag, WriteBuf, WriteError, WriteResult, fields_length,
+    known_fields, read_fields, write_fields,
 };
 use std::alloc::Global;
 
@@ -58,6 +58,9 @@ impl<'a> SimpleAsn1Readable<'a> for RevokedCertificate<'a> {
 
 impl<'a> SimpleAsn1Writable for RevokedCertificate<'a> {
     type Error = WriteError;
+
+    ghost length_known = { λ v. ⟦<Time as Asn1Writable>⟧.length_known v.revocation_date ×
+        ⟦<Option<Extensions<'a>> as Asn1Writable>⟧.length_known v.crl_entry_extensions };
 
     fn tag() -> Tag
         ensures value { result ≡ ⟦<RevokedCertificate<'a> as Asn1Type>⟧.der.content.tag }
@@ -152,6 +155,12 @@ impl<'a> SimpleAsn1Readable<'a> for TbsCertList<'a> {
 impl<'a> SimpleAsn1Writable for TbsCertList<'a> {
     type Error = WriteError;
 
+    ghost length_known = { λ v. ⟦<AlgorithmIdentifier<'a> as Asn1Writable>⟧.length_known v.signature
+        × ⟦<Name<'a> as Asn1Writable>⟧.length_known v.issuer × ⟦<Time as Asn1Writable>⟧.length_known
+        v.this_update × ⟦<Option<Time> as Asn1Writable>⟧.length_known v.next_update ×
+        ⟦<Option<Explicit<Extensions<'a>, 0>> as Asn1Writable>⟧.length_known (option_meaning
+        explicit v.crl_extensions) };
+
     fn tag() -> Tag
         ensures value { result ≡ ⟦<TbsCertList<'a> as Asn1Type>⟧.der.content.tag }
         ensures simple { ⟦<TbsCertList<'a> as Asn1Type>⟧.der.is_simple }
@@ -216,6 +225,9 @@ impl<'a> SimpleAsn1Readable<'a> for CertificateList<'a> {
 
 impl<'a> SimpleAsn1Writable for CertificateList<'a> {
     type Error = WriteError;
+
+    ghost length_known = { λ v. ⟦<TbsCertList<'a> as Asn1Writable>⟧.length_known v.tbs_cert_list ×
+        ⟦<AlgorithmIdentifier<'a> as Asn1Writable>⟧.length_known v.signature_algorithm };
 
     fn tag() -> Tag
         ensures value { result ≡ ⟦<CertificateList<'a> as Asn1Type>⟧.der.content.tag }

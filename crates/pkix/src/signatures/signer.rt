@@ -1,5 +1,5 @@
 //! Who signed (RFC 5652, 5.3), and the values of signed attributes (11.1 to 11.3).
-// Printed by tools/derive from declarations/signatures/signer.rs, with the sum 6cb539a0.
+// Printed by tools/derive from declarations/signatures/signer.rs, with the sum ce85a674.
 
 ghost use Rattle.std.specs.Prelude.{◌≡◌, ◌∷◌, [], IsTrue, OnErr, IfOk};
 ghost use Rattle.asn1.specs.AlternativeLists.{after1, choice, first1};
@@ -62,6 +62,8 @@ impl<'a> SimpleAsn1Readable<'a> for IssuerAndSerialNumber<'a> {
 
 impl<'a> SimpleAsn1Writable for IssuerAndSerialNumber<'a> {
     type Error = WriteError;
+
+    ghost length_known = { λ v. ⟦<Name<'a> as Asn1Writable>⟧.length_known v.issuer };
 
     fn tag() -> Tag
         ensures value { result ≡ ⟦<IssuerAndSerialNumber<'a> as Asn1Type>⟧.der.content.tag }
@@ -150,6 +152,15 @@ impl<'a> Asn1Readable<'a> for SignerIdentifier<'a> {
 impl<'a> Asn1Writable for SignerIdentifier<'a> {
     type Error = WriteError;
 
+    ghost use Rattle.pkix.specs.declared.signatures.signer.SignerIdentifier.TheVariants.{IssuerAndSerialNumber};
+    ghost use Rattle.pkix.specs.declared.signatures.signer.SignerIdentifier.TheVariants.{SubjectKeyIdentifier};
+
+    ghost length_known = { elim [
+      | IssuerAndSerialNumber x ↦
+          ⟦<IssuerAndSerialNumber<'a> as Asn1Writable>⟧.length_known x
+      | SubjectKeyIdentifier x ↦ Unit {0}
+    ] };
+
     fn write(&self, dest: &mut Writer<'_>) -> WriteResult<()> {
         write_choice!(self, dest;
             SignerIdentifier(x); IssuerAndSerialNumber, SubjectKeyIdentifier: implicit 0)
@@ -237,6 +248,13 @@ impl<'a> SimpleAsn1Readable<'a> for SignerInfo<'a> {
 
 impl<'a> SimpleAsn1Writable for SignerInfo<'a> {
     type Error = WriteError;
+
+    ghost length_known = { λ v. ⟦<SignerIdentifier<'a> as Asn1Writable>⟧.length_known v.sid ×
+        ⟦<AlgorithmIdentifier<'a> as Asn1Writable>⟧.length_known v.digest_algorithm ×
+        ⟦<Option<Implicit<Attributes<'a>, 0>> as Asn1Writable>⟧.length_known (option_meaning
+        implicit v.signed_attrs) × ⟦<AlgorithmIdentifier<'a> as Asn1Writable>⟧.length_known
+        v.signature_algorithm × ⟦<Option<Implicit<Attributes<'a>, 1>> as Asn1Writable>⟧.length_known
+        (option_meaning implicit v.unsigned_attrs) };
 
     fn tag() -> Tag
         ensures value { result ≡ ⟦<SignerInfo<'a> as Asn1Type>⟧.der.content.tag }

@@ -1,5 +1,5 @@
 //! Values of signatures (RFC 3279, 2.2.2 and 2.2.3; RFC 8017, 9.2).
-// Printed by tools/derive from declarations/signatures/values.rs, with the sum 1a86fbd8.
+// Printed by tools/derive from declarations/signatures/values.rs, with the sum 70b55558.
 
 ghost use Rattle.std.specs.Prelude.{◌≡◌, ◌∷◌, [], IsTrue};
 ghost use Rattle.asn1.specs.Reads.{HasOneEncoding, ReadsContents};
@@ -8,8 +8,8 @@ ghost use Rattle.asn1.specs.Structures.{field_names, structure, fields2};
 use crate::common::AlgorithmIdentifier;
 use asn1::fields::{Fields2, Row};
 use asn1::{
-    Asn1Type, BigUint, ParseResult, SimpleAsn1Readable, SimpleAsn1Writable, Tag, WriteBuf,
-    WriteError, WriteResult, fields_length, known_fields, read_fields, write_fields,
+    Asn1Type, Asn1Writable, BigUint, ParseResult, SimpleAsn1Readable, SimpleAsn1Writable, Tag,
+    WriteBuf, WriteError, WriteResult, fields_length, known_fields, read_fields, write_fields,
 };
 use std::alloc::Global;
 
@@ -116,6 +116,9 @@ impl<'a> SimpleAsn1Readable<'a> for DigestInfo<'a> {
 
 impl<'a> SimpleAsn1Writable for DigestInfo<'a> {
     type Error = WriteError;
+
+    ghost length_known = { λ v. ⟦<AlgorithmIdentifier<'a> as Asn1Writable>⟧.length_known
+        v.digest_algorithm };
 
     fn tag() -> Tag
         ensures value { result ≡ ⟦<DigestInfo<'a> as Asn1Type>⟧.der.content.tag }

@@ -1,5 +1,5 @@
 //! Requests for time stamps, and responses (RFC 3161, 2.4).
-// Printed by tools/derive from declarations/timestamps/exchange.rs, with the sum d7125e60.
+// Printed by tools/derive from declarations/timestamps/exchange.rs, with the sum de772d99.
 
 ghost use Rattle.std.specs.Prelude.{◌≡◌, ◌∷◌, [], false, IsTrue};
 ghost use Rattle.asn1.specs.Options.{option_meaning};
@@ -10,9 +10,9 @@ use crate::common::{AlgorithmIdentifier, Extensions, NamedBits};
 use crate::signatures::ContentInfo;
 use asn1::fields::{Fields2, Fields3, Fields6, Row};
 use asn1::{
-    Asn1Type, BigInt, DefaultValue, Defaulted, Implicit, ObjectIdentifier, ParseResult, SequenceOf,
-    SimpleAsn1Readable, SimpleAsn1Writable, Tag, Utf8String, WriteBuf, WriteError, WriteResult,
-    fields_length, known_fields, read_fields, write_fields,
+    Asn1Type, Asn1Writable, BigInt, DefaultValue, Defaulted, Implicit, ObjectIdentifier,
+    ParseResult, SequenceOf, SimpleAsn1Readable, SimpleAsn1Writable, Tag, Utf8String, WriteBuf,
+    WriteError, WriteResult, fields_length, known_fields, read_fields, write_fields,
 };
 use std::alloc::Global;
 
@@ -56,6 +56,9 @@ impl<'a> SimpleAsn1Readable<'a> for MessageImprint<'a> {
 
 impl<'a> SimpleAsn1Writable for MessageImprint<'a> {
     type Error = WriteError;
+
+    ghost length_known = { λ v. ⟦<AlgorithmIdentifier<'a> as Asn1Writable>⟧.length_known
+        v.hash_algorithm };
 
     fn tag() -> Tag
         ensures value { result ≡ ⟦<MessageImprint<'a> as Asn1Type>⟧.der.content.tag }
@@ -156,6 +159,10 @@ impl<'a> SimpleAsn1Readable<'a> for TimeStampReq<'a> {
 impl<'a> SimpleAsn1Writable for TimeStampReq<'a> {
     type Error = WriteError;
 
+    ghost length_known = { λ v. ⟦<MessageImprint<'a> as Asn1Writable>⟧.length_known
+        v.message_imprint × ⟦<Option<Implicit<Extensions<'a>, 0>> as Asn1Writable>⟧.length_known
+        (option_meaning implicit v.extensions) };
+
     fn tag() -> Tag
         ensures value { result ≡ ⟦<TimeStampReq<'a> as Asn1Type>⟧.der.content.tag }
         ensures simple { ⟦<TimeStampReq<'a> as Asn1Type>⟧.der.is_simple }
@@ -220,6 +227,9 @@ impl<'a> SimpleAsn1Readable<'a> for PkiStatusInfo<'a> {
 
 impl<'a> SimpleAsn1Writable for PkiStatusInfo<'a> {
     type Error = WriteError;
+
+    ghost length_known = { λ v. ⟦<Option<NamedBits<'a>> as Asn1Writable>⟧.length_known
+        v.fail_info };
 
     fn tag() -> Tag
         ensures value { result ≡ ⟦<PkiStatusInfo<'a> as Asn1Type>⟧.der.content.tag }
@@ -287,6 +297,9 @@ impl<'a> SimpleAsn1Readable<'a> for TimeStampResp<'a> {
 impl<'a> SimpleAsn1Writable for TimeStampResp<'a> {
     type Error = WriteError;
 
+    ghost length_known = { λ v. ⟦<PkiStatusInfo<'a> as Asn1Writable>⟧.length_known v.status ×
+        ⟦<Option<ContentInfo<'a>> as Asn1Writable>⟧.length_known v.time_stamp_token };
+
     fn tag() -> Tag
         ensures value { result ≡ ⟦<TimeStampResp<'a> as Asn1Type>⟧.der.content.tag }
         ensures simple { ⟦<TimeStampResp<'a> as Asn1Type>⟧.der.is_simple }
@@ -322,7 +335,6 @@ pub mod laws {
     }
 
     /// Each value of `TimeStampReq` has one encoding, which is read back.
-    #[tactic(auto, using(asn1::specs::Lemmas::Fields::tags_differ))]
     pub fn time_stamp_req_is_lawful()
         ensures { HasOneEncoding ⟦<TimeStampReq<'static> as Asn1Type>⟧.der }
     {

@@ -1,5 +1,5 @@
 //! What a time stamp says (RFC 3161, 2.4.2).
-// Printed by tools/derive from declarations/timestamps/info.rs, with the sum 92e3a9e5.
+// Printed by tools/derive from declarations/timestamps/info.rs, with the sum 15124d5d.
 
 ghost use Rattle.std.specs.Prelude.{◌≡◌, ◌∷◌, [], false, IsTrue};
 ghost use Rattle.asn1.specs.Options.{option_meaning};
@@ -10,7 +10,7 @@ use crate::common::{Extensions, GeneralName};
 use crate::timestamps::MessageImprint;
 use asn1::fields::{Fields3, Fields10, Row};
 use asn1::{
-    Asn1Type, BigInt, DefaultValue, Defaulted, Explicit, GeneralizedTime, Implicit,
+    Asn1Type, Asn1Writable, BigInt, DefaultValue, Defaulted, Explicit, GeneralizedTime, Implicit,
     ObjectIdentifier, ParseResult, SimpleAsn1Readable, SimpleAsn1Writable, Tag, WriteBuf,
     WriteError, WriteResult, fields_length, known_fields, read_fields, write_fields,
 };
@@ -180,6 +180,12 @@ impl<'a> SimpleAsn1Readable<'a> for TstInfo<'a> {
 impl<'a> SimpleAsn1Writable for TstInfo<'a> {
     type Error = WriteError;
 
+    ghost length_known = { λ v. ⟦<MessageImprint<'a> as Asn1Writable>⟧.length_known
+        v.message_imprint × ⟦<Option<Explicit<GeneralName<'a>, 0>> as Asn1Writable>⟧.length_known
+        (option_meaning explicit v.tsa) ×
+        ⟦<Option<Implicit<Extensions<'a>, 1>> as Asn1Writable>⟧.length_known (option_meaning
+        implicit v.extensions) };
+
     fn tag() -> Tag
         ensures value { result ≡ ⟦<TstInfo<'a> as Asn1Type>⟧.der.content.tag }
         ensures simple { ⟦<TstInfo<'a> as Asn1Type>⟧.der.is_simple }
@@ -208,13 +214,11 @@ pub mod laws {
     use asn1::Asn1Type;
 
     /// Each value of `Accuracy` has one encoding, which is read back.
-    #[tactic(auto, using(asn1::specs::Lemmas::Fields::tags_differ))]
     pub fn accuracy_is_lawful()
         ensures { HasOneEncoding ⟦<Accuracy<'static> as Asn1Type>⟧.der }
     {}
 
     /// Each value of `TstInfo` has one encoding, which is read back.
-    #[tactic(auto, using(asn1::specs::Lemmas::Fields::tags_differ))]
     pub fn tst_info_is_lawful()
         ensures { HasOneEncoding ⟦<TstInfo<'static> as Asn1Type>⟧.der }
     {

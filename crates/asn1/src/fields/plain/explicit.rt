@@ -3,7 +3,7 @@
 
 ghost use Rattle.std.specs.Prelude.{◌≡◌, OnOk, OnErr, IfErr};
 ghost use Rattle.asn1_core.specs.Buffer.{Appends, KeepsPrefix};
-ghost use Rattle.asn1_core.specs.Options.{option_meaning};
+ghost use Rattle.asn1_core.specs.Options.{OfValue, OptionErrors, option_meaning};
 ghost use Rattle.asn1_core.specs.Tag.{explicit_tag_of};
 ghost use Rattle.asn1_core.specs.Writing.{buffer_name, octets_of, IsElementOf, GivesLength, NamesError};
 ghost use Rattle.asn1.specs.Defaults.{same_encoding};
@@ -107,11 +107,9 @@ impl<T: Asn1Writable, const N: u32> FieldWritable<Option<T>> for Option<Explicit
     ghost owes = { λ v. owed ⟦<Option<Explicit<T, N>> as Asn1Type>⟧.der
         (option_meaning explicit v) };
 
-    ghost write_errors = { λ v. ⟦<Option<Explicit<T, N>> as Asn1Writable>⟧.write_errors
-        (option_meaning explicit v) };
+    ghost write_errors = { OptionErrors T.write_errors };
 
-    ghost length_known = { λ v. ⟦<Option<Explicit<T, N>> as Asn1Writable>⟧.length_known
-        (option_meaning explicit v) };
+    ghost length_known = { OfValue T.length_known };
 
     fn write_plain(value: &Option<T>, dest: &mut Writer<'_>) -> Result<(), T::Error> {
         match value {
