@@ -19,12 +19,12 @@ ANSWER = "\npub {0} : goal.{0}\n{2}{0} c = {1}\n"
 IDENTIFIER_USES = """use Rattle.std.proofs.Common.{refl, sym}
 use Rattle.asn1.specs.Base128.{leading_number}
 use Rattle.asn1.specs.Identifier.{numbers_in, read_identifier}
-use Rattle.asn1.specs.Lemmas.Results.{done-injective}
+use Rattle.asn1.specs.Lemmas.Results.{done_injective}
 """
 PLACES = "first second third fourth fifth sixth seventh eighth".split()
 COMPUTED = "unfolding read_identifier numbers_in leading_number\n"
 IDENTIFIER_ANSWERS = ANSWER.format("known_identifier-requires", "refl", COMPUTED)
-IDENTIFIER_ANSWERS += ANSWER.format("returns", "sym (done-injective _ _ c.known_identifier.ensures)", COMPUTED)
+IDENTIFIER_ANSWERS += ANSWER.format("returns", "sym (done_injective _ _ c.known_identifier.ensures)", COMPUTED)
 
 
 def quoted(type, trait="Asn1Type"):

@@ -9,8 +9,8 @@ abbrev others : {M : Type 0} → List M → List M
 others [] = []
 others (m ∷ ms) = ms
 
-pub cons-injective_head : {M : Type 0} (m n : M) (ms ns : List M) → (m ∷ ms) ≡ (n ∷ ns) → m ≡ n
-cons-injective_head m n ms ns e = ap (head_or m) e
+pub cons_injective_head : {M : Type 0} (m n : M) (ms ns : List M) → (m ∷ ms) ≡ (n ∷ ns) → m ≡ n
+cons_injective_head m n ms ns e = ap (head_or m) e
 
-pub cons-injective_tail : {M : Type 0} (m n : M) (ms ns : List M) → (m ∷ ms) ≡ (n ∷ ns) → ms ≡ ns
-cons-injective_tail m n ms ns e = ap others e
+pub cons_injective_tail : {M : Type 0} (m n : M) (ms ns : List M) → (m ∷ ms) ≡ (n ∷ ns) → ms ≡ ns
+cons_injective_tail m n ms ns e = ap others e

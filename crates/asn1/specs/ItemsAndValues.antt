@@ -58,9 +58,9 @@ pub record ValueAgrees {T V : Type 0} (by : ByItem T V) (both : ItemAndValue T V
 abbrev pub Agrees : {T V : Type 0} → Der T → ByItem T V → ItemAndValue T V → Type 0
 Agrees d by both = ItemAgrees d both.item × ValueAgrees by both
 
-pub seen_front-id : {M : Type 0} (r : Result (M × List ℕ) ReadError) → r ≡ seen_front (λ m. m) r
-seen_front-id (Ok x) = refl
-seen_front-id (Err e) = refl
+pub seen_front_id : {M : Type 0} (r : Result (M × List ℕ) ReadError) → r ≡ seen_front (λ m. m) r
+seen_front_id (Ok x) = refl
+seen_front_id (Err e) = refl
 
 -- They agree if they state the same, word for word.
 pub word_for_word : {T V : Type 0} (both : ItemAndValue T V) → Agrees both.item (by_item both) both
@@ -68,7 +68,7 @@ word_for_word both = (
   record {
     stands_for = λ m. m;
     meaning = λ v. refl;
-    read = λ t. seen_front-id (both.item.read t);
+    read = λ t. seen_front_id (both.item.read t);
     runs_out = λ t places out. out;
     encodings = λ m t. (λ h. h, λ h. h);
     closures = λ m h. h;
@@ -78,7 +78,7 @@ word_for_word both = (
     stands_for = λ m. m;
     meaning = λ v. refl;
     item = λ i m e. e;
-    read = λ i t. seen_front-id (both.value.read (both.item.meaning i) t);
+    read = λ i t. seen_front_id (both.value.read (both.item.meaning i) t);
     runs_out = λ i t places out. out;
     encodings = λ m t. (λ h. h, λ h. h);
     closures = λ m h. h;
@@ -99,25 +99,25 @@ module _ {M N : Type 0} (f : M → N) (read : List ℕ → Result (M × List ℕ
   element_seen (Ok e) = ap whole (same (element_encoding e)) ∙ whole_seen (read (element_encoding e))
   element_seen (Err e) = refl
 
-  seen_whole-bind : (r : Result M ReadError) (rest : List ℕ) → (seen_whole f r >>= λ m. Ok (m, rest)) ≡ seen_front f (r >>= λ m. Ok (m, rest))
-  seen_whole-bind (Ok m) rest = refl
-  seen_whole-bind (Err e) rest = refl
+  seen_whole_bind : (r : Result M ReadError) (rest : List ℕ) → (seen_whole f r >>= λ m. Ok (m, rest)) ≡ seen_front f (r >>= λ m. Ok (m, rest))
+  seen_whole_bind (Ok m) rest = refl
+  seen_whole_bind (Err e) rest = refl
 
-  seen_front-if : (b : Bool) (x : Result (M × List ℕ) ReadError) (e : ReadError) → (if b then seen_front f x else Err e) ≡ seen_front f (if b then x else Err e)
-  seen_front-if true x e = refl
-  seen_front-if false x e = refl
+  seen_front_if : (b : Bool) (x : Result (M × List ℕ) ReadError) (e : ReadError) → (if b then seen_front f x else Err e) ≡ seen_front f (if b then x else Err e)
+  seen_front_if true x e = refl
+  seen_front_if false x e = refl
 
   expected_seen : (tag : Tag) (x : Element × List ℕ) → expected tag (element_read read2) x ≡ seen_front f (expected tag (element_read read) x)
   expected_seen tag x =
       let inner : element_read read2 x.0.content ≡ seen_whole f (element_read read x.0.content) = element_seen (whole (framed_element x.0.content)) in
-      rw (inner, seen_whole-bind (element_read read x.0.content) x.1) (seen_front-if (tag_eq x.0.tag tag) _ _)
+      rw (inner, seen_whole_bind (element_read read x.0.content) x.1) (seen_front_if (tag_eq x.0.tag tag) _ _)
 
   tagged_seen : (tag : Tag) (r : Result (Element × List ℕ) ReadError) → (r >>= expected tag (element_read read2)) ≡ seen_front f (r >>= expected tag (element_read read))
   tagged_seen tag (Ok x) = expected_seen tag x
   tagged_seen tag (Err e) = refl
 
-IsElementOf-weaker : (tag : Tag) (encodings texts2 : List ℕ → Type 0) → ((t : List ℕ) → encodings t → texts2 t) → (t : List ℕ) → IsElementOf tag encodings t → IsElementOf tag texts2 t
-IsElementOf-weaker tag encodings texts2 law t h = record { content = h.content; is_content = law h.content h.is_content; is = h.is }
+IsElementOf_weaker : (tag : Tag) (encodings texts2 : List ℕ → Type 0) → ((t : List ℕ) → encodings t → texts2 t) → (t : List ℕ) → IsElementOf tag encodings t → IsElementOf tag texts2 t
+IsElementOf_weaker tag encodings texts2 law t h = record { content = h.content; is_content = law h.content h.is_content; is = h.is }
 
 -- `Agrees` of a type under an explicit tag, if it holds of the type without the tag.
 pub agrees_inside : {T V W : Type 0} (tag : Tag) (view : W → V) (d : Der T) (by : ByItem T V) (both : ItemAndValue T V) → Agrees d by both →
@@ -131,7 +131,7 @@ agrees_inside tag view d by both h =
         item = k.item;
         read = λ i t. tagged_seen k.stands_for (by.means.read (by.seen i)) (both.value.read (both.item.meaning i)) (k.read i) tag (framed_element t);
         runs_out = λ i t places out. (out.0, out.1, out.2, (out.3.0, out.3.1, k.runs_out i (element_encoding out.3.0) places out.3.2));
-        encodings = λ m t. (IsElementOf-weaker tag _ _ (λ x. (k.encodings m x).0) t, IsElementOf-weaker tag _ _ (λ x. (k.encodings m x).1) t);
+        encodings = λ m t. (IsElementOf_weaker tag _ _ (λ x. (k.encodings m x).0) t, IsElementOf_weaker tag _ _ (λ x. (k.encodings m x).1) t);
         closures = k.closures;
         valid = k.valid;
         plain = k.plain;

@@ -12,39 +12,39 @@ use Rattle.std.specs.Ordering.{is_lt, nat_cmp, ordering_then}
 use Rattle.std.specs.declared.cmp.Ordering.{Ordering}
 use Rattle.std.specs.Cmp.Lexicographic.{slice_cmp}
 use Rattle.asn1_core.specs.declared.writer.sets.Span.{Span}
-use Rattle.asn1_core.specs.Lemmas.Listing.{encoding_less-asymm}
+use Rattle.asn1_core.specs.Lemmas.Listing.{encoding_less_asymm}
 use Rattle.asn1_core.specs.SetSteps.{part_of, first_number, span_cmp, IsBefore, NotesFirst}
-use Rattle.asn1_core.specs.Lemmas.Lengths.{number-lt}
-use Rattle.asn1_core.specs.Lemmas.Texts.{IsOctets-append}
-use Rattle.asn1_core.proofs.Ordered.{encoding_less-cons_below, encoding_less-cons_same}
-use Rattle.asn1_core.specs.Lemmas.Facts.{IsOctets-replicate_zero}
+use Rattle.asn1_core.specs.Lemmas.Lengths.{number_is_lt}
+use Rattle.asn1_core.specs.Lemmas.Texts.{IsOctets_append}
+use Rattle.asn1_core.proofs.Ordered.{encoding_less_cons_below, encoding_less_cons_same}
+use Rattle.asn1_core.specs.Lemmas.Facts.{IsOctets_replicate_zero}
 
-number-replicate_zero : (n : ℕ) → number (replicate n 0) ≡ 0
-number-replicate_zero zero = refl
-number-replicate_zero (suc n) = omega (arith, number-replicate_zero n)
+number_replicate_zero : (n : ℕ) → number (replicate n 0) ≡ 0
+number_replicate_zero zero = refl
+number_replicate_zero (suc n) = omega (arith, number_replicate_zero n)
 
-IsOctets-take : (k : ℕ) (t : List ℕ) → IsOctets t → IsOctets (take k t)
-IsOctets-take zero t is = tt
-IsOctets-take (suc k) [] is = tt
-IsOctets-take (suc k) (x ∷ xs) is = (is.0, IsOctets-take k xs is.1)
+IsOctets_take : (k : ℕ) (t : List ℕ) → IsOctets t → IsOctets (take k t)
+IsOctets_take zero t is = tt
+IsOctets_take (suc k) [] is = tt
+IsOctets_take (suc k) (x ∷ xs) is = (is.0, IsOctets_take k xs is.1)
 
 -- the first k octets of an encoding with n zeros after it
 abbrev firsts : ℕ → ℕ → List ℕ → List ℕ
 firsts n k t = take k (t ++ replicate n 0)
 
-length-firsts : (n k : ℕ) (t : List ℕ) → k ≤ n → length (firsts n k t) ≡ k
-length-firsts n k t h = length-take-le k (t ++ replicate n 0) (omega (arith, length-append t (replicate n 0), length-replicate {A = ℕ} n 0))
+length_firsts : (n k : ℕ) (t : List ℕ) → k ≤ n → length (firsts n k t) ≡ k
+length_firsts n k t h = length-take-le k (t ++ replicate n 0) (omega (arith, length-append t (replicate n 0), length-replicate {A = ℕ} n 0))
 
-number-firsts-lt : (n k : ℕ) (t : List ℕ) → IsOctets t → k ≤ n → number (firsts n k t) < 256 ^ k
-number-firsts-lt n k t is h =
-    subst (λ (m : ℕ). number (firsts n k t) < 256 ^ m) (length-firsts n k t h)
-    (number-lt (firsts n k t) (IsOctets-take k (t ++ replicate n 0) (IsOctets-append t (replicate n 0) is (IsOctets-replicate_zero n))))
+number_firsts_lt : (n k : ℕ) (t : List ℕ) → IsOctets t → k ≤ n → number (firsts n k t) < 256 ^ k
+number_firsts_lt n k t is h =
+    subst (λ (m : ℕ). number (firsts n k t) < 256 ^ m) (length_firsts n k t h)
+    (number_is_lt (firsts n k t) (IsOctets_take k (t ++ replicate n 0) (IsOctets_append t (replicate n 0) is (IsOctets_replicate_zero n))))
 
-number-firsts_nil : (n k : ℕ) → k ≤ n → number (firsts n k []) ≡ 0
-number-firsts_nil n k h = ap number (take-replicate {X = ℕ} k n 0 h) ∙ number-replicate_zero k
+number_firsts_nil : (n k : ℕ) → k ≤ n → number (firsts n k []) ≡ 0
+number_firsts_nil n k h = ap number (take-replicate {X = ℕ} k n 0 h) ∙ number_replicate_zero k
 
-number-firsts_cons : (n k x : ℕ) (xs : List ℕ) → k ≤ n → number (firsts n (suc k) (x ∷ xs)) ≡ x * 256 ^ k + number (firsts n k xs)
-number-firsts_cons n k x xs h = ap (λ (m : ℕ). x * 256 ^ m + number (firsts n k xs)) (length-firsts n k xs h)
+number_firsts_cons : (n k x : ℕ) (xs : List ℕ) → k ≤ n → number (firsts n (suc k) (x ∷ xs)) ≡ x * 256 ^ k + number (firsts n k xs)
+number_firsts_cons n k x xs h = ap (λ (m : ℕ). x * 256 ^ m + number (firsts n k xs)) (length_firsts n k xs h)
 
 -- the leading number decides
 decided : {A : Type 0} (x y p r s : ℕ) → x * p + r < y * p + s → r < p → s < p → (x < y → A) → (x ≡ y → r < s → A) → A
@@ -55,18 +55,18 @@ decided x y p r s less hr hs below same = ⊎_elim
     (λ (n : x ≡ y → ⊥). let over : y * p + s < p * x = mul-add-lt y p s x (omega arith) hs in absurd (omega (arith, over, less))) (cases_eq x y))
     (cases_lt x y)
 
-encoding_less-firsts : (n k : ℕ) (a b : List ℕ) → IsOctets a → IsOctets b → k ≤ n → number (firsts n k a) < number (firsts n k b) → encoding_less a b ≡ true
-encoding_less-firsts n zero a b f g h less = absurd (omega (arith, less))
-encoding_less-firsts n (suc k) a [] f g h less = absurd (omega (arith, less, number-firsts_nil n (suc k) h))
-encoding_less-firsts n (suc k) [] (y ∷ ys) f g h less = refl
-encoding_less-firsts n (suc k) (x ∷ xs) (y ∷ ys) f g h less =
+encoding_less_firsts : (n k : ℕ) (a b : List ℕ) → IsOctets a → IsOctets b → k ≤ n → number (firsts n k a) < number (firsts n k b) → encoding_less a b ≡ true
+encoding_less_firsts n zero a b f g h less = absurd (omega (arith, less))
+encoding_less_firsts n (suc k) a [] f g h less = absurd (omega (arith, less, number_firsts_nil n (suc k) h))
+encoding_less_firsts n (suc k) [] (y ∷ ys) f g h less = refl
+encoding_less_firsts n (suc k) (x ∷ xs) (y ∷ ys) f g h less =
     let l : k ≤ n = omega (arith, h) in
-    decided x y (256 ^ k) (number (firsts n k xs)) (number (firsts n k ys)) (omega (arith, less, number-firsts_cons n k x xs l, number-firsts_cons n k y ys l)) (number-firsts-lt n k xs f.1 l) (number-firsts-lt n k ys g.1 l)
-    (encoding_less-cons_below x y xs ys)
-    (λ e rest. encoding_less-cons_same x y xs ys e ∙ encoding_less-firsts n k xs ys f.1 g.1 l rest)
+    decided x y (256 ^ k) (number (firsts n k xs)) (number (firsts n k ys)) (omega (arith, less, number_firsts_cons n k x xs l, number_firsts_cons n k y ys l)) (number_firsts_lt n k xs f.1 l) (number_firsts_lt n k ys g.1 l)
+    (encoding_less_cons_below x y xs ys)
+    (λ e rest. encoding_less_cons_same x y xs ys e ∙ encoding_less_firsts n k xs ys f.1 g.1 l rest)
 
-pub encoding_less-first_number : (a b : List ℕ) → IsOctets a → IsOctets b → first_number a < first_number b → encoding_less a b ≡ true
-encoding_less-first_number a b f g less = encoding_less-firsts 8 8 a b f g (omega arith) less
+pub encoding_less_first_number : (a b : List ℕ) → IsOctets a → IsOctets b → first_number a < first_number b → encoding_less a b ≡ true
+encoding_less_first_number a b f g less = encoding_less_firsts 8 8 a b f g (omega arith) less
 
 -- all of the octets are taken, and what they lack from the octets after them
 take_past : (t r : List ℕ) (n : ℕ) → length t ≤ n → take n (t ++ r) ≡ t ++ take (n - length t) r
@@ -91,44 +91,44 @@ filled_firsts n t ys count e f = ⊎_elim
     grind (arith, common_steps))
     (cases_lt (length t) n)
 
-pub append-drop_zeros : (t ys : List ℕ) (count : ℕ) → count ≡ min (length t) 8 → ys ≡ take count t → ys ++ drop count (replicate 8 0) ≡ take 8 (t ++ replicate 8 0)
-append-drop_zeros t ys count e f = filled_firsts 8 t ys count e f
+pub append_drop_zeros : (t ys : List ℕ) (count : ℕ) → count ≡ min (length t) 8 → ys ≡ take count t → ys ++ drop count (replicate 8 0) ≡ take 8 (t ++ replicate 8 0)
+append_drop_zeros t ys count e f = filled_firsts 8 t ys count e f
 
 -- ---- spans
 
-ordering_then-less : (m n : ℕ) (o : Ordering) → m < n → is_lt (ordering_then (nat_cmp m n) o) ≡ true
-ordering_then-less m n o h = rw (lt-ltb m n h) refl
+ordering_then_less : (m n : ℕ) (o : Ordering) → m < n → is_lt (ordering_then (nat_cmp m n) o) ≡ true
+ordering_then_less m n o h = rw (lt-ltb m n h) refl
 
-ordering_then-same : (m n : ℕ) (o : Ordering) → m ≡ n → ordering_then (nat_cmp m n) o ≡ o
-ordering_then-same m n o e = rw (le-ltb m n (omega arith), eq-eqb m n e) refl
+ordering_then_same : (m n : ℕ) (o : Ordering) → m ≡ n → ordering_then (nat_cmp m n) o ≡ o
+ordering_then_same m n o e = rw (le-ltb m n (omega arith), eq-eqb m n e) refl
 
-IsOctets-drop : (k : ℕ) (t : List ℕ) → IsOctets t → IsOctets (drop k t)
-IsOctets-drop zero t is = is
-IsOctets-drop (suc k) [] is = tt
-IsOctets-drop (suc k) (x ∷ xs) is = IsOctets-drop k xs is.1
+IsOctets_drop : (k : ℕ) (t : List ℕ) → IsOctets t → IsOctets (drop k t)
+IsOctets_drop zero t is = is
+IsOctets_drop (suc k) [] is = tt
+IsOctets_drop (suc k) (x ∷ xs) is = IsOctets_drop k xs is.1
 
-IsOctets-if : (b : Bool) (t : List ℕ) → IsOctets t → IsOctets (if b then t else [])
-IsOctets-if true t is = is
-IsOctets-if false t is = tt
+IsOctets_if : (b : Bool) (t : List ℕ) → IsOctets t → IsOctets (if b then t else [])
+IsOctets_if true t is = is
+IsOctets_if false t is = tt
 
-IsOctets-part_of : (octets : List ℕ) (s : Span) → IsOctets octets → IsOctets (part_of octets s)
-IsOctets-part_of octets s is = IsOctets-if (nat_le (s.from + s.len) (length octets)) _ (IsOctets-take s.len (drop s.from octets) (IsOctets-drop s.from octets is))
+IsOctets_part_of : (octets : List ℕ) (s : Span) → IsOctets octets → IsOctets (part_of octets s)
+IsOctets_part_of octets s is = IsOctets_if (nat_le (s.from + s.len) (length octets)) _ (IsOctets_take s.len (drop s.from octets) (IsOctets_drop s.from octets is))
 
 -- spans that don't compare as less aren't before one another
-IsBefore-span_cmp : (octets : List ℕ) (a b : Span) → IsOctets octets → NotesFirst octets a → NotesFirst octets b → is_lt (span_cmp octets a b) ≡ false → IsBefore octets a b ≡ false
-IsBefore-span_cmp octets a b is fa fb e =
-    let ta = IsOctets-part_of octets a is in
-    let tb = IsOctets-part_of octets b is in
+IsBefore_span_cmp : (octets : List ℕ) (a b : Span) → IsOctets octets → NotesFirst octets a → NotesFirst octets b → is_lt (span_cmp octets a b) ≡ false → IsBefore octets a b ≡ false
+IsBefore_span_cmp octets a b is fa fb e =
+    let ta = IsOctets_part_of octets a is in
+    let tb = IsOctets_part_of octets b is in
     let o = slice_cmp nat_cmp (part_of octets a) (part_of octets b) in
     let na : a.first ≡ first_number (part_of octets a) = fa.first in
     let nb : b.first ≡ first_number (part_of octets b) = fb.first in
     ⊎_elim
-    (λ (l : a.first < b.first). absurd (let f : is_lt (span_cmp octets a b) ≡ true = ordering_then-less a.first b.first o l in cc))
+    (λ (l : a.first < b.first). absurd (let f : is_lt (span_cmp octets a b) ≡ true = ordering_then_less a.first b.first o l in cc))
     (λ (l : b.first ≤ a.first). ⊎_elim
-    (λ (s : a.first ≡ b.first). ap is_lt (sym (ordering_then-same a.first b.first o s)) ∙ e)
-    (λ (n : a.first ≡ b.first → ⊥). encoding_less-asymm (part_of octets b) (part_of octets a) (encoding_less-first_number (part_of octets b) (part_of octets a) tb ta (omega (arith, na, nb)))) (cases_eq a.first b.first))
+    (λ (s : a.first ≡ b.first). ap is_lt (sym (ordering_then_same a.first b.first o s)) ∙ e)
+    (λ (n : a.first ≡ b.first → ⊥). encoding_less_asymm (part_of octets b) (part_of octets a) (encoding_less_first_number (part_of octets b) (part_of octets a) tb ta (omega (arith, na, nb)))) (cases_eq a.first b.first))
     (cases_lt a.first b.first)
 
 pub sorted_spans : (octets : List ℕ) (ss : List Span) → IsOctets octets → All (NotesFirst octets) ss → IsSortedBy (λ a b. is_lt (span_cmp octets a b)) ss → IsSortedBy (IsBefore octets) ss
 sorted_spans octets ss is each s k d low high =
-    IsBefore-span_cmp octets (get_or ss (k + 1) d) (get_or ss k d) is (each (k + 1) d high) (each k d (omega arith)) (s k d low high)
+    IsBefore_span_cmp octets (get_or ss (k + 1) d) (get_or ss k d) is (each (k + 1) d high) (each k d (omega arith)) (s k d low high)

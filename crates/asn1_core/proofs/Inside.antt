@@ -9,39 +9,39 @@ use Rattle.asn1_core.specs.ReadError.{ReadError}
 use Rattle.asn1_core.specs.Reading.{Returns, Consumes, Fits, IsOneElement, begins_accepted, whole}
 use Rattle.asn1_core.specs.Der.{Der}
 use Rattle.asn1_core.specs.Reads.{ReturnsValue}
-use Rattle.asn1_core.specs.Lemmas.Wholes.{whole-consumes, whole_read_back, Fits-short, begins_accepted-nil}
+use Rattle.asn1_core.specs.Lemmas.Wholes.{whole_consumes, whole_read_back, Fits_short, begins_accepted_nil}
 
 pub inside_consumes : {M : Type 0} (encoding : M → List ℕ) (valid : M → Type 0) (read : List ℕ → Result (M × List ℕ) ReadError) →
     ((t rest : List ℕ) (m : M) → IsOctets t → read t ≡ Ok (m, rest) → Consumes t (encoding m) rest × valid m) →
     (c : List ℕ) (m : M) → IsOctets c → whole (read c) ≡ Ok m → (c ≡ encoding m) × valid m
 inside_consumes encoding valid read law c m is e =
-    let w = whole-consumes encoding valid read law c m is e in
+    let w = whole_consumes encoding valid read law c m is e in
     (w.0.is ∙ append-nil (encoding m), w.1)
 
 pub inside_read_back : {M : Type 0} (accepts : Tag → Bool) (encoding : M → List ℕ) (read : List ℕ → Result (M × List ℕ) ReadError) (m : M) →
     (encoding m ≡ []) ⊎ IsOneElement (encoding m) →
     (Fits (encoding m) → (encoding m ≡ [] → begins_accepted accepts [] ≡ false) → read (encoding m ++ []) ≡ Ok (m, [])) →
     length (encoding m) < 2 ^ 32 → whole (read (encoding m)) ≡ Ok m
-inside_read_back accepts encoding read m shape again small = whole_read_back encoding read m (encoding m) (again (Fits-short (encoding m) shape small) (λ e. begins_accepted-nil accepts)) refl
+inside_read_back accepts encoding read m shape again small = whole_read_back encoding read m (encoding m) (again (Fits_short (encoding m) shape small) (λ e. begins_accepted_nil accepts)) refl
 
 -- what a call took that returned a value: the value's encoding
-pub Returns-consumed : {V M : Type 0} (view : V → M) (out : List Place → Type 0) (encoding : M → List ℕ) (good : M → Type 0) (read : List ℕ → Result (M × List ℕ) ReadError) →
+pub Returns_consumed : {V M : Type 0} (view : V → M) (out : List Place → Type 0) (encoding : M → List ℕ) (good : M → Type 0) (read : List ℕ → Result (M × List ℕ) ReadError) →
     ((t rest : List ℕ) (m : M) → IsOctets t → read t ≡ Ok (m, rest) → Consumes t (encoding m) rest × good m) →
     (t rest : List ℕ) (result : Result V ReadError) → IsOctets t → Returns (λ v. (view v, rest)) out result (read t) → IfOk result (λ v. (t ≡ encoding (view v) ++ rest) × good (view v))
-Returns-consumed view out encoding good read law t rest (Ok v) is answers = let took = law t rest (view v) is answers in (took.0.is, took.1)
-Returns-consumed view out encoding good read law t rest (Err e) is answers = tt
+Returns_consumed view out encoding good read law t rest (Ok v) is answers = let took = law t rest (view v) is answers in (took.0.is, took.1)
+Returns_consumed view out encoding good read law t rest (Err e) is answers = tt
 
 -- what a call returned whose read gives this value
-pub Returns-ReturnsValue : {V : Type 0} (d : Der V) (out : List Place → Type 0) (result : Result V ReadError) (remaining : List ℕ) (m : d.Meaning) (rest : List ℕ) (read : Result (d.Meaning × List ℕ) ReadError) →
+pub Returns_ReturnsValue : {V : Type 0} (d : Der V) (out : List Place → Type 0) (result : Result V ReadError) (remaining : List ℕ) (m : d.Meaning) (rest : List ℕ) (read : Result (d.Meaning × List ℕ) ReadError) →
     Returns (λ v. (d.meaning v, remaining)) out result read → read ≡ Ok (m, rest) → ReturnsValue d out result remaining m rest
-Returns-ReturnsValue d out result remaining m rest read answers e = subst (λ (r : Result (d.Meaning × List ℕ) ReadError). Returns (λ v. (d.meaning v, remaining)) out result r) e answers
+Returns_ReturnsValue d out result remaining m rest read answers e = subst (λ (r : Result (d.Meaning × List ℕ) ReadError). Returns (λ v. (d.meaning v, remaining)) out result r) e answers
 
-length-suffix-lt : (octets rest t : List ℕ) → t ≡ octets ++ rest → (octets ≡ [] → ⊥) → length rest < length t
-length-suffix-lt [] rest t is some = absurd (some refl)
-length-suffix-lt (octet ∷ octets) rest t is some = omega (arith, ap length is, length-append octets rest)
+length_suffix_lt : (octets rest t : List ℕ) → t ≡ octets ++ rest → (octets ≡ [] → ⊥) → length rest < length t
+length_suffix_lt [] rest t is some = absurd (some refl)
+length_suffix_lt (octet ∷ octets) rest t is some = omega (arith, ap length is, length-append octets rest)
 
 -- what remains after a value is shorter, if no value's encoding is empty
-pub length-remaining-lt : {V M : Type 0} (view : V → M) (encoding : M → List ℕ) (good : M → Type 0) (t rest : List ℕ) (result : Result V ReadError) → ((m : M) → good m → encoding m ≡ [] → ⊥) →
+pub length_remaining_lt : {V M : Type 0} (view : V → M) (encoding : M → List ℕ) (good : M → Type 0) (t rest : List ℕ) (result : Result V ReadError) → ((m : M) → good m → encoding m ≡ [] → ⊥) →
     IfOk result (λ v. (t ≡ encoding (view v) ++ rest) × good (view v)) → IfOk result (λ v. length rest < length t)
-length-remaining-lt view encoding good t rest (Ok v) solid took = length-suffix-lt (encoding (view v)) rest t took.0 (solid (view v) took.1)
-length-remaining-lt view encoding good t rest (Err e) solid took = tt
+length_remaining_lt view encoding good t rest (Ok v) solid took = length_suffix_lt (encoding (view v)) rest t took.0 (solid (view v) took.1)
+length_remaining_lt view encoding good t rest (Err e) solid took = tt

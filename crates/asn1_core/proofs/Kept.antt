@@ -9,5 +9,5 @@ abbrev at : ParseErrorKind → List Place → ReadError
 at kind places = record { kind = kind; places = places }
 
 -- if as many locations as possible are kept, one more is dropped
-pub within-eight_locations : (kind : ParseErrorKind) (places : List Place) (place : Place) → length places ≡ 8 → at kind places ≡ within place (at kind places)
-within-eight_locations kind places place full = ap (at kind) (sym (take_at places (place ∷ []) 8 full))
+pub within_eight_locations : (kind : ParseErrorKind) (places : List Place) (place : Place) → length places ≡ 8 → at kind places ≡ within place (at kind places)
+within_eight_locations kind places place full = ap (at kind) (sym (take_at places (place ∷ []) 8 full))

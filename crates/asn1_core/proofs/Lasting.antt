@@ -18,7 +18,7 @@ module _ {M : Type 1} {𝓤 : Ura M} (𝓛 : Logic 𝓤) where
   lasting_twice p octets = contraction 𝓛 (elements_shared u8 octets (block_of p) (count_of p)) (elements_shr_laws u8 (uint_row_laws w8) octets (block_of p) (count_of p)) []
 
 -- the right names no thread
-pub lasting-keyless : (p : Ptr) (octets : List ℕ) → Keyless (lasting p octets)
-lasting-keyless p octets =
+pub lasting_keyless : (p : Ptr) (octets : List ℕ) → Keyless (lasting p octets)
+lasting_keyless p octets =
     let octet : IsSync u8 = search sendable in
     ((array_sync u8 0 octet).shared octets (block_of p) (count_of p) []).1

@@ -5,21 +5,21 @@ use Rattle.std.proofs.lemmas.Grind.{common_steps, numeral_or}
 use Rattle.std.proofs.lemmas.List.Edits.{take-paste, length-paste}
 use Rattle.std.specs.List.{copy_within}
 use Rattle.asn1_core.specs.Length.{length_octets}
-use Rattle.asn1_core.specs.Lemmas.Lengths.{length_octets-high, length-digits_of-le_8}
+use Rattle.asn1_core.specs.Lemmas.Lengths.{length_octets_high, length_digits_of_le_8}
 
-pub digits_of-positive : (n : ℕ) → 0 < length (digits_of 256 n) → 0 < n
-digits_of-positive zero h = absurd (omega (arith, h))
-digits_of-positive (suc n) h = omega arith
+pub digits_of_positive : (n : ℕ) → 0 < length (digits_of 256 n) → 0 < n
+digits_of_positive zero h = absurd (omega (arith, h))
+digits_of_positive (suc n) h = omega arith
 
 -- the first octet of a long length
-pub length_octets-bit_or : (n : ℕ) → 128 ≤ n → n < 2 ^ 64 → bit_or 128 (length (digits_of 256 n)) ∷ digits_of 256 n ≡ length_octets n
-length_octets-bit_or n l small =
-    let few : length (digits_of 256 n) < 128 = omega (arith, length-digits_of-le_8 n small) in
-    rw (numeral_or 127 (length (digits_of 256 n)) refl few) (sym (length_octets-high n l))
+pub length_octets_bit_or : (n : ℕ) → 128 ≤ n → n < 2 ^ 64 → bit_or 128 (length (digits_of 256 n)) ∷ digits_of 256 n ≡ length_octets n
+length_octets_bit_or n l small =
+    let few : length (digits_of 256 n) < 128 = omega (arith, length_digits_of_le_8 n small) in
+    rw (numeral_or 127 (length (digits_of 256 n)) refl few) (sym (length_octets_high n l))
 
 module _ (xs : List ℕ) (start more : ℕ) (low : 0 < start) (within : start ≤ length xs) where
-  pub copy_within-moved : (big moved : List ℕ) → big ≡ xs ++ replicate more 0 → moved ≡ copy_within big start (length xs) (start + more) → moved ≡ take (start + more) big ++ drop start xs
-  copy_within-moved big moved e f =
+  pub copy_within_moved : (big moved : List ℕ) → big ≡ xs ++ replicate more 0 → moved ≡ copy_within big start (length xs) (start + more) → moved ≡ take (start + more) big ++ drop start xs
+  copy_within_moved big moved e f =
       let l : length big ≡ length xs + more = grind (arith, common_steps) in
       let d : drop start big ≡ drop start xs ++ replicate more 0 = grind (arith, common_steps) in
       let k : take (length xs - start) (drop start big) ≡ drop start xs = grind (arith, common_steps) in
@@ -30,13 +30,13 @@ module _ (xs : List ℕ) (start more : ℕ) (low : 0 < start) (within : start �
       let w : start + more + n ≡ length moved = omega arith in
       grind (arith, common_steps)
 
-  pub drop-moved : (big moved : List ℕ) → big ≡ xs ++ replicate more 0 → moved ≡ take (start + more) big ++ drop start xs → drop (start + more) moved ≡ drop start xs
-  drop-moved big moved e f =
+  pub drop_moved : (big moved : List ℕ) → big ≡ xs ++ replicate more 0 → moved ≡ take (start + more) big ++ drop start xs → drop (start + more) moved ≡ drop start xs
+  drop_moved big moved e f =
       let l : length big ≡ length xs + more = grind (arith, common_steps) in
       grind (arith, common_steps)
 
-  pub take-moved : (big moved : List ℕ) → big ≡ xs ++ replicate more 0 → moved ≡ take (start + more) big ++ drop start xs → take (start - 1) moved ≡ take (start - 1) xs
-  take-moved big moved e f =
+  pub take_moved : (big moved : List ℕ) → big ≡ xs ++ replicate more 0 → moved ≡ take (start + more) big ++ drop start xs → take (start - 1) moved ≡ take (start - 1) xs
+  take_moved big moved e f =
       let l : length big ≡ length xs + more = grind (arith, common_steps) in
       let a : take (start - 1) moved ≡ take (start - 1) (take (start + more) big) = grind (arith, common_steps) in
       let b : take (start - 1) (take (start + more) big) ≡ take (start - 1) big = grind (arith, common_steps) in

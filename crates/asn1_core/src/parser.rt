@@ -18,7 +18,7 @@ ghost use Rattle.asn1_core.specs.Reads.{ReadsBack, ReadsBackExplicit, ReadsBackI
 ghost use Rattle.asn1_core.specs.Reads.{ReadsExplicit, ReadsImplicit, ReadsPrefix, ReadsWhole};
 ghost use Rattle.asn1_core.specs.Laws.{IsShort, with_more};
 ghost use Rattle.std.specs.Cmp.{decided, partial_equiv_from_equiv};
-ghost use Rattle.asn1_core.specs.Lemmas.Same.{place_eq-decides, read_error_eq-decides};
+ghost use Rattle.asn1_core.specs.Lemmas.Same.{place_eq_decides, read_error_eq_decides};
 
 mod name;
 
@@ -103,7 +103,7 @@ pub enum Place {
 impl PartialEq for Place {
     ghost eq = { place_eq };
 
-    ghost laws = { partial_equiv_from_equiv (decided place_eq place_eq-decides) };
+    ghost laws = { partial_equiv_from_equiv (decided place_eq place_eq_decides) };
 
     fn eq(&self, other: &Place) -> bool {
         match (self, other) {
@@ -115,7 +115,7 @@ impl PartialEq for Place {
 }
 
 impl Eq for Place {
-    ghost laws = { decided place_eq place_eq-decides };
+    ghost laws = { decided place_eq place_eq_decides };
 }
 
 impl From<ParseLocation> for Place {
@@ -271,7 +271,7 @@ impl fmt::Debug for ParseError {
 impl PartialEq for ParseError {
     ghost eq = { read_error_eq };
 
-    ghost laws = { partial_equiv_from_equiv (decided read_error_eq read_error_eq-decides) };
+    ghost laws = { partial_equiv_from_equiv (decided read_error_eq read_error_eq_decides) };
 
     fn eq(&self, other: &ParseError) -> bool
         ensures value { result ≡ read_error_eq self.now other.now }
@@ -282,7 +282,7 @@ impl PartialEq for ParseError {
 }
 
 impl Eq for ParseError {
-    ghost laws = { decided read_error_eq read_error_eq-decides };
+    ghost laws = { decided read_error_eq read_error_eq_decides };
 }
 
 /// Whether two kinds are equal: the derived `==`, under a clause that names the definition.

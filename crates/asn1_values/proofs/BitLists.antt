@@ -4,7 +4,7 @@ use Rattle.std.proofs.lemmas.List.{get_or_past}
 use Rattle.asn1_core.specs.Base256.{IsOctets}
 use Rattle.asn1_values.specs.Bits.{Bits, is_padded, bits, has_bit, bit_at, octet_bits, all_bits, IsBitsOf, BitsAreAList, OneBitString, SetBits, FilledOctetsAreBits, EachListHasBits}
 use Rattle.std.proofs.Common.{◌≡◌, ◌∙◌, ℕ, zero, suc, ◌+◌, ◌-◌, ◌*◌, ◌/◌, ◌%◌, ◌^◌, ◌<◌, ◌≤◌, inl, inr, Bool, true, false, if◌then◌else◌, ◌&&◌, eqb, nat_eq, nat_lt, nat_le, List, [], ◌∷◌, ◌++◌, length, replicate, take, get_or, slice_index, refl, sym, ap, arith}
-use Rattle.asn1_values.specs.Lemmas.Texts.{below, below-is}
+use Rattle.asn1_values.specs.Lemmas.Texts.{below, below_is}
 
 -- ---- which bit is set
 
@@ -12,8 +12,8 @@ use Rattle.asn1_values.specs.Lemmas.Texts.{below, below-is}
 abbrev is_set : List ℕ → ℕ → Bool
 is_set octets n = nat_lt (n / 8) (length octets) && nat_eq (slice_index octets (n / 8) / 2 ^ (7 - n % 8) % 2) 1
 
-is_set-first_octet : (o : ℕ) (os : List ℕ) (n : ℕ) → n < 8 → is_set (o ∷ os) n ≡ bit_at o n
-is_set-first_octet o os n h =
+is_set_first_octet : (o : ℕ) (os : List ℕ) (n : ℕ) → n < 8 → is_set (o ∷ os) n ≡ bit_at o n
+is_set_first_octet o os n h =
     let q : n / 8 ≡ 0 = omega (arith, h) in
     let r : n % 8 ≡ n = omega (arith, h) in
     let inside : nat_lt 0 (length (o ∷ os)) ≡ true = lt-ltb 0 (length (o ∷ os)) (omega arith) in
@@ -27,38 +27,38 @@ lt_suc a b = elim (cases_Bool (nat_lt a b)) [
   | inr f ↦ le-ltb (suc a) (suc b) (omega (arith, ltb-false a b f)) ∙ sym f
 ]
 
-is_set-next_octet : (o : ℕ) (os : List ℕ) (m : ℕ) → is_set (o ∷ os) (suc (suc (suc (suc (suc (suc (suc (suc m)))))))) ≡ is_set os m
-is_set-next_octet o os m =
+is_set_next_octet : (o : ℕ) (os : List ℕ) (m : ℕ) → is_set (o ∷ os) (suc (suc (suc (suc (suc (suc (suc (suc m)))))))) ≡ is_set os m
+is_set_next_octet o os m =
     let q : (suc (suc (suc (suc (suc (suc (suc (suc m)))))))) / 8 ≡ suc (m / 8) = omega arith in
     let r : (suc (suc (suc (suc (suc (suc (suc (suc m)))))))) % 8 ≡ m % 8 = omega arith in
     ap (λ (k : ℕ). nat_lt k (length (o ∷ os)) && nat_eq (slice_index (o ∷ os) k / 2 ^ (7 - (suc (suc (suc (suc (suc (suc (suc (suc m)))))))) % 8) % 2) 1) q
     ∙ ap (λ (k : ℕ). nat_lt (suc (m / 8)) (length (o ∷ os)) && nat_eq (slice_index os (m / 8) / 2 ^ (7 - k) % 2) 1) r
     ∙ ap (λ (b : Bool). b && nat_eq (slice_index os (m / 8) / 2 ^ (7 - m % 8) % 2) 1) (lt_suc (m / 8) (length os))
 
-get_or-all_bits : (octets : List ℕ) (n : ℕ) → get_or (all_bits octets) n false ≡ is_set octets n
-get_or-all_bits [] n = sym (ap (λ (b : Bool). b && nat_eq (slice_index [] (n / 8) / 2 ^ (7 - n % 8) % 2) 1) (le-ltb (n / 8) 0 (omega arith)))
-get_or-all_bits (o ∷ os) zero = sym (is_set-first_octet o os 0 (omega arith))
-get_or-all_bits (o ∷ os) (suc zero) = sym (is_set-first_octet o os 1 (omega arith))
-get_or-all_bits (o ∷ os) (suc (suc zero)) = sym (is_set-first_octet o os 2 (omega arith))
-get_or-all_bits (o ∷ os) (suc (suc (suc zero))) = sym (is_set-first_octet o os 3 (omega arith))
-get_or-all_bits (o ∷ os) (suc (suc (suc (suc zero)))) = sym (is_set-first_octet o os 4 (omega arith))
-get_or-all_bits (o ∷ os) (suc (suc (suc (suc (suc zero))))) = sym (is_set-first_octet o os 5 (omega arith))
-get_or-all_bits (o ∷ os) (suc (suc (suc (suc (suc (suc zero)))))) = sym (is_set-first_octet o os 6 (omega arith))
-get_or-all_bits (o ∷ os) (suc (suc (suc (suc (suc (suc (suc zero))))))) = sym (is_set-first_octet o os 7 (omega arith))
-get_or-all_bits (o ∷ os) (suc (suc (suc (suc (suc (suc (suc (suc m)))))))) = get_or-all_bits os m ∙ sym (is_set-next_octet o os m)
+get_or_all_bits : (octets : List ℕ) (n : ℕ) → get_or (all_bits octets) n false ≡ is_set octets n
+get_or_all_bits [] n = sym (ap (λ (b : Bool). b && nat_eq (slice_index [] (n / 8) / 2 ^ (7 - n % 8) % 2) 1) (le-ltb (n / 8) 0 (omega arith)))
+get_or_all_bits (o ∷ os) zero = sym (is_set_first_octet o os 0 (omega arith))
+get_or_all_bits (o ∷ os) (suc zero) = sym (is_set_first_octet o os 1 (omega arith))
+get_or_all_bits (o ∷ os) (suc (suc zero)) = sym (is_set_first_octet o os 2 (omega arith))
+get_or_all_bits (o ∷ os) (suc (suc (suc zero))) = sym (is_set_first_octet o os 3 (omega arith))
+get_or_all_bits (o ∷ os) (suc (suc (suc (suc zero)))) = sym (is_set_first_octet o os 4 (omega arith))
+get_or_all_bits (o ∷ os) (suc (suc (suc (suc (suc zero))))) = sym (is_set_first_octet o os 5 (omega arith))
+get_or_all_bits (o ∷ os) (suc (suc (suc (suc (suc (suc zero)))))) = sym (is_set_first_octet o os 6 (omega arith))
+get_or_all_bits (o ∷ os) (suc (suc (suc (suc (suc (suc (suc zero))))))) = sym (is_set_first_octet o os 7 (omega arith))
+get_or_all_bits (o ∷ os) (suc (suc (suc (suc (suc (suc (suc (suc m)))))))) = get_or_all_bits os m ∙ sym (is_set_next_octet o os m)
 
-get_or-replicate_false : (p n : ℕ) → get_or (replicate p false) n false ≡ false
-get_or-replicate_false zero n = refl
-get_or-replicate_false (suc p) zero = refl
-get_or-replicate_false (suc p) (suc n) = get_or-replicate_false p n
+get_or_replicate_false : (p n : ℕ) → get_or (replicate p false) n false ≡ false
+get_or_replicate_false zero n = refl
+get_or_replicate_false (suc p) zero = refl
+get_or_replicate_false (suc p) (suc n) = get_or_replicate_false p n
 
-get_or-append_false : (list : List Bool) (p n : ℕ) → get_or (list ++ replicate p false) n false ≡ get_or list n false
-get_or-append_false [] p n = get_or-replicate_false p n
-get_or-append_false (x ∷ list) p zero = refl
-get_or-append_false (x ∷ list) p (suc n) = get_or-append_false list p n
+get_or_append_false : (list : List Bool) (p n : ℕ) → get_or (list ++ replicate p false) n false ≡ get_or list n false
+get_or_append_false [] p n = get_or_replicate_false p n
+get_or_append_false (x ∷ list) p zero = refl
+get_or_append_false (x ∷ list) p (suc n) = get_or_append_false list p n
 
 pub set_bits : SetBits
-set_bits list b h n = sym (get_or-all_bits b.octets n) ∙ ap (λ (t : List Bool). get_or t n false) h.filled ∙ get_or-append_false list b.padding n
+set_bits list b h n = sym (get_or_all_bits b.octets n) ∙ ap (λ (t : List Bool). get_or t n false) h.filled ∙ get_or_append_false list b.padding n
 
 -- ---- the list of a bit string
 
@@ -106,19 +106,19 @@ clear (suc (suc (suc (suc (suc (suc zero)))))) o few h = clear_6 o h
 clear (suc (suc (suc (suc (suc (suc (suc zero))))))) o few h = clear_7 o h
 clear (suc (suc (suc (suc (suc (suc (suc (suc p)))))))) o few h = absurd (omega (arith, few))
 
-octet_bits-split : (p o : ℕ) → p ≤ 7 → octet_bits o ≡ take (8 - p) (octet_bits o) ++ low_bits p o
-octet_bits-split zero o few = refl
-octet_bits-split (suc zero) o few = refl
-octet_bits-split (suc (suc zero)) o few = refl
-octet_bits-split (suc (suc (suc zero))) o few = refl
-octet_bits-split (suc (suc (suc (suc zero)))) o few = refl
-octet_bits-split (suc (suc (suc (suc (suc zero))))) o few = refl
-octet_bits-split (suc (suc (suc (suc (suc (suc zero)))))) o few = refl
-octet_bits-split (suc (suc (suc (suc (suc (suc (suc zero))))))) o few = refl
-octet_bits-split (suc (suc (suc (suc (suc (suc (suc (suc p)))))))) o few = absurd (omega (arith, few))
+octet_bits_split : (p o : ℕ) → p ≤ 7 → octet_bits o ≡ take (8 - p) (octet_bits o) ++ low_bits p o
+octet_bits_split zero o few = refl
+octet_bits_split (suc zero) o few = refl
+octet_bits_split (suc (suc zero)) o few = refl
+octet_bits_split (suc (suc (suc zero))) o few = refl
+octet_bits_split (suc (suc (suc (suc zero)))) o few = refl
+octet_bits_split (suc (suc (suc (suc (suc zero))))) o few = refl
+octet_bits_split (suc (suc (suc (suc (suc (suc zero)))))) o few = refl
+octet_bits_split (suc (suc (suc (suc (suc (suc (suc zero))))))) o few = refl
+octet_bits_split (suc (suc (suc (suc (suc (suc (suc (suc p)))))))) o few = absurd (omega (arith, few))
 
 one_octet : (o p : ℕ) → p ≤ 7 → o % 2 ^ p ≡ 0 → Filled (o ∷ []) p
-one_octet o p few h = (take (8 - p) (octet_bits o), octet_bits-split p o few ∙ ap (λ (t : List Bool). take (8 - p) (octet_bits o) ++ t) (clear p o few h))
+one_octet o p few h = (take (8 - p) (octet_bits o), octet_bits_split p o few ∙ ap (λ (t : List Bool). take (8 - p) (octet_bits o) ++ t) (clear p o few h))
 
 list_from : (octets : List ℕ) (p : ℕ) → p ≤ 7 → 0 < length octets → slice_index octets (length octets - 1) % 2 ^ p ≡ 0 → Filled octets p
 list_from [] p few some h = absurd (omega (arith, some))
@@ -166,29 +166,29 @@ all_back : below (λ o. eqb (octet_back o) o) 256 ≡ true
 unfolding below
 all_back = refl
 
-octets_from-all_bits : (octets : List ℕ) → IsOctets octets → octets_from (all_bits octets) ≡ octets
+octets_from_all_bits : (octets : List ℕ) → IsOctets octets → octets_from (all_bits octets) ≡ octets
 unfolding octets_from
-octets_from-all_bits [] is = refl
-octets_from-all_bits (o ∷ octets) is =
-    let one : octet_back o ≡ o = eqb-true (octet_back o) o (below-is (λ k. eqb (octet_back k) k) 256 o all_back is.0) in
-    ap (λ (x : ℕ). x ∷ octets_from (all_bits octets)) one ∙ ap (λ (t : List ℕ). o ∷ t) (octets_from-all_bits octets is.1)
+octets_from_all_bits [] is = refl
+octets_from_all_bits (o ∷ octets) is =
+    let one : octet_back o ≡ o = eqb-true (octet_back o) o (below_is (λ k. eqb (octet_back k) k) 256 o all_back is.0) in
+    ap (λ (x : ℕ). x ∷ octets_from (all_bits octets)) one ∙ ap (λ (t : List ℕ). o ∷ t) (octets_from_all_bits octets is.1)
 
-length-all_bits : (octets : List ℕ) → length (all_bits octets) ≡ 8 * length octets
-length-all_bits [] = refl
-length-all_bits (o ∷ octets) = omega (arith, length-all_bits octets)
+length_all_bits : (octets : List ℕ) → length (all_bits octets) ≡ 8 * length octets
+length_all_bits [] = refl
+length_all_bits (o ∷ octets) = omega (arith, length_all_bits octets)
 
-length-append_replicate : (list : List Bool) (p : ℕ) → length (list ++ replicate p false) ≡ length list + p
-length-append_replicate [] zero = refl
-length-append_replicate [] (suc p) = omega (arith, length-append_replicate [] p)
-length-append_replicate (x ∷ list) p = omega (arith, length-append_replicate list p)
+length_append_replicate : (list : List Bool) (p : ℕ) → length (list ++ replicate p false) ≡ length list + p
+length_append_replicate [] zero = refl
+length_append_replicate [] (suc p) = omega (arith, length_append_replicate [] p)
+length_append_replicate (x ∷ list) p = omega (arith, length_append_replicate list p)
 
 pub one_bit_string : OneBitString
 one_bit_string list b other is are h g =
-    let n = ap length h.filled ∙ length-append_replicate list b.padding in
-    let m = ap length g.filled ∙ length-append_replicate list other.padding in
-    let same : b.padding ≡ other.padding = omega (arith, n, m, length-all_bits b.octets, length-all_bits other.octets, h.few, g.few) in
+    let n = ap length h.filled ∙ length_append_replicate list b.padding in
+    let m = ap length g.filled ∙ length_append_replicate list other.padding in
+    let same : b.padding ≡ other.padding = omega (arith, n, m, length_all_bits b.octets, length_all_bits other.octets, h.few, g.few) in
     let full : all_bits b.octets ≡ all_bits other.octets = h.filled ∙ ap (λ (k : ℕ). list ++ replicate k false) same ∙ sym g.filled in
-    let octets : b.octets ≡ other.octets = sym (octets_from-all_bits b.octets is) ∙ ap octets_from full ∙ octets_from-all_bits other.octets are in
+    let octets : b.octets ≡ other.octets = sym (octets_from_all_bits b.octets is) ∙ ap octets_from full ∙ octets_from_all_bits other.octets are in
     ap (λ (t : List ℕ). bits t b.padding) octets ∙ ap (bits other.octets) same
 
 -- ---- octets that a list fills are padded
@@ -196,7 +196,7 @@ one_bit_string list b other is are h g =
 -- a bit of the padding, the least significant at position 0
 padding_bit : (list : List Bool) (b : Bits) → IsBitsOf list b → (k : ℕ) → k < b.padding → slice_index b.octets (length b.octets - 1) / 2 ^ k % 2 ≡ 0
 padding_bit list b h k inside =
-    let count : 8 * length b.octets ≡ length list + b.padding = sym (length-all_bits b.octets) ∙ ap length h.filled ∙ length-append_replicate list b.padding in
+    let count : 8 * length b.octets ≡ length list + b.padding = sym (length_all_bits b.octets) ∙ ap length h.filled ∙ length_append_replicate list b.padding in
     let n = 8 * length b.octets - 1 - k in
     let octet : n / 8 ≡ length b.octets - 1 = omega (arith, count, inside, h.few) in
     let place : 7 - n % 8 ≡ k = omega (arith, count, inside, h.few) in
@@ -219,7 +219,7 @@ clear_low (suc (suc (suc (suc (suc (suc (suc (suc p)))))))) o few h = absurd (om
 
 filled_padded : (list : List Bool) (octets : List ℕ) (p : ℕ) → IsBitsOf list (bits octets p) → is_padded p octets ≡ true
 filled_padded list [] p h =
-    let none : p ≡ 0 = omega (arith, length-all_bits [], ap length h.filled, length-append_replicate list p) in
+    let none : p ≡ 0 = omega (arith, length_all_bits [], ap length h.filled, length_append_replicate list p) in
     ap (λ (x : Bool). x && nat_eq p 0) (le-leb p 7 (omega (arith, h.few))) ∙ eq-eqb p 0 none
 filled_padded list (o ∷ octets) p h =
     let last = slice_index (o ∷ octets) (length (o ∷ octets) - 1) in
@@ -234,12 +234,12 @@ filled_octets_are_bits list b h = filled_padded list b.octets b.padding h
 
 -- ---- each list fills octets
 
-weight-le : (b : Bool) (n : ℕ) → weight b n ≤ n
-weight-le true n = omega arith
-weight-le false n = omega arith
+weight_le : (b : Bool) (n : ℕ) → weight b n ≤ n
+weight_le true n = omega arith
+weight_le false n = omega arith
 
-octet_of-lt : (a b c d e f g h : Bool) → octet_of a b c d e f g h < 256
-octet_of-lt a b c d e f g h = omega (arith, weight-le a 128, weight-le b 64, weight-le c 32, weight-le d 16, weight-le e 8, weight-le f 4, weight-le g 2, weight-le h 1)
+octet_of_lt : (a b c d e f g h : Bool) → octet_of a b c d e f g h < 256
+octet_of_lt a b c d e f g h = omega (arith, weight_le a 128, weight_le b 64, weight_le c 32, weight_le d 16, weight_le e 8, weight_le f 4, weight_le g 2, weight_le h 1)
 
 -- whether a test holds of both bits
 abbrev each : (Bool → Bool) → Bool
@@ -297,7 +297,7 @@ Listed list = (b : Bits) × IsOctets b.octets × IsBitsOf list b
 one_more : (a b c d e f g h : Bool) (list : List Bool) → Listed list → Listed (a ∷ b ∷ c ∷ d ∷ e ∷ f ∷ g ∷ h ∷ list)
 one_more a b c d e f g h list rest = (
   bits (octet_of a b c d e f g h ∷ rest.0.octets) rest.0.padding,
-  (octet_of-lt a b c d e f g h, rest.1),
+  (octet_of_lt a b c d e f g h, rest.1),
   record {
     filled = ap (λ (t : List Bool). t ++ all_bits rest.0.octets) (octet_bits_of a b c d e f g h) ∙ ap (λ (t : List Bool). a ∷ b ∷ c ∷ d ∷ e ∷ f ∷ g ∷ h ∷ t) rest.2.filled;
     few = rest.2.few;
@@ -308,7 +308,7 @@ one_more a b c d e f g h list rest = (
 last : (a b c d e f g h : Bool) (list : List Bool) (p : ℕ) → p < 8 → (a ∷ b ∷ c ∷ d ∷ e ∷ f ∷ g ∷ h ∷ []) ≡ list ++ replicate p false → Listed list
 last a b c d e f g h list p few is = (
   bits (octet_of a b c d e f g h ∷ []) p,
-  (octet_of-lt a b c d e f g h, tt),
+  (octet_of_lt a b c d e f g h, tt),
   record { filled = octet_bits_of a b c d e f g h ∙ is; few = few },
 )
 

@@ -12,7 +12,7 @@ use Rattle.std.proofs.lemmas.Str.Parse.{IsNumeralModel, numerals_by_weight, digi
 use Rattle.std.proofs.lemmas.Int.Digits.{digits_value-lt}
 use Rattle.std.proofs.lemmas.List.{append-nil, length-append, length-replicate, length-take, take-append-drop}
 use Rattle.asn1_values.specs.Times.{fraction, IsFraction}
-use Rattle.asn1_values.specs.Lemmas.Fractions.{drop-cons, fraction-zero, fraction-step, parts_zero, pow_10-positive}
+use Rattle.asn1_values.specs.Lemmas.Fractions.{drop_cons, fraction_zero, fraction_step, parts_zero, pow_10_positive}
 
 -- the number that digits encode, by their positions
 abbrev weighed : List ℕ → ℕ
@@ -31,8 +31,8 @@ weighed_decimal j n few =
     let d = decimal_is_IsNumeral n (omega (arith, few)) in
     zeros_in_front j (decimal n) ∙ by_places.same (decimal n) d.0.1 ∙ d.1
 
-pub append-drop_9 : (t : List ℕ) → t ++ drop 9 (replicate 9 48) ≡ t
-append-drop_9 t = append-nil t
+pub append_drop_9 : (t : List ℕ) → t ++ drop 9 (replicate 9 48) ≡ t
+append_drop_9 t = append-nil t
 
 -- ---- the last digit is not zero
 
@@ -72,8 +72,8 @@ zeros_and_digits : (j : ℕ) (ds : List ℕ) → AllDigits 10 ds → AllDigits 1
 zeros_and_digits zero ds all = all
 zeros_and_digits (suc j) ds all = (omega arith, zeros_and_digits j ds all)
 
-length-append_zeros : (ds : List ℕ) (j : ℕ) → length (ds ++ replicate j 48) ≡ length ds + j
-length-append_zeros ds j = length-append ds (replicate j 48) ∙ ap (λ (k : ℕ). length ds + k) (length-replicate j 48)
+length_append_zeros : (ds : List ℕ) (j : ℕ) → length (ds ++ replicate j 48) ≡ length ds + j
+length_append_zeros ds j = length-append ds (replicate j 48) ∙ ap (λ (k : ℕ). length ds + k) (length-replicate j 48)
 
 -- a digit before the digits of a fraction
 one_more : (d j : ℕ) (ds : List ℕ) → AllDigits 10 (d ∷ ds) → ((d - 48) * 10 ^ (length ds + j) + weighed (ds ++ replicate j 48) ≡ 0 → ⊥)
@@ -83,40 +83,40 @@ one_more d j ds all some e =
     let k = length ds + j in
     let m = weighed behind in
     let range = digit_from_value d all.0 in
-    let long : length behind ≡ k = length-append_zeros ds j in
+    let long : length behind ≡ k = length_append_zeros ds j in
     let more : length (d ∷ ds) + j ≡ suc k = omega arith in
     let small : m < 10 ^ k = subst (λ (x : ℕ). m < 10 ^ x) long (weighed_small behind (digits_and_zeros ds j all.1)) in
     let same : 48 + (d - 48) ≡ d = omega (arith, range) in
     ap (λ (x : ℕ). fraction x ((d - 48) * 10 ^ length behind + m) []) more
     ∙ ap (λ (x : ℕ). fraction (suc k) ((d - 48) * 10 ^ x + m) []) long
-    ∙ fraction-step k (d - 48) m [] small some
+    ∙ fraction_step k (d - 48) m [] small some
     ∙ ap (λ (x : ℕ). x ∷ fraction k m []) same
     ∙ ap (λ (x : List ℕ). d ∷ x) e
 
 without_zeros : (ds : List ℕ) (j : ℕ) → AllDigits 10 ds → IsEnded ds → fraction (length ds + j) (weighed (ds ++ replicate j 48)) [] ≡ ds
 without_zeros [] j all ended =
     let none : weighed (replicate j 48) ≡ 0 = ap weighed (sym (append-nil (replicate j 48))) ∙ zeros_in_front j [] in
-    rw none (fraction-zero (0 + j) [])
+    rw none (fraction_zero (0 + j) [])
 without_zeros (d ∷ []) j all ended =
     let range = digit_from_value d all.0 in
     let behind = without_zeros [] j tt tt in
-    one_more d j [] all (λ z. let p = parts_zero (d - 48) (10 ^ (0 + j)) (weighed (replicate j 48)) (pow_10-positive (0 + j)) z in ended (omega (arith, p, range))) behind
+    one_more d j [] all (λ z. let p = parts_zero (d - 48) (10 ^ (0 + j)) (weighed (replicate j 48)) (pow_10_positive (0 + j)) z in ended (omega (arith, p, range))) behind
 without_zeros (d ∷ c ∷ ds) j all ended =
     let behind = without_zeros (c ∷ ds) j all.1 ended in
     let k = length (c ∷ ds) + j in
     one_more d j (c ∷ ds) all (λ z.
-    let p = parts_zero (d - 48) (10 ^ k) (weighed (c ∷ ds ++ replicate j 48)) (pow_10-positive k) z in
-    let none : c ∷ ds ≡ [] = sym behind ∙ ap (λ (x : ℕ). fraction k x []) p.1 ∙ fraction-zero k [] in
+    let p = parts_zero (d - 48) (10 ^ k) (weighed (c ∷ ds ++ replicate j 48)) (pow_10_positive k) z in
+    let none : c ∷ ds ≡ [] = sym behind ∙ ap (λ (x : ℕ). fraction k x []) p.1 ∙ fraction_zero k [] in
     absurd cc) behind
 
 -- ---- what the loop keeps and ends with
 
-AllDigits-prefix : (front behind : List ℕ) → AllDigits 10 (front ++ behind) → AllDigits 10 front
-AllDigits-prefix [] behind all = tt
-AllDigits-prefix (c ∷ cs) behind all = (all.0, AllDigits-prefix cs behind all.1)
+AllDigits_prefix : (front behind : List ℕ) → AllDigits 10 (front ++ behind) → AllDigits 10 front
+AllDigits_prefix [] behind all = tt
+AllDigits_prefix (c ∷ cs) behind all = (all.0, AllDigits_prefix cs behind all.1)
 
-length-nine : (octets : List ℕ) (n : ℕ) → n ≤ 999999999 → octets ≡ replicate (9 - length (decimal n)) 48 ++ decimal n → length octets ≡ 9
-length-nine octets n few is =
+length_nine : (octets : List ℕ) (n : ℕ) → n ≤ 999999999 → octets ≡ replicate (9 - length (decimal n)) 48 ++ decimal n → length octets ≡ 9
+length_nine octets n few is =
     let k = length (decimal n) in
     let short : k ≤ 9 = length-decimal-le 9 n (omega arith) (omega (arith, few)) (omega (arith, few)) in
     let sum : length octets ≡ 9 - k + k = ap length is ∙ length-append (replicate (9 - k) 48) (decimal n) ∙ ap (λ (x : ℕ). x + k) (length-replicate (9 - k) 48) in
@@ -127,32 +127,32 @@ zeros_step octets n count few is some most e h =
     let k = count - 1 in
     let next : k + 1 ≡ count = omega (arith, some) in
     let more : suc (9 - count) ≡ 9 - k = omega (arith, some, most) in
-    let long = length-nine octets n few is in
-    drop-cons octets k (omega (arith, some, most, long)) ∙ ap (λ (x : ℕ). x ∷ drop (k + 1) octets) e ∙ ap (λ (x : ℕ). 48 ∷ drop x octets) next ∙ ap (λ (l : List ℕ). 48 ∷ l) h ∙ ap (λ (x : ℕ). replicate x 48) more
+    let long = length_nine octets n few is in
+    drop_cons octets k (omega (arith, some, most, long)) ∙ ap (λ (x : ℕ). x ∷ drop (k + 1) octets) e ∙ ap (λ (x : ℕ). 48 ∷ drop x octets) next ∙ ap (λ (l : List ℕ). 48 ∷ l) h ∙ ap (λ (x : ℕ). replicate x 48) more
 
-take-fraction : (octets : List ℕ) (n count : ℕ) → n ≤ 999999999 → octets ≡ replicate (9 - length (decimal n)) 48 ++ decimal n → count ≤ 9 → IsEnded (take count octets) → drop count octets ≡ replicate (9 - count) 48 → take count octets ≡ fraction 9 n []
-take-fraction octets n count few is most ended zeros =
+take_fraction : (octets : List ℕ) (n count : ℕ) → n ≤ 999999999 → octets ≡ replicate (9 - length (decimal n)) 48 ++ decimal n → count ≤ 9 → IsEnded (take count octets) → drop count octets ≡ replicate (9 - count) 48 → take count octets ≡ fraction 9 n []
+take_fraction octets n count few is most ended zeros =
     let front = take count octets in
     let whole : front ++ replicate (9 - count) 48 ≡ octets = ap (λ (l : List ℕ). front ++ l) (sym zeros) ∙ take-append-drop count octets in
     let d = decimal_is_IsNumeral n (omega (arith, few)) in
-    let digits = AllDigits-prefix front (replicate (9 - count) 48) (subst (AllDigits 10) (sym (whole ∙ is)) (zeros_and_digits (9 - length (decimal n)) (decimal n) d.0.1)) in
+    let digits = AllDigits_prefix front (replicate (9 - count) 48) (subst (AllDigits 10) (sym (whole ∙ is)) (zeros_and_digits (9 - length (decimal n)) (decimal n) d.0.1)) in
     let value : weighed (front ++ replicate (9 - count) 48) ≡ n = ap weighed (whole ∙ is) ∙ weighed_decimal (9 - length (decimal n)) n few in
-    let long = length-nine octets n few is in
+    let long = length_nine octets n few is in
     let size_of_front = length-take count octets in
     let taken : length front + (9 - count) ≡ 9 = omega (arith, size_of_front, most, long) in
     sym (ap (λ (k : ℕ). fraction k n []) (sym taken) ∙ ap (λ (k : ℕ). fraction (length front + (9 - count)) k []) (sym value) ∙ without_zeros front (9 - count) digits ended)
 
 -- the loop ends at a digit that is not zero
-pub take-fraction_done : (octets : List ℕ) (n count : ℕ) → n ≤ 999999999 → octets ≡ replicate (9 - length (decimal n)) 48 ++ decimal n → 0 < count → count ≤ 9 → (slice_index_or octets (count - 1) 0 ≡ 48 → ⊥) → drop count octets ≡ replicate (9 - count) 48 → take count octets ≡ fraction 9 n []
-take-fraction_done octets n count few is some most last zeros =
+pub take_fraction_done : (octets : List ℕ) (n count : ℕ) → n ≤ 999999999 → octets ≡ replicate (9 - length (decimal n)) 48 ++ decimal n → 0 < count → count ≤ 9 → (slice_index_or octets (count - 1) 0 ≡ 48 → ⊥) → drop count octets ≡ replicate (9 - count) 48 → take count octets ≡ fraction 9 n []
+take_fraction_done octets n count few is some most last zeros =
     let k = count - 1 in
     let next : k + 1 ≡ count = omega (arith, some) in
-    let long = length-nine octets n few is in
-    take-fraction octets n count few is most (subst (λ (x : ℕ). IsEnded (take x octets)) next (ended_at k octets (omega (arith, some, most, long)) last)) zeros
+    let long = length_nine octets n few is in
+    take_fraction octets n count few is most (subst (λ (x : ℕ). IsEnded (take x octets)) next (ended_at k octets (omega (arith, some, most, long)) last)) zeros
 
 -- or with no digit
-pub take-fraction_none : (octets : List ℕ) (n count : ℕ) → n ≤ 999999999 → octets ≡ replicate (9 - length (decimal n)) 48 ++ decimal n → count ≡ 0 → drop count octets ≡ replicate (9 - count) 48 → take count octets ≡ fraction 9 n []
-take-fraction_none octets n count few is none zeros = take-fraction octets n count few is (omega (arith, none)) (subst (λ (x : ℕ). IsEnded (take x octets)) (sym none) tt) zeros
+pub take_fraction_none : (octets : List ℕ) (n count : ℕ) → n ≤ 999999999 → octets ≡ replicate (9 - length (decimal n)) 48 ++ decimal n → count ≡ 0 → drop count octets ≡ replicate (9 - count) 48 → take count octets ≡ fraction 9 n []
+take_fraction_none octets n count few is none zeros = take_fraction octets n count few is (omega (arith, none)) (subst (λ (x : ℕ). IsEnded (take x octets)) (sym none) tt) zeros
 
 -- ---- the digits of a fraction, as the relation says
 
@@ -170,8 +170,8 @@ last_ended (c ∷ []) (suc k) long ended e = absurd (omega (arith, long))
 last_ended (c ∷ d ∷ ds) zero long ended e = absurd (omega (arith, long))
 last_ended (c ∷ d ∷ ds) (suc k) long ended e = last_ended (d ∷ ds) k (omega (arith, long)) ended e
 
-pub IsFraction-fraction : (digits : List ℕ) (n : ℕ) → IsFraction digits n → digits ≡ fraction 9 n []
-IsFraction-fraction digits n h =
+pub IsFraction_fraction : (digits : List ℕ) (n : ℕ) → IsFraction digits n → digits ≡ fraction 9 n []
+IsFraction_fraction digits n h =
     let j = 9 - length digits in
     let few = h.few in
     let long : length digits + j ≡ 9 = omega (arith, few) in
@@ -200,7 +200,7 @@ one_before : (k d m : ℕ) (ds : List ℕ) → d < 10 → (d * 10 ^ k + m ≡ 0 
 one_before k d m ds few some h =
     let behind = ds ++ replicate (k - length ds) 48 in
     let short = h.few in
-    let long : length behind ≡ k = length-append_zeros ds (k - length ds) ∙ omega (arith, short) in
+    let long : length behind ≡ k = length_append_zeros ds (k - length ds) ∙ omega (arith, short) in
     let digit : 48 + d - 48 ≡ d = omega arith in
     let left : suc k - length ((48 + d) ∷ ds) ≡ k - length ds = omega arith in
     let ascii = digit_value_digit (48 + d) (omega arith, omega (arith, few)) in
@@ -215,24 +215,24 @@ one_before k d m ds few some h =
 fraction_is : (k n : ℕ) → n < 10 ^ k → IsFractionIn k n (fraction k n [])
 fraction_is zero n h =
     let none : n ≡ 0 = omega (arith, h) in
-    rw (none, fraction-zero 0 []) (no_fraction 0)
+    rw (none, fraction_zero 0 []) (no_fraction 0)
 fraction_is (suc k) n h = elim (cases_eq n 0) [
-  | inl none ↦ rw (none, fraction-zero (suc k) []) (no_fraction (suc k))
+  | inl none ↦ rw (none, fraction_zero (suc k) []) (no_fraction (suc k))
   | inr more ↦
       let p = 10 ^ k in
       let d = n / p in
       let m = n % p in
       let whole : d * p + m ≡ n = div-add-mod' n p in
-      let below : m < p = mod_below n p (pow_10-positive k) in
+      let below : m < p = mod_below n p (pow_10_positive k) in
       let power = pow-succ' 10 k in
-      let few : d < 10 = div_below n p 10 (pow_10-positive k) (omega (arith, power, h)) in
+      let few : d < 10 = div_below n p 10 (pow_10_positive k) (omega (arith, power, h)) in
       let some : d * p + m ≡ 0 → ⊥ = λ e. more (sym whole ∙ e) in
       subst (λ (x : ℕ). IsFractionIn (suc k) x (fraction (suc k) x [])) whole
-      (subst (IsFractionIn (suc k) (d * p + m)) (sym (fraction-step k d m [] below some)) (one_before k d m (fraction k m []) few some (fraction_is k m below)))
+      (subst (IsFractionIn (suc k) (d * p + m)) (sym (fraction_step k d m [] below some)) (one_before k d m (fraction k m []) few some (fraction_is k m below)))
 ]
 
-pub fraction-IsFraction : (n : ℕ) → 1 ≤ n → n ≤ 999999999 → IsFraction (fraction 9 n []) n
-fraction-IsFraction n from to =
+pub fraction_IsFraction : (n : ℕ) → 1 ≤ n → n ≤ 999999999 → IsFraction (fraction 9 n []) n
+fraction_IsFraction n from to =
     let h = fraction_is 9 n (omega (arith, to)) in
     let digits = fraction 9 n [] in
     let j = 9 - length digits in

@@ -8,12 +8,12 @@ use Rattle.std.proofs.lemmas.Slice.Eq.{bytes_eq-Decides}
 use Rattle.asn1_values.specs.declared.object_identifier.ObjectIdentifier.{ObjectIdentifier}
 use Rattle.asn1_values.specs.Identifier.{identifier_content, identifier_numbers, IsIdentifierForm}
 use Rattle.asn1_values.specs.IdentifierValues.{identifier_of}
-use Rattle.asn1_values.specs.Lemmas.Identifier.{IsIdentifierForm-InHand, IsIdentifierForm-length}
+use Rattle.asn1_values.specs.Lemmas.Identifier.{IsIdentifierForm_InHand, IsIdentifierForm_length}
 
 same_form : (a b : List ℕ) (m n : ℕ) → IsIdentifierForm a m → IsIdentifierForm b n → identifier_numbers (take m a) ≡ identifier_numbers (take n b) → (a ≡ b) × (m ≡ n)
 same_form a b m n f g same =
-    let content : take m a ≡ take n b = (IsIdentifierForm-InHand a m f).content ∙ ap identifier_content same ∙ sym (IsIdentifierForm-InHand b n g).content in
-    let count : m ≡ n = sym (IsIdentifierForm-length a m f) ∙ ap length content ∙ IsIdentifierForm-length b n g in
+    let content : take m a ≡ take n b = (IsIdentifierForm_InHand a m f).content ∙ ap identifier_content same ∙ sym (IsIdentifierForm_InHand b n g).content in
+    let count : m ≡ n = sym (IsIdentifierForm_length a m f) ∙ ap length content ∙ IsIdentifierForm_length b n g in
     let behind : drop m a ≡ drop n b = f.zeros ∙ ap (λ (k : ℕ). replicate (63 - k) 0) count ∙ sym g.zeros in (
       sym (take-append-drop m a) ∙ ap (λ (l : List ℕ). l ++ drop m a) content ∙ ap (λ (l : List ℕ). take n b ++ l) behind ∙ take-append-drop n b,
       count,

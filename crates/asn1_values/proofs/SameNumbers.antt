@@ -6,10 +6,10 @@ use Rattle.std.proofs.lemmas.Slice.Eq.{bytes_eq-Decides}
 use Rattle.asn1_core.specs.Base256.{signed_number}
 use Rattle.asn1_core.specs.Integer.{integer_content}
 use Rattle.asn1_values.specs.Big.{IsSignedForm}
-use Rattle.asn1_values.specs.Lemmas.Big.{IsSigned-integer_content, IsSignedForm-IsSigned}
+use Rattle.asn1_values.specs.Lemmas.Big.{IsSigned_integer_content, IsSignedForm_IsSigned}
 
-pub signed_number-injective : (a b : List ℕ) → IsSignedForm a → IsSignedForm b → signed_number a ≡ signed_number b → a ≡ b
-signed_number-injective a b f g same = IsSigned-integer_content a (IsSignedForm-IsSigned a f) ∙ ap integer_content same ∙ sym (IsSigned-integer_content b (IsSignedForm-IsSigned b g))
+pub signed_number_injective : (a b : List ℕ) → IsSignedForm a → IsSignedForm b → signed_number a ≡ signed_number b → a ≡ b
+signed_number_injective a b f g same = IsSigned_integer_content a (IsSignedForm_IsSigned a f) ∙ ap integer_content same ∙ sym (IsSigned_integer_content b (IsSignedForm_IsSigned b g))
 
-pub signed_number-pointwise : (a b : List ℕ) → IsSignedForm a → IsSignedForm b → IsTrue (pointwise nat_eq a b) ↔ (signed_number a ≡ signed_number b)
-signed_number-pointwise a b f g = Decides-like (pointwise nat_eq a b) (ap signed_number) (signed_number-injective a b f g) (bytes_eq-Decides a b)
+pub signed_number_pointwise : (a b : List ℕ) → IsSignedForm a → IsSignedForm b → IsTrue (pointwise nat_eq a b) ↔ (signed_number a ≡ signed_number b)
+signed_number_pointwise a b f g = Decides-like (pointwise nat_eq a b) (ap signed_number) (signed_number_injective a b f g) (bytes_eq-Decides a b)

@@ -26,23 +26,23 @@ lone_is_none u low high = ap (λ (b : Bool). if b then None else Some u) (and_fr
 abbrev all_chars : List (Option ℕ) → Bool
 all_chars chars = not (list_any (λ o. not (is_some o)) chars)
 
-has_unpaired_surrogate-plain : (u : ℕ) (us : List ℕ) → (u < 0xD800) ⊎ (0xE000 ≤ u) → not (has_unpaired_surrogate (u ∷ us)) ≡ not (has_unpaired_surrogate us)
-has_unpaired_surrogate-plain u us (inl h) = ap all_chars (utf16_chars_lone u us (λ p. omega (arith, h, p.0)) ∙ ap (λ (o : Option ℕ). o ∷ utf16_chars us) (lone_is_char u (inl h)))
-has_unpaired_surrogate-plain u us (inr h) = ap all_chars (utf16_chars_lone u us (λ p. omega (arith, h, p.1)) ∙ ap (λ (o : Option ℕ). o ∷ utf16_chars us) (lone_is_char u (inr h)))
+has_unpaired_surrogate_plain : (u : ℕ) (us : List ℕ) → (u < 0xD800) ⊎ (0xE000 ≤ u) → not (has_unpaired_surrogate (u ∷ us)) ≡ not (has_unpaired_surrogate us)
+has_unpaired_surrogate_plain u us (inl h) = ap all_chars (utf16_chars_lone u us (λ p. omega (arith, h, p.0)) ∙ ap (λ (o : Option ℕ). o ∷ utf16_chars us) (lone_is_char u (inl h)))
+has_unpaired_surrogate_plain u us (inr h) = ap all_chars (utf16_chars_lone u us (λ p. omega (arith, h, p.1)) ∙ ap (λ (o : Option ℕ). o ∷ utf16_chars us) (lone_is_char u (inr h)))
 
-has_unpaired_surrogate-pair : (u v : ℕ) (us : List ℕ) → IsPair u v → not (has_unpaired_surrogate (u ∷ v ∷ us)) ≡ not (has_unpaired_surrogate us)
-has_unpaired_surrogate-pair u v us p = ap all_chars (utf16_chars_pair u v us p)
+has_unpaired_surrogate_pair : (u v : ℕ) (us : List ℕ) → IsPair u v → not (has_unpaired_surrogate (u ∷ v ∷ us)) ≡ not (has_unpaired_surrogate us)
+has_unpaired_surrogate_pair u v us p = ap all_chars (utf16_chars_pair u v us p)
 
-has_unpaired_surrogate-lone : (u : ℕ) (us : List ℕ) → 0xD800 ≤ u → u < 0xE000 → (IsPair u (get_or us 0 0) → ⊥) → not (has_unpaired_surrogate (u ∷ us)) ≡ false
-has_unpaired_surrogate-lone u us low high none = ap all_chars (utf16_chars_lone u us none ∙ ap (λ (o : Option ℕ). o ∷ utf16_chars us) (lone_is_none u low high))
+has_unpaired_surrogate_lone : (u : ℕ) (us : List ℕ) → 0xD800 ≤ u → u < 0xE000 → (IsPair u (get_or us 0 0) → ⊥) → not (has_unpaired_surrogate (u ∷ us)) ≡ false
+has_unpaired_surrogate_lone u us low high none = ap all_chars (utf16_chars_lone u us none ∙ ap (λ (o : Option ℕ). o ∷ utf16_chars us) (lone_is_none u low high))
 
 -- ---- units at a position
 
 abbrev unit : List ℕ → ℕ → ℕ
 unit c i = number (get_or c i 0 ∷ get_or c (i + 1) 0 ∷ [])
 
-number-two_octets : (a b : ℕ) → number (a ∷ b ∷ []) ≡ a * 256 + b
-number-two_octets a b = omega arith
+number_two_octets : (a b : ℕ) → number (a ∷ b ∷ []) ≡ a * 256 + b
+number_two_octets a b = omega arith
 
 pairs_at : (c : List ℕ) (i : ℕ) → i + 2 ≤ length c → pairs (drop i c) ≡ unit c i ∷ pairs (drop (i + 2) c)
 pairs_at c i h =
@@ -59,47 +59,47 @@ pairs_short (a ∷ b ∷ c) h = absurd (omega (arith, h))
 abbrev whole : List ℕ → Bool
 whole units = not (has_unpaired_surrogate units)
 
-pub is_paired-plain_unit : (c : List ℕ) (i : ℕ) → i + 2 ≤ length c → get_or c (i + 1) 0 < 256 → (get_or c i 0 < 0xd8) ⊎ (0xdf < get_or c i 0) → is_paired (drop i c) ≡ is_paired (drop (i + 2) c)
-is_paired-plain_unit c i h b (inl low) = ap whole (pairs_at c i h) ∙ has_unpaired_surrogate-plain (unit c i) _ (inl (omega (arith, number-two_octets (get_or c i 0) (get_or c (i + 1) 0), b, low)))
-is_paired-plain_unit c i h b (inr high) = ap whole (pairs_at c i h) ∙ has_unpaired_surrogate-plain (unit c i) _ (inr (omega (arith, number-two_octets (get_or c i 0) (get_or c (i + 1) 0), b, high)))
+pub is_paired_plain_unit : (c : List ℕ) (i : ℕ) → i + 2 ≤ length c → get_or c (i + 1) 0 < 256 → (get_or c i 0 < 0xd8) ⊎ (0xdf < get_or c i 0) → is_paired (drop i c) ≡ is_paired (drop (i + 2) c)
+is_paired_plain_unit c i h b (inl low) = ap whole (pairs_at c i h) ∙ has_unpaired_surrogate_plain (unit c i) _ (inl (omega (arith, number_two_octets (get_or c i 0) (get_or c (i + 1) 0), b, low)))
+is_paired_plain_unit c i h b (inr high) = ap whole (pairs_at c i h) ∙ has_unpaired_surrogate_plain (unit c i) _ (inr (omega (arith, number_two_octets (get_or c i 0) (get_or c (i + 1) 0), b, high)))
 
-pub is_paired-pair : (c : List ℕ) (i : ℕ) → i + 4 ≤ length c → get_or c (i + 1) 0 < 256 → get_or c (i + 2 + 1) 0 < 256 →
+pub is_paired_pair : (c : List ℕ) (i : ℕ) → i + 4 ≤ length c → get_or c (i + 1) 0 < 256 → get_or c (i + 2 + 1) 0 < 256 →
     0xd8 ≤ get_or c i 0 → get_or c i 0 < 0xdc → 0xdc ≤ get_or c (i + 2) 0 → get_or c (i + 2) 0 ≤ 0xdf → is_paired (drop i c) ≡ is_paired (drop (i + 4) c)
-is_paired-pair c i h b d high-from high-to low-from low-to =
-    let u-is = number-two_octets (get_or c i 0) (get_or c (i + 1) 0) in
-    let v-is = number-two_octets (get_or c (i + 2) 0) (get_or c (i + 2 + 1) 0) in
+is_paired_pair c i h b d high-from high-to low-from low-to =
+    let u-is = number_two_octets (get_or c i 0) (get_or c (i + 1) 0) in
+    let v-is = number_two_octets (get_or c (i + 2) 0) (get_or c (i + 2 + 1) 0) in
     let is : IsPair (unit c i) (unit c (i + 2)) = (omega (arith, u-is, high-from), omega (arith, u-is, b, high-to), omega (arith, v-is, low-from), omega (arith, v-is, d, low-to)) in
     let place : i + 2 + 2 ≡ i + 4 = omega arith in
-    ap whole (pairs_at c i (omega (arith, h)) ∙ ap (λ (t : List ℕ). unit c i ∷ t) (pairs_at c (i + 2) (omega (arith, h)))) ∙ has_unpaired_surrogate-pair (unit c i) (unit c (i + 2)) (pairs (drop (i + 2 + 2) c)) is ∙ ap (λ (k : ℕ). is_paired (drop k c)) place
+    ap whole (pairs_at c i (omega (arith, h)) ∙ ap (λ (t : List ℕ). unit c i ∷ t) (pairs_at c (i + 2) (omega (arith, h)))) ∙ has_unpaired_surrogate_pair (unit c i) (unit c (i + 2)) (pairs (drop (i + 2 + 2) c)) is ∙ ap (λ (k : ℕ). is_paired (drop k c)) place
 
-pub is_paired-lone_unit : (c : List ℕ) (i : ℕ) → i + 2 ≤ length c → get_or c (i + 1) 0 < 256 → 0xd8 ≤ get_or c i 0 → get_or c i 0 ≤ 0xdf →
+pub is_paired_lone_unit : (c : List ℕ) (i : ℕ) → i + 2 ≤ length c → get_or c (i + 1) 0 < 256 → 0xd8 ≤ get_or c i 0 → get_or c i 0 ≤ 0xdf →
     (IsPair (unit c i) (get_or (pairs (drop (i + 2) c)) 0 0) → ⊥) → is_paired (drop i c) ≡ false
-is_paired-lone_unit c i h b from to none =
-    let u-is = number-two_octets (get_or c i 0) (get_or c (i + 1) 0) in
-    ap whole (pairs_at c i h) ∙ has_unpaired_surrogate-lone (unit c i) _ (omega (arith, u-is, from)) (omega (arith, u-is, b, to)) none
+is_paired_lone_unit c i h b from to none =
+    let u-is = number_two_octets (get_or c i 0) (get_or c (i + 1) 0) in
+    ap whole (pairs_at c i h) ∙ has_unpaired_surrogate_lone (unit c i) _ (omega (arith, u-is, from)) (omega (arith, u-is, b, to)) none
 
 -- the reasons why a unit isn't the first of a pair
-pub not_IsPair-high : (c : List ℕ) (i v : ℕ) → 0xdb < get_or c i 0 → IsPair (unit c i) v → ⊥
-not_IsPair-high c i v h p = omega (arith, number-two_octets (get_or c i 0) (get_or c (i + 1) 0), h, p.1)
+pub not_IsPair_high : (c : List ℕ) (i v : ℕ) → 0xdb < get_or c i 0 → IsPair (unit c i) v → ⊥
+not_IsPair_high c i v h p = omega (arith, number_two_octets (get_or c i 0) (get_or c (i + 1) 0), h, p.1)
 
-pub not_IsPair-end : (c : List ℕ) (i u : ℕ) → length c - i < 4 → IsPair u (get_or (pairs (drop (i + 2) c)) 0 0) → ⊥
-not_IsPair-end c i u h p =
+pub not_IsPair_end : (c : List ℕ) (i u : ℕ) → length c - i < 4 → IsPair u (get_or (pairs (drop (i + 2) c)) 0 0) → ⊥
+not_IsPair_end c i u h p =
     let short : length (drop (i + 2) c) < 2 = omega (arith, h, length-drop (i + 2) c) in
     let zero-is : get_or (pairs (drop (i + 2) c)) 0 0 ≡ 0 = ap (λ (t : List ℕ). get_or t 0 0) (pairs_short (drop (i + 2) c) short) in
     omega (arith, zero-is, p.2)
 
-pub not_IsPair-low : (c : List ℕ) (i u : ℕ) → i + 4 ≤ length c → get_or c (i + 2 + 1) 0 < 256 → (get_or c (i + 2) 0 < 0xdc) ⊎ (0xdf < get_or c (i + 2) 0) → IsPair u (get_or (pairs (drop (i + 2) c)) 0 0) → ⊥
-not_IsPair-low c i u h d out p =
+pub not_IsPair_low : (c : List ℕ) (i u : ℕ) → i + 4 ≤ length c → get_or c (i + 2 + 1) 0 < 256 → (get_or c (i + 2) 0 < 0xdc) ⊎ (0xdf < get_or c (i + 2) 0) → IsPair u (get_or (pairs (drop (i + 2) c)) 0 0) → ⊥
+not_IsPair_low c i u h d out p =
     let is : get_or (pairs (drop (i + 2) c)) 0 0 ≡ unit c (i + 2) = ap (λ (t : List ℕ). get_or t 0 0) (pairs_at c (i + 2) (omega (arith, h))) in
-    let v-is = number-two_octets (get_or c (i + 2) 0) (get_or c (i + 2 + 1) 0) in
+    let v-is = number_two_octets (get_or c (i + 2) 0) (get_or c (i + 2 + 1) 0) in
     elim out [ inl below ↦ omega (arith, is, v-is, d, below, p.2) | inr above ↦ omega (arith, is, v-is, above, p.3) ]
 
 -- ---- the end of the octets
 
-drop-at_end : (c : List ℕ) (i : ℕ) → i ≤ length c → length c ≤ i → drop i c ≡ []
-drop-at_end c i h end =
+drop_at_end : (c : List ℕ) (i : ℕ) → i ≤ length c → length c ≤ i → drop i c ≡ []
+drop_at_end c i h end =
     let same : i ≡ length c = omega (arith, h, end) in
     ap (λ (k : ℕ). drop k c) same ∙ drop-length c
 
-pub is_utf16_text-is_paired : (c : List ℕ) (i : ℕ) → length c % 2 ≡ 0 → i ≤ length c → length c ≤ i → is_paired (drop i c) ≡ is_paired c → true ≡ is_utf16_text c
-is_utf16_text-is_paired c i even h end same = sym (and_from (nat_eq (length c % 2) 0) (is_paired c) (eq-eqb _ _ even) (sym same ∙ ap is_paired (drop-at_end c i h end) ∙ ap all_chars utf16_chars-nil))
+pub is_utf16_text_is_paired : (c : List ℕ) (i : ℕ) → length c % 2 ≡ 0 → i ≤ length c → length c ≤ i → is_paired (drop i c) ≡ is_paired c → true ≡ is_utf16_text c
+is_utf16_text_is_paired c i even h end same = sym (and_from (nat_eq (length c % 2) 0) (is_paired c) (eq-eqb _ _ even) (sym same ∙ ap is_paired (drop_at_end c i h end) ∙ ap all_chars utf16_chars-nil))

@@ -9,15 +9,15 @@ use Rattle.asn1.specs.declared.ParseErrorKind.TheVariants.{ShortData}
 use Rattle.asn1.specs.Base256.{IsOctets}
 use Rattle.asn1.specs.Element.{Element, element_encoding, IsReadable, leading_element}
 use Rattle.asn1.specs.Laws.{IsShort}
-use Rattle.asn1.specs.Lemmas.Tags.{leading_tag-empty}
-use Rattle.asn1.specs.Lemmas.Texts.{IsOctets-suffix}
-use Rattle.asn1.specs.Lemmas.Elements.{ElementFront, leading_element-element_encoding, leading_element-tag_err, leading_element-ok_is}
+use Rattle.asn1.specs.Lemmas.Tags.{leading_tag_empty}
+use Rattle.asn1.specs.Lemmas.Texts.{IsOctets_suffix}
+use Rattle.asn1.specs.Lemmas.Elements.{ElementFront, leading_element_element_encoding, leading_element_tag_err, leading_element_ok_is}
 use Rattle.asn1.proofs.Stands.{elements_are_apart}
 use Rattle.dercheck.specs.Frames.{IsFraming, IsUnfinished, EachTextHasAFraming, TextsHaveOneFraming, element_line, end_line, lines}
-use Rattle.asn1.specs.Lemmas.Facts.{length-positive}
+use Rattle.asn1.specs.Lemmas.Facts.{length_positive}
 
-pub leading_element-empty : leading_element [] ≡ Err (ShortData 1)
-leading_element-empty = leading_element-tag_err [] (ShortData 1) (leading_tag-empty [] refl)
+pub leading_element_empty : leading_element [] ≡ Err (ShortData 1)
+leading_element_empty = leading_element_tag_err [] (ShortData 1) (leading_tag_empty [] refl)
 
 err_from_short : (a : ElementFront) → IsShort a → IsErr a
 err_from_short (Ok found) short = absurd short
@@ -27,28 +27,28 @@ pub err_at : (a : ElementFront) (kind : ParseErrorKind) → a ≡ Err kind → I
 err_at a kind e = rw e refl
 
 -- no element, and remaining octets
-pub IsFraming-nil : (octets : List ℕ) → IsErr (leading_element octets) → IsFraming octets [] octets
-IsFraming-nil octets stops = record { readable = tt; whole = refl; stops = stops }
+pub IsFraming_nil : (octets : List ℕ) → IsErr (leading_element octets) → IsFraming octets [] octets
+IsFraming_nil octets stops = record { readable = tt; whole = refl; stops = stops }
 
-pub IsFraming-unfinished : (octets : List ℕ) → IsUnfinished octets → IsFraming octets [] octets
-IsFraming-unfinished octets short = IsFraming-nil octets (err_from_short (leading_element octets) short)
+pub IsFraming_unfinished : (octets : List ℕ) → IsUnfinished octets → IsFraming octets [] octets
+IsFraming_unfinished octets short = IsFraming_nil octets (err_from_short (leading_element octets) short)
 
 -- one element, and no remaining octets
-pub IsFraming-one_element : (octets : List ℕ) (e : Element) → IsReadable e → octets ≡ element_encoding e → IsFraming octets (e ∷ []) []
-IsFraming-one_element octets e readable same = record {
+pub IsFraming_one_element : (octets : List ℕ) (e : Element) → IsReadable e → octets ≡ element_encoding e → IsFraming octets (e ∷ []) []
+IsFraming_one_element octets e readable same = record {
   readable = (readable, tt);
   whole = same ∙ sym (append-nil (element_encoding e)) ∙ sym (append-nil (element_encoding e ++ []));
-  stops = err_at (leading_element []) (ShortData 1) leading_element-empty;
+  stops = err_at (leading_element []) (ShortData 1) leading_element_empty;
 }
 
-AllByRecursion-append : (es fs : List Element) → AllByRecursion IsReadable es → AllByRecursion IsReadable fs → AllByRecursion IsReadable (es ++ fs)
-AllByRecursion-append [] fs a b = b
-AllByRecursion-append (e ∷ es) fs a b = (a.0, AllByRecursion-append es fs a.1 b)
+AllByRecursion_append : (es fs : List Element) → AllByRecursion IsReadable es → AllByRecursion IsReadable fs → AllByRecursion IsReadable (es ++ fs)
+AllByRecursion_append [] fs a b = b
+AllByRecursion_append (e ∷ es) fs a b = (a.0, AllByRecursion_append es fs a.1 b)
 
 -- the framing of the remaining octets and of more after them continues the first framing
-pub IsFraming-append : (a b : List ℕ) (es fs : List Element) (p r : List ℕ) → IsFraming a es p → IsFraming (p ++ b) fs r → IsFraming (a ++ b) (es ++ fs) r
-IsFraming-append a b es fs p r first next = record {
-  readable = AllByRecursion-append es fs first.readable next.readable;
+pub IsFraming_append : (a b : List ℕ) (es fs : List Element) (p r : List ℕ) → IsFraming a es p → IsFraming (p ++ b) fs r → IsFraming (a ++ b) (es ++ fs) r
+IsFraming_append a b es fs p r first next = record {
+  readable = AllByRecursion_append es fs first.readable next.readable;
   whole =
       ap (λ (l : List ℕ). l ++ b) first.whole
       ∙ append_assoc (flat_map element_encoding es) p b
@@ -58,26 +58,26 @@ IsFraming-append a b es fs p r first next = record {
   stops = next.stops;
 }
 
-pub lines-append : (es fs : List Element) (r : List ℕ) → lines (es ++ fs) r ≡ flat_map element_line es ++ lines fs r
-lines-append es fs r = ap (λ (l : List ℕ). l ++ end_line r) (flat_map-append element_line es fs) ∙ append_assoc (flat_map element_line es) (flat_map element_line fs) (end_line r)
+pub lines_append : (es fs : List Element) (r : List ℕ) → lines (es ++ fs) r ≡ flat_map element_line es ++ lines fs r
+lines_append es fs r = ap (λ (l : List ℕ). l ++ end_line r) (flat_map-append element_line es fs) ∙ append_assoc (flat_map element_line es) (flat_map element_line fs) (end_line r)
 
 -- ---- any octets have a framing
 
-element_encoding-nonempty : (e : Element) → IsReadable e → 0 < length (element_encoding e)
-element_encoding-nonempty e readable = length-positive (element_encoding e) (λ (nothing : element_encoding e ≡ []).
-    let whole : leading_element (element_encoding e) ≡ Ok (e, []) = sym (ap leading_element (append-nil (element_encoding e))) ∙ leading_element-element_encoding e [] readable in
-    let none : leading_element (element_encoding e) ≡ Err (ShortData 1) = ap leading_element nothing ∙ leading_element-empty in
+element_encoding_nonempty : (e : Element) → IsReadable e → 0 < length (element_encoding e)
+element_encoding_nonempty e readable = length_positive (element_encoding e) (λ (nothing : element_encoding e ≡ []).
+    let whole : leading_element (element_encoding e) ≡ Ok (e, []) = sym (ap leading_element (append-nil (element_encoding e))) ∙ leading_element_element_encoding e [] readable in
+    let none : leading_element (element_encoding e) ≡ Err (ShortData 1) = ap leading_element nothing ∙ leading_element_empty in
     absurd cc)
 
 framing_by : (n : ℕ) (octets : List ℕ) (a : ElementFront) → length octets ≤ n → IsOctets octets → leading_element octets ≡ a → (es : List Element) × (rest : List ℕ) × IsFraming octets es rest
-framing_by n octets (Err kind) few is e = ([], octets, IsFraming-nil octets (err_at (leading_element octets) kind e))
+framing_by n octets (Err kind) few is e = ([], octets, IsFraming_nil octets (err_at (leading_element octets) kind e))
 framing_by zero octets (Ok (found, rest)) few is e =
-    let parts = leading_element-ok_is octets found rest is e in
-    absurd (omega (arith, ap length parts.1, length-append (element_encoding found) rest, element_encoding-nonempty found parts.0))
+    let parts = leading_element_ok_is octets found rest is e in
+    absurd (omega (arith, ap length parts.1, length-append (element_encoding found) rest, element_encoding_nonempty found parts.0))
 framing_by (suc n) octets (Ok (found, rest)) few is e =
-    let parts = leading_element-ok_is octets found rest is e in
-    let fewer : length rest ≤ n = omega (arith, ap length parts.1, length-append (element_encoding found) rest, element_encoding-nonempty found parts.0) in
-    let (es, last, framing) = framing_by n rest (leading_element rest) fewer (IsOctets-suffix (element_encoding found) rest (subst IsOctets parts.1 is)) refl in (
+    let parts = leading_element_ok_is octets found rest is e in
+    let fewer : length rest ≤ n = omega (arith, ap length parts.1, length-append (element_encoding found) rest, element_encoding_nonempty found parts.0) in
+    let (es, last, framing) = framing_by n rest (leading_element rest) fewer (IsOctets_suffix (element_encoding found) rest (subst IsOctets parts.1 is)) refl in (
       found ∷ es,
       last,
       record {
@@ -94,7 +94,7 @@ framing_some octets is = framing_by (length octets) octets (leading_element octe
 
 stops_at : (e : Element) (rest octets : List ℕ) → IsReadable e → octets ≡ element_encoding e ++ rest → IsErr (leading_element octets) → ⊥
 stops_at e rest octets readable same stops =
-    let found : leading_element octets ≡ Ok (e, rest) = ap leading_element same ∙ leading_element-element_encoding e rest readable in
+    let found : leading_element octets ≡ Ok (e, rest) = ap leading_element same ∙ leading_element_element_encoding e rest readable in
     let bad : IsErr {T = Element × List ℕ} {E = ParseErrorKind} (Ok (e, rest)) = subst (λ (a : ElementFront). IsErr a) found stops in
     cc
 

@@ -12,13 +12,13 @@ use Rattle.dercheck.specs.declared.words.TheConstants.Word.{ALL}
 use Rattle.dercheck.specs.Lines.{split_once}
 use Rattle.dercheck.specs.Requests.{word_text, word_of, IsRequest, asked, asked_by, request_of}
 use Rattle.dercheck.specs.Laws.{RequestsAreRight}
-use Rattle.dercheck.proofs.Cuts.{split_once-append, split_once-is, HasNone-missing, Some-injective}
+use Rattle.dercheck.proofs.Cuts.{split_once_append, split_once_is, HasNone_missing, Some_injective}
 
 -- ---- the words
 
-word_of-text : (word : Word) → word_of (word_text word) ≡ Some word
-word_of-text words.Bool = refl
-word_of-text _ = refl
+word_of_text : (word : Word) → word_of (word_text word) ≡ Some word
+word_of_text words.Bool = refl
+word_of_text _ = refl
 
 -- a word has no space
 uncut : (word : Word) → split_once 32 (word_text word) ≡ None
@@ -26,16 +26,16 @@ unfolding split_once
 uncut words.Bool = refl
 uncut _ = refl
 
-find-Some : {X : Type 0} (test : X → Bool) (xs : List X) (y : X) → find test xs ≡ Some y → test y ≡ true
-find-Some test [] y e = let no : None ≡ Some y = e in absurd cc
-find-Some {X} test (x ∷ xs) y e = ⊎_elim
-    (λ (passes : test x ≡ true). let same : x ≡ y = Some-injective _ _ (rw passes at e) in ap test (sym same) ∙ passes)
-    (λ (fails : test x ≡ false). find-Some test xs y (rw fails at e))
+find_Some : {X : Type 0} (test : X → Bool) (xs : List X) (y : X) → find test xs ≡ Some y → test y ≡ true
+find_Some test [] y e = let no : None ≡ Some y = e in absurd cc
+find_Some {X} test (x ∷ xs) y e = ⊎_elim
+    (λ (passes : test x ≡ true). let same : x ≡ y = Some_injective _ _ (rw passes at e) in ap test (sym same) ∙ passes)
+    (λ (fails : test x ≡ false). find_Some test xs y (rw fails at e))
     (cases_Bool (test x))
 
-word_of-is : (octets : List ℕ) (word : Word) → word_of octets ≡ Some word → octets ≡ word_text word
-word_of-is octets word e =
-    sym ((bytes_eq-Decides (word_text word) octets).0 (find-Some (λ w. bytes_eq (word_text w) octets) ALL.now word e))
+word_of_is : (octets : List ℕ) (word : Word) → word_of octets ≡ Some word → octets ≡ word_text word
+word_of_is octets word e =
+    sym ((bytes_eq-Decides (word_text word) octets).0 (find_Some (λ w. bytes_eq (word_text w) octets) ALL.now word e))
 
 -- ---- requests
 
@@ -45,7 +45,7 @@ Request = Word × List ℕ
 asked_is : (found : Option Word) (decoded : Result (List ℕ) FromHexError) (word : Word) (octets : List ℕ) →
     asked found decoded ≡ Some (word, octets) → (found ≡ Some word) × (decoded ≡ Ok octets)
 asked_is (Some w) (Ok o) word octets e =
-    let same : (w, o) ≡ (word, octets) = Some-injective _ _ e in
+    let same : (w, o) ≡ (word, octets) = Some_injective _ _ e in
     (ap (λ (r : Request). Some r.0) same, ap (λ (r : Request). Ok r.1) same)
 asked_is (Some w) (Err error) word octets e = let no : ◌≡◌ {A = Option Request} None (Some (word, octets)) = e in absurd cc
 asked_is None decoded word octets e = let no : ◌≡◌ {A = Option Request} None (Some (word, octets)) = e in absurd cc
@@ -57,16 +57,16 @@ asked_by_is line (Some parts) word octets same e =
     let both = asked_is (word_of parts.0) (decode_of parts.1) word octets e in
     record {
       hex = parts.1;
-      is = split_once-is 32 line parts same ∙ ap (λ (text : List ℕ). text ++ 32 ∷ parts.1) (word_of-is parts.0 word both.0);
+      is = split_once_is 32 line parts same ∙ ap (λ (text : List ℕ). text ++ 32 ∷ parts.1) (word_of_is parts.0 word both.0);
       decoded = both.1;
     }
 
-pub request_of-is : (line : List ℕ) (word : Word) (octets : List ℕ) → IsRequest line word octets → request_of line ≡ Some (word, octets)
-request_of-is line word octets is =
+pub request_of_is : (line : List ℕ) (word : Word) (octets : List ℕ) → IsRequest line word octets → request_of line ≡ Some (word, octets)
+request_of_is line word octets is =
     ap request_of is.is
-    ∙ ap asked_by (split_once-append 32 (word_text word) is.hex (HasNone-missing 32 (word_text word) (uncut word)))
-    ∙ ap (λ (found : Option Word). asked found (decode_of is.hex)) (word_of-text word)
+    ∙ ap asked_by (split_once_append 32 (word_text word) is.hex (HasNone_missing 32 (word_text word) (uncut word)))
+    ∙ ap (λ (found : Option Word). asked found (decode_of is.hex)) (word_of_text word)
     ∙ ap (asked (Some word)) is.decoded
 
 pub requests_are_right : RequestsAreRight
-requests_are_right line word octets = (request_of-is line word octets, asked_by_is line (split_once 32 line) word octets refl)
+requests_are_right line word octets = (request_of_is line word octets, asked_by_is line (split_once 32 line) word octets refl)

@@ -7,20 +7,20 @@ use Rattle.asn1.specs.declared.Tag.{Tag}
 use Rattle.asn1.specs.Tag.{identifier_octets}
 use Rattle.asn1.specs.Length.{length_octets}
 use Rattle.asn1.specs.Element.{Element, element_encoding, IsReadable, leading_element}
-use Rattle.asn1.specs.Lemmas.Tags.{leading_tag-identifier_octets}
-use Rattle.asn1.specs.Lemmas.Lengths.{leading_length-length_octets}
-use Rattle.asn1.specs.Lemmas.Elements.{leading_element-element_encoding, leading_element-short, element_encoding-append}
+use Rattle.asn1.specs.Lemmas.Tags.{leading_tag_identifier_octets}
+use Rattle.asn1.specs.Lemmas.Lengths.{leading_length_length_octets}
+use Rattle.asn1.specs.Lemmas.Elements.{leading_element_element_encoding, leading_element_short, element_encoding_append}
 use Rattle.dercheck.specs.Frames.{IsBegun}
-use Rattle.asn1.specs.Lemmas.Digits.{cons-as_push}
+use Rattle.asn1.specs.Lemmas.Digits.{cons_as_push}
 
 -- if octets are too short, one octet more leaves nothing after an element
-remaining-nil : (octets : List ℕ) (octet needed : ℕ) (e : Element) (rest : List ℕ) → IsReadable e → leading_element octets ≡ Err (ShortData needed) → octets ++ octet ∷ [] ≡ element_encoding e ++ rest → rest ≡ []
-remaining-nil octets octet needed e [] readable short same = refl
-remaining-nil octets octet needed e (x ∷ xs) readable short same =
-    let parts = cons-as_push x xs in
+remaining_nil : (octets : List ℕ) (octet needed : ℕ) (e : Element) (rest : List ℕ) → IsReadable e → leading_element octets ≡ Err (ShortData needed) → octets ++ octet ∷ [] ≡ element_encoding e ++ rest → rest ≡ []
+remaining_nil octets octet needed e [] readable short same = refl
+remaining_nil octets octet needed e (x ∷ xs) readable short same =
+    let parts = cons_as_push x xs in
     let joined : octets ++ octet ∷ [] ≡ (element_encoding e ++ parts.0) ++ parts.1 ∷ [] = same ∙ ap (λ (l : List ℕ). element_encoding e ++ l) parts.2 ∙ sym (append_assoc (element_encoding e) parts.0 (parts.1 ∷ [])) in
     let before = same_from_push octets (element_encoding e ++ parts.0) octet parts.1 joined in
-    let found : leading_element octets ≡ Ok (e, parts.0) = ap leading_element before.0 ∙ leading_element-element_encoding e parts.0 readable in
+    let found : leading_element octets ≡ Ok (e, parts.0) = ap leading_element before.0 ∙ leading_element_element_encoding e parts.0 readable in
     absurd cc
 
 abbrev pub element_with : Tag → List ℕ → Element
@@ -36,7 +36,7 @@ begun_element octets tag n content begun all =
       begun.encoded
           ∙ ap (λ (l : List ℕ). identifier_octets tag ++ (length_octets n ++ l)) (sym (take-append-drop n content))
           ∙ ap (λ (k : ℕ). identifier_octets tag ++ (length_octets k ++ (take n content ++ drop n content))) (sym size)
-          ∙ sym (element_encoding-append e (drop n content)),
+          ∙ sym (element_encoding_append e (drop n content)),
     )
 
 -- if no contents octets are missing, the octets are an element
@@ -48,7 +48,7 @@ begun_whole octets tag n content begun all =
       begun.encoded
           ∙ ap (λ (k : ℕ). identifier_octets tag ++ (length_octets k ++ content)) all
           ∙ ap (λ (l : List ℕ). identifier_octets tag ++ (length_octets (length content) ++ l)) (sym (append-nil content))
-          ∙ sym (element_encoding-append e [])
+          ∙ sym (element_encoding_append e [])
           ∙ append-nil (element_encoding e),
     )
 
@@ -58,13 +58,13 @@ pub begun_short : (octets : List ℕ) (tag : Tag) (n : ℕ) (content : List ℕ)
 begun_short octets tag n content needed begun missing some =
     let k : n - length content ≡ needed = omega arith in
     ap leading_element begun.encoded
-    ∙ leading_element-short (identifier_octets tag ++ (length_octets n ++ content)) tag (length_octets n ++ content) n content
-    (leading_tag-identifier_octets tag (length_octets n ++ content) begun.tag_small) (leading_length-length_octets n content begun.length_small) (omega arith)
+    ∙ leading_element_short (identifier_octets tag ++ (length_octets n ++ content)) tag (length_octets n ++ content) n content
+    (leading_tag_identifier_octets tag (length_octets n ++ content) begun.tag_small) (leading_length_length_octets n content begun.length_small) (omega arith)
     ∙ ap (λ (m : ℕ). Err (ShortData m)) k
 
 -- more octets are more contents octets
-pub IsBegun-append : (text : List ℕ) (tag : Tag) (n : ℕ) (content octets : List ℕ) → IsBegun text tag n content → IsBegun (text ++ octets) tag n (content ++ octets)
-IsBegun-append text tag n content octets begun = record {
+pub IsBegun_append : (text : List ℕ) (tag : Tag) (n : ℕ) (content octets : List ℕ) → IsBegun text tag n content → IsBegun (text ++ octets) tag n (content ++ octets)
+IsBegun_append text tag n content octets begun = record {
   tag_small = begun.tag_small;
   length_small = begun.length_small;
   encoded =
@@ -79,10 +79,10 @@ pub whole_within : (octets : List ℕ) (octet short : ℕ) (tag : Tag) (n : ℕ)
 whole_within octets octet short tag n content is_short begun = ⊎_elim
     (λ (l : n < length content).
     let parts = begun_element (octets ++ octet ∷ []) tag n content begun (omega arith) in
-    let none = remaining-nil octets octet short (element_with tag (take n content)) (drop n content) parts.0 is_short parts.1 in
+    let none = remaining_nil octets octet short (element_with tag (take n content)) (drop n content) parts.0 is_short parts.1 in
     omega (arith, ap length none, length-drop n content))
     (λ (l : length content ≤ n). l) (cases_lt n (length content))
 
 -- one octet more of the header is kept
-pub take-set_next : (text octets : List ℕ) (count octet : ℕ) → count < length octets → text ≡ take count octets → text ++ octet ∷ [] ≡ take (count + 1) (set octets count octet)
-take-set_next text octets count octet room e = ap (λ (l : List ℕ). l ++ octet ∷ []) e ∙ sym (take_more_set octets count octet room)
+pub take_set_next : (text octets : List ℕ) (count octet : ℕ) → count < length octets → text ≡ take count octets → text ++ octet ∷ [] ≡ take (count + 1) (set octets count octet)
+take_set_next text octets count octet room e = ap (λ (l : List ℕ). l ++ octet ∷ []) e ∙ sym (take_more_set octets count octet room)

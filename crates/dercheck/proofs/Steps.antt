@@ -11,8 +11,8 @@ use Rattle.asn1.specs.declared.ParseErrorKind.TheVariants.{ShortData}
 use Rattle.asn1.specs.Base256.{IsOctets}
 use Rattle.asn1.specs.Tag.{identifier_octets}
 use Rattle.asn1.specs.Length.{length_octets}
-use Rattle.asn1.specs.Lemmas.Tags.{identifier_octets-nonempty}
-use Rattle.asn1.specs.Lemmas.Texts.{IsOctets-suffix}
+use Rattle.asn1.specs.Lemmas.Tags.{identifier_octets_nonempty}
+use Rattle.asn1.specs.Lemmas.Texts.{IsOctets_suffix}
 use Rattle.asn1.specs.Element.{Element, element_encoding, leading_element}
 use Rattle.asn1.specs.Laws.{IsShort}
 use Rattle.asn1.specs.Lemmas.Elements.{ElementFront}
@@ -21,28 +21,28 @@ use Rattle.dercheck.specs.Frames.{IsFraming, IsUnfinished, line_of, element_line
 use Rattle.dercheck.specs.declared.answers.Fault.{Fault}
 use Rattle.dercheck.specs.declared.pending.Pending.{Pending}
 use Rattle.dercheck.specs.declared.pending.Progress.TheVariants.{GoesOn, Completes, Fails}
-use Rattle.dercheck.proofs.Parts.{AppendsInPart-append, AppendsInPart-after_Appends}
-use Rattle.dercheck.proofs.Framings.{err_at, IsFraming-unfinished, IsFraming-one_element, IsFraming-append, lines-append, leading_element-empty}
+use Rattle.dercheck.proofs.Parts.{AppendsInPart_append, AppendsInPart_after_Appends}
+use Rattle.dercheck.proofs.Framings.{err_at, IsFraming_unfinished, IsFraming_one_element, IsFraming_append, lines_append, leading_element_empty}
 use Rattle.dercheck.proofs.States.{begun_short}
 
 -- what is pending is too short, by `needed`
-pub Stands-ShortData : (p : Pending) (octets : List ℕ) → Stands p octets → leading_element octets ≡ Err (ShortData p.needed)
-Stands-ShortData p octets (inl h) = h.short
-Stands-ShortData p octets (inr h) = begun_short octets h.tag p.content_length h.content p.needed h.begun h.missing h.some
+pub Stands_ShortData : (p : Pending) (octets : List ℕ) → Stands p octets → leading_element octets ≡ Err (ShortData p.needed)
+Stands_ShortData p octets (inl h) = h.short
+Stands_ShortData p octets (inr h) = begun_short octets h.tag p.content_length h.content p.needed h.begun h.missing h.some
 
 short_at : (a : ElementFront) (needed : ℕ) → a ≡ Err (ShortData needed) → IsShort a
 short_at a needed e = rw e tt
 
-pub Stands-IsUnfinished : (p : Pending) (octets : List ℕ) → Stands p octets → IsUnfinished octets
-Stands-IsUnfinished p octets stands = short_at (leading_element octets) p.needed (Stands-ShortData p octets stands)
+pub Stands_IsUnfinished : (p : Pending) (octets : List ℕ) → Stands p octets → IsUnfinished octets
+Stands_IsUnfinished p octets stands = short_at (leading_element octets) p.needed (Stands_ShortData p octets stands)
 
 -- ---- one step
 
-pub Taken-nil : (p : Pending) (octets before : List ℕ) → Stands p octets → Taken p (octets ++ []) before before
-Taken-nil p octets before stands = record {
+pub Taken_nil : (p : Pending) (octets before : List ℕ) → Stands p octets → Taken p (octets ++ []) before before
+Taken_nil p octets before stands = record {
   elements = [];
   rest = octets;
-  framing = rw (append-nil octets) (IsFraming-unfinished octets (Stands-IsUnfinished p octets stands));
+  framing = rw (append-nil octets) (IsFraming_unfinished octets (Stands_IsUnfinished p octets stands));
   stands = stands;
   made_lines = sym (append-nil before);
 }
@@ -62,7 +62,7 @@ goes_on p q a octets before made taken step =
     record {
       elements = taken.elements;
       rest = rest;
-      framing = framing_more a octets taken.elements taken.rest taken.framing (err_at (leading_element rest) (ShortData q.needed) (Stands-ShortData q rest stands));
+      framing = framing_more a octets taken.elements taken.rest taken.framing (err_at (leading_element rest) (ShortData q.needed) (Stands_ShortData q rest stands));
       stands = stands;
       made_lines = taken.made_lines;
     }
@@ -74,15 +74,15 @@ complete_line q octets is = ap (λ (l : List ℕ). line_of l q.content_length) i
 lines_push : (es : List Element) (e : Element) → flat_map element_line (es ++ e ∷ []) ≡ flat_map element_line es ++ element_line e
 lines_push es e = flat_map-append element_line es (e ∷ []) ∙ ap (λ (l : List ℕ). flat_map element_line es ++ l) (append-nil (element_line e))
 
-pub Taken-Completes : (p q s : Pending) (a octets before made made' : List ℕ) → Taken p a before made → Advances p q Completes octets → Stands s []
+pub Taken_Completes : (p q s : Pending) (a octets before made made' : List ℕ) → Taken p a before made → Advances p q Completes octets → Stands s []
     → made' ≡ made ++ line_of (take q.count q.octets) q.content_length → Taken s (a ++ octets) before made'
-Taken-Completes p q s a octets before made made' taken step fresh line =
+Taken_Completes p q s a octets before made made' taken step fresh line =
     let is : IsComplete q (taken.rest ++ octets) = step taken.rest taken.stands in
     let done = flat_map element_line taken.elements in
     record {
       elements = taken.elements ++ is.element ∷ [];
       rest = [];
-      framing = IsFraming-append a octets taken.elements (is.element ∷ []) taken.rest [] taken.framing (IsFraming-one_element (taken.rest ++ octets) is.element is.readable is.whole);
+      framing = IsFraming_append a octets taken.elements (is.element ∷ []) taken.rest [] taken.framing (IsFraming_one_element (taken.rest ++ octets) is.element is.readable is.whole);
       stands = fresh;
       made_lines = line
           ∙ ap (λ (l : List ℕ). l ++ line_of (take q.count q.octets) q.content_length) taken.made_lines
@@ -91,22 +91,22 @@ Taken-Completes p q s a octets before made made' taken step fresh line =
           ∙ ap (λ (l : List ℕ). before ++ l) (sym (lines_push taken.elements is.element));
     }
 
-answer_line-fault_line : (kind : ParseErrorKind) → ¬ IsShort {A = Element × List ℕ} (Err kind) → answer_line (Err kind) ≡ fault_line kind
-answer_line-fault_line (ShortData needed) long = absurd (long tt)
-answer_line-fault_line _ long = refl
+answer_line_fault_line : (kind : ParseErrorKind) → ¬ IsShort {A = Element × List ℕ} (Err kind) → answer_line (Err kind) ≡ fault_line kind
+answer_line_fault_line (ShortData needed) long = absurd (long tt)
+answer_line_fault_line _ long = refl
 
 -- the line of remaining octets that hold an error
 fault_end : (octets : List ℕ) (kind : ParseErrorKind) → leading_element octets ≡ Err kind → ¬ IsShort (leading_element octets) → end_line octets ≡ fault_line kind
-fault_end [] kind e long = absurd (long (short_at (leading_element []) 1 leading_element-empty))
-fault_end (x ∷ xs) kind e long = ap answer_line e ∙ answer_line-fault_line kind (subst (λ (a : ElementFront). ¬ IsShort a) e long)
+fault_end [] kind e long = absurd (long (short_at (leading_element []) 1 leading_element_empty))
+fault_end (x ∷ xs) kind e long = ap answer_line e ∙ answer_line_fault_line kind (subst (λ (a : ElementFront). ¬ IsShort a) e long)
 
 -- remaining octets that hold an error, whatever follows them
 fault_more : (octets more : List ℕ) (kind : ParseErrorKind) → IsFault octets kind → IsOctets more → ¬ IsUnfinished (octets ++ more)
 fault_more octets more kind fault is short = fault.long (subst (λ (a : ElementFront). IsShort a) (fault.stands more is ∙ sym fault.here) short)
 
-pub Taken-Fails : (p q : Pending) (a octets more before made made' : List ℕ) (kind : ParseErrorKind) → Taken p a before made → Advances p q (Fails kind) octets → IsOctets more
+pub Taken_Fails : (p q : Pending) (a octets more before made made' : List ℕ) (kind : ParseErrorKind) → Taken p a before made → Advances p q (Fails kind) octets → IsOctets more
     → made' ≡ made ++ fault_line kind → TakenToFault ((a ++ octets) ++ more) before made'
-Taken-Fails p q a octets more before made made' kind taken step is line =
+Taken_Fails p q a octets more before made made' kind taken step is line =
     let rest = taken.rest ++ octets in
     let fault : IsFault rest kind = step taken.rest taken.stands in
     let long : ¬ IsUnfinished (rest ++ more) = fault_more rest more kind fault is in
@@ -124,24 +124,24 @@ Taken-Fails p q a octets more before made made' kind taken step is line =
 
 -- ---- where the octets are
 
-pub append-take-drop_rest : (octets all done rest : List ℕ) (n : ℕ) → done ++ rest ≡ all → ((octets ++ done) ++ take n rest) ++ drop n rest ≡ octets ++ all
-append-take-drop_rest octets all done rest n e =
+pub append_take_drop_rest : (octets all done rest : List ℕ) (n : ℕ) → done ++ rest ≡ all → ((octets ++ done) ++ take n rest) ++ drop n rest ≡ octets ++ all
+append_take_drop_rest octets all done rest n e =
     append_assoc (octets ++ done) (take n rest) (drop n rest) ∙ ap (λ l. (octets ++ done) ++ l) (take-append-drop n rest) ∙ append_assoc octets done rest ∙ ap (λ l. octets ++ l) e
 
-pub IsOctets-drop_rest : (all done rest : List ℕ) (n : ℕ) → done ++ rest ≡ all → IsOctets all → IsOctets (drop n rest)
-IsOctets-drop_rest all done rest n e is =
-    IsOctets-suffix (take n rest) (drop n rest) (subst IsOctets (sym (take-append-drop n rest)) (IsOctets-suffix done rest (subst IsOctets (sym e) is)))
+pub IsOctets_drop_rest : (all done rest : List ℕ) (n : ℕ) → done ++ rest ≡ all → IsOctets all → IsOctets (drop n rest)
+IsOctets_drop_rest all done rest n e is =
+    IsOctets_suffix (take n rest) (drop n rest) (subst IsOctets (sym (take-append-drop n rest)) (IsOctets_suffix done rest (subst IsOctets (sym e) is)))
 
 -- ---- the line at the end
 
-pub end_line-short : (octets : List ℕ) (needed : ℕ) → 0 < length octets → leading_element octets ≡ Err (ShortData needed) → end_line octets ≡ codes "short " ++ decimal needed ++ codes "\n"
-end_line-short [] needed some e = absurd (omega arith)
-end_line-short (x ∷ xs) needed some e = ap answer_line e
+pub end_line_short : (octets : List ℕ) (needed : ℕ) → 0 < length octets → leading_element octets ≡ Err (ShortData needed) → end_line octets ≡ codes "short " ++ decimal needed ++ codes "\n"
+end_line_short [] needed some e = absurd (omega arith)
+end_line_short (x ∷ xs) needed some e = ap answer_line e
 
 -- something is pending if an octet is kept, and else nothing
-pub Stands-nonempty : (p : Pending) (octets : List ℕ) → Stands p octets → ¬ (p.count ≡ 0) → 0 < length octets
-Stands-nonempty p octets (inl h) some = omega (arith, ap length h.kept, length-take p.count p.octets, p.size, p.few)
-Stands-nonempty p octets (inr h) some = omega (arith, ap length h.begun.encoded, length-append (identifier_octets h.tag) (length_octets p.content_length ++ h.content), identifier_octets-nonempty h.tag)
+pub Stands_nonempty : (p : Pending) (octets : List ℕ) → Stands p octets → ¬ (p.count ≡ 0) → 0 < length octets
+Stands_nonempty p octets (inl h) some = omega (arith, ap length h.kept, length-take p.count p.octets, p.size, p.few)
+Stands_nonempty p octets (inr h) some = omega (arith, ap length h.begun.encoded, length-append (identifier_octets h.tag) (length_octets p.content_length ++ h.content), identifier_octets_nonempty h.tag)
 
 -- ---- the whole stream
 
@@ -151,7 +151,7 @@ framed_none p left held stands = record {
   elements = [];
   rest = [];
   read = Consumes-nil left;
-  framing = IsFraming-unfinished [] (Stands-IsUnfinished p [] stands);
+  framing = IsFraming_unfinished [] (Stands_IsUnfinished p [] stands);
   stands = stands;
   sent = [];
   written = Appends-nil held;
@@ -165,7 +165,7 @@ lines_more sent kept made es fs rest before more =
     ap (λ (l : List ℕ). sent ++ l) more
     ∙ sym (append_assoc sent kept (lines fs rest))
     ∙ ap (λ (l : List ℕ). l ++ lines fs rest) before
-    ∙ sym (lines-append es fs rest)
+    ∙ sym (lines_append es fs rest)
 
 pub framed_more : (p q : Pending) (l0 l1 l2 h0 h1 : Option (List ℕ)) (octets kept made : List ℕ) → FramedTo p l0 l1 h0 h1 kept → Consumes l1 l2 octets
     → ((text : List ℕ) → Stands p text → Taken q (text ++ octets) kept made) → FramedTo q l0 l2 h0 h1 made
@@ -176,7 +176,7 @@ framed_more p q l0 l1 l2 h0 h1 octets kept made framed read takes =
       elements = framed.elements ++ taken.elements;
       rest = taken.rest;
       read = Consumes-trans l0 l1 l2 framed.octets octets framed.read read;
-      framing = IsFraming-append framed.octets octets framed.elements taken.elements framed.rest taken.rest framed.framing taken.framing;
+      framing = IsFraming_append framed.octets octets framed.elements taken.elements framed.rest taken.rest framed.framing taken.framing;
       stands = taken.stands;
       sent = framed.sent;
       written = framed.written;
@@ -211,7 +211,7 @@ framed_so_far p l0 l1 l2 h0 h1 framed kept = record {
   rest = framed.rest;
   read = Consumes-kept l0 l1 l2 framed.octets framed.read kept;
   framing = framed.framing;
-  unfinished = Stands-IsUnfinished p framed.rest framed.stands;
+  unfinished = Stands_IsUnfinished p framed.rest framed.stands;
   written = all_written p l0 l1 h0 h1 framed;
 }
 
@@ -224,11 +224,11 @@ framed_fault p l0 l1 l2 h0 h1 h2 octets kept made framed read few takes put =
       elements = framed.elements ++ taken.elements;
       rest = taken.rest;
       read = Consumes-trans l0 l1 l2 framed.octets octets framed.read read;
-      framing = IsFraming-append framed.octets octets framed.elements taken.elements framed.rest taken.rest framed.framing taken.framing;
-      ends = inr (taken.long, (framed.octets, octets, refl, few, (framed.elements, framed.rest, framed.framing, Stands-IsUnfinished p framed.rest framed.stands)));
+      framing = IsFraming_append framed.octets octets framed.elements taken.elements framed.rest taken.rest framed.framing taken.framing;
+      ends = inr (taken.long, (framed.octets, octets, refl, few, (framed.elements, framed.rest, framed.framing, Stands_IsUnfinished p framed.rest framed.stands)));
       written = subst (Appends h0 h2) (lines_more framed.sent kept made framed.elements taken.elements taken.rest framed.made_lines taken.made_lines)
           (Appends-trans h0 h1 h2 framed.sent made framed.written put);
-      answer = (λ (w : IsTrue false). absurd cc, λ (none : taken.rest ≡ []). absurd (taken.long (short_at (leading_element taken.rest) 1 (ap leading_element none ∙ leading_element-empty))));
+      answer = (λ (w : IsTrue false). absurd cc, λ (none : taken.rest ≡ []). absurd (taken.long (short_at (leading_element taken.rest) 1 (ap leading_element none ∙ leading_element_empty))));
     }
 
 -- the lines that were made, which were written in part
@@ -244,8 +244,8 @@ framed_in_part p q l0 l1 l2 h0 h1 h2 octets kept made true framed read takes fau
       rest = more.rest;
       read = more.read;
       framing = more.framing;
-      written = AppendsInPart-append h0 h2 (flat_map element_line more.elements) (end_line more.rest)
-          (subst (AppendsInPart h0 h2) more.made_lines (AppendsInPart-after_Appends h0 h1 h2 more.sent made more.written put));
+      written = AppendsInPart_append h0 h2 (flat_map element_line more.elements) (end_line more.rest)
+          (subst (AppendsInPart h0 h2) more.made_lines (AppendsInPart_after_Appends h0 h1 h2 more.sent made more.written put));
     }
 framed_in_part p q l0 l1 l2 h0 h1 h2 octets kept made false framed read takes faults put =
     let taken = faults refl framed.rest framed.stands in
@@ -254,9 +254,9 @@ framed_in_part p q l0 l1 l2 h0 h1 h2 octets kept made false framed read takes fa
       elements = framed.elements ++ taken.elements;
       rest = taken.rest;
       read = Consumes-trans l0 l1 l2 framed.octets octets framed.read read;
-      framing = IsFraming-append framed.octets octets framed.elements taken.elements framed.rest taken.rest framed.framing taken.framing;
+      framing = IsFraming_append framed.octets octets framed.elements taken.elements framed.rest taken.rest framed.framing taken.framing;
       written = subst (AppendsInPart h0 h2) (lines_more framed.sent kept made framed.elements taken.elements taken.rest framed.made_lines taken.made_lines)
-          (AppendsInPart-after_Appends h0 h1 h2 framed.sent made framed.written put);
+          (AppendsInPart_after_Appends h0 h1 h2 framed.sent made framed.written put);
     }
 
 -- a pull of no octets
@@ -272,7 +272,7 @@ framed_end p l0 l1 l2 h0 h1 h2 octets whole framed read none end answer line = r
   rest = framed.rest;
   read = read_none l0 l1 l2 framed.octets octets framed.read read none;
   framing = framed.framing;
-  ends = inl (end, Stands-IsUnfinished p framed.rest framed.stands);
+  ends = inl (end, Stands_IsUnfinished p framed.rest framed.stands);
   written = Appends-trans h0 h1 h2 (flat_map element_line framed.elements) (end_line framed.rest) (all_written p l0 l1 h0 h1 framed) (line framed.rest framed.stands);
   answer = answer framed.rest framed.stands;
 }
@@ -292,5 +292,5 @@ finish_cut p l0 l1 l2 h0 h1 h2 octets (Err x) e framed read none cut is = record
   rest = framed.rest;
   read = read_none l0 l1 l2 framed.octets octets framed.read read none;
   framing = framed.framing;
-  written = AppendsInPart-after_Appends h0 h1 h2 (flat_map element_line framed.elements) (end_line framed.rest) (all_written p l0 l1 h0 h1 framed) (cut framed.rest framed.stands);
+  written = AppendsInPart_after_Appends h0 h1 h2 (flat_map element_line framed.elements) (end_line framed.rest) (all_written p l0 l1 h0 h1 framed) (cut framed.rest framed.stands);
 }

@@ -5,7 +5,7 @@ use Rattle.asn1.specs.declared.ParseErrorKind.TheVariants.{InvalidValue}
 use Rattle.asn1.specs.ReadError.{IsOfInput}
 use Rattle.asn1.specs.EncodingLaws.{ContentLaws}
 use Rattle.asn1.specs.LawsOf.Encodings.{basic_laws}
-use Rattle.asn1.specs.Lemmas.Results.{done-injective, if-cases, if_ok-is}
+use Rattle.asn1.specs.Lemmas.Results.{done_injective, if_cases, if_ok_is}
 use Rattle.asn1.specs.Lemmas.Faults.{if_errors, passed_errors}
 use Rattle.dercheck.specs.declared.own_types.reason.Reason.{Reason}
 use Rattle.dercheck.specs.declared.own_types.reason.Reason.TheVariants.{Unspecified, Superseded}
@@ -16,11 +16,11 @@ pub reason_consumes : (c : List ℕ) (m : Reason) → read_reason c ≡ Ok m →
 reason_consumes [] m e = absurd cc
 reason_consumes (octet ∷ []) m e =
     let P : Reason → Type 0 = λ x. (octet ∷ []) ≡ reason_text x in
-    elim (if-cases (nat_eq octet 0) _ _ (Ok m) e) [
-      | inl p ↦ subst P (done-injective _ _ p.1) (rw (eqb-true _ _ p.0) refl)
+    elim (if_cases (nat_eq octet 0) _ _ (Ok m) e) [
+      | inl p ↦ subst P (done_injective _ _ p.1) (rw (eqb-true _ _ p.0) refl)
       | inr p ↦
-          let q = if_ok-is (nat_eq octet 4) _ _ m p.1 in
-          subst P (done-injective _ _ q.1) (rw (eqb-true _ _ q.0) refl)
+          let q = if_ok_is (nat_eq octet 4) _ _ m p.1 in
+          subst P (done_injective _ _ q.1) (rw (eqb-true _ _ q.0) refl)
     ]
 reason_consumes (octet ∷ next ∷ octets) m e = absurd cc
 

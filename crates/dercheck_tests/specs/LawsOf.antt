@@ -4,11 +4,11 @@ use Rattle.asn1.specs.Base256.{IsOctets}
 use Rattle.asn1.specs.ReadError.{IsOfInput}
 use Rattle.asn1.specs.EncodingLaws.{ContentLaws}
 use Rattle.asn1.specs.LawsOf.Encodings.{basic_laws}
-use Rattle.asn1.specs.Lemmas.Results.{done-injective}
+use Rattle.asn1.specs.Lemmas.Results.{done_injective}
 use Rattle.dercheck_tests.specs.Code.{read_code, code_content}
 
 pub code_consumes : (c : List ℕ) (m : ℕ) → IsOctets c → read_code c ≡ Ok m → (c ≡ m ∷ []) × (m < 256)
-code_consumes (octet ∷ []) m is e = let same : octet ≡ m = done-injective _ _ e in rw (← same) (refl, is.0)
+code_consumes (octet ∷ []) m is e = let same : octet ≡ m = done_injective _ _ e in rw (← same) (refl, is.0)
 code_consumes [] m is e = absurd cc
 code_consumes (octet ∷ next ∷ octets) m is e = absurd cc
 

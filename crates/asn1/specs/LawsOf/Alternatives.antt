@@ -6,7 +6,7 @@ use Rattle.asn1_core.specs.Element.{Element, element_encoding, ◌>>=◌}
 use Rattle.asn1_core.specs.Encoding.{Encoding}
 use Rattle.asn1_core.specs.EncodingLaws.{EncodingLaws}
 use Rattle.asn1_core.specs.Reading.{IsOneElement, IsNothingOrElement}
-use Rattle.asn1_core.specs.Lemmas.Results.{done-injective, bind_ok}
+use Rattle.asn1_core.specs.Lemmas.Results.{done_injective, bind_ok}
 use Rattle.asn1_core.specs.Lemmas.Faults.{bind_errors}
 use Rattle.asn1.specs.Among.{Among3, Among8, first_of_3, second_of_3, third_of_3, after_3, first_of_8, second_of_8, third_of_8, fourth_of_8, fifth_of_8, sixth_of_8, seventh_of_8, eighth_of_8, after_8, among_three, among_eight, sum_of_three, sum_of_eight}
 use Rattle.asn1.specs.Choices.{Alternatives, AlternativesLaws, IsApart, OneApart, ThreeApart, EightApart, or, or_three, or_eight, viewed_alternatives}
@@ -55,7 +55,7 @@ module _ {M N : Type 0} (view : M → N) (back : N → M) (c : Alternatives M) (
     no_closures = λ p n. (at n (laws_at l (back n))).no_closures p;
     consumes = λ e n is h.
         let got = bind_ok (c.read e) (λ m. Ok (view m)) n h in
-        let eq = done-injective _ _ got.2 in
+        let eq = done_injective _ _ got.2 in
         let is_m = l.consumes e got.0 is got.1 in
         let is_n = forth got.0 e (sym is_m.0, is_m.1) in
         subst (λ x. (element_encoding e ≡ encoding x) × (valid x × allowed x)) eq (sym is_n.0, is_n.1);
@@ -81,11 +81,11 @@ module _ {A B C R : Type 0} (a : Encoding A) (b : Encoding B) (c : Encoding C) (
   abbrev Together3 : Alternatives (Among3 A B C R)
   Together3 = or_three a b c others
 
-  among_three-sum_of_three : (m : Among3 A B C R) → among_three (sum_of_three m) ≡ m
-  among_three-sum_of_three (first_of_3 x) = refl
-  among_three-sum_of_three (second_of_3 x) = refl
-  among_three-sum_of_three (third_of_3 x) = refl
-  among_three-sum_of_three (after_3 x) = refl
+  among_three_sum_of_three : (m : Among3 A B C R) → among_three (sum_of_three m) ≡ m
+  among_three_sum_of_three (first_of_3 x) = refl
+  among_three_sum_of_three (second_of_3 x) = refl
+  among_three_sum_of_three (third_of_3 x) = refl
+  among_three_sum_of_three (after_3 x) = refl
 
   three_at : (m : Among3 A B C R) → At OneByOne3 (sum_of_three m) → At Together3 m
   three_at (first_of_3 x) l = l
@@ -115,16 +115,16 @@ module _ {A B C D E F G H R : Type 0} (a : Encoding A) (b : Encoding B) (c : Enc
   abbrev Together8 : Alternatives (Among8 A B C D E F G H R)
   Together8 = or_eight a b c d e f g h others
 
-  among_eight-sum_of_eight : (m : Among8 A B C D E F G H R) → among_eight (sum_of_eight m) ≡ m
-  among_eight-sum_of_eight (first_of_8 x) = refl
-  among_eight-sum_of_eight (second_of_8 x) = refl
-  among_eight-sum_of_eight (third_of_8 x) = refl
-  among_eight-sum_of_eight (fourth_of_8 x) = refl
-  among_eight-sum_of_eight (fifth_of_8 x) = refl
-  among_eight-sum_of_eight (sixth_of_8 x) = refl
-  among_eight-sum_of_eight (seventh_of_8 x) = refl
-  among_eight-sum_of_eight (eighth_of_8 x) = refl
-  among_eight-sum_of_eight (after_8 x) = refl
+  among_eight_sum_of_eight : (m : Among8 A B C D E F G H R) → among_eight (sum_of_eight m) ≡ m
+  among_eight_sum_of_eight (first_of_8 x) = refl
+  among_eight_sum_of_eight (second_of_8 x) = refl
+  among_eight_sum_of_eight (third_of_8 x) = refl
+  among_eight_sum_of_eight (fourth_of_8 x) = refl
+  among_eight_sum_of_eight (fifth_of_8 x) = refl
+  among_eight_sum_of_eight (sixth_of_8 x) = refl
+  among_eight_sum_of_eight (seventh_of_8 x) = refl
+  among_eight_sum_of_eight (eighth_of_8 x) = refl
+  among_eight_sum_of_eight (after_8 x) = refl
 
   eight_at : (m : Among8 A B C D E F G H R) → At OneByOne8 (sum_of_eight m) → At Together8 m
   eight_at (first_of_8 x) l = l
@@ -165,9 +165,9 @@ module _ {A B C D E F G H R : Type 0} (a : Encoding A) (b : Encoding B) (c : Enc
 pub or_three_laws : {A B C R : Type 0} {a : Encoding A} {b : Encoding B} {c : Encoding C} {others : Alternatives R} → EncodingLaws a → EncodingLaws b → EncodingLaws c → AlternativesLaws others → AlternativesLaws (or_three a b c others)
 or_three_laws {a = a} {b = b} {c = c} {others = others} la lb lc lo =
     viewed_laws among_three sum_of_three (OneByOne3 a b c others) (or_laws la (or_laws lb (or_laws lc lo))) _ _ _ _ _ _
-    (among_three-sum_of_three a b c others) (three_at a b c others) (read_three a b c others) (three_read a b c others) (three_apart a b c others)
+    (among_three_sum_of_three a b c others) (three_at a b c others) (read_three a b c others) (three_read a b c others) (three_apart a b c others)
 
 pub or_eight_laws : {A B C D E F G H R : Type 0} {a : Encoding A} {b : Encoding B} {c : Encoding C} {d : Encoding D} {e : Encoding E} {f : Encoding F} {g : Encoding G} {h : Encoding H} {others : Alternatives R} → EncodingLaws a → EncodingLaws b → EncodingLaws c → EncodingLaws d → EncodingLaws e → EncodingLaws f → EncodingLaws g → EncodingLaws h → AlternativesLaws others → AlternativesLaws (or_eight a b c d e f g h others)
 or_eight_laws {a = a} {b = b} {c = c} {d = d} {e = e} {f = f} {g = g} {h = h} {others = others} la lb lc ld le lf lg lh lo =
     viewed_laws among_eight sum_of_eight (OneByOne8 a b c d e f g h others) (or_laws la (or_laws lb (or_laws lc (or_laws ld (or_laws le (or_laws lf (or_laws lg (or_laws lh lo)))))))) _ _ _ _ _ _
-    (among_eight-sum_of_eight a b c d e f g h others) (eight_at a b c d e f g h others) (read_eight a b c d e f g h others) (eight_read a b c d e f g h others) (eight_apart a b c d e f g h others)
+    (among_eight_sum_of_eight a b c d e f g h others) (eight_at a b c d e f g h others) (read_eight a b c d e f g h others) (eight_read a b c d e f g h others) (eight_apart a b c d e f g h others)

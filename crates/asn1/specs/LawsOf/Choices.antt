@@ -10,9 +10,9 @@ use Rattle.asn1_core.specs.Apart.{HasOneTagOutside, tags_of}
 use Rattle.asn1_core.specs.Encoding.{Encoding}
 use Rattle.asn1_core.specs.EncodingLaws.{EncodingLaws}
 use Rattle.asn1_core.specs.LawsOf.Encodings.{no_content_laws, no_content_errors}
-use Rattle.asn1_core.specs.Lemmas.Elements.{element_encoding-not_nil}
-use Rattle.asn1_core.specs.Lemmas.Options.{IsOneElement-not_empty}
-use Rattle.asn1_core.specs.Lemmas.Wholes.{Fits-short, one_value}
+use Rattle.asn1_core.specs.Lemmas.Elements.{element_encoding_not_nil}
+use Rattle.asn1_core.specs.Lemmas.Options.{IsOneElement_not_empty}
+use Rattle.asn1_core.specs.Lemmas.Wholes.{Fits_short, one_value}
 use Rattle.asn1.specs.Alternatives.{Disjoint, choice_read}
 use Rattle.asn1.specs.Choices.{Alternatives, AlternativesLaws, only, or, none, choice_encoding}
 use Rattle.asn1.specs.Lemmas.Apart.{one_tag_disjoint, others_disjoint}
@@ -39,7 +39,7 @@ only_laws {d = d} ld = record {
   consumes = only_consumes d.accepts d.encoding (λ m. d.valid m × d.allowed m) d.read ld.consumes;
   disjoint = λ tags. disjoint_by_tag d tags;
   lawful_if_apart = λ each. each;
-  nothing_or_element = λ m l v. IsOneElement-not_empty (ld.nothing_or_element m l.0 v) (ld.not_empty m l.0 l.1 v);
+  nothing_or_element = λ m l v. IsOneElement_not_empty (ld.nothing_or_element m l.0 v) (ld.not_empty m l.0 l.1 v);
   accepted = ld.accepted;
   read_back = λ m e l v a readable same. only_read_back d.accepts d.encoding (λ x. d.valid x × d.allowed x) d.read m e same readable (ld.accepted m e v same) (ld.read_back m [] l.0 v a);
   unbounded = ld.unbounded;
@@ -58,7 +58,7 @@ or_laws {d = d} {c = c} ld lc = record {
       (got.0, or_both d.valid d.allowed c.valid c.allowed m got.1);
   disjoint = λ tags apart tag is. rw (disjoint_by_tag d tags apart.0 tag is, lc.disjoint tags apart.1 tag is) refl;
   lawful_if_apart = λ each. (each.first.lawful, each.first.is_element, lc.lawful_if_apart each.rest, apart_either d c.accepts (lc.disjoint d.accepts) each.first.tags);
-  nothing_or_element = λ m l v. or_nothing_or_element d.encoding d.valid c.encoding c.valid (λ x w. IsOneElement-not_empty (ld.nothing_or_element x l.0 w) (ld.not_empty x l.0 l.1 w)) (λ x w. lc.nothing_or_element x l.2 w) m v;
+  nothing_or_element = λ m l v. or_nothing_or_element d.encoding d.valid c.encoding c.valid (λ x w. IsOneElement_not_empty (ld.nothing_or_element x l.0 w) (ld.not_empty x l.0 l.1 w)) (λ x w. lc.nothing_or_element x l.2 w) m v;
   accepted = or_accepted d.encoding d.valid c.encoding c.valid d.accepts c.accepts ld.accepted lc.accepted;
   read_back = λ m e l v a readable same. or_read_back d.accepts d.encoding (λ x. d.valid x × d.allowed x) d.read c.accepts c.encoding (λ x. c.valid x × c.allowed x) c.read l.3 m e same readable (or_pair d.valid d.allowed c.valid c.allowed m v a)
       (λ x w. ld.accepted x e w.0) (λ x w. ld.read_back x [] l.0 w.0 w.1) (λ x w. lc.accepted x e w.0) (λ x w. lc.read_back x e l.2 w.0 w.1 readable);
@@ -104,10 +104,10 @@ choice_laws {c = c} lc = record {
   consumes = choice_consumes c.encoding (λ x. c.valid x × c.allowed x) c.read lc.consumes;
   nothing_or_element = λ m l v. inr (lc.nothing_or_element m l v);
   accepted = lc.accepted;
-  not_empty = λ m l i v e. let one = lc.nothing_or_element m l v in element_encoding-not_nil one.element (sym one.is ∙ e);
+  not_empty = λ m l i v e. let one = lc.nothing_or_element m l v in element_encoding_not_nil one.element (sym one.is ∙ e);
   read_back = choice_type_read_back c lc;
   one_value = choice_type_one_value c lc;
-  short_fits = λ m l v. Fits-short (c.encoding m) (inr (lc.nothing_or_element m l v));
+  short_fits = λ m l v. Fits_short (c.encoding m) (inr (lc.nothing_or_element m l v));
   unbounded = lc.unbounded;
   memory = λ t places out. lc.memory out.0.0 places out.2;
   begins_with_element = λ t places out. (out.0, out.1);

@@ -10,9 +10,9 @@ use Rattle.asn1_core.specs.Apart.{one_accepts}
 use Rattle.asn1_core.specs.Encoding.{Encoding}
 use Rattle.asn1_core.specs.EncodingLaws.{EncodingLaws}
 use Rattle.asn1_core.specs.DefinedBy.{DefinedEncoding, DefinedLaws}
-use Rattle.asn1_core.specs.Lemmas.Elements.{element_encoding-not_nil}
+use Rattle.asn1_core.specs.Lemmas.Elements.{element_encoding_not_nil}
 use Rattle.asn1_core.specs.Lemmas.Contents.{simple_consumes, simple_nothing_or_element, simple_accepted, simple_read_back, element_one_encoding}
-use Rattle.asn1_core.specs.Lemmas.Options.{IsOneElement-not_empty}
+use Rattle.asn1_core.specs.Lemmas.Options.{IsOneElement_not_empty}
 use Rattle.asn1_core.specs.Lemmas.Faults.{simple_errors}
 use Rattle.asn1.specs.DefinedReads.{Known, element_read}
 use Rattle.asn1.specs.DefinedEncodings.{variant_encoding, or_variant_encoding, any_variant_encoding, inside_encoding}
@@ -21,11 +21,11 @@ use Rattle.asn1.specs.Lemmas.Defined.{element_consumes, element_read_back, eleme
 use Rattle.asn1.specs.Lemmas.Variants.{variant_consumes, variant_read_back, variant_accepted, variant_errors, variant_element_or_apart, or_variant_consumes, or_variant_element_or_apart, or_variant_read_back, or_variant_accepted, or_variant_nothing_or_element, or_variant_not_empty, or_variant_errors, or_variant_both, or_variant_pair, or_variant_memory, or_variant_leading_element, any_consumes, any_read_back, any_errors}
 use Rattle.asn1.specs.Lemmas.Choices.{or_one_encoding, or_has_encoding, or_all, or_weaker}
 
-pub bytes_eq-refl : (numbers : List ℕ) → bytes_eq numbers numbers ≡ true
-bytes_eq-refl numbers = (bytes_eq-Decides numbers numbers).1 refl
+pub bytes_eq_refl : (numbers : List ℕ) → bytes_eq numbers numbers ≡ true
+bytes_eq_refl numbers = (bytes_eq-Decides numbers numbers).1 refl
 
-pub bytes_eq-is : (numbers n : List ℕ) → bytes_eq n numbers ≡ true → numbers ≡ n
-bytes_eq-is numbers n same = sym ((bytes_eq-Decides n numbers).0 same)
+pub bytes_eq_is : (numbers n : List ℕ) → bytes_eq n numbers ≡ true → numbers ≡ n
+bytes_eq_is numbers n same = sym ((bytes_eq-Decides n numbers).0 same)
 
 pub variant_laws : {I A : Type 0} (k : Known I) {d : Encoding A} → EncodingLaws d → DefinedLaws (variant_encoding k d)
 variant_laws k {d = d} ld = record {
@@ -92,11 +92,11 @@ defined_inside_laws tag {d = d} ld = record {
   consumes = λ i. simple_consumes tag d.encoding (λ m. (d.item m ≡ i) × (d.valid m × d.allowed m)) (element_read (d.read i)) (element_consumes d.encoding (d.read i) (λ m. (d.item m ≡ i) × (d.valid m × d.allowed m)) (ld.consumes i));
   nothing_or_element = λ m l v. simple_nothing_or_element tag (d.encoding m) l.2;
   accepted = λ m e v same. simple_accepted tag (d.encoding m) e same;
-  not_empty = λ m l i v e. element_encoding-not_nil (element tag (d.encoding m)) e;
+  not_empty = λ m l i v e. element_encoding_not_nil (element tag (d.encoding m)) e;
   told = λ starts is_told m v. inl tt;
   of_variant = λ i t is. rw is refl;
   read_back = λ m rest l v a fits none. simple_read_back tag d.encoding (element_read (d.read (d.item m))) m rest l.2
-      (element_read_back d.encoding (d.read (d.item m)) (d.accepts (d.item m)) m (IsOneElement-not_empty (ld.nothing_or_element m l.0 v) (ld.not_empty m l.0 (l.1 (d.item m)) v)) (ld.read_back m [] l.0 v a)) fits;
+      (element_read_back d.encoding (d.read (d.item m)) (d.accepts (d.item m)) m (IsOneElement_not_empty (ld.nothing_or_element m l.0 v) (ld.not_empty m l.0 (l.1 (d.item m)) v)) (ld.read_back m [] l.0 v a)) fits;
   unbounded = ld.unbounded;
   memory = λ i t places out. ld.memory i (element_encoding out.3.0) places out.3.2;
   begins_with_element = λ i t places out. (out.0, out.1);

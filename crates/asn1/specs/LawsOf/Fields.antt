@@ -14,12 +14,12 @@ use Rattle.asn1_core.specs.LawsOf.Encodings.{simple_laws}
 use Rattle.asn1.specs.Tagged.{retagged}
 use Rattle.asn1.specs.LawsOf.Tagged.{retagged_laws}
 use Rattle.asn1_core.specs.DefinedBy.{DefinedEncoding, DefinedLaws}
-use Rattle.asn1_core.specs.Lemmas.Options.{IsOneElement-not_empty}
-use Rattle.asn1_core.specs.Lemmas.Wholes.{begins_accepted-nil}
+use Rattle.asn1_core.specs.Lemmas.Options.{IsOneElement_not_empty}
+use Rattle.asn1_core.specs.Lemmas.Wholes.{begins_accepted_nil}
 use Rattle.asn1.specs.FieldReads.{Both, field_out, others_out, last_read, field_read, item_read, behind_out}
 use Rattle.asn1.specs.Fields.{first_name, other_names, Fields, IsTold, LawfulFields, FieldsLaws, FieldsBy, FieldsByLaws, last, field, no_fields, value_last, value_field, between, with_item, sequence}
-use Rattle.asn1.specs.Lemmas.Fields.{last_consumes, last_read_back, last_errors, field_consumes, field_read_back, field_faults_all, begins_accepted-last, begins_accepted-append, begins_accepted-nil_append, both_one_encoding, both_has_encoding, field_memory, item_consumes, item_read_back, item_errors, item_memory, begins_accepted-first_element, variants_then-variant, variants_then-others}
-use Rattle.asn1.specs.Lemmas.Apart.{IsApartFromEach-disjoint, one_accepts-first, others_disjoint}
+use Rattle.asn1.specs.Lemmas.Fields.{last_consumes, last_read_back, last_errors, field_consumes, field_read_back, field_faults_all, begins_accepted_last, begins_accepted_append, begins_accepted_nil_append, both_one_encoding, both_has_encoding, field_memory, item_consumes, item_read_back, item_errors, item_memory, begins_accepted_first_element, variants_then_variant, variants_then_others}
+use Rattle.asn1.specs.Lemmas.Apart.{IsApartFromEach_disjoint, one_accepts_first, others_disjoint}
 
 -- ---- what tells a type that may be missing
 
@@ -28,15 +28,15 @@ or_else implies (inl p) = inl p
 or_else implies (inr q) = inr (implies q)
 
 by_tags : (own : Tags) (others : List Tags) → IsTold own others → (tag : Tag) → IsFirst others tag → own.accepts tag ≡ false
-by_tags own others told tag first = ⊎_elim (λ outside. others_disjoint (one_accepts others) own outside tag (one_accepts-first others tag first))
-    (λ more. ⊎_elim (λ apart. IsApartFromEach-disjoint own others apart tag first) (λ said. said tag first) more) told.by
+by_tags own others told tag first = ⊎_elim (λ outside. others_disjoint (one_accepts others) own outside tag (one_accepts_first others tag first))
+    (λ more. ⊎_elim (λ apart. IsApartFromEach_disjoint own others apart tag first) (λ said. said tag first) more) told.by
 
 module _ {A : Type 0} (d : Encoding A) (ld : EncodingLaws d) where
   pub last_law_consumes : (names : List (List ℕ)) (c : List ℕ) (m : A) → IsOctets c → last_read (first_name names) d.read c ≡ Ok m → (c ≡ d.encoding m) × (d.valid m × d.allowed m)
   last_law_consumes names = last_consumes (first_name names) d.encoding d.read (λ m. d.valid m × d.allowed m) ld.consumes
 
   pub last_law_apart : (m : A) → d.lawful → d.valid m → (asked : Tag → Bool) → ((tag : Tag) → d.accepts tag ≡ true → asked tag ≡ false) → begins_accepted asked (d.encoding m) ≡ false
-  last_law_apart m l v = begins_accepted-last d.accepts (d.encoding m) (λ tag. d.accepts tag ≡ true) (ld.nothing_or_element m l v) (λ e. ld.accepted m e v)
+  last_law_apart m l v = begins_accepted_last d.accepts (d.encoding m) (λ tag. d.accepts tag ≡ true) (ld.nothing_or_element m l v) (λ e. ld.accepted m e v)
 
   pub last_law_read_back : (names : List (List ℕ)) (m : A) → d.lawful → d.valid m → d.allowed m → length (d.encoding m) < 2 ^ 32 → last_read (first_name names) d.read (d.encoding m) ≡ Ok m
   last_law_read_back names m l v a s = last_read_back (first_name names) d.encoding d.read d.accepts m (ld.nothing_or_element m l v) (ld.read_back m [] l v a) s
@@ -59,13 +59,13 @@ module _ {A : Type 0} (d : Encoding A) (ld : EncodingLaws d) where
 
     pub field_law_apart : (m : A × N) → LawfulFields d.lawful (d.is_element ⊎ IsTold (tags_of d) others.tags) others.lawful → d.valid m.0 × others.valid m.1 → (asked : Tag → Bool) →
         ((tag : Tag) → (d.accepts tag ≡ true) ⊎ ((d.is_element → ⊥) × IsFirst others.tags tag) → asked tag ≡ false) → begins_accepted asked (d.encoding m.0 ++ others.encoding m.1) ≡ false
-    field_law_apart m l v asked free = begins_accepted-append (d.encoding m.0) (others.encoding m.1) (λ tag. (d.accepts tag ≡ true) ⊎ ((d.is_element → ⊥) × IsFirst others.tags tag)) (IsFirst others.tags) (ld.nothing_or_element m.0 l.first v.0)
+    field_law_apart m l v asked free = begins_accepted_append (d.encoding m.0) (others.encoding m.1) (λ tag. (d.accepts tag ≡ true) ⊎ ((d.is_element → ⊥) × IsFirst others.tags tag)) (IsFirst others.tags) (ld.nothing_or_element m.0 l.first v.0)
         (λ e same. inl (ld.accepted m.0 e v.0 same)) (λ none tag o. inr (λ i. ld.not_empty m.0 l.first i v.0 none, o)) asked free (lo.apart m.1 l.rest v.1 asked)
 
     pub field_law_read_back : (names : List (List ℕ)) (m : A × N) → LawfulFields d.lawful (d.is_element ⊎ IsTold (tags_of d) others.tags) others.lawful → d.valid m.0 × others.valid m.1 →
         d.allowed m.0 × others.allowed m.1 → length (d.encoding m.0 ++ others.encoding m.1) < 2 ^ 32 → field_read (first_name names) d.read (others.read (other_names names)) (d.encoding m.0 ++ others.encoding m.1) ≡ Ok m
     field_law_read_back names m l v a s = field_read_back (first_name names) d.encoding d.read others.encoding (others.read (other_names names)) d.accepts m (ld.nothing_or_element m.0 l.first v.0) (λ rest fits none. ld.read_back m.0 rest l.first v.0 a.0 fits none)
-        (begins_accepted-nil_append (d.encoding m.0) d.accepts (others.encoding m.1) (λ i e. ld.not_empty m.0 l.first i v.0 e) (lo.apart m.1 l.rest v.1 d.accepts) (or_else (by_tags (tags_of d) others.tags) l.is_told)) (lo.read_back (other_names names) m.1 l.rest v.1 a.1) s
+        (begins_accepted_nil_append (d.encoding m.0) d.accepts (others.encoding m.1) (λ i e. ld.not_empty m.0 l.first i v.0 e) (lo.apart m.1 l.rest v.1 d.accepts) (or_else (by_tags (tags_of d) others.tags) l.is_told)) (lo.read_back (other_names names) m.1 l.rest v.1 a.1) s
 
     pub field_law_unbounded : (d.bounded ⊎ others.bounded → ⊥) → (m : A × N) → d.valid m.0 × others.valid m.1 → d.allowed m.0 × others.allowed m.1
     field_law_unbounded free m v = (ld.unbounded (λ b. free (inl b)) m.0 v.0, lo.unbounded (λ b. free (inr b)) m.1 v.1)
@@ -124,7 +124,7 @@ no_fields_laws = record {
   has_encoding = λ p m v. refl;
   no_closures = λ p m. tt;
   consumes = no_law_consumes;
-  apart = λ m l v asked free. begins_accepted-nil asked;
+  apart = λ m l v asked free. begins_accepted_nil asked;
   read_back = λ names m l v a s. refl;
   unbounded = λ free m v. tt;
   memory = λ names c places out. out;
@@ -138,7 +138,7 @@ module _ {I A : Type 0} (by : DefinedEncoding I A) (lby : DefinedLaws by) where
   value_last_law_consumes names i = last_consumes (first_name names) by.encoding (by.read i) (λ m. (by.item m ≡ i) × (by.valid m × by.allowed m)) (lby.consumes i)
 
   pub value_last_law_apart : (m : A) → by.lawful → by.valid m → (asked : Tag → Bool) → ((tag : Tag) → by.accepts (by.item m) tag ≡ true → asked tag ≡ false) → begins_accepted asked (by.encoding m) ≡ false
-  value_last_law_apart m l v = begins_accepted-last (by.accepts (by.item m)) (by.encoding m) (λ tag. by.accepts (by.item m) tag ≡ true) (lby.nothing_or_element m l v) (λ e. lby.accepted m e v)
+  value_last_law_apart m l v = begins_accepted_last (by.accepts (by.item m)) (by.encoding m) (λ tag. by.accepts (by.item m) tag ≡ true) (lby.nothing_or_element m l v) (λ e. lby.accepted m e v)
 
   pub value_last_law_read_back : (names : List (List ℕ)) (m : A) → by.lawful → by.valid m → by.allowed m → length (by.encoding m) < 2 ^ 32 → last_read (first_name names) (by.read (by.item m)) (by.encoding m) ≡ Ok m
   value_last_law_read_back names m l v a s = last_read_back (first_name names) by.encoding (by.read (by.item m)) (by.accepts (by.item m)) m (lby.nothing_or_element m l v) (lby.read_back m [] l v a) s
@@ -161,13 +161,13 @@ module _ {I A : Type 0} (by : DefinedEncoding I A) (lby : DefinedLaws by) where
 
     pub value_law_apart : (m : A × N) → by.lawful × others.lawful × by.is_told (IsFirst others.tags) → by.valid m.0 × others.valid m.1 → (asked : Tag → Bool) →
         ((tag : Tag) → (by.accepts (by.item m.0) tag ≡ true) ⊎ ((by.is_element (by.item m.0) → ⊥) × IsFirst others.tags tag) → asked tag ≡ false) → begins_accepted asked (by.encoding m.0 ++ others.encoding m.1) ≡ false
-    value_law_apart m l v asked free = begins_accepted-append (by.encoding m.0) (others.encoding m.1) (λ tag. (by.accepts (by.item m.0) tag ≡ true) ⊎ ((by.is_element (by.item m.0) → ⊥) × IsFirst others.tags tag)) (IsFirst others.tags) (lby.nothing_or_element m.0 l.0 v.0)
+    value_law_apart m l v asked free = begins_accepted_append (by.encoding m.0) (others.encoding m.1) (λ tag. (by.accepts (by.item m.0) tag ≡ true) ⊎ ((by.is_element (by.item m.0) → ⊥) × IsFirst others.tags tag)) (IsFirst others.tags) (lby.nothing_or_element m.0 l.0 v.0)
         (λ e same. inl (lby.accepted m.0 e v.0 same)) (λ none tag o. inr (λ i. lby.not_empty m.0 l.0 i v.0 none, o)) asked free (lo.apart m.1 l.1 v.1 asked)
 
     pub value_law_read_back : (names : List (List ℕ)) (m : A × N) → by.lawful × others.lawful × by.is_told (IsFirst others.tags) → by.valid m.0 × others.valid m.1 →
         by.allowed m.0 × others.allowed m.1 → length (by.encoding m.0 ++ others.encoding m.1) < 2 ^ 32 → field_read (first_name names) (by.read (by.item m.0)) (others.read (other_names names)) (by.encoding m.0 ++ others.encoding m.1) ≡ Ok m
     value_law_read_back names m l v a s = field_read_back (first_name names) by.encoding (by.read (by.item m.0)) others.encoding (others.read (other_names names)) (by.accepts (by.item m.0)) m (lby.nothing_or_element m.0 l.0 v.0) (λ rest fits none. lby.read_back m.0 rest l.0 v.0 a.0 fits none)
-        (begins_accepted-nil_append (by.encoding m.0) (by.accepts (by.item m.0)) (others.encoding m.1) (λ i e. lby.not_empty m.0 l.0 i v.0 e) (lo.apart m.1 l.1 v.1 (by.accepts (by.item m.0))) (lby.told (IsFirst others.tags) l.2 m.0 v.0)) (lo.read_back (other_names names) m.1 l.1 v.1 a.1) s
+        (begins_accepted_nil_append (by.encoding m.0) (by.accepts (by.item m.0)) (others.encoding m.1) (λ i e. lby.not_empty m.0 l.0 i v.0 e) (lo.apart m.1 l.1 v.1 (by.accepts (by.item m.0))) (lby.told (IsFirst others.tags) l.2 m.0 v.0)) (lo.read_back (other_names names) m.1 l.1 v.1 a.1) s
 
     pub value_law_unbounded : (by.bounded ⊎ others.bounded → ⊥) → (m : A × N) → by.valid m.0 × others.valid m.1 → by.allowed m.0 × others.allowed m.1
     value_law_unbounded free m v = (lby.unbounded (λ b. free (inl b)) m.0 v.0, lo.unbounded (λ b. free (inr b)) m.1 v.1)
@@ -185,7 +185,7 @@ value_last_laws {by = by} lby = record {
   no_closures = lby.no_closures;
   consumes = value_last_law_consumes by lby;
   apart = value_last_law_apart by lby;
-  of_first = λ i tag start. variants_then-variant by.tags [] tag (lby.of_variant i tag start);
+  of_first = λ i tag start. variants_then_variant by.tags [] tag (lby.of_variant i tag start);
   read_back = value_last_law_read_back by lby;
   unbounded = lby.unbounded;
   memory = value_last_law_memory by lby;
@@ -199,7 +199,7 @@ value_field_laws {by = by} {others = others} lby lo = record {
   no_closures = λ p m. (lby.no_closures p.0 m.0, lo.no_closures p.1 m.1);
   consumes = value_law_consumes by lby others lo;
   apart = value_law_apart by lby others lo;
-  of_first = λ i tag start. ⊎_elim (λ is. variants_then-variant by.tags others.tags tag (lby.of_variant i tag is)) (λ behind. variants_then-others by.tags others.tags tag behind.1) start;
+  of_first = λ i tag start. ⊎_elim (λ is. variants_then_variant by.tags others.tags tag (lby.of_variant i tag is)) (λ behind. variants_then_others by.tags others.tags tag behind.1) start;
   read_back = value_law_read_back by lby others lo;
   unbounded = value_law_unbounded by lby others lo;
   memory = value_law_memory by lby others lo;
@@ -221,13 +221,13 @@ module _ {I A M : Type 0} (d : Encoding A) (behind : FieldsBy I M) (ld : Encodin
 
   pub between_law_apart : (m : A × M) → LawfulFields d.lawful (d.is_element ⊎ (IsTold (tags_of d) behind.tags ⊎ ((i : I) (tag : Tag) → behind.starts i tag → d.accepts tag ≡ false))) behind.lawful → d.valid m.0 × behind.valid m.1 → (asked : Tag → Bool) →
       ((tag : Tag) → (d.accepts tag ≡ true) ⊎ ((d.is_element → ⊥) × behind.starts (behind.item m.1) tag) → asked tag ≡ false) → begins_accepted asked (d.encoding m.0 ++ behind.encoding m.1) ≡ false
-  between_law_apart m l v asked free = begins_accepted-append (d.encoding m.0) (behind.encoding m.1) (λ tag. (d.accepts tag ≡ true) ⊎ ((d.is_element → ⊥) × behind.starts (behind.item m.1) tag)) (behind.starts (behind.item m.1)) (ld.nothing_or_element m.0 l.first v.0)
+  between_law_apart m l v asked free = begins_accepted_append (d.encoding m.0) (behind.encoding m.1) (λ tag. (d.accepts tag ≡ true) ⊎ ((d.is_element → ⊥) × behind.starts (behind.item m.1) tag)) (behind.starts (behind.item m.1)) (ld.nothing_or_element m.0 l.first v.0)
       (λ e same. inl (ld.accepted m.0 e v.0 same)) (λ none tag o. inr (λ i. ld.not_empty m.0 l.first i v.0 none, o)) asked free (lb.apart m.1 l.rest v.1 asked)
 
   pub between_law_read_back : (names : List (List ℕ)) (m : A × M) → LawfulFields d.lawful (d.is_element ⊎ (IsTold (tags_of d) behind.tags ⊎ ((i : I) (tag : Tag) → behind.starts i tag → d.accepts tag ≡ false))) behind.lawful → d.valid m.0 × behind.valid m.1 →
       d.allowed m.0 × behind.allowed m.1 → length (d.encoding m.0 ++ behind.encoding m.1) < 2 ^ 32 → field_read (first_name names) d.read (behind.read (other_names names) (behind.item m.1)) (d.encoding m.0 ++ behind.encoding m.1) ≡ Ok m
   between_law_read_back names m l v a s = field_read_back (first_name names) d.encoding d.read behind.encoding (behind.read (other_names names) (behind.item m.1)) d.accepts m (ld.nothing_or_element m.0 l.first v.0) (λ rest fits none. ld.read_back m.0 rest l.first v.0 a.0 fits none)
-      (begins_accepted-nil_append (d.encoding m.0) d.accepts (behind.encoding m.1) (λ i e. ld.not_empty m.0 l.first i v.0 e) (lb.apart m.1 l.rest v.1 d.accepts) (or_else (λ told. told_behind told (behind.item m.1)) l.is_told)) (lb.read_back (other_names names) m.1 l.rest v.1 a.1) s
+      (begins_accepted_nil_append (d.encoding m.0) d.accepts (behind.encoding m.1) (λ i e. ld.not_empty m.0 l.first i v.0 e) (lb.apart m.1 l.rest v.1 d.accepts) (or_else (λ told. told_behind told (behind.item m.1)) l.is_told)) (lb.read_back (other_names names) m.1 l.rest v.1 a.1) s
 
   pub between_law_unbounded : (d.bounded ⊎ behind.bounded → ⊥) → (m : A × M) → d.valid m.0 × behind.valid m.1 → d.allowed m.0 × behind.allowed m.1
   between_law_unbounded free m v = (ld.unbounded (λ b. free (inl b)) m.0 v.0, lb.unbounded (λ b. free (inr b)) m.1 v.1)
@@ -265,8 +265,8 @@ module _ {A M : Type 0} (d : Encoding A) (behind : FieldsBy A M) (ld : EncodingL
   pub item_law_apart : (m : M) → d.lawful × d.is_element × behind.lawful → d.valid (behind.item m) × behind.valid m → (asked : Tag → Bool) → ((tag : Tag) → d.accepts tag ≡ true → asked tag ≡ false) →
       begins_accepted asked (d.encoding (behind.item m) ++ behind.encoding m) ≡ false
   item_law_apart m l v asked free =
-      let one = IsOneElement-not_empty (ld.nothing_or_element (behind.item m) l.0 v.0) (ld.not_empty (behind.item m) l.0 l.1 v.0) in
-      begins_accepted-first_element (d.encoding (behind.item m)) (behind.encoding m) (λ tag. d.accepts tag ≡ true) one (ld.accepted (behind.item m) one.element v.0 one.is) asked free
+      let one = IsOneElement_not_empty (ld.nothing_or_element (behind.item m) l.0 v.0) (ld.not_empty (behind.item m) l.0 l.1 v.0) in
+      begins_accepted_first_element (d.encoding (behind.item m)) (behind.encoding m) (λ tag. d.accepts tag ≡ true) one (ld.accepted (behind.item m) one.element v.0 one.is) asked free
 
   pub item_law_read_back : (names : List (List ℕ)) (m : M) → d.lawful × d.is_element × behind.lawful → d.valid (behind.item m) × behind.valid m → d.allowed (behind.item m) × behind.allowed m →
       length (d.encoding (behind.item m) ++ behind.encoding m) < 2 ^ 32 → item_read (first_name names) d.read (behind.read (other_names names)) (d.encoding (behind.item m) ++ behind.encoding m) ≡ Ok m

@@ -10,12 +10,12 @@ use Rattle.asn1_core.specs.Listing.{encoding_less, Joins, InOrder}
 use Rattle.asn1_core.specs.Encoding.{Encoding, simple_encoding}
 use Rattle.asn1_core.specs.EncodingLaws.{ContentLaws, EncodingLaws}
 use Rattle.asn1_core.specs.LawsOf.Encodings.{simple_laws}
-use Rattle.asn1_core.specs.Lemmas.Items.{AllByRecursion-both, AllByRecursion-pair, AllByRecursion-weaker, AllByRecursion-all, joins_one_encoding, joins_has_encoding}
+use Rattle.asn1_core.specs.Lemmas.Items.{AllByRecursion_both, AllByRecursion_pair, AllByRecursion_weaker, AllByRecursion_all, joins_one_encoding, joins_has_encoding}
 use Rattle.asn1.specs.Lists.{IsInBounds, AreBounds, sequence_read, items_out}
 use Rattle.asn1.specs.ListTypes.{items_inside}
 use Rattle.asn1.specs.Sets.{set_read, set_out}
 use Rattle.asn1.specs.SetTypes.{set_inside, set_content}
-use Rattle.asn1.specs.Lemmas.ListItems.{sequence_consumes, sequence_read_back, items_memory, sequence_errors, length-le-flat_map, count-le_high, IsInBounds-unbounded}
+use Rattle.asn1.specs.Lemmas.ListItems.{sequence_consumes, sequence_read_back, items_memory, sequence_errors, length_le_flat_map, count_le_high, IsInBounds_unbounded}
 use Rattle.asn1.specs.Lemmas.SetItems.{set_items_consumes, set_read_back, set_memory, set_octets_consumes, set_octets_read_back, set_errors, set_octets_errors}
 
 module _ {A : Type 0} (low high : ℕ) (d : Encoding A) (ld : EncodingLaws d) where
@@ -26,23 +26,23 @@ module _ {A : Type 0} (low high : ℕ) (d : Encoding A) (ld : EncodingLaws d) wh
   sequence_of_has_encoding p = joins_has_encoding d.encoding d.encodings d.valid (ld.has_encoding p)
 
   pub sequence_of_no_closures : d.plain → (ms : List A) → AllByRecursion d.closures ms
-  sequence_of_no_closures p = AllByRecursion-all d.closures (ld.no_closures p)
+  sequence_of_no_closures p = AllByRecursion_all d.closures (ld.no_closures p)
 
   pub sequence_of_consumes : (c : List ℕ) (ms : List A) → IsOctets c → sequence_read d.read low high c ≡ Ok ms →
       (c ≡ flat_map d.encoding ms) × (AllByRecursion d.valid ms × (AllByRecursion d.allowed ms × IsInBounds low high (length ms)))
   sequence_of_consumes c ms b e =
       let h = sequence_consumes d.read d.encoding (λ m. d.valid m × d.allowed m) ld.consumes low high c ms b e in
-      let each = AllByRecursion-both d.valid d.allowed ms h.1.0 in
+      let each = AllByRecursion_both d.valid d.allowed ms h.1.0 in
       (h.0, (each.0, (each.1, (h.1.1, λ bound. h.1.2))))
 
   pub sequence_of_read_back : (ms : List A) → d.lawful × d.is_element → AllByRecursion d.valid ms → AllByRecursion d.allowed ms × IsInBounds low high (length ms) →
       length (flat_map d.encoding ms) < 2 ^ 32 → sequence_read d.read low high (flat_map d.encoding ms) ≡ Ok ms
   sequence_of_read_back ms l v a s =
-      let few : length ms ≤ length (flat_map d.encoding ms) = length-le-flat_map d.encoding d.valid (λ m w. ld.not_empty m l.0 l.1 w) ms v in
-      sequence_read_back d.accepts d.read d.encoding (λ m. d.valid m × d.allowed m) (λ m w. ld.nothing_or_element m l.0 w.0) (λ m w. ld.not_empty m l.0 l.1 w.0) (λ m r w o n. ld.read_back m r l.0 w.0 w.1 o n) low high ms (AllByRecursion-pair d.valid d.allowed ms v a.0) a.1.0 (count-le_high high (length ms) (omega arith) a.1.1) s
+      let few : length ms ≤ length (flat_map d.encoding ms) = length_le_flat_map d.encoding d.valid (λ m w. ld.not_empty m l.0 l.1 w) ms v in
+      sequence_read_back d.accepts d.read d.encoding (λ m. d.valid m × d.allowed m) (λ m w. ld.nothing_or_element m l.0 w.0) (λ m w. ld.not_empty m l.0 l.1 w.0) (λ m r w o n. ld.read_back m r l.0 w.0 w.1 o n) low high ms (AllByRecursion_pair d.valid d.allowed ms v a.0) a.1.0 (count_le_high high (length ms) (omega arith) a.1.1) s
 
   pub sequence_of_unbounded : (AreBounds low high ⊎ d.bounded → ⊥) → (ms : List A) → AllByRecursion d.valid ms → AllByRecursion d.allowed ms × IsInBounds low high (length ms)
-  sequence_of_unbounded free ms v = (AllByRecursion-weaker d.valid d.allowed (ld.unbounded (λ b. free (inr b))) ms v, IsInBounds-unbounded low high (length ms) (λ b. free (inl b)))
+  sequence_of_unbounded free ms v = (AllByRecursion_weaker d.valid d.allowed (ld.unbounded (λ b. free (inr b))) ms v, IsInBounds_unbounded low high (length ms) (λ b. free (inl b)))
 
   pub sequence_of_memory : (c : List ℕ) (places : List Place) → items_out d.read d.runs_out (length c) 0 c places → d.takes_memory
   sequence_of_memory c places out = items_memory d.read d.runs_out d.takes_memory ld.memory (length c) 0 c places out
@@ -74,18 +74,18 @@ module _ {A : Type 0} (d : Encoding A) (ld : EncodingLaws d) where
   set_of_has_encoding p ms v = joins_has_encoding d.encoding d.encodings d.valid (ld.has_encoding p) ms v.0
 
   pub set_of_no_closures : d.plain → (ms : List A) → AllByRecursion d.closures ms
-  set_of_no_closures p = AllByRecursion-all d.closures (ld.no_closures p)
+  set_of_no_closures p = AllByRecursion_all d.closures (ld.no_closures p)
 
   pub set_of_consumes : (c : List ℕ) (ms : List A) → IsOctets c → set_read encoding_less d.read c ≡ Ok ms →
       (c ≡ flat_map d.encoding ms) × ((AllByRecursion d.valid ms × InOrder encoding_less [] (map d.encoding ms)) × AllByRecursion d.allowed ms)
   set_of_consumes c ms b e =
       let h = set_items_consumes encoding_less d.read d.encoding (λ m. d.valid m × d.allowed m) ld.consumes [] (length c) 0 c ms b e in
-      let each = AllByRecursion-both d.valid d.allowed ms h.1 in
+      let each = AllByRecursion_both d.valid d.allowed ms h.1 in
       (h.0, ((each.0, h.2), each.1))
 
   pub set_of_read_back : (ms : List A) → d.lawful × d.is_element → AllByRecursion d.valid ms × InOrder encoding_less [] (map d.encoding ms) → AllByRecursion d.allowed ms →
       length (flat_map d.encoding ms) < 2 ^ 32 → set_read encoding_less d.read (flat_map d.encoding ms) ≡ Ok ms
-  set_of_read_back ms l v a s = set_read_back encoding_less d.accepts d.read d.encoding (λ m. d.valid m × d.allowed m) (λ m w. ld.nothing_or_element m l.0 w.0) (λ m w. ld.not_empty m l.0 l.1 w.0) (λ m r w o n. ld.read_back m r l.0 w.0 w.1 o n) ms (AllByRecursion-pair d.valid d.allowed ms v.0 a) v.1 s
+  set_of_read_back ms l v a s = set_read_back encoding_less d.accepts d.read d.encoding (λ m. d.valid m × d.allowed m) (λ m w. ld.nothing_or_element m l.0 w.0) (λ m w. ld.not_empty m l.0 l.1 w.0) (λ m r w o n. ld.read_back m r l.0 w.0 w.1 o n) ms (AllByRecursion_pair d.valid d.allowed ms v.0 a) v.1 s
 
   pub set_of_memory : (c : List ℕ) (places : List Place) → set_out encoding_less d.read d.runs_out [] (length c) 0 c places → d.takes_memory
   set_of_memory c places out = set_memory encoding_less d.read d.runs_out d.takes_memory ld.memory [] (length c) 0 c places out
@@ -100,7 +100,7 @@ set_inside_laws {d = d} ld = record {
   no_closures = set_of_no_closures d ld;
   consumes = set_of_consumes d ld;
   read_back = set_of_read_back d ld;
-  unbounded = λ free ms v. AllByRecursion-weaker d.valid d.allowed (ld.unbounded free) ms v.0;
+  unbounded = λ free ms v. AllByRecursion_weaker d.valid d.allowed (ld.unbounded free) ms v.0;
   memory = set_of_memory d ld;
   errors = set_of_errors d ld;
 }

@@ -13,9 +13,9 @@ use Rattle.asn1_core.specs.SetWriting.{SetState, Written, WrittenLaws, written, 
 use Rattle.asn1_core.specs.Lemmas.Booleans.{bool_consumes, bool_read_back, bool_errors}
 use Rattle.asn1_core.specs.Lemmas.Octets.{octets_consumes, sized_octets_consumes, sized_octets_read_back, sized_octets_errors, null_consumes, null_read_back, null_errors}
 use Rattle.asn1_core.specs.Lemmas.Integers.{sized_consumes, sized_read_back, sized_errors, non_zero_consumes, non_zero_read_back, non_zero_errors}
-use Rattle.asn1_core.specs.Lemmas.Contents.{rejects_all-consumes}
+use Rattle.asn1_core.specs.Lemmas.Contents.{rejects_all_consumes}
 use Rattle.asn1_core.specs.Lemmas.Faults.{rejects_all_errors}
-use Rattle.asn1_core.specs.Lemmas.Items.{AllByRecursion-all, joins_one_encoding, joins_has_encoding}
+use Rattle.asn1_core.specs.Lemmas.Items.{AllByRecursion_all, joins_one_encoding, joins_has_encoding}
 use Rattle.asn1_core.specs.Lemmas.Listing.{listing_one_encoding, listing_has_encoding}
 
 pub bool_laws : ContentLaws bool_content
@@ -57,7 +57,7 @@ written_laws {M = M} laws = record {
   one_encoding = laws.one_encoding;
   has_encoding = laws.has_encoding;
   no_closures = laws.no_closures;
-  consumes = λ c m b e. absurd (rejects_all-consumes c m e);
+  consumes = λ c m b e. absurd (rejects_all_consumes c m e);
   read_back = λ m l v a. absurd a;
   unbounded = λ free m v. absurd (free tt);
   memory = λ c places out. out;
@@ -68,14 +68,14 @@ pub items_laws : {M : Type 0} {e : Encoding M} → EncodingLaws e → ContentLaw
 items_laws {e = e} laws = written_laws (record {
   one_encoding = λ p. joins_one_encoding e.encoding e.encodings (laws.one_encoding p);
   has_encoding = λ p. joins_has_encoding e.encoding e.encodings e.valid (laws.has_encoding p);
-  no_closures = λ p. AllByRecursion-all e.closures (laws.no_closures p);
+  no_closures = λ p. AllByRecursion_all e.closures (laws.no_closures p);
 })
 
 pub listing_laws : {M : Type 0} {e : Encoding M} → EncodingLaws e → ContentLaws (listing_written e)
 listing_laws {e = e} laws = written_laws (record {
   one_encoding = λ p. listing_one_encoding e.encoding e.encodings (laws.one_encoding p);
   has_encoding = λ p. listing_has_encoding e.encoding e.encodings e.valid (laws.has_encoding p);
-  no_closures = λ p. AllByRecursion-all e.closures (laws.no_closures p);
+  no_closures = λ p. AllByRecursion_all e.closures (laws.no_closures p);
 })
 
 pub set_closure_laws : {F E : Type 0} (calls : Once F (MutBor SetState × Unit {0}) (Result (Unit {0}) E × (MutBor SetState × Unit {0}))) → ContentLaws (set_closure_written calls)

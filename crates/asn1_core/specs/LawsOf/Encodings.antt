@@ -16,10 +16,10 @@ use Rattle.asn1_core.specs.Encoding.{Content, Basic, Encoding, simple_encoding, 
 use Rattle.asn1_core.specs.EncodingLaws.{ContentLaws, BasicLaws, EncodingLaws}
 use Rattle.asn1_core.specs.Boxed.{boxed, boxed_encoding}
 use Rattle.asn1_core.specs.Lemmas.Options.{option_consumes, option_nothing_or_element, option_accepted, option_read_back, option_both, option_pair, option_weaker, option_one_encoding, option_has_encoding, option_at_most_one, option_all, option_errors}
-use Rattle.asn1_core.specs.Lemmas.Elements.{element_encoding-not_nil}
-use Rattle.asn1_core.specs.Lemmas.Wholes.{Fits-short, IfErr-Returns, one_value}
+use Rattle.asn1_core.specs.Lemmas.Elements.{element_encoding_not_nil}
+use Rattle.asn1_core.specs.Lemmas.Wholes.{Fits_short, IfErr_Returns, one_value}
 use Rattle.asn1_core.specs.Lemmas.Faults.{simple_errors, tlv_errors, rejects_all_errors}
-use Rattle.asn1_core.specs.Lemmas.Contents.{simple_consumes, simple_nothing_or_element, simple_accepted, simple_read_back, element_one_encoding, tlv_consumes, tlv_read_back, rejects_all-consumes}
+use Rattle.asn1_core.specs.Lemmas.Contents.{simple_consumes, simple_nothing_or_element, simple_accepted, simple_read_back, element_one_encoding, tlv_consumes, tlv_read_back, rejects_all_consumes}
 
 -- ---- simple types
 
@@ -43,7 +43,7 @@ module _ {M : Type 0} (c : Content M) (laws : ContentLaws c) where
   simple_type_accepted m e v same = simple_accepted c.tag (c.encoding m) e same
 
   simple_type_not_empty : (m : M) → c.lawful × (c.tag.value < 2 ^ 32) → Unit {0} → c.valid m → element_encoding (element c.tag (c.encoding m)) ≡ [] → ⊥
-  simple_type_not_empty m l i v e = element_encoding-not_nil (element c.tag (c.encoding m)) e
+  simple_type_not_empty m l i v e = element_encoding_not_nil (element c.tag (c.encoding m)) e
 
   simple_type_read_back : (m : M) (rest : List ℕ) → c.lawful × (c.tag.value < 2 ^ 32) → c.valid m → c.allowed m → Fits (element_encoding (element c.tag (c.encoding m))) →
       (element_encoding (element c.tag (c.encoding m)) ≡ [] → begins_accepted (λ t. tag_eq t c.tag) rest ≡ false) → simple c.tag c.read (element_encoding (element c.tag (c.encoding m)) ++ rest) ≡ Ok (m, rest)
@@ -53,10 +53,10 @@ module _ {M : Type 0} (c : Content M) (laws : ContentLaws c) where
   simple_type_one_value m n l v w a b = one_value (λ t. tag_eq t c.tag) (λ x. element_encoding (element c.tag (c.encoding x))) (simple c.tag c.read) (λ x. c.valid x × c.allowed x) (λ x p. simple_type_read_back x [] l p.0 p.1) m n (v, a) (w, b)
 
   simple_type_short_fits : (m : M) → c.lawful × (c.tag.value < 2 ^ 32) → c.valid m → length (element_encoding (element c.tag (c.encoding m))) < 2 ^ 32 → Fits (element_encoding (element c.tag (c.encoding m)))
-  simple_type_short_fits m l v = Fits-short (element_encoding (element c.tag (c.encoding m))) (simple_type_nothing_or_element m l v)
+  simple_type_short_fits m l v = Fits_short (element_encoding (element c.tag (c.encoding m))) (simple_type_nothing_or_element m l v)
 
   simple_type_as_errors : {V : Type 0} (meaning : V → M) → (c.takes_memory → ⊥) → (t : List ℕ) (result : Result V ReadError) → Returns meaning (c.runs_out t) result (c.read t) → IfErr result IsOfInput
-  simple_type_as_errors meaning none t result answers = IfErr-Returns meaning (c.runs_out t) result (c.read t) answers (laws.errors t) (λ places out. none (laws.memory t places out))
+  simple_type_as_errors meaning none t result answers = IfErr_Returns meaning (c.runs_out t) result (c.read t) answers (laws.errors t) (λ places out. none (laws.memory t places out))
 
   simple_type_memory : (t : List ℕ) (places : List Place) → simple_out c.tag c.runs_out t places → c.takes_memory
   simple_type_memory t places out = laws.memory out.0.0.content places out.3
@@ -118,7 +118,7 @@ no_content_laws {M = M} = record {
   one_encoding = λ p. absurd p;
   has_encoding = λ p. absurd p;
   no_closures = λ p. absurd p;
-  consumes = λ c m b e. absurd (rejects_all-consumes c m e);
+  consumes = λ c m b e. absurd (rejects_all_consumes c m e);
   read_back = λ m l. absurd l;
   unbounded = λ free m v. tt;
   memory = λ c places out. out;
@@ -127,7 +127,7 @@ no_content_laws {M = M} = record {
 
 -- A type that isn't simple rejects all contents octets.
 pub no_content_errors : {V M : Type 0} (meaning : V → M) {P : Type 0} → P → (c : List ℕ) (result : Result V ReadError) → Returns meaning (λ places. ⊥) result (rejects_all c) → IfErr result IsOfInput
-no_content_errors {M = M} meaning none c result answers = IfErr-Returns meaning (λ places. ⊥) result (rejects_all c) answers (rejects_all_errors M c) (λ places out. out)
+no_content_errors {M = M} meaning none c result answers = IfErr_Returns meaning (λ places. ⊥) result (rejects_all c) answers (rejects_all_errors M c) (λ places out. out)
 
 -- ---- any element
 
@@ -140,10 +140,10 @@ tlv_laws = record {
   consumes = tlv_consumes;
   nothing_or_element = λ m l v. inr (record { element = m; is = refl; readable = v });
   accepted = λ m e v same. refl;
-  not_empty = λ m l i v e. element_encoding-not_nil m e;
+  not_empty = λ m l i v e. element_encoding_not_nil m e;
   read_back = λ m rest l v a fits none. tlv_read_back m rest v fits;
   one_value = λ m n l v w a b fits. one_value (λ t. true) element_encoding framed_element (λ x. x.tag.value < 2 ^ 32) (λ x p fits none. tlv_read_back x [] p fits) m n v w fits;
-  short_fits = λ m l v. Fits-short (element_encoding m) (inr (record { element = m; is = refl; readable = v }));
+  short_fits = λ m l v. Fits_short (element_encoding m) (inr (record { element = m; is = refl; readable = v }));
   unbounded = λ free m v. tt;
   memory = λ t places out. out;
   begins_with_element = λ t places out. absurd out;
@@ -185,7 +185,7 @@ option_laws {e = e} laws = record {
   not_empty = λ m l i v none. i;
   read_back = option_type_read_back e laws;
   one_value = option_type_one_value e laws;
-  short_fits = λ m l v. Fits-short (option_octets e.encoding m) (option_nothing_or_element e.encoding e.valid (λ x w. laws.nothing_or_element x l.0 w) m v);
+  short_fits = λ m l v. Fits_short (option_octets e.encoding m) (option_nothing_or_element e.encoding e.valid (λ x w. laws.nothing_or_element x l.0 w) m v);
   unbounded = λ free. option_weaker e.valid e.allowed (laws.unbounded free);
   memory = λ t places out. laws.memory t places out.1;
   begins_with_element = λ t places out. laws.begins_with_element t places out.1;

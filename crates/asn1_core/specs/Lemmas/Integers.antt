@@ -11,55 +11,55 @@ use Rattle.asn1_core.specs.Base256.{IsOctets, number, signed_number}
 use Rattle.asn1_core.specs.Integer.{IsIntegerContent, nine_bits, is_minimal, with_sign, turned, integer_content, read_integer, below, within_range, read_sized, unless_zero}
 use Rattle.asn1_core.specs.Element.{◌>>=◌}
 use Rattle.asn1_core.specs.ReadError.{ReadError, read_error, IsOfInput}
-use Rattle.asn1_core.specs.Lemmas.Digits.{digits_of-number_from_digits, number_from_digits_256, Leads}
-use Rattle.asn1_core.specs.Lemmas.Results.{done, done-injective, if_ok-is, bind_ok}
+use Rattle.asn1_core.specs.Lemmas.Digits.{digits_of_number_from_digits, number_from_digits_256, Leads}
+use Rattle.asn1_core.specs.Lemmas.Results.{done, done_injective, if_ok_is, bind_ok}
 use Rattle.asn1_core.specs.Lemmas.Faults.{bind_errors, passed_errors, missed_errors}
 use Rattle.asn1_core.specs.declared.parser.ParseErrorKind.TheVariants.{AllocationError, InvalidValue, IntegerOverflow}
-use Rattle.asn1_core.specs.Lemmas.Lengths.{Leads-digits_of}
+use Rattle.asn1_core.specs.Lemmas.Lengths.{Leads_digits_of}
 
 -- ---- each bit inverted
 
-pub length-turned : (c : List ℕ) → length (turned c) ≡ length c
-length-turned c = length-map c (λ x. 255 - x)
+pub length_turned : (c : List ℕ) → length (turned c) ≡ length c
+length_turned c = length-map c (λ x. 255 - x)
 
-pub IsOctets-turned : (c : List ℕ) → IsOctets (turned c)
-IsOctets-turned [] = tt
-IsOctets-turned (x ∷ xs) = (omega arith, IsOctets-turned xs)
+pub IsOctets_turned : (c : List ℕ) → IsOctets (turned c)
+IsOctets_turned [] = tt
+IsOctets_turned (x ∷ xs) = (omega arith, IsOctets_turned xs)
 
-pub turned-turned : (c : List ℕ) → IsOctets c → turned (turned c) ≡ c
-turned-turned [] is = refl
-turned-turned (x ∷ xs) is =
+pub turned_turned : (c : List ℕ) → IsOctets c → turned (turned c) ≡ c
+turned_turned [] is = refl
+turned_turned (x ∷ xs) is =
     let head : 255 - (255 - x) ≡ x = omega (arith, is.0) in
-    rw (head, turned-turned xs is.1) refl
+    rw (head, turned_turned xs is.1) refl
 
 parts_of : (a b p : ℕ) → a + b ≡ 255 → a * p + b * p ≡ 255 * p
 parts_of a b p e = sym (add-mul a b p) ∙ ap (λ (k : ℕ). k * p) e
 
-pub number-turned : (c : List ℕ) → IsOctets c → number (turned c) + number c + 1 ≡ 256 ^ length c
-number-turned [] is = refl
-number-turned (x ∷ xs) is =
-    let rest : number (turned xs) + number xs + 1 ≡ 256 ^ length xs = number-turned xs is.1 in
+pub number_turned : (c : List ℕ) → IsOctets c → number (turned c) + number c + 1 ≡ 256 ^ length c
+number_turned [] is = refl
+number_turned (x ∷ xs) is =
+    let rest : number (turned xs) + number xs + 1 ≡ 256 ^ length xs = number_turned xs is.1 in
     let sum : (255 - x) * 256 ^ length xs + x * 256 ^ length xs ≡ 255 * 256 ^ length xs = parts_of (255 - x) x (256 ^ length xs) (omega (arith, is.0)) in
-    rw (pow-suc 256 (length xs), length-turned xs) (omega (arith, rest, sum))
+    rw (pow-suc 256 (length xs), length_turned xs) (omega (arith, rest, sum))
 
 pub turned_low : (c : List ℕ) → IsOctets c → 128 ≤ get_or c 0 0 → get_or (turned c) 0 0 < 128
 turned_low [] is h = absurd (omega arith)
 turned_low (x ∷ xs) is h = omega arith
 
 -- a leading zero octet adds nothing
-pub number-zero_cons : (c : List ℕ) → number (0 ∷ c) ≡ number c
-number-zero_cons c = omega arith
+pub number_zero_cons : (c : List ℕ) → number (0 ∷ c) ≡ number c
+number_zero_cons c = omega arith
 
 -- ---- the signed number, by the top bit
 
-pub signed_number-low : (c : List ℕ) → get_or c 0 0 < 128 → signed_number c ≡ pos (number c)
-signed_number-low c h = rw (lt-leb 128 (get_or c 0 0) h) refl
+pub signed_number_low : (c : List ℕ) → get_or c 0 0 < 128 → signed_number c ≡ pos (number c)
+signed_number_low c h = rw (lt-leb 128 (get_or c 0 0) h) refl
 
 less : (a b p : ℕ) → b + a + 1 ≡ p → pos a -ℤ pos p ≡ negsuc b
 less a b p e = omega (arith, ints)
 
-pub signed_number-high : (c : List ℕ) → IsOctets c → 128 ≤ get_or c 0 0 → signed_number c ≡ negsuc (number (turned c))
-signed_number-high c is h = rw (le-leb 128 (get_or c 0 0) h) (less (number c) (number (turned c)) (256 ^ length c) (number-turned c is))
+pub signed_number_high : (c : List ℕ) → IsOctets c → 128 ≤ get_or c 0 0 → signed_number c ≡ negsuc (number (turned c))
+signed_number_high c is h = rw (le-leb 128 (get_or c 0 0) h) (less (number c) (number (turned c)) (256 ^ length c) (number_turned c is))
 
 -- ---- the first nine bits
 
@@ -78,10 +78,10 @@ longer_nine x y ys e =
       | inr h ↦ inr (eqb-true _ _ h)
     ]
 
-pub is_minimal-turned : (c : List ℕ) → IsOctets c → is_minimal c ≡ true → is_minimal (turned c) ≡ true
-is_minimal-turned [] is e = e
-is_minimal-turned (x ∷ []) is e = refl
-is_minimal-turned (x ∷ y ∷ ys) is e =
+pub is_minimal_turned : (c : List ℕ) → IsOctets c → is_minimal c ≡ true → is_minimal (turned c) ≡ true
+is_minimal_turned [] is e = e
+is_minimal_turned (x ∷ []) is e = refl
+is_minimal_turned (x ∷ y ∷ ys) is e =
     let h = shortest_nine x y ys e in
     let low : 0 < nine_bits x y = omega (arith, h.0) in
     let high : nine_bits x y < 511 = omega (arith, h.1, is.0, is.1.0) in
@@ -91,22 +91,22 @@ is_minimal-turned (x ∷ y ∷ ys) is e =
 same_low : (x y : ℕ) (ys : List ℕ) → x ≡ 0 → y < 128 → signed_number (x ∷ y ∷ ys) ≡ signed_number (y ∷ ys)
 same_low x y ys e h =
     let first : x < 128 = omega arith in
-    rw (lt-leb 128 x first, lt-leb 128 y h, e) (ap pos (number-zero_cons (y ∷ ys)))
+    rw (lt-leb 128 x first, lt-leb 128 y h, e) (ap pos (number_zero_cons (y ∷ ys)))
 
-pub signed_number-not_minimal : (x y : ℕ) (ys : List ℕ) → IsOctets (x ∷ y ∷ ys) → is_minimal (x ∷ y ∷ ys) ≡ false → signed_number (x ∷ y ∷ ys) ≡ signed_number (y ∷ ys)
-signed_number-not_minimal x y ys is e =
+pub signed_number_not_minimal : (x y : ℕ) (ys : List ℕ) → IsOctets (x ∷ y ∷ ys) → is_minimal (x ∷ y ∷ ys) ≡ false → signed_number (x ∷ y ∷ ys) ≡ signed_number (y ∷ ys)
+signed_number_not_minimal x y ys is e =
     elim (longer_nine x y ys e) [
       | inl h ↦ same_low x y ys (omega arith) (omega arith)
       | inr h ↦
           let first : 255 - x ≡ 0 = omega (arith, is.0, is.1.0) in
-          let same : number (turned (x ∷ y ∷ ys)) ≡ number (turned (y ∷ ys)) = rw first (number-zero_cons (turned (y ∷ ys))) in
-          signed_number-high (x ∷ y ∷ ys) is (omega (arith, is.0, is.1.0)) ∙ ap negsuc same ∙ sym (signed_number-high (y ∷ ys) is.1 (omega (arith, is.0, is.1.0)))
+          let same : number (turned (x ∷ y ∷ ys)) ≡ number (turned (y ∷ ys)) = rw first (number_zero_cons (turned (y ∷ ys))) in
+          signed_number_high (x ∷ y ∷ ys) is (omega (arith, is.0, is.1.0)) ∙ ap negsuc same ∙ sym (signed_number_high (y ∷ ys) is.1 (omega (arith, is.0, is.1.0)))
     ]
 
 -- ---- numbers that aren't negative
 
-digits_of-number : (c : List ℕ) → IsOctets c → Leads c → digits_of 256 (number c) ≡ c
-digits_of-number c is leads = ap (digits_of 256) (sym (number_from_digits_256 c)) ∙ digits_of-number_from_digits 256 c (lit≤ tt) is leads
+digits_of_number : (c : List ℕ) → IsOctets c → Leads c → digits_of 256 (number c) ≡ c
+digits_of_number c is leads = ap (digits_of 256) (sym (number_from_digits_256 c)) ∙ digits_of_number_from_digits 256 c (lit≤ tt) is leads
 
 with_sign_low : (x : ℕ) (xs : List ℕ) → x < 128 → with_sign (x ∷ xs) ≡ x ∷ xs
 with_sign_low x xs h = rw (lt-leb 128 x h) refl
@@ -119,10 +119,10 @@ sign_only [] is e h = absurd cc
 sign_only (zero ∷ []) is e h = refl
 sign_only (zero ∷ y ∷ ys) is e h =
     let high : 128 ≤ y = omega (arith, (shortest_nine zero y ys e).0) in
-    let same : digits_of 256 (number (zero ∷ y ∷ ys)) ≡ y ∷ ys = ap (digits_of 256) (number-zero_cons (y ∷ ys)) ∙ digits_of-number (y ∷ ys) is.1 (λ l. omega arith) in
+    let same : digits_of 256 (number (zero ∷ y ∷ ys)) ≡ y ∷ ys = ap (digits_of 256) (number_zero_cons (y ∷ ys)) ∙ digits_of_number (y ∷ ys) is.1 (λ l. omega arith) in
     rw same (sym (with_sign_high y ys high))
 sign_only (suc x ∷ xs) is e h =
-    rw (digits_of-number (suc x ∷ xs) is (λ l. omega arith)) (sym (with_sign_low (suc x) xs h))
+    rw (digits_of_number (suc x ∷ xs) is (λ l. omega arith)) (sym (with_sign_low (suc x) xs h))
 
 -- digits after a sign
 record IsSigned (s : List ℕ) (n : ℕ) : Type 0 where
@@ -142,49 +142,49 @@ signed_is (x ∷ xs) n is leads e =
     let P : List ℕ → Type 0 = λ s. IsSigned s n in
     elim (cases_lt x 128) [
       | inl h ↦ subst P (sym (with_sign_low x xs h)) (record { octets = is; value = e; low = h; shortest = low_shortest x xs is first h })
-      | inr h ↦ subst P (sym (with_sign_high x xs h)) (record { octets = (lit< tt, is); value = number-zero_cons (x ∷ xs) ∙ e; low = lit< tt; shortest = nine_shortest 0 x xs (omega arith) (omega (arith, is.0)) })
+      | inr h ↦ subst P (sym (with_sign_high x xs h)) (record { octets = (lit< tt, is); value = number_zero_cons (x ∷ xs) ∙ e; low = lit< tt; shortest = nine_shortest 0 x xs (omega arith) (omega (arith, is.0)) })
     ]
 
 signed_digits : (n : ℕ) → IsSigned (with_sign (digits_of 256 n)) n
-signed_digits n = signed_is (digits_of 256 n) n (all_below_base_digits_of 256 n (lit≤ tt)) (Leads-digits_of n) (sym (number_from_digits_256 (digits_of 256 n)) ∙ number_digits_of 256 n (lit≤ tt))
+signed_digits n = signed_is (digits_of 256 n) n (all_below_base_digits_of 256 n (lit≤ tt)) (Leads_digits_of n) (sym (number_from_digits_256 (digits_of 256 n)) ∙ number_digits_of 256 n (lit≤ tt))
 
 -- ---- every number
 
 -- octets of which none is superfluous are the contents octets of their number
-pub integer_content-only : (c : List ℕ) → IsOctets c → is_minimal c ≡ true → c ≡ integer_content (signed_number c)
+pub integer_content_only : (c : List ℕ) → IsOctets c → is_minimal c ≡ true → c ≡ integer_content (signed_number c)
 unfolding integer_content
-integer_content-only c is e =
+integer_content_only c is e =
     elim (cases_lt (get_or c 0 0) 128) [
-      | inl h ↦ sign_only c is e h ∙ ap integer_content (sym (signed_number-low c h))
+      | inl h ↦ sign_only c is e h ∙ ap integer_content (sym (signed_number_low c h))
       | inr h ↦
-          sym (turned-turned c is) ∙ ap turned (sign_only (turned c) (IsOctets-turned c) (is_minimal-turned c is e) (turned_low c is h)) ∙ ap integer_content (sym (signed_number-high c is h))
+          sym (turned_turned c is) ∙ ap turned (sign_only (turned c) (IsOctets_turned c) (is_minimal_turned c is e) (turned_low c is h)) ∙ ap integer_content (sym (signed_number_high c is h))
     ]
 
-pub IsOctets-integer_content : (z : ℤ) → IsOctets (integer_content z)
+pub IsOctets_integer_content : (z : ℤ) → IsOctets (integer_content z)
 unfolding integer_content
-IsOctets-integer_content (pos n) = (signed_digits n).octets
-IsOctets-integer_content (negsuc n) = IsOctets-turned (with_sign (digits_of 256 n))
+IsOctets_integer_content (pos n) = (signed_digits n).octets
+IsOctets_integer_content (negsuc n) = IsOctets_turned (with_sign (digits_of 256 n))
 
-pub is_minimal-integer_content : (z : ℤ) → is_minimal (integer_content z) ≡ true
+pub is_minimal_integer_content : (z : ℤ) → is_minimal (integer_content z) ≡ true
 unfolding integer_content
-is_minimal-integer_content (pos n) = (signed_digits n).shortest
-is_minimal-integer_content (negsuc n) = is_minimal-turned (with_sign (digits_of 256 n)) (signed_digits n).octets (signed_digits n).shortest
+is_minimal_integer_content (pos n) = (signed_digits n).shortest
+is_minimal_integer_content (negsuc n) = is_minimal_turned (with_sign (digits_of 256 n)) (signed_digits n).octets (signed_digits n).shortest
 
 turned_high : (s : List ℕ) → 0 < length s → get_or s 0 0 < 128 → 128 ≤ get_or (turned s) 0 0
 turned_high [] l h = absurd (omega arith)
 turned_high (x ∷ xs) l h = omega arith
 
-is_minimal-nonempty : (c : List ℕ) → is_minimal c ≡ true → 0 < length c
-is_minimal-nonempty [] e = absurd cc
-is_minimal-nonempty (x ∷ xs) e = omega arith
+is_minimal_nonempty : (c : List ℕ) → is_minimal c ≡ true → 0 < length c
+is_minimal_nonempty [] e = absurd cc
+is_minimal_nonempty (x ∷ xs) e = omega arith
 
-pub signed_number-integer_content : (z : ℤ) → signed_number (integer_content z) ≡ z
+pub signed_number_integer_content : (z : ℤ) → signed_number (integer_content z) ≡ z
 unfolding integer_content
-signed_number-integer_content (pos n) = let s = signed_digits n in signed_number-low (with_sign (digits_of 256 n)) s.low ∙ ap pos s.value
-signed_number-integer_content (negsuc n) =
+signed_number_integer_content (pos n) = let s = signed_digits n in signed_number_low (with_sign (digits_of 256 n)) s.low ∙ ap pos s.value
+signed_number_integer_content (negsuc n) =
     let s = signed_digits n in
     let ds = with_sign (digits_of 256 n) in
-    signed_number-high (turned ds) (IsOctets-turned ds) (turned_high ds (is_minimal-nonempty ds s.shortest) s.low) ∙ ap (λ (t : List ℕ). negsuc (number t)) (turned-turned ds s.octets) ∙ ap negsuc s.value
+    signed_number_high (turned ds) (IsOctets_turned ds) (turned_high ds (is_minimal_nonempty ds s.shortest) s.low) ∙ ap (λ (t : List ℕ). negsuc (number t)) (turned_turned ds s.octets) ∙ ap negsuc s.value
 
 -- ---- contents octets, and no fewer octets
 
@@ -204,40 +204,40 @@ shortened (x ∷ y ∷ ys) is l =
       | inl e ↦ record { encoding = x ∷ y ∷ ys; octets = is; shortest = e; same = refl; fewer = omega arith }
       | inr e ↦
           let s = shortened (y ∷ ys) is.1 (omega arith) in
-          record { encoding = s.encoding; octets = s.octets; shortest = s.shortest; same = s.same ∙ sym (signed_number-not_minimal x y ys is e); fewer = omega (arith, s.fewer) }
+          record { encoding = s.encoding; octets = s.octets; shortest = s.shortest; same = s.same ∙ sym (signed_number_not_minimal x y ys is e); fewer = omega (arith, s.fewer) }
     ]
 
-pub is_minimal-IsIntegerContent : (c : List ℕ) → IsOctets c → is_minimal c ≡ true → IsIntegerContent c (signed_number c)
-is_minimal-IsIntegerContent c is e = record {
+pub is_minimal_IsIntegerContent : (c : List ℕ) → IsOctets c → is_minimal c ≡ true → IsIntegerContent c (signed_number c)
+is_minimal_IsIntegerContent c is e = record {
   octets = is;
-  some = is_minimal-nonempty c e;
+  some = is_minimal_nonempty c e;
   value = refl;
   shortest = λ t octets some fewer same.
       let s = shortened t octets some in
-      let one : s.encoding ≡ c = integer_content-only s.encoding s.octets s.shortest ∙ ap integer_content (s.same ∙ same) ∙ sym (integer_content-only c is e) in
+      let one : s.encoding ≡ c = integer_content_only s.encoding s.octets s.shortest ∙ ap integer_content (s.same ∙ same) ∙ sym (integer_content_only c is e) in
       omega (arith, s.fewer, fewer, ap length one);
 }
 
-pub IsIntegerContent-integer_content : (z : ℤ) → IsIntegerContent (integer_content z) z
-IsIntegerContent-integer_content z = subst (λ (x : ℤ). IsIntegerContent (integer_content z) x) (signed_number-integer_content z) (is_minimal-IsIntegerContent (integer_content z) (IsOctets-integer_content z) (is_minimal-integer_content z))
+pub IsIntegerContent_integer_content : (z : ℤ) → IsIntegerContent (integer_content z) z
+IsIntegerContent_integer_content z = subst (λ (x : ℤ). IsIntegerContent (integer_content z) x) (signed_number_integer_content z) (is_minimal_IsIntegerContent (integer_content z) (IsOctets_integer_content z) (is_minimal_integer_content z))
 
-pub IsIntegerContent-is_minimal : (c : List ℕ) (z : ℤ) → IsIntegerContent c z → is_minimal c ≡ true
-IsIntegerContent-is_minimal [] z is = absurd (omega (arith, is.some))
-IsIntegerContent-is_minimal (x ∷ []) z is = refl
-IsIntegerContent-is_minimal (x ∷ y ∷ ys) z is =
+pub IsIntegerContent_is_minimal : (c : List ℕ) (z : ℤ) → IsIntegerContent c z → is_minimal c ≡ true
+IsIntegerContent_is_minimal [] z is = absurd (omega (arith, is.some))
+IsIntegerContent_is_minimal (x ∷ []) z is = refl
+IsIntegerContent_is_minimal (x ∷ y ∷ ys) z is =
     elim (cases_Bool (is_minimal (x ∷ y ∷ ys))) [
       | inl e ↦ e
-      | inr e ↦ absurd (is.shortest (y ∷ ys) is.octets.1 (omega arith) (omega arith) (sym (signed_number-not_minimal x y ys is.octets e) ∙ is.value))
+      | inr e ↦ absurd (is.shortest (y ∷ ys) is.octets.1 (omega arith) (omega arith) (sym (signed_number_not_minimal x y ys is.octets e) ∙ is.value))
     ]
 
-pub IsIntegerContent-only : (c : List ℕ) (z : ℤ) → IsIntegerContent c z → c ≡ integer_content z
-IsIntegerContent-only c z is = integer_content-only c is.octets (IsIntegerContent-is_minimal c z is) ∙ ap integer_content is.value
+pub IsIntegerContent_only : (c : List ℕ) (z : ℤ) → IsIntegerContent c z → c ≡ integer_content z
+IsIntegerContent_only c z is = integer_content_only c is.octets (IsIntegerContent_is_minimal c z is) ∙ ap integer_content is.value
 
 pub nine_bits_tell : (x y : ℕ) (ys : List ℕ) → IsOctets (x ∷ y ∷ ys) → (is_minimal (x ∷ y ∷ ys) ≡ false) ↔ (signed_number (x ∷ y ∷ ys) ≡ signed_number (y ∷ ys))
 nine_bits_tell x y ys is = (
-  signed_number-not_minimal x y ys is,
+  signed_number_not_minimal x y ys is,
   λ same. elim (cases_Bool (is_minimal (x ∷ y ∷ ys))) [
-    | inl e ↦ absurd ((is_minimal-IsIntegerContent (x ∷ y ∷ ys) is e).shortest (y ∷ ys) is.1 (omega arith) (omega arith) (sym same))
+    | inl e ↦ absurd ((is_minimal_IsIntegerContent (x ∷ y ∷ ys) is e).shortest (y ∷ ys) is.1 (omega arith) (omega arith) (sym same))
     | inr e ↦ e
   ],
 )
@@ -251,66 +251,66 @@ read_integer_ok c e = rw e refl
 pub read_integer_is : (c : List ℕ) (z : ℤ) → read_integer c ≡ Ok z → (is_minimal c ≡ true) × (signed_number c ≡ z)
 unfolding read_integer
 read_integer_is c z e =
-    let p = if_ok-is (is_minimal c) (Ok (signed_number c)) _ z e in
-    (p.0, done-injective (signed_number c) z p.1)
+    let p = if_ok_is (is_minimal c) (Ok (signed_number c)) _ z e in
+    (p.0, done_injective (signed_number c) z p.1)
 
 pub reads_contents_alone : (c : List ℕ) (z : ℤ) → IsOctets c → (read_integer c ≡ Ok z) ↔ IsIntegerContent c z
 reads_contents_alone c z is = (
-  (λ e. let p = read_integer_is c z e in subst (λ (x : ℤ). IsIntegerContent c x) p.1 (is_minimal-IsIntegerContent c is p.0)),
-  λ h. read_integer_ok c (IsIntegerContent-is_minimal c z h) ∙ ap Ok h.value,
+  (λ e. let p = read_integer_is c z e in subst (λ (x : ℤ). IsIntegerContent c x) p.1 (is_minimal_IsIntegerContent c is p.0)),
+  λ h. read_integer_ok c (IsIntegerContent_is_minimal c z h) ∙ ap Ok h.value,
 )
 
 -- ---- numbers of a range
 
 -- a test with an error in its first branch
-pub if_err-ok : {A : Type 0} (b : Bool) (d : ReadError) (x : Result A ReadError) (y : A) → (if b then Err d else x) ≡ Ok y → (b ≡ false) × (x ≡ Ok y)
-if_err-ok true d x y e = absurd cc
-if_err-ok false d x y e = (refl, e)
+pub if_err_ok : {A : Type 0} (b : Bool) (d : ReadError) (x : Result A ReadError) (y : A) → (if b then Err d else x) ≡ Ok y → (b ≡ false) × (x ≡ Ok y)
+if_err_ok true d x y e = absurd cc
+if_err_ok false d x y e = (refl, e)
 
-pub within_range-ok : (low high z : ℤ) → low ≤ℤ z → z ≤ℤ high → within_range low high z ≡ Ok z
-within_range-ok low high z a b =
+pub within_range_ok : (low high z : ℤ) → low ≤ℤ z → z ≤ℤ high → within_range low high z ≡ Ok z
+within_range_ok low high z a b =
     let above : int_lt z low ≡ false = grind (arith, ints) in
     let below_high : int_lt high z ≡ false = grind (arith, ints) in
     rw (above, below_high) refl
 
-pub within_range-below : (low high z : ℤ) → z <ℤ low → within_range low high z ≡ Err (read_error (below low))
-within_range-below low high z a =
+pub within_range_below : (low high z : ℤ) → z <ℤ low → within_range low high z ≡ Err (read_error (below low))
+within_range_below low high z a =
     let test : int_lt z low ≡ true = grind (arith, ints) in
     rw test refl
 
-pub within_range-above : (low high z : ℤ) → low ≤ℤ z → high <ℤ z → within_range low high z ≡ Err (read_error IntegerOverflow)
-within_range-above low high z a b =
+pub within_range_above : (low high z : ℤ) → low ≤ℤ z → high <ℤ z → within_range low high z ≡ Err (read_error IntegerOverflow)
+within_range_above low high z a b =
     let above : int_lt z low ≡ false = grind (arith, ints) in
     let over : int_lt high z ≡ true = grind (arith, ints) in
     rw (above, over) refl
 
-within_range-ok_is : (low high z m : ℤ) → within_range low high z ≡ Ok m → (z ≡ m) × ((low ≤ℤ m) × (m ≤ℤ high))
-within_range-ok_is low high z m e =
-    let first = if_err-ok (int_lt z low) (read_error (below low)) _ m e in
-    let second = if_err-ok (int_lt high z) (read_error IntegerOverflow) (Ok z) m first.1 in
-    let same : z ≡ m = done-injective z m second.1 in
+within_range_ok_is : (low high z m : ℤ) → within_range low high z ≡ Ok m → (z ≡ m) × ((low ≤ℤ m) × (m ≤ℤ high))
+within_range_ok_is low high z m e =
+    let first = if_err_ok (int_lt z low) (read_error (below low)) _ m e in
+    let second = if_err_ok (int_lt high z) (read_error IntegerOverflow) (Ok z) m first.1 in
+    let same : z ≡ m = done_injective z m second.1 in
     let above : low ≤ℤ z = let h = first.0 in omega (arith, ints) in
     let under : z ≤ℤ high = let h = second.0 in omega (arith, ints) in
     (same, subst (λ (x : ℤ). (low ≤ℤ x) × (x ≤ℤ high)) same (above, under))
 
-pub read_sized-minimal : (low high : ℤ) (c : List ℕ) (r : Result ℤ ReadError) → is_minimal c ≡ true → within_range low high (signed_number c) ≡ r → read_sized low high c ≡ r
+pub read_sized_minimal : (low high : ℤ) (c : List ℕ) (r : Result ℤ ReadError) → is_minimal c ≡ true → within_range low high (signed_number c) ≡ r → read_sized low high c ≡ r
 unfolding read_sized
-read_sized-minimal low high c r e f = rw (read_integer_ok c e) f
+read_sized_minimal low high c r e f = rw (read_integer_ok c e) f
 
-pub read_sized-not_minimal : (low high : ℤ) (c : List ℕ) → is_minimal c ≡ false → read_sized low high c ≡ Err (read_error InvalidValue)
+pub read_sized_not_minimal : (low high : ℤ) (c : List ℕ) → is_minimal c ≡ false → read_sized low high c ≡ Err (read_error InvalidValue)
 unfolding read_sized read_integer
-read_sized-not_minimal low high c e = rw e refl
+read_sized_not_minimal low high c e = rw e refl
 
 pub sized_consumes : (low high : ℤ) (c : List ℕ) (m : ℤ) → IsOctets c → read_sized low high c ≡ Ok m → (c ≡ integer_content m) × ((low ≤ℤ m) × (m ≤ℤ high))
 unfolding read_sized
 sized_consumes low high c m is e =
     let p = bind_ok (read_integer c) (within_range low high) m e in
     let q = read_integer_is c p.0 p.1 in
-    let r = within_range-ok_is low high p.0 m p.2 in
-    (integer_content-only c is q.0 ∙ ap integer_content (q.1 ∙ r.0), r.1)
+    let r = within_range_ok_is low high p.0 m p.2 in
+    (integer_content_only c is q.0 ∙ ap integer_content (q.1 ∙ r.0), r.1)
 
 pub sized_read_back : (low high : ℤ) (m : ℤ) → (low ≤ℤ m) × (m ≤ℤ high) → read_sized low high (integer_content m) ≡ Ok m
-sized_read_back low high m range = read_sized-minimal low high (integer_content m) (Ok m) (is_minimal-integer_content m) (ap (within_range low high) (signed_number-integer_content m) ∙ within_range-ok low high m range.0 range.1)
+sized_read_back low high m range = read_sized_minimal low high (integer_content m) (Ok m) (is_minimal_integer_content m) (ap (within_range low high) (signed_number_integer_content m) ∙ within_range_ok low high m range.0 range.1)
 
 -- ---- no error is `AllocationError`
 
@@ -336,8 +336,8 @@ negative_number n e = cc
 
 unless_zero_is : (z m : ℤ) → unless_zero z ≡ Ok m → (z ≡ m) × (m ≡ pos 0 → ⊥)
 unless_zero_is (pos zero) m e = absurd cc
-unless_zero_is (pos (suc n)) m e = let same : pos (suc n) ≡ m = done-injective _ _ e in (same, λ none. absurd (some_number n (same ∙ none)))
-unless_zero_is (negsuc n) m e = let same : negsuc n ≡ m = done-injective _ _ e in (same, λ none. absurd (negative_number n (same ∙ none)))
+unless_zero_is (pos (suc n)) m e = let same : pos (suc n) ≡ m = done_injective _ _ e in (same, λ none. absurd (some_number n (same ∙ none)))
+unless_zero_is (negsuc n) m e = let same : negsuc n ≡ m = done_injective _ _ e in (same, λ none. absurd (negative_number n (same ∙ none)))
 
 kept_unless_zero : (m : ℤ) → (m ≡ pos 0 → ⊥) → unless_zero m ≡ Ok m
 kept_unless_zero (pos zero) some = absurd (some refl)

@@ -5,15 +5,15 @@ use Rattle.asn1_core.specs.declared.parser.ParseErrorKind.TheVariants.{InvalidVa
 use Rattle.asn1_core.specs.Base256.{IsOctets}
 use Rattle.asn1_core.specs.ReadError.{IsOfInput}
 use Rattle.asn1_core.specs.Octets.{read_octets, read_sized_octets, read_null}
-use Rattle.asn1_core.specs.Lemmas.Results.{done-injective, if_ok-is}
+use Rattle.asn1_core.specs.Lemmas.Results.{done_injective, if_ok_is}
 use Rattle.asn1_core.specs.Lemmas.Faults.{passed_errors}
 
 pub octets_consumes : (c octets : List ℕ) → IsOctets c → read_octets c ≡ Ok octets → (c ≡ octets) × IsOctets octets
-octets_consumes c octets is e = let same : c ≡ octets = done-injective c octets e in (same, subst IsOctets same is)
+octets_consumes c octets is e = let same : c ≡ octets = done_injective c octets e in (same, subst IsOctets same is)
 
 pub sized_octets_consumes : (size : ℕ) (c octets : List ℕ) → IsOctets c → read_sized_octets size c ≡ Ok octets → (c ≡ octets) × (IsOctets octets × (length octets ≡ size))
 sized_octets_consumes size c octets is e =
-    let p = if_ok-is (eqb (length c) size) _ _ octets e in
+    let p = if_ok_is (eqb (length c) size) _ _ octets e in
     let same = octets_consumes c octets is p.1 in
     (same.0, (same.1, ap length (sym same.0) ∙ eqb-true _ _ p.0))
 

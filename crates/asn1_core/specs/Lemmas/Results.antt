@@ -13,8 +13,8 @@ use Rattle.asn1_core.specs.Reading.{Returns, expected, simple, content_of, expec
 abbrev pub done : {A : Type 0} → A → Result A ReadError
 done x = Ok x
 
-pub done-injective : {A : Type 0} (x y : A) → done x ≡ done y → x ≡ y
-done-injective x y e = cc
+pub done_injective : {A : Type 0} (x y : A) → done x ≡ done y → x ≡ y
+done_injective x y e = cc
 
 pub bind_ok : {A B : Type 0} (r : Result A ReadError) (f : A → Result B ReadError) (y : B) → (r >>= f) ≡ Ok y → (x : A) × (r ≡ Ok x) × (f x ≡ Ok y)
 bind_ok (Ok x) f y e = (x, refl, e)
@@ -25,22 +25,22 @@ framed_ok (Ok y) x e = cc
 framed_ok (Err kind) x e = absurd cc
 
 -- a test with one result
-pub if-cases : {A : Type 0} (b : Bool) (x y z : A) → (if b then x else y) ≡ z → ((b ≡ true) × (x ≡ z)) ⊎ ((b ≡ false) × (y ≡ z))
-if-cases true x y z e = inl (refl, e)
-if-cases false x y z e = inr (refl, e)
+pub if_cases : {A : Type 0} (b : Bool) (x y z : A) → (if b then x else y) ≡ z → ((b ≡ true) × (x ≡ z)) ⊎ ((b ≡ false) × (y ≡ z))
+if_cases true x y z e = inl (refl, e)
+if_cases false x y z e = inr (refl, e)
 
 -- a test with an error in its second branch
-pub if_ok-is : {A : Type 0} (b : Bool) (x : Result A ReadError) (d : ReadError) (y : A) → (if b then x else Err d) ≡ Ok y → (b ≡ true) × (x ≡ Ok y)
-if_ok-is true x d y e = (refl, e)
-if_ok-is false x d y e = absurd cc
+pub if_ok_is : {A : Type 0} (b : Bool) (x : Result A ReadError) (d : ReadError) (y : A) → (if b then x else Err d) ≡ Ok y → (b ≡ true) × (x ≡ Ok y)
+if_ok_is true x d y e = (refl, e)
+if_ok_is false x d y e = absurd cc
 
-read_error-kind : (e : ReadError) → e.places ≡ [] → read_error e.kind ≡ e
-read_error-kind e none = ap (λ (places : List Place). record { kind = e.kind; places = places }) (sym none)
+read_error_kind : (e : ReadError) → e.places ≡ [] → read_error e.kind ≡ e
+read_error_kind e none = ap (λ (places : List Place). record { kind = e.kind; places = places }) (sym none)
 
 -- what framing returned is what a read returns
-pub Returns-framed : {V A : Type 0} (view : V → A) (r : Result V ReadError) (answer : Result A ParseErrorKind) → ReturnsPlain view r answer → Returns view (λ places. ⊥) r (framed answer)
-Returns-framed view (Ok v) answer e = rw e refl
-Returns-framed view (Err f) answer e = inl (rw (e.0, read_error-kind f e.1) refl)
+pub Returns_framed : {V A : Type 0} (view : V → A) (r : Result V ReadError) (answer : Result A ParseErrorKind) → ReturnsPlain view r answer → Returns view (λ places. ⊥) r (framed answer)
+Returns_framed view (Ok v) answer e = rw e refl
+Returns_framed view (Err f) answer e = inl (rw (e.0, read_error_kind f e.1) refl)
 
 -- if reading the element with an expected tag gives an error, the simple type gives the same
 other_tag : {M : Type 0} (b : Bool) (tag : Tag) (found : List ℕ × List ℕ) (read : Result (M × List ℕ) ReadError) (kind : ParseErrorKind) →

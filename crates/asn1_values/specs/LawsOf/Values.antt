@@ -13,7 +13,7 @@ use Rattle.asn1_values.specs.TextValues.{text_content, utf8_content, printable_c
 use Rattle.asn1_values.specs.TimeValues.{utc_content, x509_content, instant_content}
 use Rattle.asn1_values.specs.Lemmas.Big.{signed_consumes, signed_read_back, unsigned_consumes, unsigned_read_back, unsigned_errors}
 use Rattle.asn1_values.specs.Lemmas.Bits.{bits_consumes, bits_read_back, bits_errors}
-use Rattle.asn1_values.specs.Lemmas.Identifier.{identifier_consumes, identifier_read_back, identifier_errors, IsIdentifierForm-append_zeros}
+use Rattle.asn1_values.specs.Lemmas.Identifier.{identifier_consumes, identifier_read_back, identifier_errors, IsIdentifierForm_append_zeros}
 use Rattle.asn1_values.specs.Lemmas.Texts.{text_consumes, text_read_back, text_errors}
 use Rattle.asn1_values.specs.Lemmas.Times.{utc_consumes, utc_read_back, utc_errors, x509_consumes, x509_read_back, x509_errors}
 use Rattle.asn1_values.specs.Lemmas.Fractions.{instant_consumes, instant_read_back, instant_errors}
@@ -62,4 +62,4 @@ instant_laws = basic_laws _ (record { consumes = instant_consumes; read_back = i
 
 -- Numbers in base 128, with zeros after them, have the form in memory.
 pub known_form : (t : List ℕ) → 0 < length t → length t ≤ 63 → is_some (numbers_in t) ≡ true → IsOctets t → IsIdentifierForm (t ++ replicate (63 - length t) 0) (length t)
-known_form = IsIdentifierForm-append_zeros
+known_form = IsIdentifierForm_append_zeros

@@ -2,7 +2,7 @@ use Rattle.std.proofs.Common.{◌≡◌, List, [], ◌∷◌, ◌&&◌, Bool, tr
 use Rattle.std.specs.Prelude.{IsTrue, ◌↔◌}
 use Rattle.std.specs.Cmp.Lexicographic.{pointwise}
 use Rattle.asn1_values.specs.Comparisons.{IsEqualityOf}
-use Rattle.asn1.proofs.SameMeanings.{cons-injective_head, cons-injective_tail}
+use Rattle.asn1.proofs.SameMeanings.{cons_injective_head, cons_injective_tail}
 use Rattle.asn1.proofs.laws_equality.slices_compare.Goals as goal
 
 both_are : (a b : Bool) → IsTrue (a && b) → IsTrue a × IsTrue b
@@ -29,8 +29,8 @@ module _ {T M : Type 0} (f : T → M) (eq : T → T → Bool) (tells : IsEqualit
   map_same [] (y ∷ b) e = absurd cc
   map_same (x ∷ a) [] e = absurd cc
   map_same (x ∷ a) (y ∷ b) e =
-      let first = (tells x y).1 (cons-injective_head (f x) (f y) (map f a) (map f b) e) in
-      let others = map_same a b (cons-injective_tail (f x) (f y) (map f a) (map f b) e) in
+      let first = (tells x y).1 (cons_injective_head (f x) (f y) (map f a) (map f b) e) in
+      let others = map_same a b (cons_injective_tail (f x) (f y) (map f a) (map f b) e) in
       both_is (eq x y) (pointwise eq a b) first others
 
   tells_slices : (a b : List T) → IsTrue (pointwise eq a b) ↔ (map f a ≡ map f b)

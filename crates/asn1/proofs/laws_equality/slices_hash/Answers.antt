@@ -2,7 +2,7 @@ use Rattle.std.proofs.Common.{◌≡◌, ℕ, suc, List, [], ◌∷◌, ◌++◌
 use Rattle.std.specs.List.{flat_map}
 use Rattle.std.specs.Hash as fed
 use Rattle.asn1_values.specs.Comparisons.{HashesAlike}
-use Rattle.asn1.proofs.SameMeanings.{cons-injective_head, cons-injective_tail}
+use Rattle.asn1.proofs.SameMeanings.{cons_injective_head, cons_injective_tail}
 use Rattle.asn1.proofs.laws_equality.slices_hash.Goals as goal
 
 module _ {T M : Type 0} (f : T → M) (h : T → List (List ℕ)) (alike : HashesAlike f h) where
@@ -11,15 +11,15 @@ module _ {T M : Type 0} (f : T → M) (h : T → List (List ℕ)) (alike : Hashe
   same_length [] (y ∷ b) e = absurd cc
   same_length (x ∷ a) [] e = absurd cc
   same_length (x ∷ a) (y ∷ b) e =
-      ap suc (same_length a b (cons-injective_tail (f x) (f y) (map f a) (map f b) e))
+      ap suc (same_length a b (cons_injective_tail (f x) (f y) (map f a) (map f b) e))
 
   same_items : (a b : List T) → map f a ≡ map f b → flat_map h a ≡ flat_map h b
   same_items [] [] e = refl
   same_items [] (y ∷ b) e = absurd cc
   same_items (x ∷ a) [] e = absurd cc
   same_items (x ∷ a) (y ∷ b) e =
-      let first = alike x y (cons-injective_head (f x) (f y) (map f a) (map f b) e) in
-      let others = same_items a b (cons-injective_tail (f x) (f y) (map f a) (map f b) e) in
+      let first = alike x y (cons_injective_head (f x) (f y) (map f a) (map f b) e) in
+      let others = same_items a b (cons_injective_tail (f x) (f y) (map f a) (map f b) e) in
       ap (λ (t : List (List ℕ)). t ++ flat_map h a) first ∙ ap (λ (t : List (List ℕ)). h y ++ t) others
 
   same_slices : (a b : List T) → map f a ≡ map f b → fed.slice h a ≡ fed.slice h b

@@ -1,5 +1,5 @@
 use Rattle.std.proofs.Common.{◌≤◌, ℕ, length, ◌∙◌, arith}
-use Rattle.asn1_core.specs.Lemmas.Numbers.{write_number_start, write_number_step, length-number_octets, bit_and_127, bit_or_128, digits_some}
+use Rattle.asn1_core.specs.Lemmas.Numbers.{write_number_start, write_number_step, length_number_octets, bit_and_127, bit_or_128, digits_some}
 use Rattle.std.proofs.lemmas.Int.Digits.{length-digits_of_step}
 use Rattle.std.proofs.lemmas.List.{length-set}
 use Rattle.asn1_core.proofs.base128.write.Goals as goal
@@ -8,7 +8,7 @@ pub loop-i-init : goal.loop-i-init
 loop-i-init c =
     let count = c.length-count.ensures in
     record {
-      left = omega (arith, count.encoding, length-number_octets c.args.n);
+      left = omega (arith, count.encoding, length_number_octets c.args.n);
       whole = rw (bit_and_127 c.args.n) (write_number_start c.args.n c.length-count.result c.args.octets.now count.encoding (omega arith));
     }
 

@@ -1,13 +1,13 @@
-use Rattle.asn1_core.specs.Lemmas.Numbers.{IsLeadingNumber-leading_number, leading_number-only}
-use Rattle.asn1_core.specs.Lemmas.Tags.{IsLeadingTag-leading_tag, leading_tag-only}
-use Rattle.asn1_core.specs.Lemmas.Lengths.{IsLeadingLength-leading_length, leading_length-only}
-use Rattle.asn1_core.specs.Lemmas.Elements.{IsLeadingElement-leading_element, leading_element-only}
+use Rattle.asn1_core.specs.Lemmas.Numbers.{IsLeadingNumber_leading_number, leading_number_only}
+use Rattle.asn1_core.specs.Lemmas.Tags.{IsLeadingTag_leading_tag, leading_tag_only}
+use Rattle.asn1_core.specs.Lemmas.Lengths.{IsLeadingLength_leading_length, leading_length_only}
+use Rattle.asn1_core.specs.Lemmas.Elements.{IsLeadingElement_leading_element, leading_element_only}
 use Rattle.asn1_core.proofs.laws.one_answer.Goals as goal
 
 pub returns : goal.returns
 returns c = record {
-  numbers = (IsLeadingNumber-leading_number, λ octets answer is a. leading_number-only octets answer a);
-  tags = (IsLeadingTag-leading_tag, λ octets answer is a. leading_tag-only octets answer a);
-  lengths = (IsLeadingLength-leading_length, leading_length-only);
-  elements = (IsLeadingElement-leading_element, leading_element-only);
+  numbers = (IsLeadingNumber_leading_number, λ octets answer is a. leading_number_only octets answer a);
+  tags = (IsLeadingTag_leading_tag, λ octets answer is a. leading_tag_only octets answer a);
+  lengths = (IsLeadingLength_leading_length, leading_length_only);
+  elements = (IsLeadingElement_leading_element, leading_element_only);
 }

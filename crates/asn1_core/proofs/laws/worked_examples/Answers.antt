@@ -6,9 +6,9 @@ use Rattle.asn1_core.specs.Tag.{leading_tag}
 use Rattle.asn1_core.specs.Length.{length_octets, leading_length}
 use Rattle.asn1_core.specs.Element.{element_encoding, leading_element}
 use Rattle.asn1_core.specs.Laws.{LeadingElements, Tags, Lengths, Booleans, Places}
-use Rattle.asn1_core.specs.Lemmas.Digits.{Leads, digits_of-number_from_digits, number_from_digits_256}
-use Rattle.asn1_core.specs.Lemmas.NumberTexts.{AreNumberOctets-only}
-use Rattle.asn1_core.specs.Lemmas.Lengths.{length_octets-low, length_octets-high}
+use Rattle.asn1_core.specs.Lemmas.Digits.{Leads, digits_of_number_from_digits, number_from_digits_256}
+use Rattle.asn1_core.specs.Lemmas.NumberTexts.{AreNumberOctets_only}
+use Rattle.asn1_core.specs.Lemmas.Lengths.{length_octets_low, length_octets_high}
 use Rattle.asn1_core.proofs.laws.worked_examples.Goals as goal
 
 fronts : LeadingElements
@@ -32,18 +32,18 @@ tags = record {
   leading_zero = refl;
   eighteen_octets = refl;
   nineteen_octets = refl;
-  encoding = ap (λ (s : List ℕ). 0x1f ∷ s) (sym (AreNumberOctets-only (0x81 ∷ 0x80 ∷ 0x01 ∷ []) 16385 number_is));
+  encoding = ap (λ (s : List ℕ). 0x1f ∷ s) (sym (AreNumberOctets_only (0x81 ∷ 0x80 ∷ 0x01 ∷ []) 16385 number_is));
 }
 
 -- the length octets of a long length, by the octets of its number
 long_is : (octets : List ℕ) (n : ℕ) → 128 ≤ n → IsOctets octets → Leads octets → number octets ≡ n → length_octets n ≡ (128 + length octets) ∷ octets
 long_is octets n long is leads value =
-    let same : digits_of 256 n ≡ octets = ap (digits_of 256) (sym (number_from_digits_256 octets ∙ value)) ∙ digits_of-number_from_digits 256 octets (lit≤ tt) is leads in
-    length_octets-high n long ∙ ap (λ (s : List ℕ). (128 + length s) ∷ s) same
+    let same : digits_of 256 n ≡ octets = ap (digits_of 256) (sym (number_from_digits_256 octets ∙ value)) ∙ digits_of_number_from_digits 256 octets (lit≤ tt) is leads in
+    length_octets_high n long ∙ ap (λ (s : List ℕ). (128 + length s) ∷ s) same
 
 lengths : Lengths
 lengths = record {
-  short = length_octets-low 127 (lit< tt);
+  short = length_octets_low 127 (lit< tt);
   long = long_is (0x80 ∷ []) 128 (lit≤ tt) (lit< tt, tt) (λ l. lit< tt) refl;
   two_octets = long_is (0x01 ∷ 0x00 ∷ []) 256 (lit≤ tt) (lit< tt, (lit< tt, tt)) (λ l. lit< tt) refl;
   three_octets = long_is (0x01 ∷ 0x00 ∷ 0x00 ∷ []) 65536 (lit≤ tt) (lit< tt, (lit< tt, (lit< tt, tt))) (λ l. lit< tt) refl;

@@ -3,15 +3,15 @@ use Rattle.std.proofs.lemmas.List.{take_rest}
 use Rattle.std.proofs.lemmas.Nat.{and_mask}
 use Rattle.asn1_core.specs.Tag.{tag_of}
 use Rattle.asn1_core.specs.Element.{leading_content, leading_element}
-use Rattle.asn1_core.specs.Lemmas.Tags.{leading_tag-low}
-use Rattle.asn1_core.specs.Lemmas.Lengths.{leading_length-low}
-use Rattle.asn1_core.specs.Lemmas.Elements.{leading_element-leading_content}
+use Rattle.asn1_core.specs.Lemmas.Tags.{leading_tag_low}
+use Rattle.asn1_core.specs.Lemmas.Lengths.{leading_length_low}
+use Rattle.asn1_core.specs.Lemmas.Elements.{leading_element_leading_content}
 use Rattle.asn1_core.proofs.parser.read_short_tlv.Goals as goal
 
 header : (octets : List ℕ) → 2 ≤ length octets → get_or octets 0 0 % 32 < 31 → get_or octets 1 0 < 128 → leading_element octets ≡ leading_content (tag_of (get_or octets 0 0) (get_or octets 0 0 % 32)) (get_or octets 1 0) (drop 2 octets)
 header [] two low small = absurd (omega arith)
 header (x ∷ []) two low small = absurd (omega arith)
-header (x ∷ y ∷ rest) two low small = leading_element-leading_content (x ∷ y ∷ rest) (tag_of x (x % 32)) (y ∷ rest) y rest (leading_tag-low (x ∷ y ∷ rest) (omega arith) low) (leading_length-low (y ∷ rest) (omega arith) small)
+header (x ∷ y ∷ rest) two low small = leading_element_leading_content (x ∷ y ∷ rest) (tag_of x (x % 32)) (y ∷ rest) y rest (leading_tag_low (x ∷ y ∷ rest) (omega arith) low) (leading_length_low (y ∷ rest) (omega arith) small)
 
 pub cut-requires-clause-header : goal.cut-requires-clause-header
 cut-requires-clause-header c =

@@ -7,8 +7,8 @@ use Rattle.asn1_core.specs.Element.{Element, IsLeadingElement, leading_element}
 use Rattle.asn1_core.specs.ReadError.{framed, ReturnsKind}
 use Rattle.asn1_core.specs.Tlv.{element_of, stripped}
 use Rattle.asn1_core.specs.Laws.{IsShort, with_more}
-use Rattle.asn1_core.specs.Lemmas.Texts.{IsOctets-from_reads, IsOctets-append}
-use Rattle.asn1_core.specs.Lemmas.Elements.{ElementFront, IsLeadingElement-leading_element, leading_element-only}
+use Rattle.asn1_core.specs.Lemmas.Texts.{IsOctets_from_reads, IsOctets_append}
+use Rattle.asn1_core.specs.Lemmas.Elements.{ElementFront, IsLeadingElement_leading_element, leading_element_only}
 use Rattle.asn1_core.proofs.Stands.{answers_stand, fewer_are_short}
 use Rattle.asn1_core.proofs.parser.strip_tlv.Goals as goal
 
@@ -21,19 +21,19 @@ answer : (c : goal.After-kind_as_error) → leading_element c.args.data.now ≡ 
 answer c = stripped_is c.read_any_tlv.result (leading_element c.args.data.now) c.read_any_tlv.ensures.answer ∙ ap stripped (sym c.kind_as_error.ensures)
 
 is_text : (c : goal.After-kind_as_error) → IsOctets c.args.data.now
-is_text c = IsOctets-from_reads c.args.data.now (λ i. omega (arith, c.type_inv.data i))
+is_text c = IsOctets_from_reads c.args.data.now (λ i. omega (arith, c.type_inv.data i))
 
 pub returns-clause-grammar : goal.returns-clause-grammar
-returns-clause-grammar c = subst (λ (a : ElementFront). IsLeadingElement c.args.data.now a) (answer c) (IsLeadingElement-leading_element c.args.data.now (is_text c))
+returns-clause-grammar c = subst (λ (a : ElementFront). IsLeadingElement c.args.data.now a) (answer c) (IsLeadingElement_leading_element c.args.data.now (is_text c))
 
 pub returns-clause-only : goal.returns-clause-only
-returns-clause-only c = λ a is. sym (answer c) ∙ leading_element-only c.args.data.now a (is_text c) is
+returns-clause-only c = λ a is. sym (answer c) ∙ leading_element_only c.args.data.now a (is_text c) is
 
 pub returns-clause-stays : goal.returns-clause-stays
 returns-clause-stays c = λ more is long.
-    answers_stand c.args.data.now more (IsOctets-append c.args.data.now more (is_text c) is) (subst (λ (a : ElementFront). ¬ IsShort a) (sym (answer c)) long)
+    answers_stand c.args.data.now more (IsOctets_append c.args.data.now more (is_text c) is) (subst (λ (a : ElementFront). ¬ IsShort a) (sym (answer c)) long)
     ∙ ap (λ (a : ElementFront). with_more a more) (answer c)
 
 pub returns-clause-fewer : goal.returns-clause-fewer
 returns-clause-fewer c = λ more needed is short few.
-    fewer_are_short c.args.data.now more needed (IsOctets-append c.args.data.now more (is_text c) is) (answer c ∙ short) few
+    fewer_are_short c.args.data.now more needed (IsOctets_append c.args.data.now more (is_text c) is) (answer c ∙ short) few

@@ -1,13 +1,13 @@
 use Rattle.std.proofs.Common.{[], Err, Some, None, refl, sym, ap, ◌∙◌, rules, tests}
 use Rattle.std.proofs.lemmas.List.{nil_from_length}
-use Rattle.asn1_for_c.proofs.InOrder.{IsFramed-after_element, length-remaining-lt}
+use Rattle.asn1_for_c.proofs.InOrder.{IsFramed_after_element, length_remaining_lt}
 use Rattle.asn1_for_c.proofs.set_of.framing_error.Goals as goal
 
 pub loop-rest-smaller : goal.loop-rest-smaller
-loop-rest-smaller c = length-remaining-lt _ _ _ c.in-Ok.ensures.grammar
+loop-rest-smaller c = length_remaining_lt _ _ _ c.in-Ok.ensures.grammar
 
 pub loop-rest-preserved : goal.loop-rest-preserved
-loop-rest-preserved c = λ found is. c.loop-rest.invariant found (IsFramed-after_element _ _ _ found c.in-Ok.ensures.grammar is)
+loop-rest-preserved c = λ found is. c.loop-rest.invariant found (IsFramed_after_element _ _ _ found c.in-Ok.ensures.grammar is)
 
 pub returns-in-Err : goal.returns-in-Err
 returns-in-Err c =

@@ -3,14 +3,14 @@ use Rattle.std.specs.List.{list_all}
 use Rattle.std.proofs.lemmas.List.{append-nil}
 use Rattle.dercheck.specs.Lines.{lines_of}
 use Rattle.dercheck.specs.Replies.{answers, is_ok_line}
-use Rattle.dercheck.proofs.Cuts.{lines_of-none}
+use Rattle.dercheck.proofs.Cuts.{lines_of_none}
 use Rattle.dercheck.proofs.answers.push_replies.Goals as goal
 
 answers-none : (octets : List ℕ) → octets ≡ [] → answers octets ≡ []
-answers-none octets none = rw (none, lines_of-none) refl
+answers-none octets none = rw (none, lines_of_none) refl
 
 all-none : (octets : List ℕ) → octets ≡ [] → list_all is_ok_line (lines_of octets) ≡ true
-all-none octets none = rw (none, lines_of-none) refl
+all-none octets none = rw (none, lines_of_none) refl
 
 and-true : (b : Bool) → b ≡ (b && true)
 and-true true = refl

@@ -2,7 +2,7 @@ use Rattle.std.proofs.Common.{◌≡◌, ◌-◌, ℕ, List, length, take, drop,
 use Rattle.std.specs.Prelude.{decimal, ◌++◌}
 use Rattle.std.proofs.lemmas.Fmt.{length-decimal-le}
 use Rattle.std.proofs.lemmas.List.{take-replicate, take-append-drop}
-use Rattle.asn1_values.proofs.FractionDigits.{append-drop_9}
+use Rattle.asn1_values.proofs.FractionDigits.{append_drop_9}
 use Rattle.asn1_values.proofs.values.time_fractions.nine_digits.Goals as goal
 
 pub write_digits-requires : goal.write_digits-requires
@@ -16,7 +16,7 @@ returns c =
     let begin = w.ensures.start in
     let start : w.result ≡ 9 - length (decimal c.from.result) = omega (arith, begin) in
     let zeros : take w.result w.new.buf ≡ replicate w.result 48 = w.ensures.before ∙ take-replicate w.result 9 48 (omega (arith, begin)) in
-    let digits : drop w.result w.new.buf ≡ decimal c.from.result = w.ensures.written ∙ append-drop_9 (decimal c.from.result) in
+    let digits : drop w.result w.new.buf ≡ decimal c.from.result = w.ensures.written ∙ append_drop_9 (decimal c.from.result) in
     sym (take-append-drop w.result w.new.buf)
     ∙ ap (λ (l : List ℕ). l ++ drop w.result w.new.buf) zeros
     ∙ ap (λ (l : List ℕ). replicate w.result 48 ++ l) digits

@@ -1,7 +1,7 @@
 use Rattle.std.proofs.Common.{◌≡◌, ◌++◌, length, ⊎_elim, inr, arith}
 use Rattle.std.proofs.lemmas.List.{length-append}
 use Rattle.dercheck.specs.Frames.{StandsInHeader, StandsInContent}
-use Rattle.dercheck.proofs.States.{IsBegun-append, begun_whole, element_with}
+use Rattle.dercheck.proofs.States.{IsBegun_append, begun_whole, element_with}
 use Rattle.dercheck.proofs.pending.Pending.take_content.Goals as goal
 
 pub returns-then-count-self : goal.returns-then-count-self
@@ -11,7 +11,7 @@ returns-then-count-self c =
     (λ (h : StandsInContent c.args.self.now text).
     let content = h.content ++ octets in
     let sizes = length-append h.content octets in
-    let begun = IsBegun-append text h.tag c.args.self.now.content_length h.content octets h.begun in
+    let begun = IsBegun_append text h.tag c.args.self.now.content_length h.content octets h.begun in
     let all : c.args.self.now.content_length ≡ length content = omega (arith, h.missing) in
     let parts = begun_whole (text ++ octets) h.tag c.args.self.now.content_length content begun all in
     record { element = element_with h.tag content; readable = parts.0; whole = parts.1; kept = h.kept; count = all })
@@ -27,7 +27,7 @@ returns c =
       stage = h.stage;
       tag = h.tag;
       content = h.content ++ octets;
-      begun = IsBegun-append text h.tag c.args.self.now.content_length h.content octets h.begun;
+      begun = IsBegun_append text h.tag c.args.self.now.content_length h.content octets h.begun;
       kept = h.kept;
       some = omega arith;
       missing = omega (arith, h.missing);

@@ -2,7 +2,7 @@ use Rattle.std.proofs.Common.{◌≡◌, ◌+◌, List, ℕ, [], ◌∷◌, ◌+
 use Rattle.std.proofs.lemmas.List.{length-set, length-take, length-take-le, take-take}
 use Rattle.asn1.specs.Element.{leading_element}
 use Rattle.dercheck.specs.Frames.{StandsInHeader, StandsInContent, IsBegun, IsOpen, IsWhole, IsFault}
-use Rattle.dercheck.proofs.States.{begun_whole, whole_within, take-set_next, element_with}
+use Rattle.dercheck.proofs.States.{begun_whole, whole_within, take_set_next, element_with}
 use Rattle.dercheck.proofs.pending.Pending.take_header.Goals as goal
 
 pub read_header-requires : goal.read_header-requires
@@ -15,7 +15,7 @@ returns-in-Open c =
     let p = c.args.self.now in
     λ octets stands. ⊎_elim
     (λ (h : StandsInHeader p octets).
-    let kept = take-set_next octets p.octets p.count c.args.octet (omega (arith, p.size, p.few)) h.kept in
+    let kept = take_set_next octets p.octets p.count c.args.octet (omega (arith, p.size, p.few)) h.kept in
     let open_header : IsOpen (take (p.count + 1) (set p.octets p.count c.args.octet)) c.in-Open.needed = c.in-Open.ensures in
     inl (record { stage = h.stage; kept = kept; short = ap leading_element kept ∙ open_header.short }))
     (λ (h : StandsInContent p octets). absurd cc)
@@ -27,7 +27,7 @@ returns-then-needed-eq0 c =
     let octets = set p.octets p.count c.args.octet in
     λ text stands. ⊎_elim
     (λ (h : StandsInHeader p text).
-    let kept = take-set_next text p.octets p.count c.args.octet (omega (arith, p.size, p.few)) h.kept in
+    let kept = take_set_next text p.octets p.count c.args.octet (omega (arith, p.size, p.few)) h.kept in
     let whole : IsWhole (take (p.count + 1) octets) c.in-Whole.tag c.in-Whole.length c.in-Whole.needed = c.in-Whole.ensures in
     let begun : IsBegun (text ++ c.args.octet ∷ []) whole.tag whole.n whole.content = subst (λ (l : List ℕ). IsBegun l whole.tag whole.n whole.content) (sym kept) whole.begun in
     let within = whole_within text c.args.octet p.needed whole.tag whole.n whole.content h.short begun in
@@ -49,7 +49,7 @@ returns-else-needed-eq0 c =
     let octets = set p.octets p.count c.args.octet in
     λ text stands. ⊎_elim
     (λ (h : StandsInHeader p text).
-    let kept = take-set_next text p.octets p.count c.args.octet (omega (arith, p.size, p.few)) h.kept in
+    let kept = take_set_next text p.octets p.count c.args.octet (omega (arith, p.size, p.few)) h.kept in
     let whole : IsWhole (take (p.count + 1) octets) c.in-Whole.tag c.in-Whole.length c.in-Whole.needed = c.in-Whole.ensures in
     let begun : IsBegun (text ++ c.args.octet ∷ []) whole.tag whole.n whole.content = subst (λ (l : List ℕ). IsBegun l whole.tag whole.n whole.content) (sym kept) whole.begun in
     let within = whole_within text c.args.octet p.needed whole.tag whole.n whole.content h.short begun in
@@ -72,7 +72,7 @@ returns-in-Faulty c =
     let p = c.args.self.now in
     λ octets stands. ⊎_elim
     (λ (h : StandsInHeader p octets).
-    let kept = take-set_next octets p.octets p.count c.args.octet (omega (arith, p.size, p.few)) h.kept in
+    let kept = take_set_next octets p.octets p.count c.args.octet (omega (arith, p.size, p.few)) h.kept in
     let fault : IsFault (take (p.count + 1) (set p.octets p.count c.args.octet)) c.in-Faulty.kind = c.in-Faulty.ensures in
     subst (λ (l : List ℕ). IsFault l c.in-Faulty.kind) (sym kept) fault)
     (λ (h : StandsInContent p octets). absurd cc)

@@ -1,8 +1,8 @@
--- Printed by tools/derive from declarations/identifiers/attributes.rs, with the sum b9a296e1.
+-- Printed by tools/derive from declarations/identifiers/attributes.rs, with the sum 59af150d.
 use Rattle.std.proofs.Common.{refl, sym}
 use Rattle.asn1.specs.Base128.{leading_number}
 use Rattle.asn1.specs.Identifier.{numbers_in, read_identifier}
-use Rattle.asn1.specs.Lemmas.Results.{done-injective}
+use Rattle.asn1.specs.Lemmas.Results.{done_injective}
 use Rattle.pkix.proofs.identifiers.attributes.content_type.Goals as goal
 
 pub known_identifier-requires : goal.known_identifier-requires
@@ -11,4 +11,4 @@ known_identifier-requires c = refl
 
 pub returns : goal.returns
 unfolding read_identifier numbers_in leading_number
-returns c = sym (done-injective _ _ c.known_identifier.ensures)
+returns c = sym (done_injective _ _ c.known_identifier.ensures)

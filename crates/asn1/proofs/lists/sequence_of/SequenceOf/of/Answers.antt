@@ -1,7 +1,7 @@
 use Rattle.std.proofs.Common.{◌∙◌, length, map, arith, ◌^◌, ◌≤◌}
 use Rattle.std.specs.List.{flat_map, AllByRecursion}
 use Rattle.asn1_core.specs.Listing.{sequence_tag}
-use Rattle.asn1.proofs.MadeLists.{Fits-length-content, list_made, list_means}
+use Rattle.asn1.proofs.MadeLists.{Fits_length_content, list_made, list_means}
 use Rattle.asn1.proofs.lists.sequence_of.SequenceOf.of.Goals as goal
 
 pub returns-in-Ok-clause-items : goal.returns-in-Ok-clause-items
@@ -28,7 +28,7 @@ returns-in-Err-clause-read g c fits =
     let ms = map d.meaning c.args.items.now in
     let octets = rw c.new-list.ensures at (c.in_ok-store.ensures.encoding c.can_parse-accepted.ensures.plain) in
     let long : 2 ^ 32 ≤ length (flat_map d.encoding ms) = c.in-Err.ensures sequence_tag (flat_map d.encoding ms) (omega arith) (c.as_slice.ensures.value ∙ octets) in
-    absurd (omega (arith, long, Fits-length-content sequence_tag (flat_map d.encoding ms) (omega arith) fits))
+    absurd (omega (arith, long, Fits_length_content sequence_tag (flat_map d.encoding ms) (omega arith) fits))
 
 pub returns-in-Err-clause-made : goal.returns-in-Err-clause-made
 returns-in-Err-clause-made g c lawful is_element allowed fits =
@@ -36,4 +36,4 @@ returns-in-Err-clause-made g c lawful is_element allowed fits =
     let ms = map d.meaning c.args.items.now in
     let octets = rw c.new-list.ensures at (c.in_ok-store.ensures.encoding c.can_parse-accepted.ensures.plain) in
     let long : 2 ^ 32 ≤ length (flat_map d.encoding ms) = c.in-Err.ensures sequence_tag (flat_map d.encoding ms) (omega arith) (c.as_slice.ensures.value ∙ octets) in
-    absurd (omega (arith, long, Fits-length-content sequence_tag (flat_map d.encoding ms) (omega arith) fits))
+    absurd (omega (arith, long, Fits_length_content sequence_tag (flat_map d.encoding ms) (omega arith) fits))

@@ -3,7 +3,7 @@ use Rattle.asn1_core.specs.Element.{element, element_encoding}
 use Rattle.std.specs.List.{flat_map, AllByRecursion}
 use Rattle.asn1_core.specs.Listing.{set_tag}
 use Rattle.asn1.specs.MadeLists.{in_order}
-use Rattle.asn1.proofs.MadeLists.{Fits-length-content, concat-listing, set_made, set_means, set_read_there}
+use Rattle.asn1.proofs.MadeLists.{Fits_length_content, concat_listing, set_made, set_means, set_read_there}
 use Rattle.asn1.proofs.lists.sets.SetOf.of.Goals as goal
 
 pub returns-in-Ok-clause-read : goal.returns-in-Ok-clause-read
@@ -12,7 +12,7 @@ returns-in-Ok-clause-read g c fits =
     let ms = map d.meaning c.args.items.now in
     let content = flat_map d.encoding (in_order d.encoding ms) in
     let octets = rw c.new-set.ensures at (c.in_ok-store.ensures.encoding c.can_parse-accepted.ensures.plain) in
-    let are = c.in-Ok.ensures set_tag content (omega arith) (c.as_slice.ensures.value ∙ (octets ∙ ap (λ (t : List ℕ). element_encoding (element set_tag t)) (concat-listing d.encoding ms))) in
+    let are = c.in-Ok.ensures set_tag content (omega arith) (c.as_slice.ensures.value ∙ (octets ∙ ap (λ (t : List ℕ). element_encoding (element set_tag t)) (concat_listing d.encoding ms))) in
     set_read_there d ms _ c.parse_data.result _ are.0 c.parse_data.ensures
 
 pub returns-in-Ok-clause-items : goal.returns-in-Ok-clause-items
@@ -22,7 +22,7 @@ returns-in-Ok-clause-items g c lawful is_element allowed =
     let content = flat_map d.encoding (in_order d.encoding ms) in
     let valid : AllByRecursion d.valid ms = rw (← c.new-set.ensures) c.known.ensures in
     let octets = rw c.new-set.ensures at (c.in_ok-store.ensures.encoding c.can_parse-accepted.ensures.plain) in
-    let are = c.in-Ok.ensures set_tag content (omega arith) (c.as_slice.ensures.value ∙ (octets ∙ ap (λ (t : List ℕ). element_encoding (element set_tag t)) (concat-listing d.encoding ms))) in
+    let are = c.in-Ok.ensures set_tag content (omega arith) (c.as_slice.ensures.value ∙ (octets ∙ ap (λ (t : List ℕ). element_encoding (element set_tag t)) (concat_listing d.encoding ms))) in
     set_means d ms valid lawful is_element allowed _ c.parse_data.result _ are.0 are.2 c.parse_data.ensures
 
 pub returns-in-Ok-clause-made : goal.returns-in-Ok-clause-made
@@ -32,7 +32,7 @@ returns-in-Ok-clause-made g c lawful is_element allowed fits =
     let content = flat_map d.encoding (in_order d.encoding ms) in
     let valid : AllByRecursion d.valid ms = rw (← c.new-set.ensures) c.known.ensures in
     let octets = rw c.new-set.ensures at (c.in_ok-store.ensures.encoding c.can_parse-accepted.ensures.plain) in
-    let are = c.in-Ok.ensures set_tag content (omega arith) (c.as_slice.ensures.value ∙ (octets ∙ ap (λ (t : List ℕ). element_encoding (element set_tag t)) (concat-listing d.encoding ms))) in
+    let are = c.in-Ok.ensures set_tag content (omega arith) (c.as_slice.ensures.value ∙ (octets ∙ ap (λ (t : List ℕ). element_encoding (element set_tag t)) (concat_listing d.encoding ms))) in
     set_made d ms valid lawful is_element _ allowed c.parse_data.result _ are.0 are.2 c.parse_data.ensures
 
 pub returns-in-Err-clause-read : goal.returns-in-Err-clause-read
@@ -41,8 +41,8 @@ returns-in-Err-clause-read g c fits =
     let ms = map d.meaning c.args.items.now in
     let content = flat_map d.encoding (in_order d.encoding ms) in
     let octets = rw c.new-set.ensures at (c.in_ok-store.ensures.encoding c.can_parse-accepted.ensures.plain) in
-    let long : 2 ^ 32 ≤ length content = c.in-Err.ensures set_tag content (omega arith) (c.as_slice.ensures.value ∙ (octets ∙ ap (λ (t : List ℕ). element_encoding (element set_tag t)) (concat-listing d.encoding ms))) in
-    absurd (omega (arith, long, Fits-length-content set_tag content (omega arith) fits))
+    let long : 2 ^ 32 ≤ length content = c.in-Err.ensures set_tag content (omega arith) (c.as_slice.ensures.value ∙ (octets ∙ ap (λ (t : List ℕ). element_encoding (element set_tag t)) (concat_listing d.encoding ms))) in
+    absurd (omega (arith, long, Fits_length_content set_tag content (omega arith) fits))
 
 pub returns-in-Err-clause-made : goal.returns-in-Err-clause-made
 returns-in-Err-clause-made g c lawful is_element allowed fits =
@@ -50,5 +50,5 @@ returns-in-Err-clause-made g c lawful is_element allowed fits =
     let ms = map d.meaning c.args.items.now in
     let content = flat_map d.encoding (in_order d.encoding ms) in
     let octets = rw c.new-set.ensures at (c.in_ok-store.ensures.encoding c.can_parse-accepted.ensures.plain) in
-    let long : 2 ^ 32 ≤ length content = c.in-Err.ensures set_tag content (omega arith) (c.as_slice.ensures.value ∙ (octets ∙ ap (λ (t : List ℕ). element_encoding (element set_tag t)) (concat-listing d.encoding ms))) in
-    absurd (omega (arith, long, Fits-length-content set_tag content (omega arith) fits))
+    let long : 2 ^ 32 ≤ length content = c.in-Err.ensures set_tag content (omega arith) (c.as_slice.ensures.value ∙ (octets ∙ ap (λ (t : List ℕ). element_encoding (element set_tag t)) (concat_listing d.encoding ms))) in
+    absurd (omega (arith, long, Fits_length_content set_tag content (omega arith) fits))

@@ -1,7 +1,7 @@
 use Rattle.std.proofs.Common.{◌≡◌, ℕ, List, length, Some, sym, ap, ◌∙◌}
 use Rattle.asn1_core.specs.Listing.{Joins, encoding_less}
 use Rattle.asn1_core.specs.Lemmas.Items.{joins_one_encoding}
-use Rattle.asn1_core.specs.Lemmas.Texts.{IsOctets-from_reads}
+use Rattle.asn1_core.specs.Lemmas.Texts.{IsOctets_from_reads}
 use Rattle.asn1.specs.Sets.{set_left}
 use Rattle.asn1.specs.Lemmas.SetItems.{set_left_is}
 use Rattle.asn1.proofs.lists.sets.SetOfSimpleAsn1Writable.data_length.Goals as goal
@@ -10,6 +10,6 @@ pub returns-clause-length : goal.returns-clause-length
 returns-clause-length g c =
     let d = g.T.Asn1Type.der in
     let content = c.args.self.now.content.now in
-    let is = set_left_is encoding_less d.read d.encoding (λ m. d.valid m × d.allowed m) d.laws.consumes content (IsOctets-from_reads content c.args.self.now.are_octets) c.args.self.now.are_ordered in
+    let is = set_left_is encoding_less d.read d.encoding (λ m. d.valid m × d.allowed m) d.laws.consumes content (IsOctets_from_reads content c.args.self.now.are_octets) c.args.self.now.are_ordered in
     let right : (t : List ℕ) → Joins d.encodings (set_left encoding_less d.read content) t → length t ≡ length content = λ t written. ap length (joins_one_encoding d.encoding d.encodings (d.laws.one_encoding c.can_parse-accepted.ensures.plain) (set_left encoding_less d.read content) t written ∙ sym is.0) in
     record { right = right; told = λ k t written small. ap Some (sym (right t written)) }

@@ -1,5 +1,5 @@
-use Rattle.asn1_values.specs.Lemmas.Big.{IsSignedForm-IsSigned}
+use Rattle.asn1_values.specs.Lemmas.Big.{IsSignedForm_IsSigned}
 use Rattle.asn1_values.proofs.values.big.BigInt.as_bytes.Goals as goal
 
 pub returns-clause-content : goal.returns-clause-content
-returns-clause-content c = IsSignedForm-IsSigned c.args.self.now.octets.now c.args.self.now.is_content
+returns-clause-content c = IsSignedForm_IsSigned c.args.self.now.octets.now c.args.self.now.is_content

@@ -1,12 +1,12 @@
 use Rattle.std.proofs.Common.{◌≡◌, ℕ, length, Some, ap}
 use Rattle.asn1_core.specs.Integer.{integer_content}
 use Rattle.asn1_core.specs.Base256.{signed_number}
-use Rattle.asn1_core.proofs.Bodies.{GivesLength-one_encoding}
-use Rattle.asn1_values.specs.Lemmas.Big.{IsUnsignedForm-IsUnsigned, length-integer_content}
+use Rattle.asn1_core.proofs.Bodies.{GivesLength_one_encoding}
+use Rattle.asn1_values.specs.Lemmas.Big.{IsUnsignedForm_IsUnsigned, length_integer_content}
 use Rattle.asn1_values.proofs.values.big.BigUintSimpleAsn1Writable.data_length.Goals as goal
 
 pub returns : goal.returns
 returns c =
-    let same = length-integer_content c.args.self.now.octets.now (IsUnsignedForm-IsUnsigned c.args.self.now.octets.now c.args.self.now.is_content).0 in
+    let same = length_integer_content c.args.self.now.octets.now (IsUnsignedForm_IsUnsigned c.args.self.now.octets.now c.args.self.now.is_content).0 in
     let exact : Some (length c.args.self.now.octets.now) ≡ Some (length (integer_content (signed_number c.args.self.now.octets.now))) = ap (λ (n : ℕ). Some n) same in
-    record { known = GivesLength-one_encoding _ _ _ exact; exact = exact }
+    record { known = GivesLength_one_encoding _ _ _ exact; exact = exact }

@@ -3,17 +3,17 @@ use Rattle.std.proofs.lemmas.Bool.{both_ways}
 use Rattle.asn1_core.specs.Base256.{signed_number}
 use Rattle.asn1_values.specs.Big.{IsSigned, IsSignedForm}
 use Rattle.asn1_values.specs.Values.{signed_content}
-use Rattle.asn1_values.specs.Lemmas.Big.{IsSigned-IsSignedForm, read_integer-not_IsSigned, IsErrorOf-owned_out, read_signed_ok}
+use Rattle.asn1_values.specs.Lemmas.Big.{IsSigned_IsSignedForm, read_integer_not_IsSigned, IsErrorOf_owned_out, read_signed_ok}
 use Rattle.asn1_values.proofs.values.owned.OwnedBigIntSimpleAsn1Readable.parse_data.Goals as goal
 
 pub returns-then-not-is_signed_content : goal.returns-then-not-is_signed_content
 returns-then-not-is_signed_content c =
     let none : IsSigned c.args.«data».now → ⊥ = λ h. both_ways c.is_signed_content.result c.if-not-is_signed_content.true (c.is_signed_content.ensures.1 h) in
-    inl (read_integer-not_IsSigned c.args.«data».now c.new.result (λ k. omega (arith, c.type_inv.«data» k)) none c.new.ensures)
+    inl (read_integer_not_IsSigned c.args.«data».now c.new.result (λ k. omega (arith, c.type_inv.«data» k)) none c.new.ensures)
 
 pub invariant_of-result : goal.invariant_of-result
 invariant_of-result c =
-    let form = IsSigned-IsSignedForm c.args.«data».now (c.is_signed_content.ensures.0 c.if-not-is_signed_content.false) in
+    let form = IsSigned_IsSignedForm c.args.«data».now (c.is_signed_content.ensures.0 c.if-not-is_signed_content.false) in
     record { is_content = subst IsSignedForm (sym c.in-Ok.ensures.items) form }
 
 pub returns-in-Ok : goal.returns-in-Ok
@@ -24,4 +24,4 @@ returns-in-Ok c =
 pub returns-in-Err : goal.returns-in-Err
 returns-in-Err c =
     let is = c.is_signed_content.ensures.0 c.if-not-is_signed_content.false in
-    IsErrorOf-owned_out signed_content.read signed_content.runs_out c.args.«data».now (signed_number c.args.«data».now) c.new-in-Err.result (read_signed_ok c.args.«data».now is) c.new-in-Err.ensures
+    IsErrorOf_owned_out signed_content.read signed_content.runs_out c.args.«data».now (signed_number c.args.«data».now) c.new-in-Err.result (read_signed_ok c.args.«data».now is) c.new-in-Err.ensures
