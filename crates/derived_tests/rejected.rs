@@ -634,7 +634,7 @@ const TAGGED: asn1::ObjectIdentifier = asn1::oid!(1, 2, 3); //~ `TAGGED` is a co
 
 #[derive(asn1::Asn1Read)]
 #[set]
-enum SetOfVariants { //~ `SetOfVariants` is a set, and no struct, or has another tag too -> A set
+enum SetOfVariants { //~ `SetOfVariants` is a set, and no struct -> A set
     One(u8),
 }
 
@@ -726,9 +726,7 @@ struct TagsOfOtherForms<'a> {
     #[implicit(0)]
     list: Option<asn1::SequenceOf<'a, u8>>,
     #[implicit(0)]
-    number: Option<u8>,
-    #[implicit(0, required = true)]
-    last: u8, //~ a tag of `last` is one of `number` too, from which it is told by its tag
+    number: Option<u8>, //~ a tag of `number` is one of `list` too, from which it is told by its tag
 }
 
 #[derive(asn1::Asn1Read)]

@@ -540,11 +540,16 @@ class Module:
         for other in others if is_choice or in_struct and known.is_missing else []:
             follows = self.known(other.form)
             tags = (known.tags, follows.tags)
-            is_same = None not in tags and (ANY in tags or known.tags & follows.tags)
+            is_same = None not in tags and (ANY in tags or numbers_of(known.tags) & numbers_of(follows.tags))
             why = f"a tag of `{other.name}` is one of `{part.name}` too, from which it is told by its tag"
             reject(is_same, other.line, why)
             if not is_choice and not follows.is_missing:
                 break
+
+
+def numbers_of(tags):
+    """The tags as ASN.1 compares them, by class and number (X.680 25 and 29)."""
+    return {tag.removesuffix(" constructed") for tag in tags}
 
 
 def tag_in(name, number, is_constructed):
@@ -580,7 +585,7 @@ def set_tag(item):
     under the tag."""
     tag, item.is_set = class_tag(item), "set" in item.attributes
     item.tag = tag and tag[:2]
-    item.reject(item.is_set and (item.kind != "struct" or tag), "is a set, and no struct, or has another tag too")
+    item.reject(item.is_set and item.kind != "struct", "is a set, and no struct")
     item.reject(tag and item.kind in ("const", "number"), "is a constant, which has no tag here")
     around = f"`type {item.name}2 = asn1::{CLASSES[tag[0]]}Explicit<{item.name}, {tag[1]}>`" if tag else ""
     item.reject(tag and item.kind == "enum", f"is a choice, which has no tag of its own: an alias has one, as {around}")

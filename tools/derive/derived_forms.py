@@ -154,11 +154,15 @@ class Numbers(Form):
         text += self.impl("Numbered", uses_of_variants(self.module, self.item, self.parts), f"""
             ghost number_of = {{ elim [ {numbers} ] }};
             ghost numbers = {{ {' ∷ '.join(str(part.number) for part in self.parts)} ∷ [] }};
+            ghost values = {{ {' ∷ '.join(part.name for part in self.parts)} ∷ [] }};
             fn number(self) -> u32 {{ self as u32 }}
             fn from_number(number: u32) -> Option<{own}> {{ match number {{ {arms} _ => None, }} }}""")
         text += self.impl("Asn1Type", f"""
             ghost der = {{ numbered ({tag}) {numbered}.number_of {numbered}.numbers }};
-            fn known(&self) {{ known_number(*self) }}""")
+            fn known(&self) {{ known_number(*self) }}""").replace("known(&self)", f"""known(&self)
+        ensures valid {{ (numbered ({tag}) {numbered}.number_of {numbered}.numbers).valid (pos ({numbered}.number_of self.now)) }}
+        ensures fits {{ Fits (element_encoding (element ({tag}) (integer_content (pos ({numbered}.number_of self.now))))) }}
+""")
         if self.item.is_default:
             of, laws, told = f"{numbered}.number_of", f"on_equiv {numbered}.number_of nat_eq_equiv", f"({tag})"
             means = f"seen_tells {of} (λ n. pos n) (number_text {told}) nat_eq a b"
@@ -191,9 +195,11 @@ class Structure(Form):
         self.set_rows()
         row, (row_type, view) = self.item.own("Fields"), self.row(self.parts)
         word, made = "structure", "Tag::constructed(0x10)"
-        if self.item.tag or self.item.is_set:
-            term, made = tag_of(self.item.tag, True) if self.item.tag else ("set_tag", "Tag::constructed(0x11)")
-            word = f"structure_with_tag {group(term)}"
+        if self.item.tag:
+            term, made = tag_of(self.item.tag, True)
+            word = f"{'set_' if self.item.is_set else ''}structure_with_tag {group(term)}"
+        elif self.item.is_set:
+            word, made = "set_structure", "Tag::constructed(0x11)"
         text = self.stated(part.form if part.item else part.type for part in self.parts)
         text += self.names() + "".join(self.default(part) for part in self.parts if part.default)
         text += "".join(f"\ntype {part.row} = {part.form};\n" for part in self.parts if part.is_wrapped)
@@ -210,6 +216,7 @@ class Structure(Form):
         if self.item.reads:
             text += self.impl(f"SimpleAsn1Readable<{self.life}>", f"""{tag}
                 ensures plain {{ {self.means}.plain }}
+                ensures read {{ {self.means}.is_read }}
             {{ {made} }}
             fn parse_data(alloc: Global, data: &{self.life} [u8]) -> ParseResult<{self.item.own()}>
                 ensures {{ ReadsContents {self.means} «data».entry.now result }}
@@ -323,6 +330,7 @@ class Choice(Form):
             fn can_parse(tag: Tag) -> bool
                 ensures value {{ result ≡ {self.means}.accepts tag }}
                 ensures plain {{ {self.means}.plain }}
+                ensures read {{ {self.means}.is_read }}
             {{ <{row} as AlternativesReadable<{self.item.life or "'_"}>>::accepts(tag) }}""")
         if self.item.writes:
             text += self.impl("Asn1Writable", ERROR, self.lengths(), f"""
@@ -415,8 +423,9 @@ class Defined(Choice):
             stops = f"{by}.means.stops ({by}.seen item)"
             parse = self.parse(f"item: {of}, ", tests + last, f"ReadsDefined {by} item", stops)
             text += self.impl(f"Asn1DefinedByReadable<{self.life}, {of}>", parse, f"""
-            fn one_text()
-                ensures {{ {by}.means.plain }}
+            fn one_encoding()
+                ensures plain {{ {by}.means.plain }}
+                ensures read {{ {by}.means.is_read }}
             {{}}""")
         if self.item.writes:
             kept = "x.item.clone().unwrap()" if of == ITEM else "x.item"

@@ -1,6 +1,6 @@
 -- Lists and sets that are made of items mean these items.
-use Rattle.std.proofs.Common.{◌≡◌, ◌+◌, ◌<◌, ◌≤◌, ◌^◌, ◌∙◌, ℕ, List, [], ◌∷◌, length, map, Bool, true, false, if◌then◌else◌, Result, Ok, Err, refl, sym, ap, subst, arith, ⊎_elim}
-use Rattle.std.specs.Prelude.{IfOk, IsErrAnd}
+use Rattle.std.proofs.Common.{◌≡◌, ◌+◌, ◌<◌, ◌≤◌, ◌^◌, ◌∙◌, ℕ, List, [], ◌∷◌, length, map, Bool, true, false, if◌then◌else◌, Result, Ok, Err, refl, sym, ap, subst, arith, ⊎_elim, inl, inr}
+use Rattle.std.specs.Prelude.{IfOk, IsErrAnd, IsOk}
 use Rattle.std.specs.Borrow.{Bor}
 use Rattle.std.proofs.lemmas.Bool.{cases_lt}
 use Rattle.std.proofs.lemmas.List.{append-nil}
@@ -40,7 +40,7 @@ module _ {M : Type 0} (encoding : M → List ℕ) where
   map_place_value m (n ∷ ns) = placed m n ns (encoding_less (encoding n) (encoding m)) (map_place_value m ns)
 
   -- the encodings of values in order are the listing of their encodings
-  map_in_order : (ms : List M) → map encoding (in_order encoding ms) ≡ listing (map encoding ms)
+  pub map_in_order : (ms : List M) → map encoding (in_order encoding ms) ≡ listing (map encoding ms)
   map_in_order [] = refl
   map_in_order (m ∷ ms) = map_place_value m (in_order encoding ms) ∙ ap (place_encoding (encoding m)) (map_in_order ms)
 
@@ -107,6 +107,12 @@ pub Fits_length_content : (tag : Tag) (content : List ℕ) → tag.value < 2 ^ 3
 Fits_length_content tag content small fits = (Fits_IsReadable (element tag content) small fits).content
 
 -- ---- what lists and sets of such octets mean
+
+-- without an allocation a value is returned
+pub IsOk_Returns : {V M : Type 0} (view : V → M) (out : List Place → Type 0) (result : Result V ReadError) (m : M) → ((places : List Place) → out places → ⊥) → Returns view out result (Ok m) → IsOk result
+IsOk_Returns view out (Ok v) m none e = refl
+IsOk_Returns view out (Err f) m none (inl e) = absurd cc
+IsOk_Returns view out (Err f) m none (inr e) = absurd (none f.places e.1)
 
 -- a value that is returned means what is read
 pub Returns_IfOk : {V M : Type 0} (view : V → M) (out : List Place → Type 0) (result : Result V ReadError) (read : Result M ReadError) (m : M) → Returns view out result read → ((n : M) → read ≡ Ok n → n ≡ m) → IfOk result (λ v. view v ≡ m)

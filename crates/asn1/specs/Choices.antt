@@ -56,6 +56,7 @@ pub record AlternativesLaws {M : Type 0} (a : Alternatives M) : Type 0 where
   pub nothing_or_element : (m : M) → a.lawful → a.valid m → IsOneElement (a.encoding m)
   pub accepted : (m : M) (e : Element) → a.valid m → a.encoding m ≡ element_encoding e → a.accepts e.tag ≡ true
   pub read_back : (m : M) (e : Element) → a.lawful → a.valid m → a.allowed m → IsReadable e → a.encoding m ≡ element_encoding e → a.read e ≡ Ok m
+  pub one_value : a.is_read → (m n : M) → a.lawful → a.valid m → a.valid n → a.encoding m ≡ a.encoding n → m ≡ n
   pub unbounded : (a.bounded → ⊥) → (m : M) → a.valid m → a.allowed m
   pub memory : (e : Element) (places : List Place) → a.runs_out e places → a.takes_memory
   pub errors : (e : Element) → IfErr (a.read e) IsOfInput

@@ -1,12 +1,12 @@
 -- At which octet an input is rejected, as what rejects it shows: inputs that begin alike are rejected alike, or not.
-use Rattle.std.specs.Prelude.{◌≡◌, ◌≤◌, ℕ, List, ◌++◌, ◌-◌, take, drop, set, replicate, length, Bool, true, false, not, ◌&&◌, Option, Some, None, Ok, Err}
+use Rattle.std.specs.Prelude.{◌≡◌, ◌⊎◌, ◌<◌, ◌+◌, ◌≤◌, ℕ, zero, suc, nat_lt, if◌then◌else◌, List, ◌++◌, ◌-◌, take, drop, set, replicate, length, Bool, true, false, not, ◌&&◌, Option, Some, None, Result, Ok, Err}
 use Rattle.asn1_core.specs.declared.parser.ParseErrorKind.{ParseErrorKind}
 use Rattle.asn1_core.specs.declared.parser.ParseErrorKind.TheVariants.{InvalidTag, InvalidLength, ShortData, ExtraData, UnexpectedTag, InvalidSetOrdering}
 use Rattle.asn1_core.specs.declared.tag.Tag.{Tag}
 use Rattle.std.specs.Cmp.Lexicographic.{pointwise}
 use Rattle.asn1_core.specs.ReadError.{ReadError, place_eq}
 use Rattle.asn1_core.specs.Element.{Element, leading_element}
-use Rattle.asn1_core.specs.Tag.{first_octet, tag_eq, tag_number}
+use Rattle.asn1_core.specs.Tag.{first_octet, leading_tag, tag_constructed, tag_eq, tag_number}
 
 -- The octets, of which the first `count` are kept, and each other is replaced by `other`.
 abbrev pub kept : ℕ → ℕ → List ℕ → List ℕ
@@ -23,6 +23,25 @@ replacement kind = 255
 abbrev pub IsElement : List ℕ → ℕ → ℕ → Type 0
 IsElement octets start end = (element : Element) × (rest : List ℕ) × (leading_element (drop start octets) ≡ Ok (element, rest)) × (end ≡ length octets - length rest)
 
+-- What is made of the octets behind an element, if there is one.
+abbrev pub if_element : Result (Element × List ℕ) ParseErrorKind → (List ℕ → Option ℕ) → Option ℕ
+if_element (Ok found) next = next found.1
+if_element (Err kind) next = None
+
+-- Of elements one after another, where the one begins that has this octet, if there is one. There are `size` octets in all,
+-- of which `rest` are behind those that were passed; at most `most` elements are tried.
+abbrev pub element_with : ℕ → ℕ → ℕ → ℕ → List ℕ → Option ℕ
+element_with zero size octet start rest = None
+element_with (suc most) size octet start rest = if_element (leading_element rest) (λ behind. if nat_lt octet (size - length behind) then Some start else element_with most size octet (size - length behind) behind)
+
+-- Whether an input in which an element has a wrong length is rejected for that, at the location of the error.
+abbrev pub has_wrong_length : ReadError → Option ReadError → Bool
+has_wrong_length error None = false
+has_wrong_length error (Some other) = elim other.kind as (λ _. Bool) [
+  | InvalidLength ↦ pointwise place_eq other.places error.places
+  | _ ↦ false
+]
+
 -- `rejects` relates an input to the error with which it may be rejected, or to `None`.
 module _ (rejects : List ℕ → Option ReadError → Type 0) (octets : List ℕ) (error : ReadError) where
   -- The first octets decide the error: if the others are replaced, it is the same.
@@ -33,9 +52,37 @@ module _ (rejects : List ℕ → Option ReadError → Type 0) (octets : List ℕ
   abbrev pub LeaveOpen : ℕ → Type 0
   LeaveOpen count = (other : Option ReadError) × rejects (kept count (replacement error.kind) octets) other × (other ≡ Some error → ⊥)
 
-  -- An element begins at this octet. The octets before it leave the error open, and those up to its end decide it.
-  abbrev pub IsWrongElement : ℕ → Type 0
-  IsWrongElement octet = (end : ℕ) × IsElement octets octet end × LeaveOpen octet × Decide end
+  -- The last of these octets turns the error: they decide it, and with one less it is open.
+  abbrev pub IsTurn : ℕ → Type 0
+  IsTurn count = (0 < count) × Decide count × LeaveOpen (count - 1)
+
+  -- Whether the element at this octet is read at the location of the error, as a wrong length of it shows.
+  abbrev pub IsReadThere : Bool → ℕ → Type 0
+  IsReadThere answer start = (tag : Tag) × (after : List ℕ) × (other : Option ReadError) × (leading_tag (drop start octets) ≡ Ok (tag, after))
+      × rejects (kept (length octets - length after) 255 octets) other × (answer ≡ has_wrong_length error other)
+
+  -- No element within this one is read there that has the last of `count` octets. The contents octets begin at `start`.
+  abbrev pub IsInnermost : Element → ℕ → ℕ → Type 0
+  IsInnermost element start count = (tag_constructed element.tag ≡ true) → start < count →
+      elim (element_with (length element.content) (length element.content) (count - 1 - start) 0 element.content) as (λ _. Type 0) [
+        | None ↦ Unit {0}
+        | Some inner ↦ IsReadThere false (start + inner)
+      ]
+
+  -- An element begins at this octet. The octets before it leave the error open, and those up to its end decide it. Of
+  -- those that have the octet that turns the error it is the innermost that is read at the location of the error.
+  pub record IsWrongElement (octet : ℕ) : Type 0 where
+    pub element : Element
+    pub rest : List ℕ
+    pub is : leading_element (drop octet octets) ≡ Ok (element, rest)
+    pub left_open : LeaveOpen octet
+    pub decided : Decide (length octets - length rest)
+    pub count : ℕ
+    pub turn : IsTurn count
+    pub behind : octet < count
+    pub before : count ≤ length octets - length rest
+    pub there : IsReadThere true octet
+    pub innermost : IsInnermost element (length octets - length rest - length element.content) count
 
   -- Framing fails at this octet with the error's kind, and the octets before it leave the error open.
   abbrev pub IsWrongHeader : ℕ → Type 0
@@ -45,11 +92,25 @@ module _ (rejects : List ℕ → Option ReadError → Type 0) (octets : List ℕ
   abbrev pub IsEnd : ℕ → Type 0
   IsEnd octet = (octet ≤ length octets) × Decide octet
 
+  -- The octets from this one on are left over. Those before it decide the error; and an element ends here, or its contents
+  -- octets begin here, of which not even the header may be left out: a wrong length of it leaves the error open.
+  pub record IsFirstLeft (octet : ℕ) : Type 0 where
+    pub start : ℕ
+    pub element : Element
+    pub rest : List ℕ
+    pub is : leading_element (drop start octets) ≡ Ok (element, rest)
+    pub tag : Tag
+    pub after : List ℕ
+    pub tag_is : leading_tag (drop start octets) ≡ Ok (tag, after)
+    pub behind : (octet ≡ length octets - length rest) ⊎ (octet ≡ length octets - length rest - length element.content)
+    pub needed : LeaveOpen (length octets - length after)
+    pub decided : Decide octet
+
   -- The error is at this octet.
   abbrev pub IsErrorOctet : ℕ → Type 0
   IsErrorOctet octet = elim error.kind as (λ _. Type 0) [
     | ShortData needed ↦ IsEnd octet
-    | ExtraData ↦ IsEnd octet
+    | ExtraData ↦ IsFirstLeft octet
     | InvalidTag ↦ IsWrongHeader octet
     | InvalidLength ↦ IsWrongHeader octet
     | _ ↦ IsWrongElement octet

@@ -41,6 +41,7 @@ pub record ItemAgrees {T : Type 0} (a b : Der T) : Type 0 where
   pub encodings : (m : a.Meaning) (t : List ℕ) → a.encodings m t ↔ b.encodings (stands_for m) t
   pub closures : (m : a.Meaning) → b.closures (stands_for m) → a.closures m
   pub plain : a.plain → b.plain
+  pub is_read : a.is_read → b.is_read
 
 -- The same of a value that an item defines.
 pub record ValueAgrees {T V : Type 0} (by : ByItem T V) (both : ItemAndValue T V) : Type 0 where
@@ -53,6 +54,7 @@ pub record ValueAgrees {T V : Type 0} (by : ByItem T V) (both : ItemAndValue T V
   pub closures : (m : by.means.Meaning) → both.value.closures (stands_for m) → by.means.closures m
   pub valid : (m : by.means.Meaning) → by.means.valid m → both.value.valid (stands_for m)
   pub plain : by.means.plain → both.value.plain
+  pub is_read : by.means.is_read → both.value.is_read
 
 -- The type of an item, and the type that the item defines, agree with what is stated of both together.
 abbrev pub Agrees : {T V : Type 0} → Der T → ByItem T V → ItemAndValue T V → Type 0
@@ -73,6 +75,7 @@ word_for_word both = (
     encodings = λ m t. (λ h. h, λ h. h);
     closures = λ m h. h;
     plain = λ p. p;
+    is_read = λ is. is;
   },
   record {
     stands_for = λ m. m;
@@ -84,6 +87,7 @@ word_for_word both = (
     closures = λ m h. h;
     valid = λ m h. h;
     plain = λ p. p;
+    is_read = λ is. is;
   },
 )
 
@@ -135,5 +139,6 @@ agrees_inside tag view d by both h =
         closures = k.closures;
         valid = k.valid;
         plain = k.plain;
+        is_read = k.is_read;
       },
     )

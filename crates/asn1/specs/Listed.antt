@@ -1,5 +1,5 @@
 -- Lists of numbers, and what reading one of these numbers returns.
-use Rattle.std.specs.Prelude.{ℕ, ℤ, pos, negsuc, ◌-ℤ◌, ◌≤ℤ◌, ◌^◌, ◌≡◌, List, [], ◌∷◌, Bool, true, false, nat_eq, ◌||◌, if◌then◌else◌, Result, Ok, Err}
+use Rattle.std.specs.Prelude.{ℕ, ℤ, pos, negsuc, ◌-ℤ◌, ◌≤ℤ◌, ◌^◌, ◌≡◌, List, [], ◌∷◌, Bool, true, false, nat_eq, ◌||◌, if◌then◌else◌, Option, Some, None, Result, Ok, Err}
 use Rattle.asn1_core.specs.declared.parser.ParseErrorKind.TheVariants.{InvalidValue}
 use Rattle.asn1_core.specs.ReadError.{ReadError, read_error}
 use Rattle.asn1_core.specs.Element.{◌>>=◌}
@@ -15,6 +15,11 @@ largest = pos (2 ^ 32) -ℤ pos 1
 abbrev pub lists : List ℕ → ℕ → Bool
 lists [] n = false
 lists (m ∷ numbers) n = nat_eq m n || lists numbers n
+
+-- Of values in the order of their numbers, the first with this number.
+abbrev pub value_with : {V : Type 0} → List ℕ → List V → ℕ → Option V
+value_with (m ∷ numbers) (v ∷ values) n = if nat_eq m n then Some v else value_with numbers values n
+value_with _ _ n = None
 
 abbrev pub IsListed : List ℕ → ℤ → Type 0
 IsListed numbers (pos n) = lists numbers n ≡ true

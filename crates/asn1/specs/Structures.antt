@@ -5,14 +5,14 @@ use Rattle.asn1_core.specs.declared.parser.Place.{Place}
 use Rattle.asn1_core.specs.Encoding.{simple_encoding}
 use Rattle.asn1_core.specs.Der.{Der, encoding_of, der_of}
 use Rattle.asn1_core.specs.DefinedBy.{defined_encoding}
+use Rattle.asn1_core.specs.Listing.{set_tag}
 use Rattle.asn1_core.specs.ReadError.{ReadError}
 use Rattle.asn1_core.specs.Reading.{Returns}
 use Rattle.asn1.specs.declared.fields.Names.{Names}
 use Rattle.asn1.specs.ItemsAndValues.{ItemAndValue, seen_front}
-use Rattle.asn1.specs.Fields.{Fields, FieldsLaws, FieldsBy, FieldsByLaws, field, last, no_fields, value_last, value_field, between, with_item, sequence}
+use Rattle.asn1.specs.Fields.{Fields, FieldsLaws, FieldsBy, FieldsByLaws, field, last, no_fields, value_last, value_field, between, with_item, sequence, set_fields, tagged_fields}
 use Rattle.asn1_core.specs.declared.tag.Tag.{Tag}
-use Rattle.asn1.specs.Tagged.{retagged}
-use Rattle.asn1.specs.LawsOf.Fields.{last_laws, field_laws, no_fields_laws, value_last_laws, value_field_laws, between_laws, with_item_laws, structure_laws, structure_with_tag_laws}
+use Rattle.asn1.specs.LawsOf.Fields.{last_laws, field_laws, no_fields_laws, value_last_laws, value_field_laws, between_laws, with_item_laws, structure_laws, structure_with_tag_laws, set_structure_laws}
 use Rattle.asn1.specs.declared.fields.NoFields.{NoFields}
 use Rattle.asn1.specs.declared.fields.Field.{Field}
 use Rattle.asn1.specs.declared.fields.Last.{Last}
@@ -128,6 +128,10 @@ pub record IsReadBehind {T V : Type 0} (a b : BehindItem T V) : Type 0 where
 abbrev pub IsPlainBehind : {T V : Type 0} → BehindItem T V → Type 0
 IsPlainBehind behind = behind.item.plain × behind.fields.plain
 
+-- They are read, and not only written.
+abbrev pub AreReadBehind : {T V : Type 0} → BehindItem T V → Type 0
+AreReadBehind behind = behind.item.is_read × behind.fields.is_read
+
 -- An item, and the fields after it.
 abbrev pub item_list : {T U W : Type 0} → (W → U) → BehindItem T U → FieldList W
 item_list rest behind = record {
@@ -143,9 +147,19 @@ item_list rest behind = record {
 abbrev pub structure : {V W : Type 0} → (W → V) → FieldList V → List (List ℕ) → Der W
 structure view row names = der_of (λ w. row.meaning (view w)) (simple_encoding (sequence row.fields names)) (structure_laws names row.laws)
 
--- The same under another tag, for example the tag of a set (8.11) or of an application (8.14.3).
+-- A set of a row's fields with these names (8.11) under this tag, for example that of an application (8.14.3). It is
+-- lawful only if each field has one tag, which comes after that of the field before it (10.3).
+abbrev pub set_structure_with_tag : {V W : Type 0} → Tag → (W → V) → FieldList V → List (List ℕ) → Der W
+set_structure_with_tag tag view row names = der_of (λ w. row.meaning (view w)) (simple_encoding (set_fields tag row.fields names)) (set_structure_laws tag names row.laws)
+
+-- The same under the tag of a set.
+abbrev pub set_structure : {V W : Type 0} → (W → V) → FieldList V → List (List ℕ) → Der W
+set_structure view row names = set_structure_with_tag set_tag view row names
+
+-- The same as `structure` under another tag, for example that of an application (8.14.3). With the tag of a set it isn't
+-- lawful: a set is a `set_structure`.
 abbrev pub structure_with_tag : {V W : Type 0} → Tag → (W → V) → FieldList V → List (List ℕ) → Der W
-structure_with_tag tag view row names = der_of (λ w. row.meaning (view w)) (simple_encoding (retagged (λ own. tag) (sequence row.fields names))) (structure_with_tag_laws tag names row.laws)
+structure_with_tag tag view row names = der_of (λ w. row.meaning (view w)) (simple_encoding (tagged_fields tag row.fields names)) (structure_with_tag_laws tag names row.laws)
 
 -- The encodings that a write of a field's value may append.
 abbrev pub encoded : {V : Type 0} → Der V → V → List ℕ → Type 0

@@ -1,12 +1,14 @@
 -- What holds of the types of this library, by what holds of their parts; and the laws of lists and of sets.
 use Rattle.asn1_core.specs.Der.{Der}
-use Rattle.std.specs.Prelude.{◌≡◌, ◌<◌, ◌^◌, ◌↔◌, ℕ, List, length, Ok, map, Result}
+use Rattle.std.specs.Prelude.{◌≡◌, ◌<◌, ◌^◌, ◌↔◌, ℕ, List, length, Ok, map, Option, Some, Result}
 use Rattle.asn1_core.specs.Base256.{IsOctets}
 use Rattle.std.specs.List.{concat, AllByRecursion}
 use Rattle.asn1_core.specs.Listing.{encoding_less, IsListing, SameEncodings, IsElementEncoding}
+use Rattle.asn1.specs.MadeLists.{in_order}
 use Rattle.asn1.specs.Sets.{set_read, AreOrdered, set_left, IsSetContent}
 use Rattle.asn1.specs.Lists.{AreItems, left}
 use Rattle.asn1_core.specs.Reading.{Fits}
+use Rattle.asn1_core.specs.Writing.{GivesLength}
 use Rattle.std.specs.Fn.{Once}
 use Rattle.std.specs.Borrow.{MutBor}
 use Rattle.asn1_core.specs.SetWriting.{SetState, MayWriteSet}
@@ -72,9 +74,25 @@ abbrev pub SetsTellMultisets : {V : Type 0} → (d : Der V) → (List d.Meaning 
 SetsTellMultisets d set_text = (ms ns : List d.Meaning) → AreElements d ms → AreElements d ns
     → (set_text ms ≡ set_text ns) ↔ SameEncodings (map d.encoding ms) (map d.encoding ns)
 
+-- Sets of valid values of a lawful element type have the same encoding exactly if they have the same encodings of
+-- items, each as often, however long these are.
+abbrev pub SetsTellValues : {V : Type 0} → (d : Der V) → (List d.Meaning → List ℕ) → Type 0
+SetsTellValues d set_text = d.lawful → d.is_element → (ms ns : List d.Meaning) → AllByRecursion d.valid ms → AllByRecursion d.valid ns
+    → (set_text ms ≡ set_text ns) ↔ SameEncodings (map d.encoding ms) (map d.encoding ns)
+
+-- These values in order are the same exactly if they have the same encodings, each as often.
+abbrev pub OrdersTellMultisets : {V : Type 0} → Der V → Type 0
+OrdersTellMultisets d = d.is_read → d.lawful → (ms ns : List d.Meaning) → AllByRecursion d.valid ms → AllByRecursion d.valid ns
+    → (in_order d.encoding ms ≡ in_order d.encoding ns) ↔ SameEncodings (map d.encoding ms) (map d.encoding ns)
+
 -- The encoding of a valid value of a lawful element type is a readable element, if it is short enough to be read.
 abbrev pub ValuesAreElements : {V : Type 0} → Der V → Type 0
 ValuesAreElements d = d.lawful → d.is_element → (m : d.Meaning) → d.valid m → Fits (d.encoding m) → IsElementEncoding (d.encoding m)
+
+-- The length of a value whose encoding can be read is known, if the type says so of the value.
+abbrev pub KnowsLengths : {V : Type 0} → Der V → (V → Type 0) → Type 0
+KnowsLengths {V} d has = (v : V) (known : Option ℕ) → GivesLength (has v) (d.encodings (d.meaning v)) known → has v → d.plain → d.valid (d.meaning v)
+    → Fits (d.encoding (d.meaning v)) → known ≡ Some (length (d.encoding (d.meaning v)))
 
 -- What a closure writes as a set is the contents octets of a set, if these are short enough to be read.
 abbrev pub WritesSets : {F E : Type 0} → Once F (MutBor SetState × Unit {0}) (Result (Unit {0}) E × (MutBor SetState × Unit {0})) → Type 0

@@ -86,10 +86,12 @@ pub trait AlternativeReadable<'a>: Alternative {
         ensures found { IfOk result
             (λ v. IsEncodingOf Self.der v (element_encoding (element_of tlv.entry))) };
 
-    /// Whether an element with this tag may be a value. Also states that each value has one encoding (`plain`).
+    /// Whether an element with this tag may be a value. Also states that each value has one encoding (`plain`), and
+    /// that values are read (`read`).
     fn accepts(tag: Tag) -> bool
         ensures value { result ≡ Self.der.accepts tag }
-        ensures plain { Self.der.plain };
+        ensures plain { Self.der.plain }
+        ensures read { Self.der.is_read };
 }
 
 /// The alternative of the type `T` under the explicit tag with the number `TAG` (X.690 8.14.2).
@@ -135,7 +137,9 @@ impl<'a, T: Asn1Readable<'a>> AlternativeReadable<'a> for T {
 impl<'a, T: Asn1Readable<'a>, const TAG: u32> AlternativeReadable<'a> for ExplicitTag<T, TAG> {
     #[inline(always)]
     fn read(tlv: Tlv<'a>, alloc: Global) -> ParseResult<T> {
-        let mut parser = Parser::new(alloc, tlv.full_data());
+        let octets = tlv.full_data();
+        octets.known();
+        let mut parser = Parser::new(alloc, octets);
         let value = parser.read_explicit_element::<T>(TAG)?;
         if !parser.is_empty() {
             return Err(ParseError::new(ParseErrorKind::ExtraData));
@@ -155,7 +159,9 @@ impl<'a, T: SimpleAsn1Readable<'a>, const TAG: u32> AlternativeReadable<'a>
     for ImplicitTag<T, TAG> {
     #[inline(always)]
     fn read(tlv: Tlv<'a>, alloc: Global) -> ParseResult<T> {
-        let mut parser = Parser::new(alloc, tlv.full_data());
+        let octets = tlv.full_data();
+        octets.known();
+        let mut parser = Parser::new(alloc, octets);
         let value = parser.read_implicit_element::<T>(TAG)?;
         if !parser.is_empty() {
             return Err(ParseError::new(ParseErrorKind::ExtraData));
@@ -186,13 +192,15 @@ pub trait AlternativesReadable<'a>: Alternatives {
         ensures found { IfOk result (λ v. IsAlternative Self.list v (element_of tlv.entry)) };
 
     /// Whether an element with this tag may be a value of one of the alternatives. Also states that each value has one
-    /// encoding (`plain`).
+    /// encoding (`plain`), and that values are read (`read`).
     fn accepts(tag: Tag) -> bool
         ensures value { result ≡ Self.list.all.accepts tag }
-        ensures plain { Self.list.all.plain };
+        ensures plain { Self.list.all.plain }
+        ensures read { Self.list.all.is_read };
 }
 
-/// A choice of one's own, whose values are seen as values `V` of a list of alternatives.
+/// A choice of one's own, whose values are seen as values `V` of a list of alternatives. What `seen` forgets of a
+/// value, such as which of two variants it is, no law sees.
 pub trait AsOneOf<V>: Sized {
     ghost seen: { Self → V };
 

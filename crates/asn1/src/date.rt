@@ -4,6 +4,9 @@ ghost use Rattle.std.specs.Prelude.{◌≡◌, ◌+◌, ◌/◌, ◌%◌, MatchO
 ghost use Rattle.asn1_core.specs.declared.parser.ParseErrorKind.TheVariants.{InvalidValue};
 ghost use Rattle.asn1_core.specs.ReadError.{read_error};
 ghost use Rattle.asn1_core.specs.Der.{simple_der};
+ghost use Rattle.asn1_core.specs.Element.{element, element_encoding};
+ghost use Rattle.asn1_core.specs.Reading.{Fits};
+ghost use Rattle.asn1_core.specs.Tag.{universal};
 ghost use Rattle.asn1_values.specs.TimeSteps.{front_two, is_digit, wrong};
 ghost use Rattle.asn1.specs.Dates.{IsDay, day_alone, day_text, day_with, read_day};
 
@@ -169,7 +172,11 @@ impl Asn1Type for Date {
 
     ghost der = { simple_der day_of date_content date_laws };
 
-    fn known(&self) {}
+    fn known(&self)
+        ensures valid { date_content.valid (day_of self.now) }
+        ensures fits { Fits (element_encoding
+            (element (universal 31) (day_text (day_of self.now)))) }
+    {}
 }
 
 impl<'a> SimpleAsn1Readable<'a> for Date {

@@ -8,9 +8,11 @@ ghost use Rattle.std.specs.Fn.{FnReturnsAt};
 ghost use Rattle.asn1_core.specs.ReadError.{ReadError};
 ghost use Rattle.asn1_core.specs.Tag.{tag_number};
 ghost use Rattle.asn1.specs.ErrorOctets.{Decide, IsElement, IsErrorOctet, IsWrongElement, IsWrongHeader};
+ghost use Rattle.asn1_core.specs.Tlv.{element_of};
+ghost use Rattle.asn1.specs.ErrorOctets.{IsFirstLeft, IsInnermost, IsReadThere, IsTurn, element_with, has_wrong_length};
 ghost use Rattle.asn1.specs.ErrorOctets.{LeaveOpen, kept, replacement, takes_tag, with_tag};
 
-use asn1_core::{ParseError, ParseErrorKind, Tag, strip_tlv};
+use asn1_core::{ParseError, ParseErrorKind, Tag, Tlv, strip_tlv};
 
 /// An element of the input: where its parts begin and where it ends, in octets counted from 0.
 #[derive(Clone, Copy, Drop)]
@@ -56,6 +58,37 @@ fn element_behind(octets: &[u8], start: usize, limit: usize, octet: usize) -> Re
         }
     }
     Err(start)
+}
+
+/// Of elements one after another, where the one begins that has this octet.
+fn element_with(octets: &[u8], octet: usize) -> Option<usize>
+    ensures { result ≡ element_with (length octets.now) (length octets.now) octet 0 octets.now }
+{
+    let (mut start, mut rest) = (0, octets);
+    'elements: for _turn in 0..octets.len() {
+        let Ok((_element, left)) = strip_tlv(rest) else {
+            return None;
+        };
+        let end = octets.len().saturating_sub(left.len());
+        if octet < end {
+            return Some(start);
+        }
+        (start, rest) = (end, left);
+    }
+    None
+}
+
+/// Whether an input in which an element has a wrong length is rejected for that, at the location of the error.
+fn has_wrong_length(error: &ParseError, other: Option<ParseError>) -> bool
+    ensures { result ≡ has_wrong_length error.now other }
+{
+    let Some(other) = other else {
+        return false;
+    };
+    match other.kind() {
+        ParseErrorKind::InvalidLength => other.places() == error.places(),
+        _ => false,
+    }
 }
 
 /// Where the element that begins at `start` ends.
@@ -163,19 +196,102 @@ impl<F: Fn(&[u8]) -> Option<ParseError>> Rejected<'_, F> {
         }
     }
 
-    /// Whether the element at this octet is the one at which the input is rejected.
-    fn is_at_element(&self, octet: usize, scratch: &mut [u8]) -> bool
+    /// Whether the first octets decide the error, as a copy shows.
+    fn is_decided(&self, count: usize, scratch: &mut [u8]) -> bool
+        requires { F.IsAlwaysCallable self.now.rejects.now }
+        ensures { IsTrue result → Decide (FnReturnsAt F.Fn self.now.rejects.now)
+            self.now.octets.now self.now.error count }
+    {
+        self.is_same(count, scratch) == Some(true)
+    }
+
+    /// Whether the first octets leave the error open, as a copy shows.
+    fn is_open(&self, count: usize, scratch: &mut [u8]) -> bool
+        requires { F.IsAlwaysCallable self.now.rejects.now }
+        ensures { IsTrue result → LeaveOpen (FnReturnsAt F.Fn self.now.rejects.now)
+            self.now.octets.now self.now.error count }
+    {
+        self.is_same(count, scratch) == Some(false)
+    }
+
+    /// Whether the last of these octets turns the error.
+    fn is_turn(&self, count: usize, scratch: &mut [u8]) -> bool
+        requires { F.IsAlwaysCallable self.now.rejects.now }
+        ensures { IsTrue result → IsTurn (FnReturnsAt F.Fn self.now.rejects.now)
+            self.now.octets.now self.now.error count }
+    {
+        count > 0 && self.is_decided(count, scratch) && self.is_open(count - 1, scratch)
+    }
+
+    /// Whether a copy shows that the element at this octet is read at the location of the error, or that it isn't.
+    fn is_read_at(&self, start: usize, answer: bool, scratch: &mut [u8]) -> bool
+        requires { F.IsAlwaysCallable self.now.rejects.now }
+        ensures { IsTrue result → IsReadThere (FnReturnsAt F.Fn self.now.rejects.now)
+            self.now.octets.now self.now.error answer start }
+    {
+        if start > self.octets.len() {
+            return false;
+        }
+        let Ok((_tag, after)) = Tag::from_bytes(&self.octets[start..]) else {
+            return false;
+        };
+        let count = self.octets.len().saturating_sub(after.len());
+        match self.error_of(count, 0xff, scratch) {
+            Some(other) => has_wrong_length(&self.error, other) == answer,
+            None => false,
+        }
+    }
+
+    /// Whether no element within this one, of those that have the last of `count` octets, is read at the location of
+    /// the error. Its contents octets begin at `start`.
+    fn is_innermost(
+        &self,
+        element: &Tlv<'_>,
+        start: usize,
+        count: usize,
+        scratch: &mut [u8],
+    ) -> bool
+        requires { F.IsAlwaysCallable self.now.rejects.now }
+        ensures { IsTrue result → IsInnermost (FnReturnsAt F.Fn self.now.rejects.now)
+            self.now.octets.now self.now.error (element_of element.now) start count }
+    {
+        if !element.tag().is_constructed() || count <= start {
+            return true;
+        }
+        match element_with(element.data(), count - 1 - start) {
+            None => true,
+            Some(inner) => match start.checked_add(inner) {
+                None => false,
+                Some(inner) => self.is_read_at(inner, false, scratch),
+            },
+        }
+    }
+
+    /// Whether the element at this octet is the one at which the input is rejected, if so many octets decide the error.
+    fn is_at_element(&self, octet: usize, count: usize, scratch: &mut [u8]) -> bool
         requires { F.IsAlwaysCallable self.now.rejects.now }
         ensures { IsTrue result → IsWrongElement (FnReturnsAt F.Fn self.now.rejects.now)
             self.now.octets.now self.now.error octet }
     {
-        match element_end(self.octets, octet) {
-            Some(end) => {
-                self.is_same(octet, scratch) == Some(false)
-                    && self.is_same(end, scratch) == Some(true)
-            }
-            None => false,
+        if octet > self.octets.len() {
+            return false;
         }
+        let (_before, there) = self.octets.split_at(octet);
+        let Ok((element, rest)) = strip_tlv(there) else {
+            return false;
+        };
+        let end = self.octets.len().saturating_sub(rest.len());
+        let start = end.saturating_sub(element.data().len());
+        if octet >= count || count > end || !self.is_turn(count, scratch) {
+            return false;
+        }
+        if !self.is_open(octet, scratch) || !self.is_decided(end, scratch) {
+            return false;
+        }
+        if !self.is_read_at(octet, true, scratch) {
+            return false;
+        }
+        self.is_innermost(&element, start, count, scratch)
     }
 
     /// Whether the header at this octet is the one for which the input is rejected.
@@ -196,20 +312,51 @@ impl<F: Fn(&[u8]) -> Option<ParseError>> Rejected<'_, F> {
         }
     }
 
-    /// Whether the error is at this octet.
-    fn is_at(&self, octet: usize, scratch: &mut [u8]) -> bool
+    /// Whether octets from this one on are left over, behind the element that begins at `start` or its header.
+    fn is_behind(&self, octet: usize, start: usize, scratch: &mut [u8]) -> bool
         requires { F.IsAlwaysCallable self.now.rejects.now }
-        ensures { IsTrue result → IsErrorOctet (FnReturnsAt F.Fn self.now.rejects.now)
+        ensures { IsTrue result → IsFirstLeft (FnReturnsAt F.Fn self.now.rejects.now)
             self.now.octets.now self.now.error octet }
     {
+        if start > self.octets.len() {
+            return false;
+        }
+        let (_before, there) = self.octets.split_at(start);
+        let Ok((element, rest)) = strip_tlv(there) else {
+            return false;
+        };
+        let Ok((_tag, after)) = Tag::from_bytes(there) else {
+            return false;
+        };
+        let end = self.octets.len().saturating_sub(rest.len());
+        let contents = end.saturating_sub(element.data().len());
+        if octet != end && octet != contents {
+            return false;
+        }
+        if !self.is_open(self.octets.len().saturating_sub(after.len()), scratch) {
+            return false;
+        }
+        self.is_decided(octet, scratch)
+    }
+
+    /// Whether the error is at this octet, if so many octets decide it. For `ExtraData` the element at `before`, or its
+    /// header, is before the octets that are left over.
+    fn is_at(&self, octet: usize, before: usize, count: usize, scratch: &mut [u8]) -> bool
+        requires { F.IsAlwaysCallable self.now.rejects.now }
+        ensures found { IsTrue result → IsErrorOctet (FnReturnsAt F.Fn self.now.rejects.now)
+            self.now.octets.now self.now.error octet }
+        ensures within { IsTrue result → octet ≤ length self.now.octets.now }
+    {
+        if octet > self.octets.len() {
+            return false;
+        }
         match self.error.kind() {
-            ParseErrorKind::ShortData { .. } | ParseErrorKind::ExtraData => {
-                octet <= self.octets.len() && self.is_same(octet, scratch) == Some(true)
-            }
+            ParseErrorKind::ExtraData => self.is_behind(octet, before, scratch),
+            ParseErrorKind::ShortData { .. } => self.is_same(octet, scratch) == Some(true),
             ParseErrorKind::InvalidTag | ParseErrorKind::InvalidLength => {
                 self.is_at_header(octet, scratch)
             }
-            _ => self.is_at_element(octet, scratch),
+            _ => self.is_at_element(octet, count, scratch),
         }
     }
 
@@ -282,45 +429,46 @@ impl<F: Fn(&[u8]) -> Option<ParseError>> Rejected<'_, F> {
         found
     }
 
-    /// Where the first element begins within this one that isn't read, or else where this one ends.
-    fn unread_in(&self, frame: Frame, deciding: usize, scratch: &mut [u8]) -> usize
+    /// Where the first element begins within this one that isn't read, or else where this one ends; and where the
+    /// element begins that is before that, or around it.
+    fn unread_in(&self, frame: Frame, deciding: usize, scratch: &mut [u8]) -> (usize, usize)
         requires { F.IsAlwaysCallable self.now.rejects.now }
     {
         if !frame.is_constructed {
-            return frame.end;
+            return (frame.end, frame.start);
         }
-        let mut start = frame.contents;
+        let (mut start, mut before) = (frame.contents, frame.start);
         for _ in frame.contents..frame.end {
             let Some(inner) = frame_at(self.octets, start, frame.end) else {
-                return start;
+                return (start, before);
             };
             if inner.length >= deciding && self.is_same(inner.length, scratch) == Some(true) {
-                return start;
+                return (start, before);
             }
-            start = inner.end;
+            (start, before) = (inner.end, inner.start);
         }
-        frame.end
+        (frame.end, frame.start)
     }
 
-    /// Where the error is, if what is read is read in the order of the input.
-    fn octet(&self, scratch: &mut [u8]) -> Option<usize>
+    /// Where the error is, if so many octets decide it, and what is read is read in the order of the input; and for
+    /// `ExtraData` where the element begins that is before that.
+    fn octet(&self, deciding: usize, scratch: &mut [u8]) -> Option<(usize, usize)>
         requires { F.IsAlwaysCallable self.now.rejects.now }
     {
-        let deciding = self.deciding(0, scratch);
         let around = self.around(deciding.saturating_sub(1), scratch);
         let wrong = around.read_there.or(around.innermost);
         match self.error.kind() {
             ParseErrorKind::AllocationError => None,
-            ParseErrorKind::ShortData { .. } => Some(around.limit),
+            ParseErrorKind::ShortData { .. } => Some((around.limit, 0)),
             ParseErrorKind::ExtraData => Some(self.unread_in(wrong?, deciding, scratch)),
             ParseErrorKind::InvalidTag | ParseErrorKind::InvalidLength => match around.broken {
-                Some(broken) => Some(broken),
+                Some(broken) => Some((broken, 0)),
                 None => {
                     let deciding = self.deciding(around.innermost?.contents, scratch);
-                    self.around(deciding.saturating_sub(1), scratch).broken
+                    Some((self.around(deciding.saturating_sub(1), scratch).broken?, 0))
                 }
             },
-            _ => Some(wrong?.start),
+            _ => Some((wrong?.start, 0)),
         }
     }
 }
@@ -328,14 +476,15 @@ impl<F: Fn(&[u8]) -> Option<ParseError>> Rejected<'_, F> {
 /// The octet, counted from 0, at which `data` is rejected: as `openssl asn1parse` counts.
 ///
 /// - For most kinds of errors the element is wrong that begins there: its tag, its contents octets, its count of items,
-///   its place in a set, or that it is there though it equals its default.
+///   its place in a set, or that it is there though it equals its default. It is the innermost that decides the error,
+///   of those that are read at the location of the error.
 /// - For `InvalidTag` and `InvalidLength` its identifier or length octets are.
 /// - For `ShortData` octets are missing there: it is the end of the element around them, or of the input.
-/// - For `ExtraData` the octets from there on are left over.
+/// - For `ExtraData` the octets from there on are left over, and none before.
 ///
 /// `rejects` reads octets, and returns the error. It is called once for each time that the count of octets can be
-/// halved, and once for each element around the error, each time with a copy of the input in `scratch`. The caller has
-/// to prove that `rejects` may always be called (`requires`).
+/// halved, once for each element around the error, and a few times more, each time with a copy of the input in
+/// `scratch`. The caller has to prove that `rejects` may always be called (`requires`).
 ///
 /// `None` if `data` isn't rejected, if memory ran out, or if `scratch` is shorter than `data`; or if the copies show no
 /// such octet, as may be if a type of one's own rejects contents octets for some others.
@@ -351,9 +500,10 @@ pub fn error_octet<F: Fn(&[u8]) -> Option<ParseError>>(
     rejects: F,
 ) -> Option<usize>
     requires { F.IsAlwaysCallable rejects }
-    ensures { IfSome result (λ octet. (error : ReadError)
+    ensures found { IfSome result (λ octet. (error : ReadError)
         × FnReturnsAt F.Fn rejects «data».now (Some error)
         × IsErrorOctet (FnReturnsAt F.Fn rejects) «data».now error octet) }
+    ensures within { IfSome result (λ octet. octet ≤ length «data».now) }
 {
     let error = rejects(data)?;
     let rejected = Rejected {
@@ -361,8 +511,9 @@ pub fn error_octet<F: Fn(&[u8]) -> Option<ParseError>>(
         rejects: &rejects,
         error,
     };
-    let octet = rejected.octet(scratch)?;
-    if rejected.is_at(octet, scratch) {
+    let count = rejected.deciding(0, scratch);
+    let (octet, before) = rejected.octet(count, scratch)?;
+    if rejected.is_at(octet, before, count, scratch) {
         Some(octet)
     } else {
         None

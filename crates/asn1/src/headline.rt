@@ -3,19 +3,19 @@
 //! Each function makes the calls that it is about and returns what they return. Its contract is the sentence, in the
 //! words of `specs/Headline.antt`.
 
-ghost use Rattle.std.specs.Prelude.{◌≡◌, ◌↔◌, ◌++◌, ℕ, List, map, IfOk, IfErr, IsOk, IsOkAnd};
+ghost use Rattle.std.specs.Prelude.{◌≡◌, ◌↔◌, ◌<◌, ◌++◌, ℕ, List, length, map, IfOk, IfErr, IsOk, IsOkAnd};
 ghost use Rattle.asn1_core.specs.Element.{Element, IsLeadingElement};
 ghost use Rattle.asn1_core.specs.Tlv.{element_of, stripped};
 ghost use Rattle.asn1_core.specs.Reading.{Returns, IsErrorOf, whole};
 ghost use Rattle.asn1_core.specs.Writing.{NamesError};
 ghost use Rattle.asn1_core.specs.Listing.{SameEncodings};
 ghost use Rattle.asn1_core.specs.Laws.{IsShort, with_more};
-ghost use Rattle.asn1.specs.Headline.{Encodes, BeginsWith, AllFit};
+ghost use Rattle.asn1.specs.Headline.{Encodes, BeginsWith};
 
 use crate::laws::equal_multisets;
 use asn1_core::{
-    Asn1Readable, Asn1Type, Asn1Writable, ParseResult, SetOfWriter, Tlv, parse_single, strip_tlv,
-    write_single,
+    Asn1Readable, Asn1Type, Asn1Writable, ParseResult, SetOfWriter, Tag, Tlv, parse_single,
+    strip_tlv, write_single,
 };
 use std::alloc::Global;
 
@@ -44,9 +44,15 @@ pub fn reads_the_one_encoding<'a, T: Asn1Readable<'a>>(
     // The input is the encoding of one value at most.
     ensures one { (m n : T.der.Meaning) → Encodes T.der m «data».entry.now
         → Encodes T.der n «data».entry.now → m ≡ n }
+
+    // No two valid values have this encoding, be they within the type's bounds or not.
+    ensures alone { (m n : T.der.Meaning) → T.der.valid m → T.der.valid n
+        → T.der.encoding m ≡ «data».entry.now → T.der.encoding n ≡ «data».entry.now → m ≡ n }
     ensures refused { IfErr result (IsErrorOf (T.der.runs_out «data».entry.now)
         (whole (T.der.read «data».entry.now))) }
 {
+    // By this call's contract the type isn't only written.
+    let _accepted = T::can_parse(Tag::primitive(0));
     parse_single::<T>(alloc, data)
 }
 
@@ -101,8 +107,8 @@ pub fn writes_alike<T: Asn1Writable, U: Asn1Writable<Error = T::Error>>(
 
 /// [`SetOfWriter`] writes equal octets exactly for equal multisets of the items' encodings.
 ///
-/// The caller has to prove that the items are of a lawful element type with one encoding a value, and that the
-/// encoding of each is short enough to be read.
+/// The caller has to prove that the items are of a lawful element type with one encoding a value. They may be longer
+/// than what is read.
 pub fn sets_tell_multisets<'a, T: Asn1Writable>(
     alloc: Global,
     items: &'a [T],
@@ -111,11 +117,9 @@ pub fn sets_tell_multisets<'a, T: Asn1Writable>(
     requires lawful { T.der.lawful }
     requires plain { T.der.plain }
     requires element { T.der.is_element }
-    requires fit { AllFit T.der (map T.der.meaning items.now) }
-    requires others_fit { AllFit T.der (map T.der.meaning others.now) }
     ensures tell { IfOk result (λ both. (both.0.items ≡ both.1.items)
-        ↔ SameEncodings (map T.der.encoding (map T.der.meaning items.entry.now))
-        (map T.der.encoding (map T.der.meaning others.entry.now))) }
+        ↔ SameEncodings (map (λ v. T.der.encoding (T.der.meaning v)) items.entry.now)
+        (map (λ v. T.der.encoding (T.der.meaning v)) others.entry.now)) }
 
     // The first octets are the encoding of the set of the items, the second that of the set of the others.
     ensures sets { IfOk result (λ both. (both.0.items
@@ -136,6 +140,9 @@ pub fn sets_tell_multisets<'a, T: Asn1Writable>(
 /// [`strip_tlv`] cuts off exactly the element at the start. All other input is rejected with the first error.
 pub fn cuts_off_the_element<'a>(data: &'a [u8]) -> ParseResult<(Tlv<'a>, &'a [u8])>
     ensures found { IfOk result (λ x. BeginsWith «data».entry.now (element_of x.0) x.1.now) }
+
+    // Fewer octets remain.
+    ensures progress { IfOk result (λ x. length x.1.now < length «data».entry.now) }
     ensures each { (e : Element) (rest : List ℕ) → BeginsWith «data».entry.now e rest
         → IsOkAnd result (λ x. (element_of x.0 ≡ e) × (x.1.now ≡ rest)) }
     ensures refused { IfErr result (λ e. IsLeadingElement «data».entry.now (Err e.kind)) }

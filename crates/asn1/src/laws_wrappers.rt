@@ -8,7 +8,7 @@ ghost use Rattle.asn1.specs.declared.fields.Last.{Last};
 ghost use Rattle.asn1.specs.AlternativeLists.{choice, EachHasOneEncoding};
 ghost use Rattle.asn1.specs.Alternatives.{Disjoint};
 ghost use Rattle.asn1.specs.Structures.{defaulted, explicit, implicit, IsEncoded, IsPlainBehind, IsReadAs};
-ghost use Rattle.asn1.specs.Structures.{IsReadBehind, IsWrittenAs};
+ghost use Rattle.asn1.specs.Structures.{AreReadBehind, IsReadBehind, IsWrittenAs};
 
 use crate::alternatives::{
     Alternative, Alternatives, AsOneOf, EightOneByOne, NoOther, OneOf, OneOfEight, OneOfThree,
@@ -309,13 +309,17 @@ pub fn rows_behind_items_are_written<
 {}
 
 /// A row that is read has one encoding for each value: no fields, a last field, and a field with those after it, if
-/// these have.
+/// these have. The clauses whose names end in `read` say that it isn't only written, as a type's `tag` has to say.
 pub fn rows_are_plain<'a, A: Asn1Readable<'a>, R: RowReadable<'a>>()
     ensures none { ⟦<NoFields as RowReadable<'a>>⟧.list.fields.plain }
     ensures last { ⟦<Last<A> as RowReadable<'a>>⟧.list.fields.plain }
     ensures field { R.list.fields.plain → ⟦<Field<A, R> as RowReadable<'a>>⟧.list.fields.plain }
+    ensures none_read { ⟦<NoFields as RowReadable<'a>>⟧.list.fields.is_read }
+    ensures last_read { ⟦<Last<A> as RowReadable<'a>>⟧.list.fields.is_read }
+    ensures field_read { R.list.fields.is_read
+        → ⟦<Field<A, R> as RowReadable<'a>>⟧.list.fields.is_read }
 {
-    // By this call's contract each value of the type has one encoding.
+    // By this call's contract each value of the type has one encoding, and is read.
     let _accepted = A::can_parse(Tag::primitive(0));
 }
 
@@ -335,8 +339,16 @@ pub fn rows_behind_items_are_plain<
         → IsPlainBehind ⟦<Before<A, B> as RowBehindReadable<'a, T>>⟧.behind }
     ensures item { IsPlainBehind B.behind
         → ⟦<Item<T, B> as RowReadable<'a>>⟧.list.fields.plain }
+    ensures last_value_read { AreReadBehind
+        ⟦<LastValue<C> as RowBehindReadable<'a, T>>⟧.behind }
+    ensures value_read { R.list.fields.is_read
+        → AreReadBehind ⟦<Value<C, R> as RowBehindReadable<'a, T>>⟧.behind }
+    ensures before_read { AreReadBehind B.behind
+        → AreReadBehind ⟦<Before<A, B> as RowBehindReadable<'a, T>>⟧.behind }
+    ensures item_read { AreReadBehind B.behind
+        → ⟦<Item<T, B> as RowReadable<'a>>⟧.list.fields.is_read }
 {
     let _accepted = A::can_parse(Tag::primitive(0));
     let _item_accepted = T::can_parse(Tag::primitive(0));
-    C::one_text();
+    C::one_encoding();
 }

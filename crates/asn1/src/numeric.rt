@@ -111,6 +111,7 @@ impl<'a> SimpleAsn1Readable<'a> for NumericString<'a> {
         ensures value { result ≡ universal 18 }
         ensures simple { Unit {0} }
         ensures plain { Unit {0} }
+        ensures read { Unit {0} }
     {
         Tag::primitive(0x12)
     }

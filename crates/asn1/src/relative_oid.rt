@@ -144,6 +144,7 @@ impl<'a> SimpleAsn1Readable<'a> for RelativeOid<'a> {
         ensures value { result ≡ universal 13 }
         ensures simple { Unit {0} }
         ensures plain { Unit {0} }
+        ensures read { Unit {0} }
     {
         Tag::primitive(0x0d)
     }

@@ -1,7 +1,8 @@
 //! What is read is written back, and what is written is read back. A type that is read holds no closures, so writing
 //! requires nothing of its values.
 
-ghost use Rattle.std.specs.Prelude.{◌≡◌, IfOk, IfErr};
+ghost use Rattle.std.specs.Prelude.{◌≡◌, IfOk, IfErr, IsOk};
+ghost use Rattle.asn1_core.specs.ReadError.{IsOfInput};
 ghost use Rattle.asn1_core.specs.Reading.{Returns, Fits, IsErrorOf, whole};
 ghost use Rattle.asn1_core.specs.Writing.{NamesError};
 ghost use Rattle.asn1_core.specs.Listing.{OneNames};
@@ -34,6 +35,9 @@ pub fn read_and_write_back<'a, T: Asn1Readable<'a> + Asn1Writable>(
         (whole (T.der.read «data».entry.now))) }
     ensures error { IfOk result (λ written. IfErr written
         (NamesError T.Error.from_gives (OneNames T.write_errors))) }
+
+    // Reading a type that doesn't allocate is never out of memory.
+    ensures no_memory_error { ¬ T.der.takes_memory → IfErr result IsOfInput }
 {
     let value = parse_single::<T>(alloc, data)?;
     Ok(write_readable(alloc, &value))
@@ -55,6 +59,9 @@ pub fn write_and_read_back<'a, T: Asn1Readable<'a> + Asn1Writable>(
     ensures read { IfOk result (λ read. Returns T.der.meaning
         (T.der.runs_out (T.der.encoding (T.der.meaning value.now))) read
         (Ok (T.der.meaning value.now))) }
+
+    // If reading the type doesn't allocate, the value is read.
+    ensures no_memory_error { ¬ T.der.takes_memory → IfOk result (λ read. IsOk read) }
     ensures error { IfErr result (NamesError T.Error.from_gives (T.write_errors value.now)) }
 {
     value.known();

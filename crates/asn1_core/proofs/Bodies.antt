@@ -1,5 +1,5 @@
 -- What follows from what is stated of a body.
-use Rattle.std.proofs.Common.{◌≡◌, ◌+◌, ◌-◌, ◌++◌, [], ◌∷◌, length, take, drop, ℕ, ◌<◌, ◌^◌, List, refl, sym, ◌∙◌, ap, append_assoc, arith, length-append, Result, Ok, Err, OnOk, OnErr, IfErr, IsErrAnd, inr, subst, Option, Some, None}
+use Rattle.std.proofs.Common.{◌≡◌, ⊎_elim, inl, ◌≤◌, ◌+◌, ◌-◌, ◌++◌, [], ◌∷◌, length, take, drop, ℕ, ◌<◌, ◌^◌, List, refl, sym, ◌∙◌, ap, append_assoc, arith, length-append, Result, Ok, Err, OnOk, OnErr, IfErr, IsErrAnd, inr, subst, Option, Some, None}
 use Rattle.std.specs.Prelude.{SomeIff}
 use Rattle.std.proofs.lemmas.Result.{on_ok_weaker}
 use Rattle.asn1_core.specs.Writing.{KnowsLength, GivesLength, IsElementOf, full_count, LeavesPrefix, MayAppend, Announces, Appended, FailsAs}
@@ -10,7 +10,13 @@ use Rattle.asn1_core.specs.Buffer.{Buffer, Appends, KeepsPrefix}
 use Rattle.asn1_core.specs.declared.tag.Tag.{Tag}
 use Rattle.asn1_core.specs.Tag.{identifier_octets}
 use Rattle.asn1_core.specs.Length.{length_octets}
+use Rattle.std.proofs.lemmas.Bool.{cases_lt}
 use Rattle.asn1_core.specs.Element.{element, element_encoding}
+use Rattle.asn1_core.specs.Reading.{Fits}
+use Rattle.asn1_core.specs.Der.{Der}
+use Rattle.asn1_core.specs.Lemmas.Lengths.{length_octets_low, length_octets_high, length_digits_of_le_4}
+use Rattle.asn1_core.specs.Lemmas.Numbers.{length_number_octets_le_5}
+use Rattle.asn1_core.specs.Lemmas.Tags.{identifier_octets_low, identifier_octets_long}
 use Rattle.asn1_core.specs.declared.writer.WriteError.{WriteError}
 use Rattle.std.proofs.lemmas.Option.{none-some}
 
@@ -141,6 +147,27 @@ Some_length_element_encoding P tag content (Some m) h p = let e : m ≡ length (
 -- the length of the only encoding
 pub GivesLength_one_encoding : (has : Type 0) (octets : List ℕ) (r : Option ℕ) → r ≡ Some (length octets) → GivesLength has (λ t. t ≡ octets) r
 GivesLength_one_encoding has octets r e = record { right = rw e (λ t same. ap length same); told = λ k t same small. e ∙ ap (λ u. Some (length u)) (sym same) }
+
+-- an encoding that can be read has fewer than 2^64 octets
+few_identifier_octets : (tag : Tag) → tag.value < 2 ^ 32 → length (identifier_octets tag) ≤ 6
+few_identifier_octets tag small = ⊎_elim
+    (λ (l : tag.value < 31). rw (identifier_octets_low tag (omega arith)) (omega arith))
+    (λ (l : 31 ≤ tag.value). rw (identifier_octets_long tag l) (omega (arith, length_number_octets_le_5 tag.value small))) (cases_lt tag.value 31)
+
+few_length_octets : (n : ℕ) → n < 2 ^ 32 → length (length_octets n) ≤ 5
+few_length_octets n small = ⊎_elim
+    (λ (l : n < 128). rw (length_octets_low n l) (omega arith))
+    (λ (l : 128 ≤ n). rw (length_octets_high n l) (omega (arith, length_digits_of_le_4 n small))) (cases_lt n 128)
+
+pub Fits_length : (t : List ℕ) → Fits t → length t < 2 ^ 64
+unfolding full_count
+Fits_length t (inl none) = omega (arith, ap length none)
+Fits_length t (inr (e, is, same)) =
+    omega (arith, ap length same ∙ length_element e.tag e.content, is.content, few_identifier_octets e.tag is.tag, few_length_octets (length e.content) is.content)
+
+-- so its length is known
+pub GivesLength_exact : {V : Type 0} (d : Der V) (has : Type 0) (m : d.Meaning) (known : Option ℕ) → GivesLength has (d.encodings m) known → has → d.plain → d.valid m → Fits (d.encoding m) → known ≡ Some (length (d.encoding m))
+GivesLength_exact d has m known gives h plain valid fits = gives.told h (d.encoding m) (d.laws.has_encoding plain m valid) (Fits_length (d.encoding m) fits)
 
 -- from what a body states at Ok and at Err
 pub KeepsPrefix_result : {E : Type 0} (r : Result (Unit {0}) E) (t old new : List ℕ) → OnOk r (new ≡ old ++ t) → OnErr r (KeepsPrefix old new) → KeepsPrefix old new

@@ -1,6 +1,7 @@
--- The laws of contents octets that hold one value, and what calls that read a prefix took.
-use Rattle.std.proofs.Common.{◌≡◌, ℕ, ◌<◌, ◌^◌, Bool, false, List, [], ◌∷◌, ◌++◌, length, Result, Ok, Err, refl, ap, subst, ◌∙◌, ◌⊎◌, arith}
-use Rattle.std.specs.Prelude.{IfOk}
+-- The laws of contents octets that hold one value, what calls that read a prefix took, and what calls return for the
+-- encoding of a value.
+use Rattle.std.proofs.Common.{◌≡◌, ℕ, ◌<◌, ◌^◌, Bool, false, List, [], ◌∷◌, ◌++◌, length, Result, Ok, Err, refl, sym, ap, subst, ◌∙◌, ◌⊎◌, inl, inr, arith}
+use Rattle.std.specs.Prelude.{IfOk, IsOk}
 use Rattle.std.proofs.lemmas.List.{append-nil, length-append}
 use Rattle.asn1_core.specs.declared.parser.Place.{Place}
 use Rattle.asn1_core.specs.declared.tag.Tag.{Tag}
@@ -8,7 +9,8 @@ use Rattle.asn1_core.specs.Base256.{IsOctets}
 use Rattle.asn1_core.specs.ReadError.{ReadError}
 use Rattle.asn1_core.specs.Reading.{Returns, Consumes, Fits, IsOneElement, begins_accepted, whole}
 use Rattle.asn1_core.specs.Der.{Der}
-use Rattle.asn1_core.specs.Reads.{ReturnsValue}
+use Rattle.asn1_core.specs.Reads.{Encodes, ReturnsValue, IsReadValue}
+use Rattle.asn1_core.specs.Lemmas.Results.{done_injective}
 use Rattle.asn1_core.specs.Lemmas.Wholes.{whole_consumes, whole_read_back, Fits_short, begins_accepted_nil}
 
 pub inside_consumes : {M : Type 0} (encoding : M → List ℕ) (valid : M → Type 0) (read : List ℕ → Result (M × List ℕ) ReadError) →
@@ -23,6 +25,10 @@ pub inside_read_back : {M : Type 0} (accepts : Tag → Bool) (encoding : M → L
     (Fits (encoding m) → (encoding m ≡ [] → begins_accepted accepts [] ≡ false) → read (encoding m ++ []) ≡ Ok (m, [])) →
     length (encoding m) < 2 ^ 32 → whole (read (encoding m)) ≡ Ok m
 inside_read_back accepts encoding read m shape again small = whole_read_back encoding read m (encoding m) (again (Fits_short (encoding m) shape small) (λ e. begins_accepted_nil accepts)) refl
+
+-- what a read consumes is short enough to be read
+pub consumes_read_value : {V : Type 0} (d : Der V) (t rest : List ℕ) (m : d.Meaning) → IsOctets t → d.read t ≡ Ok (m, rest) → Consumes t (d.encoding m) rest × IsReadValue d m
+consumes_read_value d t rest m is e = let h = d.laws.consumes t rest m is e in (h.0, (h.1.0, (h.1.1, h.0.one)))
 
 -- what a call took that returned a value: the value's encoding
 pub Returns_consumed : {V M : Type 0} (view : V → M) (out : List Place → Type 0) (encoding : M → List ℕ) (good : M → Type 0) (read : List ℕ → Result (M × List ℕ) ReadError) →
@@ -45,3 +51,27 @@ pub length_remaining_lt : {V M : Type 0} (view : V → M) (encoding : M → List
     IfOk result (λ v. (t ≡ encoding (view v) ++ rest) × good (view v)) → IfOk result (λ v. length rest < length t)
 length_remaining_lt view encoding good t rest (Ok v) solid took = length_suffix_lt (encoding (view v)) rest t took.0 (solid (view v) took.1)
 length_remaining_lt view encoding good t rest (Err e) solid took = tt
+
+module _ {V : Type 0} (d : Der V) (octets : List ℕ) where
+  -- the encoding of a value is read to its end, as that value
+  pub whole_Encodes : (m : d.Meaning) → d.lawful → Encodes d m octets → whole (d.read octets) ≡ Ok m
+  whole_Encodes m lawful h = whole_read_back d.encoding d.read m octets
+      (d.laws.read_back m [] lawful h.valid h.allowed h.fits (λ e. begins_accepted_nil d.accepts)) h.is
+
+  -- it is the encoding of no other
+  pub Encodes_injective : (m n : d.Meaning) → d.lawful → Encodes d m octets → Encodes d n octets → m ≡ n
+  Encodes_injective m n lawful h k = done_injective m n (sym (whole_Encodes m lawful h) ∙ whole_Encodes n lawful k)
+
+  -- a call returns a value for it, if nothing is allocated
+  pub IsOk_Encodes : (result : Result V ReadError) (m : d.Meaning) → d.lawful → Encodes d m octets → (d.takes_memory → ⊥)
+      → Returns d.meaning (d.runs_out octets) result (whole (d.read octets)) → IsOk result
+  IsOk_Encodes (Ok v) m lawful h none answers = refl
+  IsOk_Encodes (Err e) m lawful h none (inl answers) = let is = sym (whole_Encodes m lawful h) ∙ answers in absurd cc
+  IsOk_Encodes (Err e) m lawful h none (inr answers) = absurd (none (d.laws.memory octets e.places answers.1))
+
+  -- a value that a call returns is the one whose encoding it is
+  pub Returns_Encodes : (result : Result V ReadError) → d.lawful
+      → Returns d.meaning (d.runs_out octets) result (whole (d.read octets))
+      → IfOk result (λ v. (m : d.Meaning) → Encodes d m octets → d.meaning v ≡ m)
+  Returns_Encodes (Ok v) lawful answers = λ m h. done_injective (d.meaning v) m (sym answers ∙ whole_Encodes m lawful h)
+  Returns_Encodes (Err e) lawful answers = tt

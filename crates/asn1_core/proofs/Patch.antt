@@ -1,5 +1,5 @@
 -- The octets after length octets replaced one octet.
-use Rattle.std.proofs.Common.{◌≡◌, ◌+◌, ◌-◌, ◌<◌, ◌≤◌, ◌++◌, ◌^◌, [], ◌∷◌, zero, suc, length, take, drop, replicate, bit_or, ℕ, List, refl, sym, arith, length-drop}
+use Rattle.std.proofs.Common.{◌≡◌, ◌+◌, ◌-◌, ◌<◌, ◌≤◌, ◌++◌, ◌^◌, ◌∷◌, zero, suc, length, take, drop, replicate, bit_or, ℕ, List, refl, sym, arith, length-drop}
 use Rattle.std.specs.Int.Digits.{digits_of}
 use Rattle.std.proofs.lemmas.Grind.{common_steps, numeral_or}
 use Rattle.std.proofs.lemmas.List.Edits.{take-paste, length-paste}

@@ -18,6 +18,8 @@ pub record ContentLaws {M : Type 0} (c : Content M) : Type 0 where
   pub no_closures : c.plain → (m : M) → c.closures m
   pub consumes : (t : List ℕ) (m : M) → IsOctets t → c.read t ≡ Ok m → (t ≡ c.encoding m) × (c.valid m × c.allowed m)
   pub read_back : (m : M) → c.lawful → c.valid m → c.allowed m → length (c.encoding m) < 2 ^ 32 → c.read (c.encoding m) ≡ Ok m
+  -- no two valid values have the same contents octets, be they allowed or not, if the type is read
+  pub one_value : c.is_read → (m n : M) → c.lawful → c.valid m → c.valid n → c.encoding m ≡ c.encoding n → m ≡ n
   pub unbounded : (c.bounded → ⊥) → (m : M) → c.valid m → c.allowed m
   pub memory : (t : List ℕ) (places : List Place) → c.runs_out t places → c.takes_memory
   pub errors : (t : List ℕ) → IfErr (c.read t) IsOfInput
@@ -50,8 +52,8 @@ pub record EncodingLaws {M : Type 0} (e : Encoding M) : Type 1 where
   -- a lawful type reads the encoding of a valid, allowed value back, whatever octets are after it, if the encoding
   -- fits; after an empty one mustn't be an accepted tag
   pub read_back : (m : M) (rest : List ℕ) → e.lawful → e.valid m → e.allowed m → Fits (e.encoding m) → (e.encoding m ≡ [] → begins_accepted e.accepts rest ≡ false) → e.read (e.encoding m ++ rest) ≡ Ok (m, rest)
-  -- no two values share an encoding
-  pub one_value : (m n : M) → e.lawful → e.valid m → e.valid n → e.allowed m → e.allowed n → Fits (e.encoding m) → e.encoding m ≡ e.encoding n → m ≡ n
+  -- no two valid values share an encoding, be they allowed or not, if the type is read
+  pub one_value : e.is_read → (m n : M) → e.lawful → e.valid m → e.valid n → e.encoding m ≡ e.encoding n → m ≡ n
   -- a short encoding can be read
   pub short_fits : (m : M) → e.lawful → e.valid m → length (e.encoding m) < 2 ^ 32 → Fits (e.encoding m)
   -- a type without bounds reads each valid value back
@@ -74,6 +76,8 @@ pub record EncodingLaws {M : Type 0} (e : Encoding M) : Type 1 where
   pub as_errors : {V : Type 0} (meaning : V → M) → (e.takes_memory → ⊥) → (c : List ℕ) (result : Result V ReadError) → Returns meaning (e.content.runs_out c) result (e.content.read c) → IfErr result IsOfInput
   -- if the type is plain, so is its content
   pub as_plain : e.is_simple → e.plain → e.content.plain
+  -- if the type is read, so is its content
+  pub as_is_read : e.is_simple → e.is_read → e.content.is_read
   -- if the type is lawful, so is its content
   pub as_lawful : e.is_simple → e.lawful → e.content.lawful
   -- a write appends an element of its contents octets

@@ -38,13 +38,25 @@ abbrev pub ReadsDefined : {T V : Type 0} → ByItem T V → T → List ℕ → L
 ReadsDefined by item octets remaining result =
     Returns (λ v. (by.means.meaning v, remaining)) (by.means.runs_out (by.seen item) octets) result (by.means.read (by.seen item) octets)
 
--- These octets are the encoding of this value, which is valid and within the type's bounds.
-abbrev pub IsEncodingOf : {V : Type 0} → Der V → V → List ℕ → Type 0
-IsEncodingOf d v octets = (octets ≡ d.encoding (d.meaning v)) × (d.valid (d.meaning v) × d.allowed (d.meaning v))
+-- This value is valid and within the type's bounds, and its encoding is short enough to be read.
+abbrev pub IsReadValue : {V : Type 0} → (d : Der V) → d.Meaning → Type 0
+IsReadValue d m = d.valid m × (d.allowed m × Fits (d.encoding m))
 
--- The octets begin with the encoding of this value, which is valid and within the type's bounds; these remain.
+-- These octets are the encoding of this value, which is valid, within the type's bounds, and short enough to be read.
+abbrev pub IsEncodingOf : {V : Type 0} → Der V → V → List ℕ → Type 0
+IsEncodingOf d v octets = (octets ≡ d.encoding (d.meaning v)) × IsReadValue d (d.meaning v)
+
+-- The same of an abstract value.
+pub record Encodes {V : Type 0} (d : Der V) (m : d.Meaning) (octets : List ℕ) : Type 0 where
+  pub is : octets ≡ d.encoding m
+  pub valid : d.valid m
+  pub allowed : d.allowed m
+  pub fits : Fits (d.encoding m)
+
+-- The octets begin with the encoding of this value, which is valid, within the type's bounds, and short enough to be
+-- read; these remain.
 abbrev pub BeginsWithEncodingOf : {V : Type 0} → Der V → V → List ℕ → List ℕ → Type 0
-BeginsWithEncodingOf d v octets remaining = (octets ≡ d.encoding (d.meaning v) ++ remaining) × (d.valid (d.meaning v) × d.allowed (d.meaning v))
+BeginsWithEncodingOf d v octets remaining = (octets ≡ d.encoding (d.meaning v) ++ remaining) × IsReadValue d (d.meaning v)
 
 -- The octets begin with an element with this tag and these contents octets; these remain.
 abbrev pub BeginsWithElement : Tag → List ℕ → List ℕ → List ℕ → Type 0

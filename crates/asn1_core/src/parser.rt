@@ -1,7 +1,7 @@
 //! Reading: errors with their locations, framing, and the parser.
 
 ghost use Rattle.std.specs.Prelude.{◌≡◌, ◌↔◌, ◌*◌, ◌<◌, ◌≤◌, ◌==◌, ◌++◌};
-ghost use Rattle.std.specs.Prelude.{ℕ, [], List, Result, length, IsTrue, IfOk, IfErr, IfSome, OnErr, false};
+ghost use Rattle.std.specs.Prelude.{ℕ, [], List, Result, length, IsTrue, IfOk, IfErr, IfSome, IsOk, OnErr, false};
 ghost use Rattle.asn1_core.specs.declared.parser.ParseErrorKind.{ParseErrorKind};
 ghost use Rattle.asn1_core.specs.declared.parser.ParseErrorKind.TheVariants.{ShortData};
 ghost use Rattle.asn1_core.specs.Base256.{IsOctets, number};
@@ -14,7 +14,7 @@ ghost use Rattle.asn1_core.specs.ReadError.{read_error, within, framed, ReturnsP
 ghost use Rattle.asn1_core.specs.ReadError.{error_text, kind_eq, place_eq, read_error_eq, with_rest};
 ghost use Rattle.asn1_core.specs.Reading.{EndsWith, ReadsBy, rest_rejected, expected_contents, simple_stops};
 ghost use Rattle.asn1_core.specs.Reads.{BeginsWithEncodingOf, BeginsWithExplicit, BeginsWithImplicit, IsEncodingOf};
-ghost use Rattle.asn1_core.specs.Reads.{ReadsBack, ReadsBackExplicit, ReadsBackImplicit, ReadsBackPrefix};
+ghost use Rattle.asn1_core.specs.Reads.{Encodes, ReadsBack, ReadsBackExplicit, ReadsBackImplicit, ReadsBackPrefix};
 ghost use Rattle.asn1_core.specs.Reads.{ReadsExplicit, ReadsImplicit, ReadsPrefix, ReadsWhole};
 ghost use Rattle.asn1_core.specs.Laws.{IsShort, with_more};
 ghost use Rattle.std.specs.Cmp.{decided, partial_equiv_from_equiv};
@@ -592,6 +592,9 @@ pub fn strip_tlv(data: &[u8]) -> ParseResult<(Tlv<'_>, &[u8])>
     ensures full_data { IfOk result (λ x. full_octets x.0 ≡ element_encoding (element_of x.0)) }
     ensures no_place { IfErr result (λ e. e.places ≡ []) }
 
+    // Fewer octets remain after an element.
+    ensures progress { IfOk result (λ x. length x.1.now < length «data».now) }
+
     // The result stays the same for every longer input, unless octets are missing.
     ensures stays { (more : List ℕ) → IsOctets more → ¬ IsShort (stripped result)
         → leading_element («data».now ++ more) ≡ with_more (stripped result) more }
@@ -702,6 +705,14 @@ pub fn parse_single<'a, T: Asn1Readable<'a>>(alloc: Global, data: &'a [u8]) -> P
 
     // The encoding of a value is read as that value.
     ensures only { ReadsBack T.der «data».entry.now result }
+
+    // Octets that encode a value are read, if the type doesn't allocate.
+    ensures some { T.der.lawful → ¬ T.der.takes_memory
+        → ((m : T.der.Meaning) × Encodes T.der m «data».entry.now) → IsOk result }
+
+    // They encode no other value than the one that is returned.
+    ensures one { T.der.lawful → IfOk result (λ v. (m : T.der.Meaning)
+        → Encodes T.der m «data».entry.now → T.der.meaning v ≡ m) }
 
     // A type that doesn't allocate is never out of memory.
     ensures no_memory_error { ¬ T.der.takes_memory → IfErr result IsOfInput }

@@ -1,10 +1,10 @@
 -- The octet of an error of what a closure rejects, if the closure rejects as a definition says.
-use Rattle.std.proofs.Common.{◌≡◌, ℕ, List, Option, Some, Bor, sym, ap, ◌∙◌}
+use Rattle.std.proofs.Common.{◌≡◌, ℕ, ◌+◌, Bool, true, false, List, Option, Some, None, Bor, sym, ap, ◌∙◌}
 use Rattle.std.specs.Fn.{Shared, FnReturnsAt}
 use Rattle.asn1.specs.declared.ParseErrorKind.{ParseErrorKind}
 use Rattle.asn1.specs.declared.ParseErrorKind.TheVariants.{InvalidValue, InvalidTag, InvalidLength, InvalidSize, UnexpectedTag, ShortData, IntegerOverflow, ExtraData, InvalidSetOrdering, EncodedDefault, OidTooLong, UnknownDefinedBy, AllocationError}
 use Rattle.asn1.specs.declared.Place.{Place}
-use Rattle.asn1.specs.ErrorOctets.{IsErrorOctet, IsEnd, IsWrongElement, IsWrongHeader}
+use Rattle.asn1.specs.ErrorOctets.{IsErrorOctet, IsEnd, IsFirstLeft, IsReadThere, IsWrongElement, IsWrongHeader, LeaveOpen}
 use Rattle.asn1.specs.ReadError.{ReadError}
 use Rattle.asn1_for_c.specs.Octets.{IsRejectedAt}
 
@@ -13,8 +13,46 @@ module _ {P Q : List ℕ → Option ReadError → Type 0} (more : (input : List 
   IsEnd_weaker : (error : ReadError) → IsEnd P octets error octet → IsEnd Q octets error octet
   IsEnd_weaker error e = (e.0, more _ _ e.1)
 
+  LeaveOpen_weaker : (error : ReadError) (count : ℕ) → LeaveOpen P octets error count → LeaveOpen Q octets error count
+  LeaveOpen_weaker error count e = (e.0, more _ _ e.1, e.2)
+
+  IsReadThere_weaker : (error : ReadError) (answer : Bool) (start : ℕ) → IsReadThere P octets error answer start → IsReadThere Q octets error answer start
+  IsReadThere_weaker error answer start e = (e.0, e.1, e.2, e.3, more _ _ e.4, e.5)
+
+  inner_weaker : (error : ReadError) (start : ℕ) (found : Option ℕ)
+      → elim found as (λ _. Type 0) [ None ↦ Unit {0} | Some inner ↦ IsReadThere P octets error false (start + inner) ]
+      → elim found as (λ _. Type 0) [ None ↦ Unit {0} | Some inner ↦ IsReadThere Q octets error false (start + inner) ]
+  inner_weaker error start None e = tt
+  inner_weaker error start (Some inner) e = IsReadThere_weaker error false (start + inner) e
+
   IsWrongElement_weaker : (error : ReadError) → IsWrongElement P octets error octet → IsWrongElement Q octets error octet
-  IsWrongElement_weaker error e = (e.0, e.1, (e.2.0, more _ _ e.2.1, e.2.2), more _ _ e.3)
+  IsWrongElement_weaker error e = record {
+    element = e.element;
+    rest = e.rest;
+    is = e.is;
+    left_open = LeaveOpen_weaker error octet e.left_open;
+    decided = more _ _ e.decided;
+    count = e.count;
+    turn = (e.turn.0, more _ _ e.turn.1, LeaveOpen_weaker error _ e.turn.2);
+    behind = e.behind;
+    before = e.before;
+    there = IsReadThere_weaker error true octet e.there;
+    innermost = λ constructed less. inner_weaker error _ _ (e.innermost constructed less);
+  }
+
+  IsFirstLeft_weaker : (error : ReadError) → IsFirstLeft P octets error octet → IsFirstLeft Q octets error octet
+  IsFirstLeft_weaker error e = record {
+    start = e.start;
+    element = e.element;
+    rest = e.rest;
+    is = e.is;
+    tag = e.tag;
+    after = e.after;
+    tag_is = e.tag_is;
+    behind = e.behind;
+    needed = LeaveOpen_weaker error _ e.needed;
+    decided = more _ _ e.decided;
+  }
 
   IsWrongHeader_weaker : (error : ReadError) → IsWrongHeader P octets error octet → IsWrongHeader Q octets error octet
   IsWrongHeader_weaker error e = (e.0, (e.1.0, more _ _ e.1.1, e.1.2))
@@ -23,7 +61,7 @@ module _ {P Q : List ℕ → Option ReadError → Type 0} (more : (input : List 
   IsErrorOctet_weaker InvalidTag places e = IsWrongHeader_weaker _ e
   IsErrorOctet_weaker InvalidLength places e = IsWrongHeader_weaker _ e
   IsErrorOctet_weaker (ShortData needed) places e = IsEnd_weaker _ e
-  IsErrorOctet_weaker ExtraData places e = IsEnd_weaker _ e
+  IsErrorOctet_weaker ExtraData places e = IsFirstLeft_weaker _ e
   IsErrorOctet_weaker InvalidValue places e = IsWrongElement_weaker _ e
   IsErrorOctet_weaker (InvalidSize min max actual) places e = IsWrongElement_weaker _ e
   IsErrorOctet_weaker (UnexpectedTag actual) places e = IsWrongElement_weaker _ e

@@ -1,7 +1,9 @@
 //! Whether octets are the one encoding of an object of `pkix`, such as a certificate, and where it has an error.
 
-ghost use Rattle.std.specs.Prelude.{◌≡◌, [], IfSome, IfNone, IsTrue};
+ghost use Rattle.std.specs.Prelude.{◌≡◌, [], IfErr, IfOk, IfSome, IfNone, IsOk, IsTrue};
+ghost use Rattle.asn1.specs.ReadError.{IsOfInput};
 ghost use Rattle.asn1.specs.Reading.{Fits, whole};
+ghost use Rattle.asn1.specs.Reads.{ReadsWhole};
 ghost use Rattle.asn1_for_c.specs.Errors.{unknown_type, without_details};
 ghost use Rattle.asn1_for_c.specs.Locations.{told_location};
 ghost use Rattle.asn1_for_c.specs.Objects.{IsNoObject, TellsOf, key_number, signature_number};
@@ -13,7 +15,7 @@ ghost use Rattle.asn1_for_c.specs.declared.objects.Object.TheVariants as objects
 use crate::errors::{Asn1Error, UNKNOWN_TYPE, error_of};
 use crate::locations::leave_location;
 use crate::texts::leave_text;
-use asn1::{Asn1Readable, Asn1Type, Tag, parse_single, strip_tlv};
+use asn1::{Asn1Readable, Asn1Type, ParseResult, Tag, parse_single, strip_tlv};
 use pkix::certificate::Certificate;
 use pkix::certificate::laws::certificate_is_lawful;
 use pkix::common::SubjectPublicKeyInfo;
@@ -158,6 +160,18 @@ impl Object {
     }
 }
 
+/// Reads the octets as a value of the type `T`, by [`parse_single`], whose clauses are said here in fewer words.
+fn read_object<'a, T: Asn1Readable<'a>>(alloc: Global, octets: &'a [u8]) -> ParseResult<T>
+    requires lawful { T.der.lawful }
+    requires needs_no_memory { T.der.takes_memory → ⊥ }
+    ensures exact { ReadsWhole T.der octets.entry.now result }
+    ensures found { IfOk result (λ _. IsEncoding T.der octets.entry.now) }
+    ensures only { IsEncoding T.der octets.entry.now → Fits octets.entry.now → IsOk result }
+    ensures no_memory_error { IfErr result IsOfInput }
+{
+    parse_single::<T>(alloc, octets)
+}
+
 /// Whether the octets are the encoding of a value of the type `T`. Returns the number of the error, and sets `error`
 /// and the error's location.
 fn check_object<'a, T: Asn1Readable<'a>>(
@@ -174,7 +188,7 @@ fn check_object<'a, T: Asn1Readable<'a>>(
     ensures place { LeavesText (told_location (whole (T.der.read octets.entry.now)))
         place.old place.new count.new }
 {
-    match parse_single::<T>(alloc, octets) {
+    match read_object::<T>(alloc, octets) {
         Ok(_value) => {
             *error = Asn1Error::without_details(0);
             leave_text(b"", place, count);

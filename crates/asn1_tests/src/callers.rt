@@ -63,15 +63,13 @@ pub fn implicit_tags_want_no_memory<'a, T: SimpleAsn1Readable<'a>>(
     parser.read_implicit_element::<T>(3)
 }
 
-/// Values whose octets are the same mean the same.
+/// Values whose octets are the same mean the same, be they within the type's bounds or not.
 pub fn same_octets_mean_the_same<'a, T: Asn1Readable<'a> + Asn1Writable>(
     alloc: Global,
     a: &T,
     b: &T,
 ) -> Result<bool, T::Error>
     requires lawful { T.der.lawful }
-    requires free { T.der.bounded → ⊥ }
-    requires fits { Fits (T.der.encoding (T.der.meaning a.now)) }
     ensures { IfOk result (λ same. IsTrue same → T.der.meaning a.now ≡ T.der.meaning b.now) }
 {
     a.known();

@@ -4,7 +4,7 @@ ghost use Rattle.std.specs.Prelude.{◌≡◌, ◌↔◌, ◌∷◌, [], IsOk, I
 ghost use Rattle.asn1.specs.Listing.{SameEncodings};
 ghost use Rattle.asn1.specs.Reads.{HasOneEncoding, ReadsContents};
 ghost use Rattle.asn1.specs.Structures.{field_names, structure, fields2};
-ghost use Rattle.asn1.specs.Headline.{AllFit, Encodes};
+ghost use Rattle.asn1.specs.Headline.{Encodes};
 
 use asn1::fields::{Fields2, Row};
 use asn1::headline::{
@@ -114,6 +114,7 @@ impl<'a> SimpleAsn1Readable<'a> for Holder<'a> {
         ensures value { result ≡ ⟦<Holder<'a> as Asn1Type>⟧.der.content.tag }
         ensures simple { ⟦<Holder<'a> as Asn1Type>⟧.der.is_simple }
         ensures plain { ⟦<Holder<'a> as Asn1Type>⟧.der.plain }
+        ensures read { ⟦<Holder<'a> as Asn1Type>⟧.der.is_read }
     {
         Tag::constructed(0x10)
     }
@@ -145,15 +146,11 @@ fn sets_of_pairs<'a>(
     items: &'a [Pair],
     others: &'a [Pair],
 ) -> Result<(Vec<u8>, Vec<u8>), WriteError>
-    requires items { AllFit ⟦<Pair as Asn1Type>⟧.der
-        (map ⟦<Pair as Asn1Type>⟧.der.meaning items.now) }
-    requires others { AllFit ⟦<Pair as Asn1Type>⟧.der
-        (map ⟦<Pair as Asn1Type>⟧.der.meaning others.now) }
-    ensures { IfOk result (λ both. (both.0.items ≡ both.1.items)
-        ↔ SameEncodings (map ⟦<Pair as Asn1Type>⟧.der.encoding
-        (map ⟦<Pair as Asn1Type>⟧.der.meaning items.entry.now))
-        (map ⟦<Pair as Asn1Type>⟧.der.encoding
-        (map ⟦<Pair as Asn1Type>⟧.der.meaning others.entry.now))) }
+    ensures { IfOk result (λ both. (both.0.items ≡ both.1.items) ↔ SameEncodings
+        (map (λ v. ⟦<Pair as Asn1Type>⟧.der.encoding (⟦<Pair as Asn1Type>⟧.der.meaning v))
+        items.entry.now)
+        (map (λ v. ⟦<Pair as Asn1Type>⟧.der.encoding (⟦<Pair as Asn1Type>⟧.der.meaning v))
+        others.entry.now)) }
 {
     sets_tell_multisets(alloc, items, others)
 }

@@ -178,6 +178,7 @@ pub fn rows_of_two_are_read<'a, A: Asn1Readable<'a>, B: Asn1Readable<'a>>()
     ensures read { IsReadAs ⟦<Fields2<A, B> as Row>⟧.list
         ⟦<Fields2<A, B> as RowReadable<'a>>⟧.list }
     ensures plain { ⟦<Fields2<A, B> as RowReadable<'a>>⟧.list.fields.plain }
+    ensures is_read { ⟦<Fields2<A, B> as RowReadable<'a>>⟧.list.fields.is_read }
 {
     rows_are_read::<B, NoFields>();
     rows_are_read::<A, Last<B>>();
@@ -194,6 +195,7 @@ pub fn values_behind_items_are_read<
     ensures read { IsReadAs ⟦<Item<T, LastValue<C>> as Row>⟧.list
         ⟦<Item<T, LastValue<C>> as RowReadable<'a>>⟧.list }
     ensures plain { ⟦<Item<T, LastValue<C>> as RowReadable<'a>>⟧.list.fields.plain }
+    ensures is_read { ⟦<Item<T, LastValue<C>> as RowReadable<'a>>⟧.list.fields.is_read }
 {
     rows_behind_items_are_read::<T, T, C, NoFields, LastValue<C>>();
     rows_behind_items_are_plain::<T, T, C, NoFields, LastValue<C>>();

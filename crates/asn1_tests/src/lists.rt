@@ -109,6 +109,15 @@ fn items_left_are_written(rt: HostRuntime) -> Result<(), Fail> {
     is_written(alloc, &whole, FIVE_AND_SEVEN)
 }
 
+/// The items of a list are taken in turn, until none remains.
+#[test]
+fn items_of_lists_are_taken(rt: HostRuntime) -> Result<(), Fail> {
+    let mut list = parse_single::<List<'_, u64>>(rt.alloc(), FIVE_AND_SEVEN)?;
+    same(list.take_next()?, Some(5))?;
+    same(list.take_next()?, Some(7))?;
+    same(list.take_next()?, None)
+}
+
 #[test]
 fn lists_are_made_of_items(rt: HostRuntime) -> Result<(), Fail> {
     let alloc = rt.alloc();

@@ -31,6 +31,7 @@ impl<'a> SimpleAsn1Readable<'a> for Inner<'a> {
         ensures value { result ≡ sequence_tag }
         ensures simple { Unit {0} }
         ensures plain { Unit {0} }
+        ensures read { Unit {0} }
     {
         Tag::constructed(0x10)
     }

@@ -40,6 +40,15 @@ fn sets_are_made_of_items(rt: HostRuntime) -> Result<(), Fail> {
     is_written(alloc, &twice, FIVE_TWICE)
 }
 
+/// The items of a set are taken in its order, until none remains.
+#[test]
+fn items_of_sets_are_taken(rt: HostRuntime) -> Result<(), Fail> {
+    let mut set = parse_single::<SetOf<'_, u64>>(rt.alloc(), FIVE_TWICE)?;
+    same(set.take_next()?, Some(5))?;
+    same(set.take_next()?, Some(5))?;
+    same(set.take_next()?, None)
+}
+
 #[test]
 fn copies_of_sets(rt: HostRuntime) -> Result<(), Fail> {
     let alloc = rt.alloc();

@@ -1,6 +1,7 @@
 mod Bits
 mod PlainTexts
 mod FractionDigits
+mod TimeOrder
 mod TimeTexts
 pub mod BitLists
 pub mod Dotted

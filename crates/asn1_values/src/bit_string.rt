@@ -117,6 +117,7 @@ impl<'a> SimpleAsn1Readable<'a> for BitString<'a> {
         ensures value { result ≡ universal 3 }
         ensures simple { Unit {0} }
         ensures plain { Unit {0} }
+        ensures read { Unit {0} }
     {
         Tag::primitive(0x03)
     }

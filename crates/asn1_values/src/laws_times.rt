@@ -1,6 +1,7 @@
 //! Laws of times: which octets are read and written, how times compare, and what clones are. Each is the contract of a
 //! function that does nothing.
 
+ghost use Rattle.std.specs.Cmp.{IsTotalOrder};
 ghost use Rattle.asn1_values.specs.Comparisons.{ClonesAreEqual, HashesAlike, IsEqualityOf, IsOrderOf, IsTieOf};
 ghost use Rattle.asn1_values.specs.Comparisons.{NeverFails};
 ghost use Rattle.asn1_values.specs.TimeValues.{TimesAreRead, TimesAreWritten};
@@ -27,9 +28,11 @@ pub fn times_are_written()
 {}
 
 /// A `DateTime` is ordered by year, month, day, hour, minute and second, in turn. Two are equal exactly if these are
-/// the same, and then their hashes are equal too. A clone never fails, and equals its source.
+/// the same, and then their hashes are equal too. Of two others exactly one is before the other, and what is before an
+/// earlier one is earlier (`line`). A clone never fails, and equals its source.
 pub fn date_times_compare()
     ensures order { IsOrderOf moment moment_order ⟦<DateTime as PartialOrd>⟧.partial_cmp }
+    ensures line { IsTotalOrder moment_order }
     ensures tie { IsTieOf moment moment_order }
     ensures equality { IsEqualityOf moment ⟦<DateTime as PartialEq>⟧.eq }
     ensures hash { HashesAlike moment ⟦<DateTime as Hash>⟧.hash_input }
@@ -38,11 +41,12 @@ pub fn date_times_compare()
 {}
 
 /// A `GeneralizedTime` is ordered by date and time of day, then no fraction before any fraction, then by nanoseconds.
-/// Two are equal exactly if these are the same, and then their hashes are equal too. A clone never fails, and equals
-/// its source.
+/// Two are equal exactly if these are the same, and then their hashes are equal too. Of two others exactly one is
+/// before the other, and what is before an earlier one is earlier (`line`). A clone never fails, and equals its source.
 pub fn generalized_times_compare()
     ensures order { IsOrderOf instant_of instant_order
         ⟦<GeneralizedTime as PartialOrd>⟧.partial_cmp }
+    ensures line { IsTotalOrder instant_order }
     ensures tie { IsTieOf instant_of instant_order }
     ensures equality { IsEqualityOf instant_of ⟦<GeneralizedTime as PartialEq>⟧.eq }
     ensures hash { HashesAlike instant_of ⟦<GeneralizedTime as Hash>⟧.hash_input }

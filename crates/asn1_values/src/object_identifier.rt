@@ -5,7 +5,9 @@ ghost use Rattle.std.specs.Prelude.{IfSome, option_map, length, true, Some, take
 ghost use Rattle.std.specs.Prelude.{MatchOption};
 ghost use Rattle.asn1_core.specs.declared.parser.ParseErrorKind.{ParseErrorKind};
 ghost use Rattle.asn1_core.specs.Base128.{leading_number, number_octets};
-ghost use Rattle.asn1_core.specs.Reading.{Returns};
+ghost use Rattle.asn1_core.specs.Reading.{Returns, Fits};
+ghost use Rattle.asn1_core.specs.Element.{element, element_encoding};
+ghost use Rattle.asn1_core.specs.Tag.{universal};
 ghost use Rattle.asn1_core.specs.Der.{simple_der};
 ghost use Rattle.asn1_values.specs.Identifier.{identifier_content, identifier_numbers, numbers_in, read_identifier};
 ghost use Rattle.asn1_values.specs.Identifier.{IsIdentifierForm, IsIdentifier, dotted_text, part_number, text_numbers};
@@ -259,7 +261,11 @@ impl Asn1Type for ObjectIdentifier {
 
     ghost der = { simple_der identifier_of identifier_basic identifier_laws };
 
-    fn known(&self) {}
+    fn known(&self)
+        ensures valid { identifier_basic.valid (identifier_of self.now) }
+        ensures fits { Fits (element_encoding (element (universal 6)
+            (identifier_content (identifier_of self.now)))) }
+    {}
 }
 
 impl<'a> SimpleAsn1Readable<'a> for ObjectIdentifier {

@@ -68,6 +68,20 @@ pub struct Settings {
     pub switch: Switch,
 }
 
+/// [APPLICATION 5] IMPLICIT SET: a tag of the application in place of a set's own.
+#[derive(asn1::Asn1Read, asn1::Asn1Write, PartialEq)]
+#[set]
+#[application(5, implicit)]
+pub struct Preferences<'a> {
+    /// The code.
+    pub code: Option<u8>,
+    /// Octets.
+    pub octets: &'a [u8],
+    /// The version.
+    #[implicit(0)]
+    pub version: Option<Version>,
+}
+
 /// A choice of a report, a choice under a tag, and a number under a tag of the application.
 #[derive(asn1::Asn1Read, asn1::Asn1Write, PartialEq)]
 pub enum Entry<'a> {

@@ -1,5 +1,5 @@
 //! Private keys of elliptic curves (RFC 5915, 3).
-// Printed by tools/derive from declarations/ec_private_key.rs, with the sum 8da71739.
+// Printed by tools/derive from declarations/ec_private_key.rs, with the sum 5f74bc4d.
 
 ghost use Rattle.std.specs.Prelude.{◌≡◌, ◌∷◌, [], IsTrue};
 ghost use Rattle.asn1.specs.Options.{option_meaning};
@@ -60,6 +60,7 @@ impl<'a> SimpleAsn1Readable<'a> for EcPrivateKey<'a> {
         ensures value { result ≡ ⟦<EcPrivateKey<'a> as Asn1Type>⟧.der.content.tag }
         ensures simple { ⟦<EcPrivateKey<'a> as Asn1Type>⟧.der.is_simple }
         ensures plain { ⟦<EcPrivateKey<'a> as Asn1Type>⟧.der.plain }
+        ensures read { ⟦<EcPrivateKey<'a> as Asn1Type>⟧.der.is_read }
     {
         Tag::constructed(0x10)
     }

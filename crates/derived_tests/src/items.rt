@@ -1,5 +1,5 @@
 //! Values that an item before them defines: each attribute of the original's derives for them, once.
-// Printed by tools/derive from declarations/items.rs, with the sum 74ee1120.
+// Printed by tools/derive from declarations/items.rs, with the sum c35480a0.
 
 ghost use Rattle.std.specs.Prelude.{◌≡◌, ◌⊎◌, ◌∷◌, [], true, false, ⊤, IsTrue, MatchOption, OnErr};
 ghost use Rattle.std.specs.Str.{bytes_eq};
@@ -174,7 +174,7 @@ impl<'a> Asn1DefinedByReadable<'a, ObjectIdentifier> for Content {
         Err(ParseError::new(ParseErrorKind::UnknownDefinedBy))
     }
 
-    fn one_text() {}
+    fn one_encoding() {}
 }
 
 impl Asn1DefinedByWritable<ObjectIdentifier> for Content {
@@ -353,8 +353,9 @@ impl<'a> Asn1DefinedByReadable<'a, ObjectIdentifier> for AnyContent<'a> {
         }))
     }
 
-    fn one_text()
-        ensures { ⟦<AnyContent<'a> as Asn1DefinedBy<ObjectIdentifier>>⟧.by.means.plain }
+    fn one_encoding()
+        ensures plain { ⟦<AnyContent<'a> as Asn1DefinedBy<ObjectIdentifier>>⟧.by.means.plain }
+        ensures read { ⟦<AnyContent<'a> as Asn1DefinedBy<ObjectIdentifier>>⟧.by.means.is_read }
     {}
 }
 
@@ -429,6 +430,7 @@ impl<'a> SimpleAsn1Readable<'a> for AnySequence<'a> {
         ensures value { result ≡ ⟦<AnySequence<'a> as Asn1Type>⟧.der.content.tag }
         ensures simple { ⟦<AnySequence<'a> as Asn1Type>⟧.der.is_simple }
         ensures plain { ⟦<AnySequence<'a> as Asn1Type>⟧.der.plain }
+        ensures read { ⟦<AnySequence<'a> as Asn1Type>⟧.der.is_read }
     {
         Tag::constructed(0x10)
     }
@@ -675,8 +677,9 @@ impl<'a> Asn1DefinedByReadable<'a, ObjectIdentifier> for Listed<'a> {
         }))
     }
 
-    fn one_text()
-        ensures { ⟦<Listed<'a> as Asn1DefinedBy<ObjectIdentifier>>⟧.by.means.plain }
+    fn one_encoding()
+        ensures plain { ⟦<Listed<'a> as Asn1DefinedBy<ObjectIdentifier>>⟧.by.means.plain }
+        ensures read { ⟦<Listed<'a> as Asn1DefinedBy<ObjectIdentifier>>⟧.by.means.is_read }
     {}
 }
 
@@ -740,6 +743,7 @@ impl<'a> SimpleAsn1Readable<'a> for Entry<'a> {
         ensures value { result ≡ ⟦<Entry<'a> as Asn1Type>⟧.der.content.tag }
         ensures simple { ⟦<Entry<'a> as Asn1Type>⟧.der.is_simple }
         ensures plain { ⟦<Entry<'a> as Asn1Type>⟧.der.plain }
+        ensures read { ⟦<Entry<'a> as Asn1Type>⟧.der.is_read }
     {
         Tag::constructed(0x10)
     }
@@ -882,6 +886,7 @@ impl<'a> SimpleAsn1Readable<'a> for Order<'a> {
         ensures value { result ≡ ⟦<Order<'a> as Asn1Type>⟧.der.content.tag }
         ensures simple { ⟦<Order<'a> as Asn1Type>⟧.der.is_simple }
         ensures plain { ⟦<Order<'a> as Asn1Type>⟧.der.plain }
+        ensures read { ⟦<Order<'a> as Asn1Type>⟧.der.is_read }
     {
         Tag::constructed(0x10)
     }

@@ -1,5 +1,5 @@
 //! Kerberos messages (RFC 4120, 5): a ticket, and the requests and replies of AS and TGS.
-// Printed by tools/derive from declarations/kerberos.rs, with the sum f1532ec5.
+// Printed by tools/derive from declarations/kerberos.rs, with the sum 4a0ebc31.
 
 ghost use Rattle.std.specs.Prelude.{◌≡◌, ◌∷◌, [], IsTrue};
 ghost use Rattle.asn1.specs.Options.{option_meaning};
@@ -54,6 +54,7 @@ impl<'a> SimpleAsn1Readable<'a> for PrincipalName<'a> {
         ensures value { result ≡ ⟦<PrincipalName<'a> as Asn1Type>⟧.der.content.tag }
         ensures simple { ⟦<PrincipalName<'a> as Asn1Type>⟧.der.is_simple }
         ensures plain { ⟦<PrincipalName<'a> as Asn1Type>⟧.der.plain }
+        ensures read { ⟦<PrincipalName<'a> as Asn1Type>⟧.der.is_read }
     {
         Tag::constructed(0x10)
     }
@@ -126,6 +127,7 @@ impl<'a> SimpleAsn1Readable<'a> for HostAddress<'a> {
         ensures value { result ≡ ⟦<HostAddress<'a> as Asn1Type>⟧.der.content.tag }
         ensures simple { ⟦<HostAddress<'a> as Asn1Type>⟧.der.is_simple }
         ensures plain { ⟦<HostAddress<'a> as Asn1Type>⟧.der.plain }
+        ensures read { ⟦<HostAddress<'a> as Asn1Type>⟧.der.is_read }
     {
         Tag::constructed(0x10)
     }
@@ -198,6 +200,7 @@ impl<'a> SimpleAsn1Readable<'a> for PaData<'a> {
         ensures value { result ≡ ⟦<PaData<'a> as Asn1Type>⟧.der.content.tag }
         ensures simple { ⟦<PaData<'a> as Asn1Type>⟧.der.is_simple }
         ensures plain { ⟦<PaData<'a> as Asn1Type>⟧.der.plain }
+        ensures read { ⟦<PaData<'a> as Asn1Type>⟧.der.is_read }
     {
         Tag::constructed(0x10)
     }
@@ -283,6 +286,7 @@ impl<'a> SimpleAsn1Readable<'a> for EncryptedData<'a> {
         ensures value { result ≡ ⟦<EncryptedData<'a> as Asn1Type>⟧.der.content.tag }
         ensures simple { ⟦<EncryptedData<'a> as Asn1Type>⟧.der.is_simple }
         ensures plain { ⟦<EncryptedData<'a> as Asn1Type>⟧.der.plain }
+        ensures read { ⟦<EncryptedData<'a> as Asn1Type>⟧.der.is_read }
     {
         Tag::constructed(0x10)
     }
@@ -371,6 +375,7 @@ impl<'a> SimpleAsn1Readable<'a> for TicketBody<'a> {
         ensures value { result ≡ ⟦<TicketBody<'a> as Asn1Type>⟧.der.content.tag }
         ensures simple { ⟦<TicketBody<'a> as Asn1Type>⟧.der.is_simple }
         ensures plain { ⟦<TicketBody<'a> as Asn1Type>⟧.der.plain }
+        ensures read { ⟦<TicketBody<'a> as Asn1Type>⟧.der.is_read }
     {
         Tag::constructed(0x10)
     }
@@ -514,6 +519,7 @@ impl<'a> SimpleAsn1Readable<'a> for KdcReqBody<'a> {
         ensures value { result ≡ ⟦<KdcReqBody<'a> as Asn1Type>⟧.der.content.tag }
         ensures simple { ⟦<KdcReqBody<'a> as Asn1Type>⟧.der.is_simple }
         ensures plain { ⟦<KdcReqBody<'a> as Asn1Type>⟧.der.plain }
+        ensures read { ⟦<KdcReqBody<'a> as Asn1Type>⟧.der.is_read }
     {
         Tag::constructed(0x10)
     }
@@ -601,6 +607,7 @@ impl<'a> SimpleAsn1Readable<'a> for KdcReq<'a> {
         ensures value { result ≡ ⟦<KdcReq<'a> as Asn1Type>⟧.der.content.tag }
         ensures simple { ⟦<KdcReq<'a> as Asn1Type>⟧.der.is_simple }
         ensures plain { ⟦<KdcReq<'a> as Asn1Type>⟧.der.plain }
+        ensures read { ⟦<KdcReq<'a> as Asn1Type>⟧.der.is_read }
     {
         Tag::constructed(0x10)
     }
@@ -711,6 +718,7 @@ impl<'a> SimpleAsn1Readable<'a> for KdcRep<'a> {
         ensures value { result ≡ ⟦<KdcRep<'a> as Asn1Type>⟧.der.content.tag }
         ensures simple { ⟦<KdcRep<'a> as Asn1Type>⟧.der.is_simple }
         ensures plain { ⟦<KdcRep<'a> as Asn1Type>⟧.der.plain }
+        ensures read { ⟦<KdcRep<'a> as Asn1Type>⟧.der.is_read }
     {
         Tag::constructed(0x10)
     }

@@ -1,5 +1,5 @@
 //! Items that are numbers, and defaults that aren't literals: each form of the script for them, once.
-// Printed by tools/derive from declarations/numbers.rs, with the sum fef7e248.
+// Printed by tools/derive from declarations/numbers.rs, with the sum f479848a.
 
 ghost use Rattle.std.specs.Prelude.{◌≡◌, ◌⊎◌, ◌∷◌, [], pos, negsuc, nat_eq, true, false, ⊤, IsTrue, MatchOption, OnErr};
 ghost use Rattle.std.specs.Cmp.{partial_equiv_from_equiv};
@@ -8,11 +8,13 @@ ghost use Rattle.std.proofs.Common.{inl, inr, refl, sym};
 ghost use Rattle.std.proofs.lemmas.Bool.Decides.{Decides-int_eq};
 ghost use Rattle.std.proofs.lemmas.Cmp.{nat_eq_equiv, on_equiv};
 ghost use Rattle.asn1.specs.DefaultIdentifiers.{identifier_from};
+ghost use Rattle.asn1.specs.Element.{element, element_encoding};
 ghost use Rattle.asn1.specs.IdentifierValues.{identifier_of};
+ghost use Rattle.asn1.specs.Integer.{integer_content};
 ghost use Rattle.asn1.specs.ItemsAndValues.{by_item, word_for_word};
 ghost use Rattle.asn1.specs.Lemmas.Equalities.{naturals_content_tells, naturals_tell, number_text, seen_tells};
 ghost use Rattle.asn1.specs.Numbered.{numbered};
-ghost use Rattle.asn1.specs.Reading.{EndsWith};
+ghost use Rattle.asn1.specs.Reading.{EndsWith, Fits};
 ghost use Rattle.asn1.specs.Reads.{HasOneEncoding, ReadsContents, ReadsDefined};
 ghost use Rattle.asn1.specs.Structures.{defaulted, explicit, field_names, implicit, structure, fields4};
 ghost use Rattle.asn1.specs.Tag.{universal};
@@ -189,8 +191,9 @@ impl<'a> Asn1DefinedByReadable<'a, i32> for PaValue<'a> {
         }))
     }
 
-    fn one_text()
-        ensures { ⟦<PaValue<'a> as Asn1DefinedBy<i32>>⟧.by.means.plain }
+    fn one_encoding()
+        ensures plain { ⟦<PaValue<'a> as Asn1DefinedBy<i32>>⟧.by.means.plain }
+        ensures read { ⟦<PaValue<'a> as Asn1DefinedBy<i32>>⟧.by.means.is_read }
     {}
 }
 
@@ -257,6 +260,7 @@ impl<'a> SimpleAsn1Readable<'a> for PaData<'a> {
         ensures value { result ≡ ⟦<PaData<'a> as Asn1Type>⟧.der.content.tag }
         ensures simple { ⟦<PaData<'a> as Asn1Type>⟧.der.is_simple }
         ensures plain { ⟦<PaData<'a> as Asn1Type>⟧.der.plain }
+        ensures read { ⟦<PaData<'a> as Asn1Type>⟧.der.is_read }
     {
         Tag::constructed(0x10)
     }
@@ -400,8 +404,9 @@ impl<'a> Asn1DefinedByReadable<'a, u8> for OfVersion<'a> {
         }))
     }
 
-    fn one_text()
-        ensures { ⟦<OfVersion<'a> as Asn1DefinedBy<u8>>⟧.by.means.plain }
+    fn one_encoding()
+        ensures plain { ⟦<OfVersion<'a> as Asn1DefinedBy<u8>>⟧.by.means.plain }
+        ensures read { ⟦<OfVersion<'a> as Asn1DefinedBy<u8>>⟧.by.means.is_read }
     {}
 }
 
@@ -462,6 +467,7 @@ impl<'a> SimpleAsn1Readable<'a> for Versioned<'a> {
         ensures value { result ≡ ⟦<Versioned<'a> as Asn1Type>⟧.der.content.tag }
         ensures simple { ⟦<Versioned<'a> as Asn1Type>⟧.der.is_simple }
         ensures plain { ⟦<Versioned<'a> as Asn1Type>⟧.der.plain }
+        ensures read { ⟦<Versioned<'a> as Asn1Type>⟧.der.is_read }
     {
         Tag::constructed(0x10)
     }
@@ -517,6 +523,8 @@ impl Numbered for Version {
 
     ghost numbers = { 0 ∷ 1 ∷ [] };
 
+    ghost values = { V1 ∷ V2 ∷ [] };
+
     fn number(self) -> u32 {
         self as u32
     }
@@ -534,7 +542,13 @@ impl Asn1Type for Version {
     ghost der = { numbered (universal 2) ⟦<Version as Numbered>⟧.number_of
         ⟦<Version as Numbered>⟧.numbers };
 
-    fn known(&self) {
+    fn known(&self)
+        ensures valid { (numbered (universal 2) ⟦<Version as Numbered>⟧.number_of
+            ⟦<Version as Numbered>⟧.numbers).valid (pos (⟦<Version as Numbered>⟧.number_of
+            self.now)) }
+        ensures fits { Fits (element_encoding (element (universal 2) (integer_content (pos
+            (⟦<Version as Numbered>⟧.number_of self.now))))) }
+    {
         known_number(*self)
     }
 }
@@ -789,6 +803,7 @@ impl<'a> SimpleAsn1Readable<'a> for Named<'a> {
         ensures value { result ≡ ⟦<Named<'a> as Asn1Type>⟧.der.content.tag }
         ensures simple { ⟦<Named<'a> as Asn1Type>⟧.der.is_simple }
         ensures plain { ⟦<Named<'a> as Asn1Type>⟧.der.plain }
+        ensures read { ⟦<Named<'a> as Asn1Type>⟧.der.is_read }
     {
         Tag::constructed(0x10)
     }

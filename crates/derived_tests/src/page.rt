@@ -1,5 +1,5 @@
 //! Structures and choices: each attribute of the original's derives for them, once.
-// Printed by tools/derive from declarations/page.rs, with the sum b0798fda.
+// Printed by tools/derive from declarations/page.rs, with the sum c524a9a2.
 
 ghost use Rattle.std.specs.Prelude.{◌≡◌, ◌∷◌, [], negsuc, IsTrue, OnErr, IfOk};
 ghost use Rattle.asn1.specs.AlternativeLists.{after1, choice, first1};
@@ -191,6 +191,7 @@ impl<'a> SimpleAsn1Readable<'a> for Tagged<'a> {
         ensures value { result ≡ ⟦<Tagged<'a> as Asn1Type>⟧.der.content.tag }
         ensures simple { ⟦<Tagged<'a> as Asn1Type>⟧.der.is_simple }
         ensures plain { ⟦<Tagged<'a> as Asn1Type>⟧.der.plain }
+        ensures read { ⟦<Tagged<'a> as Asn1Type>⟧.der.is_read }
     {
         Tag::constructed(0x10)
     }
@@ -282,6 +283,7 @@ impl<'a> Asn1Readable<'a> for ResponderId<'a> {
     fn can_parse(tag: Tag) -> bool
         ensures value { result ≡ ⟦<ResponderId<'a> as Asn1Type>⟧.der.accepts tag }
         ensures plain { ⟦<ResponderId<'a> as Asn1Type>⟧.der.plain }
+        ensures read { ⟦<ResponderId<'a> as Asn1Type>⟧.der.is_read }
     {
         <ResponderIdChoice<'a> as AlternativesReadable<'a>>::accepts(tag)
     }
@@ -360,6 +362,7 @@ impl<'a> Asn1Readable<'a> for Responders<'a> {
     fn can_parse(tag: Tag) -> bool
         ensures value { result ≡ ⟦<Responders<'a> as Asn1Type>⟧.der.accepts tag }
         ensures plain { ⟦<Responders<'a> as Asn1Type>⟧.der.plain }
+        ensures read { ⟦<Responders<'a> as Asn1Type>⟧.der.is_read }
     {
         <RespondersChoice<'a> as AlternativesReadable<'a>>::accepts(tag)
     }
@@ -408,6 +411,7 @@ impl<'a> SimpleAsn1Readable<'a> for Alternative<'a> {
         ensures value { result ≡ ⟦<Alternative<'a> as Asn1Type>⟧.der.content.tag }
         ensures simple { ⟦<Alternative<'a> as Asn1Type>⟧.der.is_simple }
         ensures plain { ⟦<Alternative<'a> as Asn1Type>⟧.der.plain }
+        ensures read { ⟦<Alternative<'a> as Asn1Type>⟧.der.is_read }
     {
         Tag::constructed(0x10)
     }

@@ -1,5 +1,5 @@
 //! SNMPv3 messages (RFC 3412, RFC 3414, RFC 3416).
-// Printed by tools/derive from declarations/snmp.rs, with the sum 90146cda.
+// Printed by tools/derive from declarations/snmp.rs, with the sum 487a0364.
 
 ghost use Rattle.std.specs.Prelude.{◌≡◌, ◌∷◌, [], IsTrue, OnErr, IfOk};
 ghost use Rattle.asn1.specs.AlternativeLists.{after1, after3, after8, choice, first1, first3, second3, third3, first8};
@@ -56,6 +56,7 @@ impl<'a> SimpleAsn1Readable<'a> for SnmpV3Message<'a> {
         ensures value { result ≡ ⟦<SnmpV3Message<'a> as Asn1Type>⟧.der.content.tag }
         ensures simple { ⟦<SnmpV3Message<'a> as Asn1Type>⟧.der.is_simple }
         ensures plain { ⟦<SnmpV3Message<'a> as Asn1Type>⟧.der.plain }
+        ensures read { ⟦<SnmpV3Message<'a> as Asn1Type>⟧.der.is_read }
     {
         Tag::constructed(0x10)
     }
@@ -125,6 +126,7 @@ impl<'a> SimpleAsn1Readable<'a> for HeaderData<'a> {
         ensures value { result ≡ ⟦<HeaderData<'a> as Asn1Type>⟧.der.content.tag }
         ensures simple { ⟦<HeaderData<'a> as Asn1Type>⟧.der.is_simple }
         ensures plain { ⟦<HeaderData<'a> as Asn1Type>⟧.der.plain }
+        ensures read { ⟦<HeaderData<'a> as Asn1Type>⟧.der.is_read }
     {
         Tag::constructed(0x10)
     }
@@ -208,6 +210,7 @@ impl<'a> SimpleAsn1Readable<'a> for UsmSecurityParameters<'a> {
         ensures value { result ≡ ⟦<UsmSecurityParameters<'a> as Asn1Type>⟧.der.content.tag }
         ensures simple { ⟦<UsmSecurityParameters<'a> as Asn1Type>⟧.der.is_simple }
         ensures plain { ⟦<UsmSecurityParameters<'a> as Asn1Type>⟧.der.plain }
+        ensures read { ⟦<UsmSecurityParameters<'a> as Asn1Type>⟧.der.is_read }
     {
         Tag::constructed(0x10)
     }
@@ -299,6 +302,7 @@ impl<'a> Asn1Readable<'a> for ScopedPduData<'a> {
     fn can_parse(tag: Tag) -> bool
         ensures value { result ≡ ⟦<ScopedPduData<'a> as Asn1Type>⟧.der.accepts tag }
         ensures plain { ⟦<ScopedPduData<'a> as Asn1Type>⟧.der.plain }
+        ensures read { ⟦<ScopedPduData<'a> as Asn1Type>⟧.der.is_read }
     {
         <ScopedPduDataChoice<'a> as AlternativesReadable<'a>>::accepts(tag)
     }
@@ -357,6 +361,7 @@ impl<'a> SimpleAsn1Readable<'a> for ScopedPdu<'a> {
         ensures value { result ≡ ⟦<ScopedPdu<'a> as Asn1Type>⟧.der.content.tag }
         ensures simple { ⟦<ScopedPdu<'a> as Asn1Type>⟧.der.is_simple }
         ensures plain { ⟦<ScopedPdu<'a> as Asn1Type>⟧.der.plain }
+        ensures read { ⟦<ScopedPdu<'a> as Asn1Type>⟧.der.is_read }
     {
         Tag::constructed(0x10)
     }
@@ -483,6 +488,7 @@ impl<'a> Asn1Readable<'a> for Pdus<'a> {
     fn can_parse(tag: Tag) -> bool
         ensures value { result ≡ ⟦<Pdus<'a> as Asn1Type>⟧.der.accepts tag }
         ensures plain { ⟦<Pdus<'a> as Asn1Type>⟧.der.plain }
+        ensures read { ⟦<Pdus<'a> as Asn1Type>⟧.der.is_read }
     {
         <PdusChoice<'a> as AlternativesReadable<'a>>::accepts(tag)
     }
@@ -538,6 +544,7 @@ impl<'a> SimpleAsn1Readable<'a> for Pdu<'a> {
         ensures value { result ≡ ⟦<Pdu<'a> as Asn1Type>⟧.der.content.tag }
         ensures simple { ⟦<Pdu<'a> as Asn1Type>⟧.der.is_simple }
         ensures plain { ⟦<Pdu<'a> as Asn1Type>⟧.der.plain }
+        ensures read { ⟦<Pdu<'a> as Asn1Type>⟧.der.is_read }
     {
         Tag::constructed(0x10)
     }
@@ -607,6 +614,7 @@ impl<'a> SimpleAsn1Readable<'a> for BulkPdu<'a> {
         ensures value { result ≡ ⟦<BulkPdu<'a> as Asn1Type>⟧.der.content.tag }
         ensures simple { ⟦<BulkPdu<'a> as Asn1Type>⟧.der.is_simple }
         ensures plain { ⟦<BulkPdu<'a> as Asn1Type>⟧.der.plain }
+        ensures read { ⟦<BulkPdu<'a> as Asn1Type>⟧.der.is_read }
     {
         Tag::constructed(0x10)
     }
@@ -671,6 +679,7 @@ impl<'a> SimpleAsn1Readable<'a> for VarBind<'a> {
         ensures value { result ≡ ⟦<VarBind<'a> as Asn1Type>⟧.der.content.tag }
         ensures simple { ⟦<VarBind<'a> as Asn1Type>⟧.der.is_simple }
         ensures plain { ⟦<VarBind<'a> as Asn1Type>⟧.der.plain }
+        ensures read { ⟦<VarBind<'a> as Asn1Type>⟧.der.is_read }
     {
         Tag::constructed(0x10)
     }
@@ -823,6 +832,7 @@ impl<'a> Asn1Readable<'a> for ObjectSyntax<'a> {
     fn can_parse(tag: Tag) -> bool
         ensures value { result ≡ ⟦<ObjectSyntax<'a> as Asn1Type>⟧.der.accepts tag }
         ensures plain { ⟦<ObjectSyntax<'a> as Asn1Type>⟧.der.plain }
+        ensures read { ⟦<ObjectSyntax<'a> as Asn1Type>⟧.der.is_read }
     {
         <ObjectSyntaxChoice<'a> as AlternativesReadable<'a>>::accepts(tag)
     }

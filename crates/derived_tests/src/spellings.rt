@@ -1,5 +1,5 @@
 //! Spellings of Rust that the script reads: numbers, comments, attributes, lifetimes and visibility.
-// Printed by tools/derive from declarations/spellings.rs, with the sum 2579860f.
+// Printed by tools/derive from declarations/spellings.rs, with the sum 21e80824.
 
 ghost use Rattle.std.specs.Prelude.{◌≡◌, ◌∷◌, [], negsuc, IsTrue};
 ghost use Rattle.asn1.specs.Options.{option_meaning};
@@ -97,6 +97,7 @@ impl<'b> SimpleAsn1Readable<'b> for Spelled<'b> {
         ensures value { result ≡ ⟦<Spelled<'b> as Asn1Type>⟧.der.content.tag }
         ensures simple { ⟦<Spelled<'b> as Asn1Type>⟧.der.is_simple }
         ensures plain { ⟦<Spelled<'b> as Asn1Type>⟧.der.plain }
+        ensures read { ⟦<Spelled<'b> as Asn1Type>⟧.der.is_read }
     {
         Tag::constructed(0x10)
     }

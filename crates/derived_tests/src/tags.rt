@@ -1,16 +1,18 @@
 //! Tags of every class, sets, and enums whose values have numbers: each form of the script for them, once.
-// Printed by tools/derive from declarations/tags.rs, with the sum 835f41a9.
+// Printed by tools/derive from declarations/tags.rs, with the sum 3e3a6eb1.
 
-ghost use Rattle.std.specs.Prelude.{◌≡◌, ◌∷◌, [], true, false, IsTrue, OnErr, IfOk};
+ghost use Rattle.std.specs.Prelude.{◌≡◌, ◌∷◌, [], pos, true, false, IsTrue, OnErr, IfOk};
 ghost use Rattle.asn1.specs.AlternativeLists.{after1, after8, choice, first1, first3, second3, third3, first8};
 ghost use Rattle.asn1.specs.AlternativeLists.{second8, third8, fourth8, fifth8, sixth8, seventh8, eighth8};
-ghost use Rattle.asn1.specs.Listing.{set_tag};
+ghost use Rattle.asn1.specs.Element.{element, element_encoding};
+ghost use Rattle.asn1.specs.Integer.{integer_content};
 ghost use Rattle.asn1.specs.Numbered.{numbered};
 ghost use Rattle.asn1.specs.Options.{option_meaning};
-ghost use Rattle.asn1.specs.Reading.{EndsWith};
+ghost use Rattle.asn1.specs.Reading.{EndsWith, Fits};
 ghost use Rattle.asn1.specs.Reads.{BeginsWithEncodingOf, HasOneEncoding, ReadsContents, ReadsPrefix};
-ghost use Rattle.asn1.specs.Structures.{defaulted, explicit, field_names, implicit, structure, structure_with_tag};
-ghost use Rattle.asn1.specs.Structures.{fields2, fields3, fields8, fields16};
+ghost use Rattle.asn1.specs.Structures.{defaulted, explicit, field_names, implicit, set_structure};
+ghost use Rattle.asn1.specs.Structures.{set_structure_with_tag, structure, structure_with_tag, fields2, fields3};
+ghost use Rattle.asn1.specs.Structures.{fields8, fields16};
 ghost use Rattle.asn1.specs.Tag.{universal};
 ghost use Rattle.asn1.specs.Tagged.{application_tag, private_tag};
 
@@ -51,6 +53,8 @@ impl Numbered for ResultCode {
 
     ghost numbers = { 0 ∷ 3 ∷ 51 ∷ 80 ∷ [] };
 
+    ghost values = { Success ∷ TimeLimitExceeded ∷ Busy ∷ Other ∷ [] };
+
     fn number(self) -> u32 {
         self as u32
     }
@@ -70,7 +74,13 @@ impl Asn1Type for ResultCode {
     ghost der = { numbered (universal 10) ⟦<ResultCode as Numbered>⟧.number_of
         ⟦<ResultCode as Numbered>⟧.numbers };
 
-    fn known(&self) {
+    fn known(&self)
+        ensures valid { (numbered (universal 10) ⟦<ResultCode as Numbered>⟧.number_of
+            ⟦<ResultCode as Numbered>⟧.numbers).valid (pos (⟦<ResultCode as Numbered>⟧.number_of
+            self.now)) }
+        ensures fits { Fits (element_encoding (element (universal 10) (integer_content (pos
+            (⟦<ResultCode as Numbered>⟧.number_of self.now))))) }
+    {
         known_number(*self)
     }
 }
@@ -125,6 +135,8 @@ impl Numbered for Version {
 
     ghost numbers = { 0 ∷ 1 ∷ 2 ∷ [] };
 
+    ghost values = { V1 ∷ V2 ∷ V3 ∷ [] };
+
     fn number(self) -> u32 {
         self as u32
     }
@@ -143,7 +155,13 @@ impl Asn1Type for Version {
     ghost der = { numbered (universal 2) ⟦<Version as Numbered>⟧.number_of
         ⟦<Version as Numbered>⟧.numbers };
 
-    fn known(&self) {
+    fn known(&self)
+        ensures valid { (numbered (universal 2) ⟦<Version as Numbered>⟧.number_of
+            ⟦<Version as Numbered>⟧.numbers).valid (pos (⟦<Version as Numbered>⟧.number_of
+            self.now)) }
+        ensures fits { Fits (element_encoding (element (universal 2) (integer_content (pos
+            (⟦<Version as Numbered>⟧.number_of self.now))))) }
+    {
         known_number(*self)
     }
 }
@@ -196,6 +214,8 @@ impl Numbered for Switch {
 
     ghost numbers = { 0 ∷ 1 ∷ [] };
 
+    ghost values = { Off ∷ On ∷ [] };
+
     fn number(self) -> u32 {
         self as u32
     }
@@ -213,7 +233,13 @@ impl Asn1Type for Switch {
     ghost der = { numbered (private_tag false 31) ⟦<Switch as Numbered>⟧.number_of
         ⟦<Switch as Numbered>⟧.numbers };
 
-    fn known(&self) {
+    fn known(&self)
+        ensures valid { (numbered (private_tag false 31) ⟦<Switch as Numbered>⟧.number_of
+            ⟦<Switch as Numbered>⟧.numbers).valid (pos (⟦<Switch as Numbered>⟧.number_of
+            self.now)) }
+        ensures fits { Fits (element_encoding (element (private_tag false 31) (integer_content (pos
+            (⟦<Switch as Numbered>⟧.number_of self.now))))) }
+    {
         known_number(*self)
     }
 }
@@ -284,6 +310,7 @@ impl<'a> SimpleAsn1Readable<'a> for Report<'a> {
         ensures value { result ≡ ⟦<Report<'a> as Asn1Type>⟧.der.content.tag }
         ensures simple { ⟦<Report<'a> as Asn1Type>⟧.der.is_simple }
         ensures plain { ⟦<Report<'a> as Asn1Type>⟧.der.plain }
+        ensures read { ⟦<Report<'a> as Asn1Type>⟧.der.is_read }
     {
         Tag::new(3, TagClass::Application, true)
     }
@@ -352,9 +379,9 @@ type SettingsLevelField = Defaulted<Implicit<u8, 0>, SettingsLevel>;
 type SettingsFields = Fields3<Version, SettingsLevelField, Switch>;
 
 impl Asn1Type for Settings {
-    ghost der = { structure_with_tag set_tag (λ v. fields3 v.version (defaulted (implicit v.level))
-        v.switch) ⟦<SettingsFields as Row>⟧.list (field_names "Settings" ("version" ∷ "level" ∷
-        "switch" ∷ [])) };
+    ghost der = { set_structure (λ v. fields3 v.version (defaulted (implicit v.level)) v.switch)
+        ⟦<SettingsFields as Row>⟧.list (field_names "Settings" ("version" ∷ "level" ∷ "switch" ∷
+        [])) };
 
     fn known(&self) {
         known_fields!(self; version, level: SettingsLevelField, switch)
@@ -390,6 +417,76 @@ impl SimpleAsn1Writable for Settings {
     }
 
     fn writes_as_read() -> bool {
+        true
+    }
+}
+
+/// [APPLICATION 5] IMPLICIT SET: a tag of the application in place of a set's own.
+#[derive(PartialEq, Drop)]
+pub struct Preferences<'a> {
+    /// The code.
+    pub code: Option<u8>,
+    /// Octets.
+    pub octets: &'a [u8],
+    /// The version.
+    pub version: Option<Version>,
+}
+
+type PreferencesVersionField = Option<Implicit<Version, 0>>;
+
+type PreferencesFields<'a> = Fields3<Option<u8>, &'a [u8], PreferencesVersionField>;
+
+impl<'a> Asn1Type for Preferences<'a> {
+    ghost der = { set_structure_with_tag (application_tag true 5) (λ v. fields3 v.code v.octets
+        (option_meaning implicit v.version)) ⟦<PreferencesFields<'a> as Row>⟧.list
+        (field_names "Preferences" ("code" ∷ "octets" ∷ "version" ∷ [])) };
+
+    fn known(&self) {
+        known_fields!(self; code, octets, version: PreferencesVersionField)
+    }
+}
+
+impl<'a> SimpleAsn1Readable<'a> for Preferences<'a> {
+    fn tag() -> Tag
+        ensures value { result ≡ ⟦<Preferences<'a> as Asn1Type>⟧.der.content.tag }
+        ensures simple { ⟦<Preferences<'a> as Asn1Type>⟧.der.is_simple }
+        ensures plain { ⟦<Preferences<'a> as Asn1Type>⟧.der.plain }
+        ensures read { ⟦<Preferences<'a> as Asn1Type>⟧.der.is_read }
+    {
+        Tag::new(5, TagClass::Application, true)
+    }
+
+    fn parse_data(alloc: Global, data: &'a [u8]) -> ParseResult<Preferences<'a>>
+        ensures { ReadsContents ⟦<Preferences<'a> as Asn1Type>⟧.der «data».entry.now result }
+    {
+        read_fields!(PreferencesFields<'a>, alloc, data => Preferences;
+            code, octets, version: PreferencesVersionField)
+    }
+}
+
+impl<'a> SimpleAsn1Writable for Preferences<'a> {
+    type Error = WriteError;
+
+    ghost length_known = { λ _. Unit {0} };
+
+    fn tag() -> Tag
+        ensures value { result ≡ ⟦<Preferences<'a> as Asn1Type>⟧.der.content.tag }
+        ensures simple { ⟦<Preferences<'a> as Asn1Type>⟧.der.is_simple }
+    {
+        Tag::new(5, TagClass::Application, true)
+    }
+
+    fn write_data(&self, dest: &mut WriteBuf) -> WriteResult<()> {
+        write_fields!(self, dest; code, octets, version: PreferencesVersionField)
+    }
+
+    fn data_length(&self) -> Option<usize> {
+        fields_length!(self; code, octets, version: PreferencesVersionField)
+    }
+
+    fn writes_as_read() -> bool
+        ensures { IsTrue result }
+    {
         true
     }
 }
@@ -444,6 +541,7 @@ impl<'a> Asn1Readable<'a> for Entry<'a> {
     fn can_parse(tag: Tag) -> bool
         ensures value { result ≡ ⟦<Entry<'a> as Asn1Type>⟧.der.accepts tag }
         ensures plain { ⟦<Entry<'a> as Asn1Type>⟧.der.plain }
+        ensures read { ⟦<Entry<'a> as Asn1Type>⟧.der.is_read }
     {
         <EntryChoice<'a> as AlternativesReadable<'a>>::accepts(tag)
     }
@@ -517,6 +615,7 @@ impl<'a> Asn1Readable<'a> for Either<'a> {
     fn can_parse(tag: Tag) -> bool
         ensures value { result ≡ ⟦<Either<'a> as Asn1Type>⟧.der.accepts tag }
         ensures plain { ⟦<Either<'a> as Asn1Type>⟧.der.plain }
+        ensures read { ⟦<Either<'a> as Asn1Type>⟧.der.is_read }
     {
         <EitherChoice<'a> as AlternativesReadable<'a>>::accepts(tag)
     }
@@ -631,6 +730,7 @@ impl<'a> Asn1Readable<'a> for Nine<'a> {
     fn can_parse(tag: Tag) -> bool
         ensures value { result ≡ ⟦<Nine<'a> as Asn1Type>⟧.der.accepts tag }
         ensures plain { ⟦<Nine<'a> as Asn1Type>⟧.der.plain }
+        ensures read { ⟦<Nine<'a> as Asn1Type>⟧.der.is_read }
     {
         <NineChoice<'a> as AlternativesReadable<'a>>::accepts(tag)
     }
@@ -704,6 +804,7 @@ impl<'a> Asn1Readable<'a> for Both<'a> {
     fn can_parse(tag: Tag) -> bool
         ensures value { result ≡ ⟦<Both<'a> as Asn1Type>⟧.der.accepts tag }
         ensures plain { ⟦<Both<'a> as Asn1Type>⟧.der.plain }
+        ensures read { ⟦<Both<'a> as Asn1Type>⟧.der.is_read }
     {
         <BothChoice<'a> as AlternativesReadable<'a>>::accepts(tag)
     }
@@ -804,6 +905,7 @@ impl<'a> SimpleAsn1Readable<'a> for Header<'a> {
         ensures value { result ≡ ⟦<Header<'a> as Asn1Type>⟧.der.content.tag }
         ensures simple { ⟦<Header<'a> as Asn1Type>⟧.der.is_simple }
         ensures plain { ⟦<Header<'a> as Asn1Type>⟧.der.plain }
+        ensures read { ⟦<Header<'a> as Asn1Type>⟧.der.is_read }
     {
         Tag::constructed(0x10)
     }
@@ -1018,6 +1120,7 @@ impl<'a> SimpleAsn1Readable<'a> for Inventory<'a> {
         ensures value { result ≡ ⟦<Inventory<'a> as Asn1Type>⟧.der.content.tag }
         ensures simple { ⟦<Inventory<'a> as Asn1Type>⟧.der.is_simple }
         ensures plain { ⟦<Inventory<'a> as Asn1Type>⟧.der.plain }
+        ensures read { ⟦<Inventory<'a> as Asn1Type>⟧.der.is_read }
     {
         Tag::constructed(0x10)
     }
@@ -1085,6 +1188,7 @@ impl<'a> SimpleAsn1Readable<'a> for Neither<'a> {
         ensures value { result ≡ ⟦<Neither<'a> as Asn1Type>⟧.der.content.tag }
         ensures simple { ⟦<Neither<'a> as Asn1Type>⟧.der.is_simple }
         ensures plain { ⟦<Neither<'a> as Asn1Type>⟧.der.plain }
+        ensures read { ⟦<Neither<'a> as Asn1Type>⟧.der.is_read }
     {
         Tag::constructed(0x10)
     }
@@ -1188,8 +1292,8 @@ impl SimpleAsn1Writable for Around {
 pub mod laws {
     use super::{
         Around, Both, BothChoice, Either, EitherChoice, Entry, EntryChoice, Header, Inventory,
-        Neither, Nine, NineChoice, Numeric, Report, ResponderId, ResultCode, Sealed, Settings,
-        Switch, Version,
+        Neither, Nine, NineChoice, Numeric, Preferences, Report, ResponderId, ResultCode, Sealed,
+        Settings, Switch, Version,
     };
     use asn1::Asn1Type;
     use asn1::laws_wrappers::{alternatives_apart_are_lawful, tags_are_apart};
@@ -1235,6 +1339,13 @@ pub mod laws {
     {
         version_is_lawful();
         switch_is_lawful();
+    }
+
+    /// Each value of `Preferences` has one encoding, which is read back.
+    pub fn preferences_is_lawful()
+        ensures { HasOneEncoding ⟦<Preferences<'static> as Asn1Type>⟧.der }
+    {
+        version_is_lawful();
     }
 
     /// Each value of `Entry` has one encoding, which is read back.

@@ -1,5 +1,5 @@
 //! Keys, and the parameters of their algorithms (RFC 5958, 8017, 5915, 5480, 3279 and 4055).
-// Printed by tools/derive from declarations/keys.rs, with the sum 20585ea3.
+// Printed by tools/derive from declarations/keys.rs, with the sum b04a3997.
 
 ghost use Rattle.std.specs.Prelude.{◌≡◌, ◌∷◌, [], IsTrue};
 ghost use Rattle.asn1.specs.Options.{option_meaning};
@@ -68,6 +68,7 @@ impl<'a> SimpleAsn1Readable<'a> for OneAsymmetricKey<'a> {
         ensures value { result ≡ ⟦<OneAsymmetricKey<'a> as Asn1Type>⟧.der.content.tag }
         ensures simple { ⟦<OneAsymmetricKey<'a> as Asn1Type>⟧.der.is_simple }
         ensures plain { ⟦<OneAsymmetricKey<'a> as Asn1Type>⟧.der.plain }
+        ensures read { ⟦<OneAsymmetricKey<'a> as Asn1Type>⟧.der.is_read }
     {
         Tag::constructed(0x10)
     }
@@ -136,6 +137,7 @@ impl<'a> SimpleAsn1Readable<'a> for EncryptedPrivateKeyInfo<'a> {
         ensures value { result ≡ ⟦<EncryptedPrivateKeyInfo<'a> as Asn1Type>⟧.der.content.tag }
         ensures simple { ⟦<EncryptedPrivateKeyInfo<'a> as Asn1Type>⟧.der.is_simple }
         ensures plain { ⟦<EncryptedPrivateKeyInfo<'a> as Asn1Type>⟧.der.plain }
+        ensures read { ⟦<EncryptedPrivateKeyInfo<'a> as Asn1Type>⟧.der.is_read }
     {
         Tag::constructed(0x10)
     }
@@ -203,6 +205,7 @@ impl<'a> SimpleAsn1Readable<'a> for RsaPublicKey<'a> {
         ensures value { result ≡ ⟦<RsaPublicKey<'a> as Asn1Type>⟧.der.content.tag }
         ensures simple { ⟦<RsaPublicKey<'a> as Asn1Type>⟧.der.is_simple }
         ensures plain { ⟦<RsaPublicKey<'a> as Asn1Type>⟧.der.plain }
+        ensures read { ⟦<RsaPublicKey<'a> as Asn1Type>⟧.der.is_read }
     {
         Tag::constructed(0x10)
     }
@@ -269,6 +272,7 @@ impl<'a> SimpleAsn1Readable<'a> for OtherPrimeInfo<'a> {
         ensures value { result ≡ ⟦<OtherPrimeInfo<'a> as Asn1Type>⟧.der.content.tag }
         ensures simple { ⟦<OtherPrimeInfo<'a> as Asn1Type>⟧.der.is_simple }
         ensures plain { ⟦<OtherPrimeInfo<'a> as Asn1Type>⟧.der.plain }
+        ensures read { ⟦<OtherPrimeInfo<'a> as Asn1Type>⟧.der.is_read }
     {
         Tag::constructed(0x10)
     }
@@ -372,6 +376,7 @@ impl<'a> SimpleAsn1Readable<'a> for RsaPrivateKey<'a> {
         ensures value { result ≡ ⟦<RsaPrivateKey<'a> as Asn1Type>⟧.der.content.tag }
         ensures simple { ⟦<RsaPrivateKey<'a> as Asn1Type>⟧.der.is_simple }
         ensures plain { ⟦<RsaPrivateKey<'a> as Asn1Type>⟧.der.plain }
+        ensures read { ⟦<RsaPrivateKey<'a> as Asn1Type>⟧.der.is_read }
     {
         Tag::constructed(0x10)
     }
@@ -457,6 +462,7 @@ impl<'a> SimpleAsn1Readable<'a> for EcPrivateKey<'a> {
         ensures value { result ≡ ⟦<EcPrivateKey<'a> as Asn1Type>⟧.der.content.tag }
         ensures simple { ⟦<EcPrivateKey<'a> as Asn1Type>⟧.der.is_simple }
         ensures plain { ⟦<EcPrivateKey<'a> as Asn1Type>⟧.der.plain }
+        ensures read { ⟦<EcPrivateKey<'a> as Asn1Type>⟧.der.is_read }
     {
         Tag::constructed(0x10)
     }
@@ -522,6 +528,7 @@ impl<'a> SimpleAsn1Readable<'a> for DssParms<'a> {
         ensures value { result ≡ ⟦<DssParms<'a> as Asn1Type>⟧.der.content.tag }
         ensures simple { ⟦<DssParms<'a> as Asn1Type>⟧.der.is_simple }
         ensures plain { ⟦<DssParms<'a> as Asn1Type>⟧.der.plain }
+        ensures read { ⟦<DssParms<'a> as Asn1Type>⟧.der.is_read }
     {
         Tag::constructed(0x10)
     }
@@ -635,6 +642,7 @@ impl<'a> SimpleAsn1Readable<'a> for RsassaPssParams<'a> {
         ensures value { result ≡ ⟦<RsassaPssParams<'a> as Asn1Type>⟧.der.content.tag }
         ensures simple { ⟦<RsassaPssParams<'a> as Asn1Type>⟧.der.is_simple }
         ensures plain { ⟦<RsassaPssParams<'a> as Asn1Type>⟧.der.plain }
+        ensures read { ⟦<RsassaPssParams<'a> as Asn1Type>⟧.der.is_read }
     {
         Tag::constructed(0x10)
     }

@@ -1,5 +1,5 @@
 //! Requests for certificates (RFC 2986).
-// Printed by tools/derive from declarations/request.rs, with the sum 1d4170cf.
+// Printed by tools/derive from declarations/request.rs, with the sum a97de466.
 
 ghost use Rattle.std.specs.Prelude.{◌≡◌, ◌∷◌, [], IsTrue};
 ghost use Rattle.asn1.specs.Reads.{HasOneEncoding, ReadsContents};
@@ -66,6 +66,7 @@ impl<'a> SimpleAsn1Readable<'a> for CertificationRequestInfo<'a> {
         ensures value { result ≡ ⟦<CertificationRequestInfo<'a> as Asn1Type>⟧.der.content.tag }
         ensures simple { ⟦<CertificationRequestInfo<'a> as Asn1Type>⟧.der.is_simple }
         ensures plain { ⟦<CertificationRequestInfo<'a> as Asn1Type>⟧.der.plain }
+        ensures read { ⟦<CertificationRequestInfo<'a> as Asn1Type>⟧.der.is_read }
     {
         Tag::constructed(0x10)
     }
@@ -141,6 +142,7 @@ impl<'a> SimpleAsn1Readable<'a> for CertificationRequest<'a> {
         ensures value { result ≡ ⟦<CertificationRequest<'a> as Asn1Type>⟧.der.content.tag }
         ensures simple { ⟦<CertificationRequest<'a> as Asn1Type>⟧.der.is_simple }
         ensures plain { ⟦<CertificationRequest<'a> as Asn1Type>⟧.der.plain }
+        ensures read { ⟦<CertificationRequest<'a> as Asn1Type>⟧.der.is_read }
     {
         Tag::constructed(0x10)
     }

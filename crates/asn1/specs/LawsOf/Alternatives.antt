@@ -1,8 +1,8 @@
 -- The laws of several alternatives and those after them, from those of the same alternatives one by one.
 use Rattle.std.specs.Prelude.{ℕ, ◌≡◌, ◌⊎◌, List, Ok, Bool, true}
-use Rattle.std.proofs.Common.{inl, inr, refl, sym, ap, subst}
+use Rattle.std.proofs.Common.{inl, inr, refl, sym, ap, subst, ◌∙◌}
 use Rattle.asn1_core.specs.declared.tag.Tag.{Tag}
-use Rattle.asn1_core.specs.Element.{Element, element_encoding, ◌>>=◌}
+use Rattle.asn1_core.specs.Element.{Element, element_encoding}
 use Rattle.asn1_core.specs.Encoding.{Encoding}
 use Rattle.asn1_core.specs.EncodingLaws.{EncodingLaws}
 use Rattle.asn1_core.specs.Reading.{IsOneElement, IsNothingOrElement}
@@ -40,15 +40,19 @@ laws_at l m = record {
 abbrev IsRead : {M : Type 0} → Alternatives M → M → Element → Type 0
 IsRead c m e = (c.encoding m ≡ element_encoding e) × (c.valid m × c.allowed m)
 
+-- A valid value is one of the same alternatives, with the same encoding.
+abbrev IsSeenAs : {M N : Type 0} → Alternatives M → Alternatives N → M → N → Type 0
+IsSeenAs c seen m n = (seen.valid n → c.valid m) × (seen.encoding n ≡ c.encoding m)
+
 module _ {M N : Type 0} (view : M → N) (back : N → M) (c : Alternatives M) (l : AlternativesLaws c)
     (encoding : N → List ℕ) (encodings : N → List ℕ → Type 0) (closures valid allowed : N → Type 0) (each_apart : Type 0) where
   abbrev Viewed : Alternatives N
   Viewed = viewed_alternatives view c encoding encodings closures valid allowed each_apart
 
-  viewed_laws : ((n : N) → view (back n) ≡ n) → ((n : N) → At c (back n) → At Viewed n)
+  viewed_laws : ((n : N) → view (back n) ≡ n) → ((n : N) → At c (back n) → At Viewed n) → ((n : N) → IsSeenAs c Viewed (back n) n)
       → ((m : M) (e : Element) → IsRead c m e → IsRead Viewed (view m) e) → ((n : N) (e : Element) → IsRead Viewed n e → IsRead c (back n) e)
       → (each_apart → c.each_apart) → AlternativesLaws Viewed
-  viewed_laws same at forth read one_by_one = record {
+  viewed_laws same at seen forth read one_by_one = record {
     one_encoding = λ p n. (at n (laws_at l (back n))).one_encoding p;
     has_encoding = λ p n. (at n (laws_at l (back n))).has_encoding p;
     at_most_one = λ n. (at n (laws_at l (back n))).at_most_one;
@@ -66,6 +70,11 @@ module _ {M N : Type 0} (view : M → N) (back : N → M) (c : Alternatives M) (
     read_back = λ n e lawful v a readable is.
         let is_m = read n e (is, (v, a)) in
         rw (l.read_back (back n) e lawful is_m.1.0 is_m.1.1 readable is_m.0) (ap Ok (same n));
+    one_value = λ is m n lawful v w alike.
+        let a = seen m in
+        let b = seen n in
+        let backs = l.one_value is (back m) (back n) lawful (a.0 v) (b.0 w) (sym a.1 ∙ (alike ∙ b.1)) in
+        sym (same m) ∙ (ap view backs ∙ same n);
     unbounded = λ free n. (at n (laws_at l (back n))).unbounded free;
     memory = l.memory;
     errors = λ e. bind_errors (c.read e) (λ m. Ok (view m)) (l.errors e) (λ m. tt);
@@ -92,6 +101,12 @@ module _ {A B C R : Type 0} (a : Encoding A) (b : Encoding B) (c : Encoding C) (
   three_at (second_of_3 x) l = l
   three_at (third_of_3 x) l = l
   three_at (after_3 x) l = l
+
+  three_seen : (m : Among3 A B C R) → IsSeenAs OneByOne3 Together3 (sum_of_three m) m
+  three_seen (first_of_3 x) = (λ v. v, refl)
+  three_seen (second_of_3 x) = (λ v. v, refl)
+  three_seen (third_of_3 x) = (λ v. v, refl)
+  three_seen (after_3 x) = (λ v. v, refl)
 
   three_read : (m : Among3 A B C R) (e : Element) → IsRead Together3 m e → IsRead OneByOne3 (sum_of_three m) e
   three_read (first_of_3 x) e is = is
@@ -137,6 +152,17 @@ module _ {A B C D E F G H R : Type 0} (a : Encoding A) (b : Encoding B) (c : Enc
   eight_at (eighth_of_8 x) l = l
   eight_at (after_8 x) l = l
 
+  eight_seen : (m : Among8 A B C D E F G H R) → IsSeenAs OneByOne8 Together8 (sum_of_eight m) m
+  eight_seen (first_of_8 x) = (λ v. v, refl)
+  eight_seen (second_of_8 x) = (λ v. v, refl)
+  eight_seen (third_of_8 x) = (λ v. v, refl)
+  eight_seen (fourth_of_8 x) = (λ v. v, refl)
+  eight_seen (fifth_of_8 x) = (λ v. v, refl)
+  eight_seen (sixth_of_8 x) = (λ v. v, refl)
+  eight_seen (seventh_of_8 x) = (λ v. v, refl)
+  eight_seen (eighth_of_8 x) = (λ v. v, refl)
+  eight_seen (after_8 x) = (λ v. v, refl)
+
   eight_read : (m : Among8 A B C D E F G H R) (e : Element) → IsRead Together8 m e → IsRead OneByOne8 (sum_of_eight m) e
   eight_read (first_of_8 x) e is = is
   eight_read (second_of_8 x) e is = is
@@ -165,9 +191,9 @@ module _ {A B C D E F G H R : Type 0} (a : Encoding A) (b : Encoding B) (c : Enc
 pub or_three_laws : {A B C R : Type 0} {a : Encoding A} {b : Encoding B} {c : Encoding C} {others : Alternatives R} → EncodingLaws a → EncodingLaws b → EncodingLaws c → AlternativesLaws others → AlternativesLaws (or_three a b c others)
 or_three_laws {a = a} {b = b} {c = c} {others = others} la lb lc lo =
     viewed_laws among_three sum_of_three (OneByOne3 a b c others) (or_laws la (or_laws lb (or_laws lc lo))) _ _ _ _ _ _
-    (among_three_sum_of_three a b c others) (three_at a b c others) (read_three a b c others) (three_read a b c others) (three_apart a b c others)
+    (among_three_sum_of_three a b c others) (three_at a b c others) (three_seen a b c others) (read_three a b c others) (three_read a b c others) (three_apart a b c others)
 
 pub or_eight_laws : {A B C D E F G H R : Type 0} {a : Encoding A} {b : Encoding B} {c : Encoding C} {d : Encoding D} {e : Encoding E} {f : Encoding F} {g : Encoding G} {h : Encoding H} {others : Alternatives R} → EncodingLaws a → EncodingLaws b → EncodingLaws c → EncodingLaws d → EncodingLaws e → EncodingLaws f → EncodingLaws g → EncodingLaws h → AlternativesLaws others → AlternativesLaws (or_eight a b c d e f g h others)
 or_eight_laws {a = a} {b = b} {c = c} {d = d} {e = e} {f = f} {g = g} {h = h} {others = others} la lb lc ld le lf lg lh lo =
     viewed_laws among_eight sum_of_eight (OneByOne8 a b c d e f g h others) (or_laws la (or_laws lb (or_laws lc (or_laws ld (or_laws le (or_laws lf (or_laws lg (or_laws lh lo)))))))) _ _ _ _ _ _
-    (among_eight_sum_of_eight a b c d e f g h others) (eight_at a b c d e f g h others) (read_eight a b c d e f g h others) (eight_read a b c d e f g h others) (eight_apart a b c d e f g h others)
+    (among_eight_sum_of_eight a b c d e f g h others) (eight_at a b c d e f g h others) (eight_seen a b c d e f g h others) (read_eight a b c d e f g h others) (eight_read a b c d e f g h others) (eight_apart a b c d e f g h others)

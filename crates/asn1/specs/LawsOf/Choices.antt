@@ -1,6 +1,6 @@
 -- The laws of choices, from those of their alternatives.
 use Rattle.std.specs.Prelude.{ℕ, ◌≡◌, List, [], ◌++◌, Ok, ◌⊎◌, Bool, false}
-use Rattle.std.proofs.Common.{inl, inr, refl, sym, ◌∙◌}
+use Rattle.std.proofs.Common.{inl, inr, refl, sym, ap, ◌∙◌}
 use Rattle.asn1_core.specs.declared.tag.Tag.{Tag}
 use Rattle.asn1_core.specs.declared.parser.ParseErrorKind.TheVariants.{UnexpectedTag}
 use Rattle.asn1_core.specs.Element.{Element, element_encoding}
@@ -11,9 +11,10 @@ use Rattle.asn1_core.specs.Encoding.{Encoding}
 use Rattle.asn1_core.specs.EncodingLaws.{EncodingLaws}
 use Rattle.asn1_core.specs.LawsOf.Encodings.{no_content_laws, no_content_errors}
 use Rattle.asn1_core.specs.Lemmas.Elements.{element_encoding_not_nil}
+use Rattle.asn1_core.specs.Lemmas.Facts.{not_both}
 use Rattle.asn1_core.specs.Lemmas.Options.{IsOneElement_not_empty}
-use Rattle.asn1_core.specs.Lemmas.Wholes.{Fits_short, one_value}
-use Rattle.asn1.specs.Alternatives.{Disjoint, choice_read}
+use Rattle.asn1_core.specs.Lemmas.Wholes.{Fits_short}
+use Rattle.asn1.specs.Alternatives.{Disjoint, either, either_encoding, choice_read}
 use Rattle.asn1.specs.Choices.{Alternatives, AlternativesLaws, only, or, none, choice_encoding}
 use Rattle.asn1.specs.Lemmas.Apart.{one_tag_disjoint, others_disjoint}
 use Rattle.asn1.specs.Lemmas.Choices.{only_consumes, only_read_back, only_errors, or_consumes, or_read_back, or_errors, or_nothing_or_element, or_accepted, or_one_encoding, or_has_encoding, or_at_most_one, or_both, or_pair, or_weaker, or_all, or_memory, choice_consumes, choice_read_back, choice_errors}
@@ -42,10 +43,23 @@ only_laws {d = d} ld = record {
   nothing_or_element = λ m l v. IsOneElement_not_empty (ld.nothing_or_element m l.0 v) (ld.not_empty m l.0 l.1 v);
   accepted = ld.accepted;
   read_back = λ m e l v a readable same. only_read_back d.accepts d.encoding (λ x. d.valid x × d.allowed x) d.read m e same readable (ld.accepted m e v same) (ld.read_back m [] l.0 v a);
+  one_value = λ is m n l. ld.one_value is m n l.0;
   unbounded = ld.unbounded;
   memory = λ e places out. ld.memory (element_encoding e) places out.1;
   errors = only_errors d.accepts d.encoding (λ x. d.valid x × d.allowed x) d.read ld.errors;
 }
+
+module _ {A N : Type 0} {d : Encoding A} {c : Alternatives N} (ld : EncodingLaws d) (lc : AlternativesLaws c) where
+  one_side : (x : A) (y : N) → d.lawful × d.is_element × c.lawful × Disjoint d.accepts c.accepts → d.valid x → c.valid y → d.encoding x ≡ c.encoding y → ⊥
+  one_side x y l v w same =
+      let one = IsOneElement_not_empty (ld.nothing_or_element x l.0 v) (ld.not_empty x l.0 l.1 v) in
+      not_both (c.accepts one.element.tag) (lc.accepted y one.element w (sym same ∙ one.is)) (l.3 one.element.tag (ld.accepted x one.element v one.is))
+
+  or_one_value : d.is_read × c.is_read → (m n : A ⊎ N) → d.lawful × d.is_element × c.lawful × Disjoint d.accepts c.accepts → either d.valid c.valid m → either d.valid c.valid n → either_encoding d.encoding c.encoding m ≡ either_encoding d.encoding c.encoding n → m ≡ n
+  or_one_value is (inl x) (inl y) l v w same = ap inl (ld.one_value is.0 x y l.0 v w same)
+  or_one_value is (inl x) (inr y) l v w same = absurd (one_side x y l v w same)
+  or_one_value is (inr x) (inl y) l v w same = absurd (one_side y x l w v (sym same))
+  or_one_value is (inr x) (inr y) l v w same = ap inr (lc.one_value is.1 x y l.2 v w same)
 
 pub or_laws : {A N : Type 0} {d : Encoding A} {c : Alternatives N} → EncodingLaws d → AlternativesLaws c → AlternativesLaws (or d c)
 or_laws {d = d} {c = c} ld lc = record {
@@ -62,6 +76,7 @@ or_laws {d = d} {c = c} ld lc = record {
   accepted = or_accepted d.encoding d.valid c.encoding c.valid d.accepts c.accepts ld.accepted lc.accepted;
   read_back = λ m e l v a readable same. or_read_back d.accepts d.encoding (λ x. d.valid x × d.allowed x) d.read c.accepts c.encoding (λ x. c.valid x × c.allowed x) c.read l.3 m e same readable (or_pair d.valid d.allowed c.valid c.allowed m v a)
       (λ x w. ld.accepted x e w.0) (λ x w. ld.read_back x [] l.0 w.0 w.1) (λ x w. lc.accepted x e w.0) (λ x w. lc.read_back x e l.2 w.0 w.1 readable);
+  one_value = or_one_value ld lc;
   unbounded = λ free. or_weaker d.valid d.allowed c.valid c.allowed (ld.unbounded (λ b. free (inl b))) (lc.unbounded (λ b. free (inr b)));
   memory = or_memory d.accepts d.runs_out d.takes_memory c.runs_out c.takes_memory ld.memory lc.memory;
   errors = or_errors d.accepts d.encoding (λ x. d.valid x × d.allowed x) d.read c.read ld.errors lc.errors;
@@ -83,6 +98,7 @@ none_laws = record {
   nothing_or_element = λ m. absurd m;
   accepted = λ m. absurd m;
   read_back = λ m. absurd m;
+  one_value = λ is m. absurd m;
   unbounded = λ free m. absurd m;
   memory = λ e places out. out;
   errors = none_errors;
@@ -91,9 +107,6 @@ none_laws = record {
 module _ {M : Type 0} (c : Alternatives M) (lc : AlternativesLaws c) where
   choice_type_read_back : (m : M) (rest : List ℕ) → c.lawful → c.valid m → c.allowed m → Fits (c.encoding m) → (c.encoding m ≡ [] → begins_accepted c.accepts rest ≡ false) → choice_read c.read (c.encoding m ++ rest) ≡ Ok (m, rest)
   choice_type_read_back m rest l v a fits apart = let one = lc.nothing_or_element m l v in choice_read_back c.encoding c.read m rest one fits (λ readable. lc.read_back m one.element l v a readable one.is)
-
-  choice_type_one_value : (m n : M) → c.lawful → c.valid m → c.valid n → c.allowed m → c.allowed n → Fits (c.encoding m) → c.encoding m ≡ c.encoding n → m ≡ n
-  choice_type_one_value m n l v w a b = one_value c.accepts c.encoding (choice_read c.read) (λ x. c.valid x × c.allowed x) (λ x p. choice_type_read_back x [] l p.0 p.1) m n (v, a) (w, b)
 
 pub choice_laws : {M : Type 0} {c : Alternatives M} → AlternativesLaws c → EncodingLaws (choice_encoding c)
 choice_laws {c = c} lc = record {
@@ -106,7 +119,7 @@ choice_laws {c = c} lc = record {
   accepted = lc.accepted;
   not_empty = λ m l i v e. let one = lc.nothing_or_element m l v in element_encoding_not_nil one.element (sym one.is ∙ e);
   read_back = choice_type_read_back c lc;
-  one_value = choice_type_one_value c lc;
+  one_value = lc.one_value;
   short_fits = λ m l v. Fits_short (c.encoding m) (inr (lc.nothing_or_element m l v));
   unbounded = lc.unbounded;
   memory = λ t places out. lc.memory out.0.0 places out.2;
@@ -118,6 +131,7 @@ choice_laws {c = c} lc = record {
   as_bounded = λ some. absurd some;
   as_errors = λ meaning. no_content_errors meaning;
   as_plain = λ i. absurd i;
+  as_is_read = λ i. absurd i;
   as_lawful = λ i. absurd i;
   as_encodings = λ i. absurd i;
   as_accepts = λ i. absurd i;

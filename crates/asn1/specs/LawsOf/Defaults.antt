@@ -1,13 +1,13 @@
 -- The laws of a field with a default, from those of its type.
-use Rattle.std.specs.Prelude.{◌≡◌, ◌⊎◌, ℕ, true, false, List, [], ◌++◌, Ok}
+use Rattle.std.specs.Prelude.{◌≡◌, ◌⊎◌, ℕ, false, List, [], ◌++◌, Ok}
 use Rattle.asn1_core.specs.Reading.{Fits, IsOneElement, begins_accepted}
 use Rattle.asn1_core.specs.Encoding.{Encoding}
 use Rattle.asn1_core.specs.EncodingLaws.{EncodingLaws}
 use Rattle.asn1_core.specs.LawsOf.Encodings.{no_content_laws, no_content_errors}
-use Rattle.asn1_core.specs.Lemmas.Wholes.{Fits_short, one_value}
+use Rattle.asn1_core.specs.Lemmas.Wholes.{Fits_short}
 use Rattle.asn1.specs.Defaults.{same_encoding, default_text, default_read}
 use Rattle.asn1.specs.Defaulted.{IsDefaultOr, default_encoding}
-use Rattle.asn1.specs.Lemmas.Defaults.{default_consumes, default_nothing_or_element, default_accepted, default_read_back, default_errors, default_one_encoding, default_has_encoding, default_at_most_one, default_both, default_weaker}
+use Rattle.asn1.specs.Lemmas.Defaults.{default_consumes, default_nothing_or_element, default_accepted, default_read_back, default_errors, default_one_encoding, default_has_encoding, default_at_most_one, default_both, default_weaker, default_one_value}
 
 module _ {A : Type 0} (d : Encoding A) (default : A) (ld : EncodingLaws d) where
   default_type_nothing_or_element : (m : A) → d.lawful × d.is_element → IsDefaultOr d.encoding default d.valid m → (default_text d.encoding default m ≡ []) ⊎ IsOneElement (default_text d.encoding default m)
@@ -17,10 +17,9 @@ module _ {A : Type 0} (d : Encoding A) (default : A) (ld : EncodingLaws d) where
       (default_text d.encoding default m ≡ [] → begins_accepted d.accepts rest ≡ false) → default_read d.accepts d.encoding d.read default (default_text d.encoding default m ++ rest) ≡ Ok (m, rest)
   default_type_read_back m rest l v a fits none = default_read_back d.encoding default d.accepts d.read d.valid d.allowed (λ x w. ld.nothing_or_element x l.0 w) ld.accepted (λ x w e. ld.not_empty x l.0 l.1 w e) (λ x r w b o n. ld.read_back x r l.0 w b o n) m rest v a fits none
 
-  default_type_one_value : (m n : A) → d.lawful × d.is_element → IsDefaultOr d.encoding default d.valid m → IsDefaultOr d.encoding default d.valid n → (m ≡ default) ⊎ d.allowed m → (n ≡ default) ⊎ d.allowed n →
-      Fits (default_text d.encoding default m) → default_text d.encoding default m ≡ default_text d.encoding default n → m ≡ n
-  default_type_one_value m n l v w a b = one_value d.accepts (default_text d.encoding default) (default_read d.accepts d.encoding d.read default) (λ x. IsDefaultOr d.encoding default d.valid x × ((x ≡ default) ⊎ d.allowed x))
-      (λ x p. default_type_read_back x [] l p.0 p.1) m n (v, a) (w, b)
+  default_type_one_value : d.is_read → (m n : A) → d.lawful × d.is_element → IsDefaultOr d.encoding default d.valid m → IsDefaultOr d.encoding default d.valid n →
+      default_text d.encoding default m ≡ default_text d.encoding default n → m ≡ n
+  default_type_one_value is m n l = default_one_value d.encoding default d.valid (λ x. ld.not_empty x l.0 l.1) (λ x y. ld.one_value is x y l.0) m n
 
 pub default_laws : {A : Type 0} {d : Encoding A} (default : A) → EncodingLaws d → EncodingLaws (default_encoding d default)
 default_laws {d = d} default ld = record {
@@ -47,6 +46,7 @@ default_laws {d = d} default ld = record {
   as_bounded = λ some. absurd some;
   as_errors = λ meaning. no_content_errors meaning;
   as_plain = λ i. absurd i;
+  as_is_read = λ i. absurd i;
   as_lawful = λ i. absurd i;
   as_encodings = λ i. absurd i;
   as_accepts = λ i. absurd i;

@@ -1,7 +1,7 @@
 -- The laws of fields, from those of their types. They are lemmas, which don't unfold, so that long rows stay cheap to
 -- compare.
 use Rattle.std.specs.Prelude.{ℕ, ◌≡◌, ◌<◌, ◌^◌, ◌⊎◌, List, [], ◌∷◌, ◌++◌, length, Ok, IfErr, Bool, true, false}
-use Rattle.std.proofs.Common.{refl, inl, inr, ⊎_elim}
+use Rattle.std.proofs.Common.{refl, inl, inr, sym, subst, ⊎_elim}
 use Rattle.asn1_core.specs.declared.tag.Tag.{Tag}
 use Rattle.asn1_core.specs.declared.parser.Place.{Place}
 use Rattle.asn1_core.specs.Base256.{IsOctets}
@@ -11,14 +11,12 @@ use Rattle.asn1_core.specs.Apart.{IsFirst, one_accepts, Tags, tags_of}
 use Rattle.asn1_core.specs.Encoding.{Encoding, simple_encoding}
 use Rattle.asn1_core.specs.EncodingLaws.{ContentLaws, EncodingLaws}
 use Rattle.asn1_core.specs.LawsOf.Encodings.{simple_laws}
-use Rattle.asn1.specs.Tagged.{retagged}
-use Rattle.asn1.specs.LawsOf.Tagged.{retagged_laws}
 use Rattle.asn1_core.specs.DefinedBy.{DefinedEncoding, DefinedLaws}
 use Rattle.asn1_core.specs.Lemmas.Options.{IsOneElement_not_empty}
 use Rattle.asn1_core.specs.Lemmas.Wholes.{begins_accepted_nil}
 use Rattle.asn1.specs.FieldReads.{Both, field_out, others_out, last_read, field_read, item_read, behind_out}
-use Rattle.asn1.specs.Fields.{first_name, other_names, Fields, IsTold, LawfulFields, FieldsLaws, FieldsBy, FieldsByLaws, last, field, no_fields, value_last, value_field, between, with_item, sequence}
-use Rattle.asn1.specs.Lemmas.Fields.{last_consumes, last_read_back, last_errors, field_consumes, field_read_back, field_faults_all, begins_accepted_last, begins_accepted_append, begins_accepted_nil_append, both_one_encoding, both_has_encoding, field_memory, item_consumes, item_read_back, item_errors, item_memory, begins_accepted_first_element, variants_then_variant, variants_then_others}
+use Rattle.asn1.specs.Fields.{first_name, other_names, Fields, IsTold, LawfulFields, FieldsLaws, FieldsBy, FieldsByLaws, last, field, no_fields, value_last, value_field, between, with_item, sequence, set_fields, tagged_fields}
+use Rattle.asn1.specs.Lemmas.Fields.{last_consumes, last_read_back, last_errors, field_consumes, field_read_back, field_faults_all, begins_accepted_last, begins_accepted_append, begins_accepted_nil_append, both_one_encoding, both_has_encoding, field_memory, item_consumes, item_read_back, item_errors, item_memory, begins_accepted_first_element, variants_then_variant, variants_then_others, row_one_value, item_one_value}
 use Rattle.asn1.specs.Lemmas.Apart.{IsApartFromEach_disjoint, one_accepts_first, others_disjoint}
 
 -- ---- what tells a type that may be missing
@@ -67,6 +65,14 @@ module _ {A : Type 0} (d : Encoding A) (ld : EncodingLaws d) where
     field_law_read_back names m l v a s = field_read_back (first_name names) d.encoding d.read others.encoding (others.read (other_names names)) d.accepts m (ld.nothing_or_element m.0 l.first v.0) (λ rest fits none. ld.read_back m.0 rest l.first v.0 a.0 fits none)
         (begins_accepted_nil_append (d.encoding m.0) d.accepts (others.encoding m.1) (λ i e. ld.not_empty m.0 l.first i v.0 e) (lo.apart m.1 l.rest v.1 d.accepts) (or_else (by_tags (tags_of d) others.tags) l.is_told)) (lo.read_back (other_names names) m.1 l.rest v.1 a.1) s
 
+    field_free : (m : A × N) → LawfulFields d.lawful (d.is_element ⊎ IsTold (tags_of d) others.tags) others.lawful → d.valid m.0 × others.valid m.1 → d.encoding m.0 ≡ [] → begins_accepted d.accepts (others.encoding m.1) ≡ false
+    field_free m l v = begins_accepted_nil_append (d.encoding m.0) d.accepts (others.encoding m.1) (λ i e. ld.not_empty m.0 l.first i v.0 e) (lo.apart m.1 l.rest v.1 d.accepts) (or_else (by_tags (tags_of d) others.tags) l.is_told)
+
+    pub field_law_one_value : d.is_read × others.is_read → (m n : A × N) → LawfulFields d.lawful (d.is_element ⊎ IsTold (tags_of d) others.tags) others.lawful → d.valid m.0 × others.valid m.1 → d.valid n.0 × others.valid n.1 →
+        d.encoding m.0 ++ others.encoding m.1 ≡ d.encoding n.0 ++ others.encoding n.1 → m ≡ n
+    field_law_one_value is m n l v w = row_one_value m n d.accepts (d.encoding m.0) (d.encoding n.0) (others.encoding m.1) (others.encoding n.1) (ld.nothing_or_element m.0 l.first v.0) (ld.nothing_or_element n.0 l.first w.0)
+        (λ e. ld.accepted m.0 e v.0) (λ e. ld.accepted n.0 e w.0) (field_free m l v) (field_free n l w) (ld.one_value is.0 m.0 n.0 l.first v.0 w.0) (lo.one_value is.1 m.1 n.1 l.rest v.1 w.1)
+
     pub field_law_unbounded : (d.bounded ⊎ others.bounded → ⊥) → (m : A × N) → d.valid m.0 × others.valid m.1 → d.allowed m.0 × others.allowed m.1
     field_law_unbounded free m v = (ld.unbounded (λ b. free (inl b)) m.0 v.0, lo.unbounded (λ b. free (inr b)) m.1 v.1)
 
@@ -84,6 +90,7 @@ last_laws {d = d} ld = record {
   consumes = last_law_consumes d ld;
   apart = λ m l v asked free. last_law_apart d ld m l v asked (λ tag is. free tag (inl is));
   read_back = last_law_read_back d ld;
+  one_value = ld.one_value;
   unbounded = ld.unbounded;
   memory = last_law_memory d ld;
   errors = last_law_errors d ld;
@@ -97,6 +104,7 @@ field_laws {d = d} {others = others} ld lo = record {
   consumes = field_law_consumes d ld others lo;
   apart = field_law_apart d ld others lo;
   read_back = field_law_read_back d ld others lo;
+  one_value = field_law_one_value d ld others lo;
   unbounded = field_law_unbounded d ld others lo;
   memory = field_law_memory d ld others lo;
   errors = field_law_errors d ld others lo;
@@ -126,6 +134,7 @@ no_fields_laws = record {
   consumes = no_law_consumes;
   apart = λ m l v asked free. begins_accepted_nil asked;
   read_back = λ names m l v a s. refl;
+  one_value = λ is m n l v w same. refl;
   unbounded = λ free m v. tt;
   memory = λ names c places out. out;
   errors = no_law_errors;
@@ -169,6 +178,15 @@ module _ {I A : Type 0} (by : DefinedEncoding I A) (lby : DefinedLaws by) where
     value_law_read_back names m l v a s = field_read_back (first_name names) by.encoding (by.read (by.item m.0)) others.encoding (others.read (other_names names)) (by.accepts (by.item m.0)) m (lby.nothing_or_element m.0 l.0 v.0) (λ rest fits none. lby.read_back m.0 rest l.0 v.0 a.0 fits none)
         (begins_accepted_nil_append (by.encoding m.0) (by.accepts (by.item m.0)) (others.encoding m.1) (λ i e. lby.not_empty m.0 l.0 i v.0 e) (lo.apart m.1 l.1 v.1 (by.accepts (by.item m.0))) (lby.told (IsFirst others.tags) l.2 m.0 v.0)) (lo.read_back (other_names names) m.1 l.1 v.1 a.1) s
 
+    value_free : (m : A × N) → by.lawful × others.lawful × by.is_told (IsFirst others.tags) → by.valid m.0 × others.valid m.1 → by.encoding m.0 ≡ [] → begins_accepted (by.accepts (by.item m.0)) (others.encoding m.1) ≡ false
+    value_free m l v = begins_accepted_nil_append (by.encoding m.0) (by.accepts (by.item m.0)) (others.encoding m.1) (λ i e. lby.not_empty m.0 l.0 i v.0 e) (lo.apart m.1 l.1 v.1 (by.accepts (by.item m.0))) (lby.told (IsFirst others.tags) l.2 m.0 v.0)
+
+    pub value_law_one_value : by.is_read × others.is_read → (m n : A × N) → by.lawful × others.lawful × by.is_told (IsFirst others.tags) → by.valid m.0 × others.valid m.1 → by.valid n.0 × others.valid n.1 → by.item m.0 ≡ by.item n.0 →
+        by.encoding m.0 ++ others.encoding m.1 ≡ by.encoding n.0 ++ others.encoding n.1 → m ≡ n
+    value_law_one_value is m n l v w items = row_one_value m n (by.accepts (by.item m.0)) (by.encoding m.0) (by.encoding n.0) (others.encoding m.1) (others.encoding n.1) (lby.nothing_or_element m.0 l.0 v.0) (lby.nothing_or_element n.0 l.0 w.0)
+        (λ e. lby.accepted m.0 e v.0) (λ e same. subst (λ (i : I). by.accepts i e.tag ≡ true) (sym items) (lby.accepted n.0 e w.0 same)) (value_free m l v) (λ none. subst (λ (i : I). begins_accepted (by.accepts i) (others.encoding n.1) ≡ false) (sym items) (value_free n l w none))
+        (lby.one_value is.0 m.0 n.0 l.0 v.0 w.0 items) (lo.one_value is.1 m.1 n.1 l.1 v.1 w.1)
+
     pub value_law_unbounded : (by.bounded ⊎ others.bounded → ⊥) → (m : A × N) → by.valid m.0 × others.valid m.1 → by.allowed m.0 × others.allowed m.1
     value_law_unbounded free m v = (lby.unbounded (λ b. free (inl b)) m.0 v.0, lo.unbounded (λ b. free (inr b)) m.1 v.1)
 
@@ -187,6 +205,7 @@ value_last_laws {by = by} lby = record {
   apart = value_last_law_apart by lby;
   of_first = λ i tag start. variants_then_variant by.tags [] tag (lby.of_variant i tag start);
   read_back = value_last_law_read_back by lby;
+  one_value = lby.one_value;
   unbounded = lby.unbounded;
   memory = value_last_law_memory by lby;
   errors = value_last_law_errors by lby;
@@ -201,6 +220,7 @@ value_field_laws {by = by} {others = others} lby lo = record {
   apart = value_law_apart by lby others lo;
   of_first = λ i tag start. ⊎_elim (λ is. variants_then_variant by.tags others.tags tag (lby.of_variant i tag is)) (λ behind. variants_then_others by.tags others.tags tag behind.1) start;
   read_back = value_law_read_back by lby others lo;
+  one_value = value_law_one_value by lby others lo;
   unbounded = value_law_unbounded by lby others lo;
   memory = value_law_memory by lby others lo;
   errors = value_law_errors by lby others lo;
@@ -229,6 +249,14 @@ module _ {I A M : Type 0} (d : Encoding A) (behind : FieldsBy I M) (ld : Encodin
   between_law_read_back names m l v a s = field_read_back (first_name names) d.encoding d.read behind.encoding (behind.read (other_names names) (behind.item m.1)) d.accepts m (ld.nothing_or_element m.0 l.first v.0) (λ rest fits none. ld.read_back m.0 rest l.first v.0 a.0 fits none)
       (begins_accepted_nil_append (d.encoding m.0) d.accepts (behind.encoding m.1) (λ i e. ld.not_empty m.0 l.first i v.0 e) (lb.apart m.1 l.rest v.1 d.accepts) (or_else (λ told. told_behind told (behind.item m.1)) l.is_told)) (lb.read_back (other_names names) m.1 l.rest v.1 a.1) s
 
+  between_free : (m : A × M) → LawfulFields d.lawful (d.is_element ⊎ (IsTold (tags_of d) behind.tags ⊎ ((i : I) (tag : Tag) → behind.starts i tag → d.accepts tag ≡ false))) behind.lawful → d.valid m.0 × behind.valid m.1 → d.encoding m.0 ≡ [] → begins_accepted d.accepts (behind.encoding m.1) ≡ false
+  between_free m l v = begins_accepted_nil_append (d.encoding m.0) d.accepts (behind.encoding m.1) (λ i e. ld.not_empty m.0 l.first i v.0 e) (lb.apart m.1 l.rest v.1 d.accepts) (or_else (λ told. told_behind told (behind.item m.1)) l.is_told)
+
+  pub between_law_one_value : d.is_read × behind.is_read → (m n : A × M) → LawfulFields d.lawful (d.is_element ⊎ (IsTold (tags_of d) behind.tags ⊎ ((i : I) (tag : Tag) → behind.starts i tag → d.accepts tag ≡ false))) behind.lawful → d.valid m.0 × behind.valid m.1 → d.valid n.0 × behind.valid n.1 → behind.item m.1 ≡ behind.item n.1 →
+      d.encoding m.0 ++ behind.encoding m.1 ≡ d.encoding n.0 ++ behind.encoding n.1 → m ≡ n
+  between_law_one_value is m n l v w items = row_one_value m n d.accepts (d.encoding m.0) (d.encoding n.0) (behind.encoding m.1) (behind.encoding n.1) (ld.nothing_or_element m.0 l.first v.0) (ld.nothing_or_element n.0 l.first w.0)
+      (λ e. ld.accepted m.0 e v.0) (λ e. ld.accepted n.0 e w.0) (between_free m l v) (between_free n l w) (ld.one_value is.0 m.0 n.0 l.first v.0 w.0) (lb.one_value is.1 m.1 n.1 l.rest v.1 w.1 items)
+
   pub between_law_unbounded : (d.bounded ⊎ behind.bounded → ⊥) → (m : A × M) → d.valid m.0 × behind.valid m.1 → d.allowed m.0 × behind.allowed m.1
   between_law_unbounded free m v = (ld.unbounded (λ b. free (inl b)) m.0 v.0, lb.unbounded (λ b. free (inr b)) m.1 v.1)
 
@@ -247,6 +275,7 @@ between_laws {d = d} {behind = behind} ld lb = record {
   apart = between_law_apart d behind ld lb;
   of_first = λ i tag start. ⊎_elim (λ is. inl is) (λ rest. inr (rest.0, lb.of_first i tag rest.1)) start;
   read_back = between_law_read_back d behind ld lb;
+  one_value = between_law_one_value d behind ld lb;
   unbounded = between_law_unbounded d behind ld lb;
   memory = between_law_memory d behind ld lb;
   errors = between_law_errors d behind ld lb;
@@ -273,6 +302,11 @@ module _ {A M : Type 0} (d : Encoding A) (behind : FieldsBy A M) (ld : EncodingL
   item_law_read_back names m l v a s = item_read_back (first_name names) d.encoding d.read behind.item behind.encoding (behind.read (other_names names)) d.accepts m (ld.nothing_or_element (behind.item m) l.0 v.0) (ld.not_empty (behind.item m) l.0 l.1 v.0)
       (λ rest fits none. ld.read_back (behind.item m) rest l.0 v.0 a.0 fits none) (lb.read_back (other_names names) m l.2 v.1 a.1) s
 
+  pub item_law_one_value : d.is_read × behind.is_read → (m n : M) → d.lawful × d.is_element × behind.lawful → d.valid (behind.item m) × behind.valid m → d.valid (behind.item n) × behind.valid n →
+      d.encoding (behind.item m) ++ behind.encoding m ≡ d.encoding (behind.item n) ++ behind.encoding n → m ≡ n
+  item_law_one_value is m n l v w = item_one_value behind.item m n (d.encoding (behind.item m)) (d.encoding (behind.item n)) (behind.encoding m) (behind.encoding n) (IsOneElement_not_empty (ld.nothing_or_element (behind.item m) l.0 v.0) (ld.not_empty (behind.item m) l.0 l.1 v.0))
+      (IsOneElement_not_empty (ld.nothing_or_element (behind.item n) l.0 w.0) (ld.not_empty (behind.item n) l.0 l.1 w.0)) (ld.one_value is.0 (behind.item m) (behind.item n) l.0 v.0 w.0) (lb.one_value is.1 m n l.2 v.1 w.1)
+
   pub item_law_unbounded : (d.bounded ⊎ behind.bounded → ⊥) → (m : M) → d.valid (behind.item m) × behind.valid m → d.allowed (behind.item m) × behind.allowed m
   item_law_unbounded free m v = (ld.unbounded (λ b. free (inl b)) (behind.item m) v.0, lb.unbounded (λ b. free (inr b)) m v.1)
 
@@ -290,6 +324,7 @@ with_item_laws {d = d} {behind = behind} ld lb = record {
   consumes = item_law_consumes d behind ld lb;
   apart = λ m l v asked free. item_law_apart d behind ld lb m l v asked (λ tag is. free tag (inl is));
   read_back = item_law_read_back d behind ld lb;
+  one_value = item_law_one_value d behind ld lb;
   unbounded = item_law_unbounded d behind ld lb;
   memory = item_law_memory d behind ld lb;
   errors = item_law_errors d behind ld lb;
@@ -304,6 +339,7 @@ sequence_laws names lf = record {
   no_closures = lf.no_closures;
   consumes = lf.consumes names;
   read_back = lf.read_back names;
+  one_value = lf.one_value;
   unbounded = lf.unbounded;
   memory = lf.memory names;
   errors = lf.errors names;
@@ -312,5 +348,34 @@ sequence_laws names lf = record {
 pub structure_laws : {M : Type 0} {fields : Fields M} (names : List (List ℕ)) → FieldsLaws fields → EncodingLaws (simple_encoding (sequence fields names))
 structure_laws names lf = simple_laws (sequence_laws names lf)
 
-pub structure_with_tag_laws : {M : Type 0} (tag : Tag) {fields : Fields M} (names : List (List ℕ)) → FieldsLaws fields → EncodingLaws (simple_encoding (retagged (λ own. tag) (sequence fields names)))
-structure_with_tag_laws tag names lf = simple_laws (retagged_laws (λ own. tag) (sequence_laws names lf))
+pub set_fields_laws : {M : Type 0} (tag : Tag) {fields : Fields M} (names : List (List ℕ)) → FieldsLaws fields → ContentLaws (set_fields tag fields names)
+set_fields_laws tag names lf = record {
+  one_encoding = lf.one_encoding;
+  has_encoding = lf.has_encoding;
+  no_closures = lf.no_closures;
+  consumes = lf.consumes names;
+  read_back = λ m l. lf.read_back names m l.0;
+  one_value = λ is m n l. lf.one_value is m n l.0;
+  unbounded = lf.unbounded;
+  memory = lf.memory names;
+  errors = lf.errors names;
+}
+
+pub tagged_fields_laws : {M : Type 0} (tag : Tag) {fields : Fields M} (names : List (List ℕ)) → FieldsLaws fields → ContentLaws (tagged_fields tag fields names)
+tagged_fields_laws tag names lf = record {
+  one_encoding = lf.one_encoding;
+  has_encoding = lf.has_encoding;
+  no_closures = lf.no_closures;
+  consumes = lf.consumes names;
+  read_back = λ m l. lf.read_back names m l.0;
+  one_value = λ is m n l. lf.one_value is m n l.0;
+  unbounded = lf.unbounded;
+  memory = lf.memory names;
+  errors = lf.errors names;
+}
+
+pub set_structure_laws : {M : Type 0} (tag : Tag) {fields : Fields M} (names : List (List ℕ)) → FieldsLaws fields → EncodingLaws (simple_encoding (set_fields tag fields names))
+set_structure_laws tag names lf = simple_laws (set_fields_laws tag names lf)
+
+pub structure_with_tag_laws : {M : Type 0} (tag : Tag) {fields : Fields M} (names : List (List ℕ)) → FieldsLaws fields → EncodingLaws (simple_encoding (tagged_fields tag fields names))
+structure_with_tag_laws tag names lf = simple_laws (tagged_fields_laws tag names lf)

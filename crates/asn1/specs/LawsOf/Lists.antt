@@ -11,12 +11,18 @@ use Rattle.asn1_core.specs.Encoding.{Encoding, simple_encoding}
 use Rattle.asn1_core.specs.EncodingLaws.{ContentLaws, EncodingLaws}
 use Rattle.asn1_core.specs.LawsOf.Encodings.{simple_laws}
 use Rattle.asn1_core.specs.Lemmas.Items.{AllByRecursion_both, AllByRecursion_pair, AllByRecursion_weaker, AllByRecursion_all, joins_one_encoding, joins_has_encoding}
+use Rattle.asn1_core.specs.Lemmas.Options.{IsOneElement_not_empty}
+use Rattle.asn1_core.specs.Lemmas.Sharing.{items_one_value}
 use Rattle.asn1.specs.Lists.{IsInBounds, AreBounds, sequence_read, items_out}
 use Rattle.asn1.specs.ListTypes.{items_inside}
 use Rattle.asn1.specs.Sets.{set_read, set_out}
 use Rattle.asn1.specs.SetTypes.{set_inside, set_content}
 use Rattle.asn1.specs.Lemmas.ListItems.{sequence_consumes, sequence_read_back, items_memory, sequence_errors, length_le_flat_map, count_le_high, IsInBounds_unbounded}
 use Rattle.asn1.specs.Lemmas.SetItems.{set_items_consumes, set_read_back, set_memory, set_octets_consumes, set_octets_read_back, set_errors, set_octets_errors}
+
+module _ {A : Type 0} (d : Encoding A) (ld : EncodingLaws d) where
+  items_of_one_value : d.is_read → (ms ns : List A) → d.lawful × d.is_element → AllByRecursion d.valid ms → AllByRecursion d.valid ns → flat_map d.encoding ms ≡ flat_map d.encoding ns → ms ≡ ns
+  items_of_one_value is ms ns l = items_one_value d.encoding d.valid (λ m v. IsOneElement_not_empty (ld.nothing_or_element m l.0 v) (ld.not_empty m l.0 l.1 v)) (λ m n. ld.one_value is m n l.0) ms ns
 
 module _ {A : Type 0} (low high : ℕ) (d : Encoding A) (ld : EncodingLaws d) where
   pub sequence_of_one_encoding : d.plain → (ms : List A) (t : List ℕ) → Joins d.encodings ms t → t ≡ flat_map d.encoding ms
@@ -57,6 +63,7 @@ items_inside_laws low high {d = d} ld = record {
   no_closures = sequence_of_no_closures low high d ld;
   consumes = sequence_of_consumes low high d ld;
   read_back = sequence_of_read_back low high d ld;
+  one_value = λ is ms ns l. items_of_one_value d ld is ms ns l;
   unbounded = sequence_of_unbounded low high d ld;
   memory = sequence_of_memory low high d ld;
   errors = sequence_of_errors low high d ld;
@@ -100,6 +107,7 @@ set_inside_laws {d = d} ld = record {
   no_closures = set_of_no_closures d ld;
   consumes = set_of_consumes d ld;
   read_back = set_of_read_back d ld;
+  one_value = λ is ms ns l v w. items_of_one_value d ld is ms ns l v.0 w.0;
   unbounded = λ free ms v. AllByRecursion_weaker d.valid d.allowed (ld.unbounded free) ms v.0;
   memory = set_of_memory d ld;
   errors = set_of_errors d ld;
@@ -116,6 +124,7 @@ set_content_laws = record {
   no_closures = λ p m. tt;
   consumes = set_octets_consumes;
   read_back = λ m l v a s. set_octets_read_back m v s;
+  one_value = λ is m n l v w same. same;
   unbounded = λ free c v. tt;
   memory = λ c places out. out;
   errors = set_octets_errors tag_less;

@@ -15,6 +15,7 @@ one_inside_laws tag {d = d} ld = record {
   no_closures = ld.no_closures;
   consumes = inside_consumes d.encoding (λ m. d.valid m × d.allowed m) d.read ld.consumes;
   read_back = λ m l v a s. inside_read_back d.accepts d.encoding d.read m (ld.nothing_or_element m l v) (ld.read_back m [] l v a) s;
+  one_value = ld.one_value;
   unbounded = ld.unbounded;
   memory = ld.memory;
   errors = λ c. whole_errors (d.read c) (ld.errors c);
@@ -27,6 +28,7 @@ retagged_laws change lc = record {
   no_closures = lc.no_closures;
   consumes = lc.consumes;
   read_back = lc.read_back;
+  one_value = lc.one_value;
   unbounded = lc.unbounded;
   memory = lc.memory;
   errors = lc.errors;

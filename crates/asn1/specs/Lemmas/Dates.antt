@@ -9,7 +9,7 @@ use Rattle.asn1_core.specs.Base256.{IsOctets}
 use Rattle.asn1_core.specs.ReadError.{read_error, IsOfInput}
 use Rattle.asn1_core.specs.Lemmas.Results.{done_injective, bind_ok, if_ok_is}
 use Rattle.asn1_values.specs.Times.{IsDate as IsDateAndTime, Moment, IsMoment, days, is_leap, month_lengths, two}
-use Rattle.asn1_values.specs.TimeSteps.{is_digit, front_two}
+use Rattle.asn1_values.specs.TimeSteps.{front_two}
 use Rattle.asn1_values.specs.Lemmas.Times.{is_moment_IsMoment, two_rejected, two_consumes, two_read_back, IsRejected, bind_rejected, if_rejected, rejected_errors, IsRejected_not_ok}
 use Rattle.asn1.specs.Dates.{Day, IsDay, IsDate, IsDayText, is_day, day_alone, day_text, read_day}
 

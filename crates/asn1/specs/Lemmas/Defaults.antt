@@ -117,3 +117,18 @@ default_both default P Q R m (inr h) = (inr (h.0.0, h.1), inr h.0.1)
 pub default_weaker : {M : Type 0} (default : M) (P Q R : M → Type 0) → ((m : M) → P m → Q m) → (m : M) → (m ≡ default) ⊎ (P m × R m) → (m ≡ default) ⊎ Q m
 default_weaker default P Q R law m (inl e) = inl e
 default_weaker default P Q R law m (inr h) = inr (law m h.0)
+
+-- no two values share an encoding: only the default has none
+module _ {M : Type 0} (encoding : M → List ℕ) (default : M) (valid : M → Type 0) (not_empty : (m : M) → valid m → encoding m ≡ [] → ⊥) where
+  other_not_empty : (m n : M) → m ≡ default → valid n × (same_encoding encoding n default ≡ false) → default_text encoding default m ≡ default_text encoding default n → ⊥
+  other_not_empty m n is w same = not_empty n w.0 (sym (default_text_other encoding default n w.1) ∙ (sym same ∙ default_text_default encoding default m is))
+
+  pub default_one_value : ((m n : M) → valid m → valid n → encoding m ≡ encoding n → m ≡ n) →
+      (m n : M) → (m ≡ default) ⊎ (valid m × (same_encoding encoding m default ≡ false)) → (n ≡ default) ⊎ (valid n × (same_encoding encoding n default ≡ false)) →
+      default_text encoding default m ≡ default_text encoding default n → m ≡ n
+  default_one_value law m n (inl e) (inl f) same = e ∙ sym f
+  default_one_value law m n (inl e) (inr w) same = absurd (other_not_empty m n e w same)
+  default_one_value law m n (inr v) (inl f) same = absurd (other_not_empty n m f v (sym same))
+  default_one_value law m n (inr v) (inr w) same =
+      let one = default_text_other encoding default m v.1 in
+      law m n v.0 w.0 (sym one ∙ (same ∙ default_text_other encoding default n w.1))

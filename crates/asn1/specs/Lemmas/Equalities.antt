@@ -1,27 +1,22 @@
 -- The equality of a type tells its values by their encodings. This is proved once for each kind of type.
-use Rattle.std.proofs.Common.{◌≡◌, ℕ, ℤ, pos, Bool, true, false, List, ◌++◌, length, drop, Option, Some, None, Result, Ok, refl, sym, ap, ◌∙◌, inl, inr, arith}
+use Rattle.std.proofs.Common.{◌≡◌, ℕ, ℤ, pos, Bool, true, false, List, Option, Some, None, Result, Ok, refl, sym, ap, ◌∙◌}
 use Rattle.std.specs.Prelude.{nat_eq, ◌&&◌}
 use Rattle.std.specs.Option.{option_eq}
 use Rattle.std.specs.Cmp.Lexicographic.{pointwise}
 use Rattle.std.specs.Ordering.{int_eq}
 use Rattle.std.specs.Bool.{Decides}
 use Rattle.std.specs.Str.{bytes_eq}
-use Rattle.std.proofs.lemmas.Bool.{cases_lt}
 use Rattle.std.proofs.lemmas.Bool.Decides.{Decides-int_eq, Decides-eqb, Decides-and, Decides-like}
-use Rattle.std.proofs.lemmas.List.{append_cancel_left}
 use Rattle.std.proofs.lemmas.Slice.Eq.{bytes_eq-Decides}
-use Rattle.std.proofs.Math.Seq.{drop-append_seam}
-use Rattle.std.specs.Int.Digits.{digits_of}
 use Rattle.asn1_core.specs.declared.tag.Tag.{Tag}
 use Rattle.asn1_core.specs.Base256.{signed_number}
-use Rattle.asn1_core.specs.Tag.{identifier_octets, universal}
-use Rattle.asn1_core.specs.Length.{length_octets}
+use Rattle.asn1_core.specs.Tag.{universal}
 use Rattle.asn1_core.specs.Element.{element, element_encoding}
 use Rattle.asn1_core.specs.Integer.{integer_content}
 use Rattle.asn1_core.specs.Boolean.{bool_octets}
 use Rattle.asn1_core.specs.ReadError.{ReadError}
 use Rattle.asn1_core.specs.Lemmas.Results.{done_injective}
-use Rattle.asn1_core.specs.Lemmas.Lengths.{length_octets_low, length_octets_high}
+use Rattle.asn1_core.specs.Lemmas.Cuts.{element_encoding_content_injective}
 use Rattle.asn1_core.specs.Lemmas.Integers.{signed_number_integer_content}
 use Rattle.asn1_values.specs.Big.{IsSignedForm}
 use Rattle.asn1_values.specs.Bits.{Bits, bits, bits_text}
@@ -41,34 +36,6 @@ use Rattle.asn1_values.specs.Lemmas.Fractions.{instant_read_back}
 use Rattle.asn1_values.specs.Lemmas.Big.{IsSigned_integer_content, IsSignedForm_IsSigned}
 use Rattle.asn1.specs.Defaulted.{EqualityTells, ContentTells}
 use Rattle.asn1_core.specs.Lemmas.Facts.{cons_injective}
-
--- ---- elements with the same tag and the same encoding have the same contents octets
-
-append_cancel_same_length : (a b c d : List ℕ) → length a ≡ length b → a ++ c ≡ b ++ d → c ≡ d
-append_cancel_same_length a b c d same e = sym (drop-append_seam a c) ∙ (ap (λ (n : ℕ). drop n (a ++ c)) same ∙ (ap (λ (t : List ℕ). drop (length b) t) e ∙ drop-append_seam b d))
-
-length_octets_cancel : (c d : List ℕ) → length_octets (length c) ++ c ≡ length_octets (length d) ++ d → c ≡ d
-length_octets_cancel c d e =
-    elim (cases_lt (length c) 128) [
-      | inl low ↦ elim (cases_lt (length d) 128) [
-        | inl low2 ↦ (cons_injective _ _ _ _ (rw (length_octets_low (length c) low, length_octets_low (length d) low2) at e)).1
-        | inr high2 ↦
-            let h = cons_injective _ _ _ _ (rw (length_octets_low (length c) low, length_octets_high (length d) high2) at e) in
-            absurd (omega (arith, h.0))
-      ]
-      | inr high ↦ elim (cases_lt (length d) 128) [
-        | inl low2 ↦
-            let h = cons_injective _ _ _ _ (rw (length_octets_high (length c) high, length_octets_low (length d) low2) at e) in
-            absurd (omega (arith, h.0))
-        | inr high2 ↦
-            let h = cons_injective _ _ _ _ (rw (length_octets_high (length c) high, length_octets_high (length d) high2) at e) in
-            append_cancel_same_length (digits_of 256 (length c)) (digits_of 256 (length d)) c d (omega (arith, h.0)) h.1
-      ]
-    ]
-
-pub element_encoding_content_injective : (tag : Tag) (c d : List ℕ) → element_encoding (element tag c) ≡ element_encoding (element tag d) → c ≡ d
-unfolding element_encoding
-element_encoding_content_injective tag c d e = length_octets_cancel c d (append_cancel_left (identifier_octets tag) _ _ e)
 
 -- ---- the types
 

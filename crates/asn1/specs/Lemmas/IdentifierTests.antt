@@ -1,5 +1,5 @@
 -- The test of an object identifier, and the form in memory of one that passes.
-use Rattle.std.proofs.Common.{◌≡◌, ℕ, ◌^◌, ◌-◌, true, List, [], ◌∷◌, ◌++◌, length, ap, ltb, leb, refl}
+use Rattle.std.proofs.Common.{◌≡◌, ℕ, ◌^◌, ◌-◌, true, List, [], ◌∷◌, ◌++◌, length, ap, ltb, refl}
 use Rattle.std.specs.Prelude.{is_some, replicate}
 use Rattle.std.specs.List.{list_all}
 use Rattle.std.proofs.lemmas.Bool.{and_parts, and_from, ltb-true, lt-ltb, leb-true, le-leb}

@@ -1,4 +1,4 @@
-//! Fields that an item before them defines (X.680, types that another field defines).
+//! Fields that an item before them defines (ANY DEFINED BY of X.208).
 
 ghost use Rattle.std.specs.Prelude.{◌≡◌, IsOk};
 ghost use Rattle.std.specs.Str.{bytes_eq};

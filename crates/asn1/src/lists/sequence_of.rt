@@ -1,7 +1,8 @@
 //! SEQUENCE OF (X.690 8.10).
 
 ghost use Rattle.std.specs.Prelude.{◌≡◌, ◌↔◌, ◌<◌, ◌≤◌, ◌-◌, ◌==◌};
-ghost use Rattle.std.specs.Prelude.{IsTrue, List, ℕ, length, map, nat_eq, OnOk, OnErr, IfOk, IfErr, IsSome};
+ghost use Rattle.std.specs.Prelude.{IsTrue, List, [], ◌∷◌, ℕ, length, map, nat_eq, OnOk, OnErr, IfOk, IfErr};
+ghost use Rattle.std.specs.Prelude.{IfNone, IfSome, IsOk, IsSome};
 ghost use Rattle.std.specs.Iterator.{at_most};
 ghost use Rattle.std.specs.Hash as fed;
 ghost use Rattle.std.specs.Cmp.{partial_equiv_from_equiv, on_per, on_equiv};
@@ -93,6 +94,27 @@ impl<'a, T: Asn1Readable<'a>, const MINIMUM_LEN: usize, const MAXIMUM_LEN: usize
         self.count == 0
     }
 
+    /// Takes the next item; `None` if none remains. The only error is `AllocationError`, without a location of this
+    /// list, if reading an item allocates; the next call goes on after this item.
+    pub fn take_next(&mut self) -> ParseResult<Option<T>>
+        ensures none { IfOk result (λ next. IfNone next (
+            ⟦<SequenceOf<'a, T, MINIMUM_LEN, MAXIMUM_LEN> as Asn1Type>⟧.der.meaning self.old
+            ≡ [])) }
+        ensures some { IfOk result (λ next. IfSome next (λ v.
+            ⟦<SequenceOf<'a, T, MINIMUM_LEN, MAXIMUM_LEN> as Asn1Type>⟧.der.meaning self.old
+            ≡ T.der.meaning v
+            ∷ ⟦<SequenceOf<'a, T, MINIMUM_LEN, MAXIMUM_LEN> as Asn1Type>⟧.der.meaning self.new)) }
+
+        // If reading an item doesn't allocate, there is no error.
+        ensures no_memory_error { ¬ T.der.takes_memory → IsOk result }
+    {
+        match self.next() {
+            None => Ok(None),
+            Some(Ok(item)) => Ok(Some(item)),
+            Some(Err(error)) => Err(error),
+        }
+    }
+
     /// States that each item that remains may be read back: it was read, so it is within its bounds. The call does
     /// nothing at run time.
     pub fn known_items(&self)
@@ -107,8 +129,8 @@ impl<
     const MINIMUM_LEN: usize,
     const MAXIMUM_LEN: usize,
 > SequenceOf<'a, T, MINIMUM_LEN, MAXIMUM_LEN> {
-    /// The list of these items. Its encoding is written into `store`, in place of what is there, and read back; the
-    /// list borrows it from there. So a list that is made is in all a list that is read.
+    /// The list of these items. It borrows its octets from `store`, which is only room for them: no clause says what
+    /// else it holds. A list that is made is in all a list that was read.
     ///
     /// The outer error is that of writing an item: `AllocationError` if out of memory, or one that an item names. The
     /// inner one is that of reading: `InvalidSize` if the items are fewer or more than the list's bounds allow,
@@ -143,6 +165,12 @@ impl<
             T.der.lawful → T.der.is_element → lists.allowed meanings
             → Fits (lists.encoding meanings) → IfOk result (λ read. Returns lists.meaning
             (lists.content.runs_out (flat_map T.der.encoding meanings)) read (Ok meanings)) }
+
+        // If reading an item doesn't allocate, there is one.
+        ensures there { let meanings = map T.der.meaning items.now in
+            let lists = ⟦<SequenceOf<'a, T, MINIMUM_LEN, MAXIMUM_LEN> as Asn1Type>⟧.der in
+            T.der.lawful → T.der.is_element → ¬ T.der.takes_memory → lists.allowed meanings
+            → Fits (lists.encoding meanings) → IfOk result (λ read. IsOk read) }
         ensures error { IfErr result (NamesError T.Error.from_gives
             (AnyNames T.write_errors items.now)) }
     {
@@ -242,6 +270,7 @@ impl<
         ensures value { result ≡ sequence_tag }
         ensures simple { Unit {0} }
         ensures plain { T.der.plain }
+        ensures read { T.der.is_read }
     {
         let tag = Tag::constructed(0x10);
         // By this call's contract each value of the items' type has one encoding.

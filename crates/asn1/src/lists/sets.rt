@@ -2,7 +2,8 @@
 //! as an iterator, its items in the order of their encodings (11.6).
 
 ghost use Rattle.std.specs.Prelude.{◌≡◌, ◌↔◌, ◌<◌};
-ghost use Rattle.std.specs.Prelude.{IsTrue, [], length, map, Result, OnOk, OnErr, IfOk, IfErr, IsSome, nat_eq};
+ghost use Rattle.std.specs.Prelude.{IsTrue, List, [], ◌∷◌, length, map, Result, OnOk, OnErr, IfOk, IfErr};
+ghost use Rattle.std.specs.Prelude.{IfNone, IfSome, IsOk, IsSome, nat_eq};
 ghost use Rattle.std.specs.Iterator.{at_most};
 ghost use Rattle.std.specs.Hash as fed;
 ghost use Rattle.std.specs.Cmp.{partial_equiv_from_equiv, on_per, on_equiv};
@@ -11,7 +12,7 @@ ghost use Rattle.std.specs.Cmp.Rules.{hashing};
 ghost use Rattle.std.proofs.Common.{rules};
 ghost use Rattle.asn1_core.specs.Buffer.{Appends, KeepsPrefix};
 ghost use Rattle.std.specs.List.{flat_map, AllByRecursion};
-ghost use Rattle.asn1_core.specs.Listing.{encoding_less, AnyNames, Joins, OneNames, set_tag};
+ghost use Rattle.asn1_core.specs.Listing.{encoding_less, AnyNames, Joins, OneNames, SameEncodings, set_tag};
 ghost use Rattle.asn1_core.specs.Tag.{tag_less};
 ghost use Rattle.asn1_core.specs.Tlv.{element_of};
 ghost use Rattle.asn1_core.specs.Reading.{Returns, EndsWith, Fits, ReadsBy, framed_element};
@@ -185,6 +186,7 @@ impl<'a> SimpleAsn1Readable<'a> for Set<'a> {
         ensures value { result ≡ set_tag }
         ensures simple { Unit {0} }
         ensures plain { Unit {0} }
+        ensures read { Unit {0} }
     {
         Tag::constructed(0x11)
     }
@@ -259,6 +261,25 @@ pub struct SetOf<'a, T: Asn1Type> {
 }
 
 impl<'a, T: Asn1Readable<'a>> SetOf<'a, T> {
+    /// Takes the next item in the order of the set; `None` if none remains. The only error is `AllocationError`, if
+    /// reading an item allocates; the next call goes on after this item.
+    pub fn take_next(&mut self) -> ParseResult<Option<T>>
+        ensures none { IfOk result (λ next. IfNone next
+            (⟦<SetOf<'a, T> as Asn1Type>⟧.der.meaning self.old ≡ [])) }
+        ensures some { IfOk result (λ next. IfSome next (λ v.
+            ⟦<SetOf<'a, T> as Asn1Type>⟧.der.meaning self.old
+            ≡ T.der.meaning v ∷ ⟦<SetOf<'a, T> as Asn1Type>⟧.der.meaning self.new)) }
+
+        // If reading an item doesn't allocate, there is no error.
+        ensures no_memory_error { ¬ T.der.takes_memory → IsOk result }
+    {
+        match self.next() {
+            None => Ok(None),
+            Some(Ok(item)) => Ok(Some(item)),
+            Some(Err(error)) => Err(error),
+        }
+    }
+
     /// States that each item that remains may be read back: it was read, so it is within its bounds. The call does
     /// nothing at run time.
     pub fn known_items(&self)
@@ -267,9 +288,8 @@ impl<'a, T: Asn1Readable<'a>> SetOf<'a, T> {
 }
 
 impl<'a, T: Asn1Readable<'a> + Asn1Writable> SetOf<'a, T> {
-    /// The set of these items, which may come in any order. Its encoding is written into `store`, in place of what is
-    /// there, and read back; the set borrows it from there. It has the items in ascending order of their encodings,
-    /// equal ones as often as the slice has them.
+    /// The set of these items, which may come in any order. It has them in ascending order of their encodings, equal
+    /// ones as often as the slice has them, and borrows its octets from `store`.
     ///
     /// Errors are those of [`SequenceOf::of`]. A set has no bounds.
     ///
@@ -296,6 +316,17 @@ impl<'a, T: Asn1Readable<'a> + Asn1Writable> SetOf<'a, T> {
             → IfOk result
             (λ read. IfOk read (λ set. sets.meaning set ≡ in_order T.der.encoding meanings)) }
 
+        // So it is the set of other items exactly if these have the same encodings, each as often.
+        ensures valid { AllByRecursion T.der.valid (map T.der.meaning items.now) }
+        ensures tell { let sets = ⟦<SetOf<'a, T> as Asn1Type>⟧.der in
+            let meanings = map T.der.meaning items.now in
+            T.der.lawful → T.der.is_element → AllByRecursion T.der.allowed meanings
+            → (others : List T) → AllByRecursion T.der.valid (map T.der.meaning others)
+            → IfOk result (λ read. IfOk read (λ set. (sets.meaning set
+            ≡ in_order T.der.encoding (map T.der.meaning others))
+            ↔ SameEncodings (map (λ v. T.der.encoding (T.der.meaning v)) items.now)
+            (map (λ v. T.der.encoding (T.der.meaning v)) others))) }
+
         // There is such a set if the items' encodings are short enough to be read.
         ensures made { let sets = ⟦<SetOf<'a, T> as Asn1Type>⟧.der in
             let meanings = map T.der.meaning items.now in
@@ -304,6 +335,14 @@ impl<'a, T: Asn1Readable<'a> + Asn1Writable> SetOf<'a, T> {
             → Fits (sets.encoding ordered)
             → IfOk result (λ read. Returns sets.meaning
             (sets.content.runs_out (flat_map T.der.encoding ordered)) read (Ok ordered)) }
+
+        // If reading an item doesn't allocate, there is one.
+        ensures there { let sets = ⟦<SetOf<'a, T> as Asn1Type>⟧.der in
+            let meanings = map T.der.meaning items.now in
+            T.der.lawful → T.der.is_element → ¬ T.der.takes_memory
+            → AllByRecursion T.der.allowed meanings
+            → Fits (sets.encoding (in_order T.der.encoding meanings))
+            → IfOk result (λ read. IsOk read) }
         ensures error { IfErr result (NamesError T.Error.from_gives
             (AnyNames T.write_errors items.now)) }
     {
@@ -387,6 +426,7 @@ impl<'a, T: Asn1Readable<'a>> SimpleAsn1Readable<'a> for SetOf<'a, T> {
         ensures value { result ≡ set_tag }
         ensures simple { Unit {0} }
         ensures plain { T.der.plain }
+        ensures read { T.der.is_read }
     {
         let tag = Tag::constructed(0x11);
         // By this call's contract each value of the items' type has one encoding.

@@ -40,8 +40,8 @@ impl<
         Ok(Explicit::new(value))
     }
 
-    fn one_text() {
-        U::one_text()
+    fn one_encoding() {
+        U::one_encoding()
     }
 }
 

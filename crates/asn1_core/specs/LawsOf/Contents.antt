@@ -45,6 +45,7 @@ non_zero_laws tag low high =
       no_closures = laws.no_closures;
       consumes = laws.consumes;
       read_back = laws.read_back;
+      one_value = λ is. absurd is;
       unbounded = laws.unbounded;
       memory = laws.memory;
       errors = laws.errors;
@@ -59,6 +60,7 @@ written_laws {M = M} laws = record {
   no_closures = laws.no_closures;
   consumes = λ c m b e. absurd (rejects_all_consumes c m e);
   read_back = λ m l v a. absurd a;
+  one_value = λ is. absurd is;
   unbounded = λ free m v. absurd (free tt);
   memory = λ c places out. out;
   errors = rejects_all_errors M;

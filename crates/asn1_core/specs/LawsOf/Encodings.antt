@@ -1,8 +1,8 @@
 -- The laws of encodings, from those of their parts: of simple types by their contents, of any element, of options, and
 -- of values that own memory. They are lemmas, which don't unfold, and say nothing of the values of a Rust type. So a
 -- comparison of two types compares their data, and no proofs.
-use Rattle.std.specs.Prelude.{ℕ, ◌<◌, ◌^◌, ◌≡◌, ◌⊎◌, List, [], ◌++◌, length, Result, Ok, IfErr, true, false, Option}
-use Rattle.std.proofs.Common.{inr, refl}
+use Rattle.std.specs.Prelude.{ℕ, ◌<◌, ◌^◌, ◌≡◌, ◌⊎◌, List, [], ◌++◌, length, Result, Ok, IfErr, true, false, Option, Some, None}
+use Rattle.std.proofs.Common.{inr, refl, sym, ap, ◌∙◌}
 use Rattle.asn1_core.specs.declared.tag.Tag.{Tag}
 use Rattle.asn1_core.specs.declared.parser.Place.{Place}
 use Rattle.asn1_core.specs.Base256.{IsOctets}
@@ -10,14 +10,16 @@ use Rattle.asn1_core.specs.Tag.{tag_eq}
 use Rattle.asn1_core.specs.Element.{Element, element, element_encoding, leading_element}
 use Rattle.asn1_core.specs.ReadError.{ReadError, IsOfInput}
 use Rattle.asn1_core.specs.Writing.{IsElementOf}
-use Rattle.asn1_core.specs.Reading.{Returns, Consumes, Fits, IsOneElement, IsNothingOrElement, simple, simple_out, framed_element, begins_accepted, rejects_all}
+use Rattle.asn1_core.specs.Reading.{Returns, Consumes, Fits, IsOneElement, IsNothingOrElement, simple, simple_out, begins_accepted, rejects_all}
 use Rattle.asn1_core.specs.Options.{IfThere, option_octets, option_read}
 use Rattle.asn1_core.specs.Encoding.{Content, Basic, Encoding, simple_encoding, basic, no_content_but, tlv_encoding, option_encoding}
 use Rattle.asn1_core.specs.EncodingLaws.{ContentLaws, BasicLaws, EncodingLaws}
 use Rattle.asn1_core.specs.Boxed.{boxed, boxed_encoding}
 use Rattle.asn1_core.specs.Lemmas.Options.{option_consumes, option_nothing_or_element, option_accepted, option_read_back, option_both, option_pair, option_weaker, option_one_encoding, option_has_encoding, option_at_most_one, option_all, option_errors}
 use Rattle.asn1_core.specs.Lemmas.Elements.{element_encoding_not_nil}
-use Rattle.asn1_core.specs.Lemmas.Wholes.{Fits_short, IfErr_Returns, one_value}
+use Rattle.asn1_core.specs.Lemmas.Results.{done_injective}
+use Rattle.asn1_core.specs.Lemmas.Wholes.{Fits_short, IfErr_Returns}
+use Rattle.asn1_core.specs.Lemmas.Cuts.{element_encoding_cut, element_encoding_content_injective}
 use Rattle.asn1_core.specs.Lemmas.Faults.{simple_errors, tlv_errors, rejects_all_errors}
 use Rattle.asn1_core.specs.Lemmas.Contents.{simple_consumes, simple_nothing_or_element, simple_accepted, simple_read_back, element_one_encoding, tlv_consumes, tlv_read_back, rejects_all_consumes}
 
@@ -49,8 +51,8 @@ module _ {M : Type 0} (c : Content M) (laws : ContentLaws c) where
       (element_encoding (element c.tag (c.encoding m)) ≡ [] → begins_accepted (λ t. tag_eq t c.tag) rest ≡ false) → simple c.tag c.read (element_encoding (element c.tag (c.encoding m)) ++ rest) ≡ Ok (m, rest)
   simple_type_read_back m rest l v a fits none = simple_read_back c.tag c.encoding c.read m rest l.1 (laws.read_back m l.0 v a) fits
 
-  simple_type_one_value : (m n : M) → c.lawful × (c.tag.value < 2 ^ 32) → c.valid m → c.valid n → c.allowed m → c.allowed n → Fits (element_encoding (element c.tag (c.encoding m))) → element_encoding (element c.tag (c.encoding m)) ≡ element_encoding (element c.tag (c.encoding n)) → m ≡ n
-  simple_type_one_value m n l v w a b = one_value (λ t. tag_eq t c.tag) (λ x. element_encoding (element c.tag (c.encoding x))) (simple c.tag c.read) (λ x. c.valid x × c.allowed x) (λ x p. simple_type_read_back x [] l p.0 p.1) m n (v, a) (w, b)
+  simple_type_one_value : c.is_read → (m n : M) → c.lawful × (c.tag.value < 2 ^ 32) → c.valid m → c.valid n → element_encoding (element c.tag (c.encoding m)) ≡ element_encoding (element c.tag (c.encoding n)) → m ≡ n
+  simple_type_one_value is m n l v w same = laws.one_value is m n l.0 v w (element_encoding_content_injective c.tag (c.encoding m) (c.encoding n) same)
 
   simple_type_short_fits : (m : M) → c.lawful × (c.tag.value < 2 ^ 32) → c.valid m → length (element_encoding (element c.tag (c.encoding m))) < 2 ^ 32 → Fits (element_encoding (element c.tag (c.encoding m)))
   simple_type_short_fits m l v = Fits_short (element_encoding (element c.tag (c.encoding m))) (simple_type_nothing_or_element m l v)
@@ -90,6 +92,7 @@ simple_laws {c = c} laws = record {
   as_bounded = λ some. some;
   as_errors = simple_type_as_errors c laws;
   as_plain = λ i p. p;
+  as_is_read = λ i is. is;
   as_lawful = λ i l. l.0;
   as_encodings = λ i m. refl;
   as_accepts = λ i t. refl;
@@ -108,6 +111,7 @@ basic_laws b laws = record {
   no_closures = λ p m. tt;
   consumes = λ c m bytes e. let h = laws.consumes c m bytes e in (h.0, (h.1, tt));
   read_back = λ m l v a s. laws.read_back m v;
+  one_value = λ is m n l v w same. done_injective m n (sym (laws.read_back m v) ∙ (ap b.read same ∙ laws.read_back n w));
   unbounded = λ free m v. tt;
   memory = λ c places out. out;
   errors = laws.errors;
@@ -120,6 +124,7 @@ no_content_laws {M = M} = record {
   no_closures = λ p. absurd p;
   consumes = λ c m b e. absurd (rejects_all_consumes c m e);
   read_back = λ m l. absurd l;
+  one_value = λ is. absurd is;
   unbounded = λ free m v. tt;
   memory = λ c places out. out;
   errors = rejects_all_errors M;
@@ -142,7 +147,7 @@ tlv_laws = record {
   accepted = λ m e v same. refl;
   not_empty = λ m l i v e. element_encoding_not_nil m e;
   read_back = λ m rest l v a fits none. tlv_read_back m rest v fits;
-  one_value = λ m n l v w a b fits. one_value (λ t. true) element_encoding framed_element (λ x. x.tag.value < 2 ^ 32) (λ x p fits none. tlv_read_back x [] p fits) m n v w fits;
+  one_value = λ is m n l v w same. (element_encoding_cut m n [] [] v w (ap (λ (t : List ℕ). t ++ []) same)).0;
   short_fits = λ m l v. Fits_short (element_encoding m) (inr (record { element = m; is = refl; readable = v }));
   unbounded = λ free m v. tt;
   memory = λ t places out. out;
@@ -154,6 +159,7 @@ tlv_laws = record {
   as_bounded = λ some. absurd some;
   as_errors = λ meaning. no_content_errors meaning;
   as_plain = λ i. absurd i;
+  as_is_read = λ i. absurd i;
   as_lawful = λ i. absurd i;
   as_encodings = λ i. absurd i;
   as_accepts = λ i. absurd i;
@@ -170,8 +176,11 @@ module _ {M : Type 0} (e : Encoding M) (laws : EncodingLaws e) where
       option_read e.accepts e.read (option_octets e.encoding m ++ rest) ≡ Ok (m, rest)
   option_type_read_back m rest l v a fits none = option_read_back e.accepts e.encoding (λ x. e.valid x × e.allowed x) e.read (λ x w. laws.nothing_or_element x l.0 w.0) (λ x f w. laws.accepted x f w.0) (λ x w none. laws.not_empty x l.0 l.1 w.0 none) (λ x r w o n. laws.read_back x r l.0 w.0 w.1 o n) m rest (option_pair e.valid e.allowed m v a) fits none
 
-  option_type_one_value : (m n : Option M) → e.lawful × e.is_element → IfThere e.valid m → IfThere e.valid n → IfThere e.allowed m → IfThere e.allowed n → Fits (option_octets e.encoding m) → option_octets e.encoding m ≡ option_octets e.encoding n → m ≡ n
-  option_type_one_value m n l v w a b = one_value e.accepts (option_octets e.encoding) (option_read e.accepts e.read) (λ x. IfThere e.valid x × IfThere e.allowed x) (λ x p. option_type_read_back x [] l p.0 p.1) m n (v, a) (w, b)
+  option_type_one_value : e.is_read → (m n : Option M) → e.lawful × e.is_element → IfThere e.valid m → IfThere e.valid n → option_octets e.encoding m ≡ option_octets e.encoding n → m ≡ n
+  option_type_one_value is None None l v w same = refl
+  option_type_one_value is None (Some n) l v w same = absurd (laws.not_empty n l.0 l.1 w (sym same))
+  option_type_one_value is (Some m) None l v w same = absurd (laws.not_empty m l.0 l.1 v same)
+  option_type_one_value is (Some m) (Some n) l v w same = ap Some (laws.one_value is m n l.0 v w same)
 
 pub option_laws : {M : Type 0} {e : Encoding M} → EncodingLaws e → EncodingLaws (option_encoding e)
 option_laws {e = e} laws = record {
@@ -196,6 +205,7 @@ option_laws {e = e} laws = record {
   as_bounded = λ some. absurd some;
   as_errors = λ meaning. no_content_errors meaning;
   as_plain = λ i. absurd i;
+  as_is_read = λ i. absurd i;
   as_lawful = λ i. absurd i;
   as_encodings = λ i. absurd i;
   as_accepts = λ i. absurd i;
@@ -214,6 +224,7 @@ boxed_content_laws laws = record {
   no_closures = laws.no_closures;
   consumes = laws.consumes;
   read_back = laws.read_back;
+  one_value = laws.one_value;
   unbounded = laws.unbounded;
   memory = λ x places out. tt;
   errors = laws.errors;
@@ -242,6 +253,7 @@ boxed_laws laws = record {
   as_bounded = laws.as_bounded;
   as_errors = λ meaning none. absurd (none tt);
   as_plain = laws.as_plain;
+  as_is_read = laws.as_is_read;
   as_lawful = laws.as_lawful;
   as_encodings = laws.as_encodings;
   as_accepts = laws.as_accepts;

@@ -1,5 +1,5 @@
 -- Inputs that are read to their end.
-use Rattle.std.proofs.Common.{◌≡◌, ℕ, ◌<◌, ◌^◌, Bool, true, false, List, [], ◌∷◌, ◌++◌, length, Result, Ok, Err, IfErr, refl, sym, ap, subst, ◌∙◌, ◌⊎◌, inl, inr, arith}
+use Rattle.std.proofs.Common.{◌≡◌, ℕ, ◌<◌, ◌^◌, Bool, true, false, List, [], ◌∷◌, ◌++◌, length, Result, Ok, Err, IfErr, refl, ap, subst, ◌∙◌, ◌⊎◌, inl, inr, arith}
 use Rattle.std.specs.Prelude.{IfOk}
 use Rattle.std.proofs.lemmas.List.{append-nil}
 use Rattle.asn1_core.specs.declared.parser.Place.{Place}
@@ -41,16 +41,7 @@ whole_consumes {M} encoding valid read law t m is e =
     let q = all_taken_ok_is p.0.0 m p.0.1 p.2 in
     law t [] m is (p.1 ∙ (ap (λ (x : M). gave x p.0.1) q.1 ∙ ap (λ (r : List ℕ). gave m r) q.0))
 
--- values with the same encoding are the same, if each is read from its encoding
-pub one_value : {M : Type 0} (accepts : Tag → Bool) (encoding : M → List ℕ) (read : List ℕ → Result (M × List ℕ) ReadError) (good : M → Type 0) →
-    ((m : M) → good m → Fits (encoding m) → (encoding m ≡ [] → begins_accepted accepts [] ≡ false) → read (encoding m ++ []) ≡ Ok (m, [])) →
-    (m n : M) → good m → good n → Fits (encoding m) → encoding m ≡ encoding n → m ≡ n
-one_value {M} accepts encoding read good law m n p q fits same =
-    let first = law m p fits (λ e. begins_accepted_nil accepts) in
-    let second = law n q (subst Fits same fits) (λ e. begins_accepted_nil accepts) in
-    ap (λ (x : M × List ℕ). x.0) (done_injective (m, []) (n, []) (sym first ∙ (ap (λ (t : List ℕ). read (t ++ [])) same ∙ second)))
-
--- and an encoding is read to its end
+-- an encoding is read to its end
 pub whole_read_back : {M : Type 0} (encoding : M → List ℕ) (read : List ℕ → Result (M × List ℕ) ReadError) (m : M) (t : List ℕ) →
     read (encoding m ++ []) ≡ Ok (m, []) → t ≡ encoding m → whole (read t) ≡ Ok m
 whole_read_back encoding read m t again e = rw (e, ← append-nil (encoding m), again) refl

@@ -1,9 +1,12 @@
 //! BOOLEAN (X.690 8.2).
 
 ghost use Rattle.std.specs.Prelude.{◌≡◌};
-ghost use Rattle.asn1_core.specs.Boolean.{bool_content};
+ghost use Rattle.asn1_core.specs.Boolean.{bool_content, bool_octets};
 ghost use Rattle.asn1_core.specs.Der.{simple_der};
+ghost use Rattle.asn1_core.specs.Element.{element, element_encoding};
 ghost use Rattle.asn1_core.specs.LawsOf.Contents.{bool_laws};
+ghost use Rattle.asn1_core.specs.Reading.{Fits};
+ghost use Rattle.asn1_core.specs.Tag.{universal};
 
 use crate::parser::{ParseError, ParseErrorKind, ParseResult};
 use crate::tag::Tag;
@@ -16,7 +19,10 @@ use std::alloc::Global;
 impl Asn1Type for bool {
     ghost der = { simple_der (λ b. b) bool_content bool_laws };
 
-    fn known(&self) {}
+    fn known(&self)
+        ensures valid { bool_content.valid self.now }
+        ensures fits { Fits (element_encoding (element (universal 1) (bool_octets self.now))) }
+    {}
 }
 
 impl<'a> SimpleAsn1Readable<'a> for bool {

@@ -32,9 +32,11 @@ pub trait Asn1DefinedByReadable<'a, T: Asn1Readable<'a>>: Asn1DefinedBy<T> + Siz
         ensures stops { OnErr result
             (Self.by.means.stops (Self.by.seen item) parser.old parser.new) };
 
-    /// States that each value has one encoding. The call does nothing at run time, or calls `one_text` of the parts.
-    fn one_text()
-        ensures { Self.by.means.plain };
+    /// States that each value has one encoding (`plain`), and that values are read (`read`). The call does nothing at
+    /// run time, or calls `one_encoding` of the parts.
+    fn one_encoding()
+        ensures plain { Self.by.means.plain }
+        ensures read { Self.by.means.is_read };
 }
 
 /// A type that is written after the item that defines it.

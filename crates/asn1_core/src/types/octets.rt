@@ -1,9 +1,11 @@
 //! OCTET STRING and NULL (X.690 8.7, 8.8).
 
-ghost use Rattle.std.specs.Prelude.{◌≡◌, IsTrue, length};
+ghost use Rattle.std.specs.Prelude.{◌≡◌, IsTrue, [], length};
 ghost use Rattle.asn1_core.specs.Base256.{IsOctets};
+ghost use Rattle.asn1_core.specs.Element.{element, element_encoding};
 ghost use Rattle.asn1_core.specs.Tag.{universal};
 ghost use Rattle.asn1_core.specs.Octets.{octets_content, sized_octets_content, null_content};
+ghost use Rattle.asn1_core.specs.Reading.{Fits};
 ghost use Rattle.asn1_core.specs.Reads.{ReadsContents};
 ghost use Rattle.asn1_core.specs.Writing.{GivesLength};
 ghost use Rattle.asn1_core.specs.Der.{simple_der};
@@ -21,7 +23,10 @@ pub type Null = ();
 impl Asn1Type for () {
     ghost der = { simple_der (λ m. m) null_content null_laws };
 
-    fn known(&self) {}
+    fn known(&self)
+        ensures valid { null_content.valid self.now }
+        ensures fits { Fits (element_encoding (element (universal 5) [])) }
+    {}
 }
 
 impl<'a> SimpleAsn1Readable<'a> for () {
@@ -84,6 +89,7 @@ impl<'a> SimpleAsn1Readable<'a> for &'a [u8] {
         ensures value { result ≡ universal 4 }
         ensures simple { Unit {0} }
         ensures plain { Unit {0} }
+        ensures read { Unit {0} }
     {
         Tag::primitive(0x04)
     }

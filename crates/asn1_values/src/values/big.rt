@@ -78,6 +78,7 @@ impl<'a> SimpleAsn1Readable<'a> for BigUint<'a> {
         ensures value { result ≡ universal 2 }
         ensures simple { Unit {0} }
         ensures plain { Unit {0} }
+        ensures read { Unit {0} }
     {
         Tag::primitive(0x02)
     }
@@ -206,6 +207,7 @@ impl<'a> SimpleAsn1Readable<'a> for BigInt<'a> {
         ensures value { result ≡ universal 2 }
         ensures simple { Unit {0} }
         ensures plain { Unit {0} }
+        ensures read { Unit {0} }
     {
         Tag::primitive(0x02)
     }

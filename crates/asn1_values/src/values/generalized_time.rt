@@ -5,6 +5,9 @@ ghost use Rattle.std.proofs.Props.{props};
 ghost use Rattle.asn1_core.specs.declared.parser.ParseErrorKind.TheVariants.{InvalidValue};
 ghost use Rattle.asn1_core.specs.ReadError.{read_error};
 ghost use Rattle.asn1_core.specs.Der.{simple_der};
+ghost use Rattle.asn1_core.specs.Element.{element, element_encoding};
+ghost use Rattle.asn1_core.specs.Reading.{Fits};
+ghost use Rattle.asn1_core.specs.Tag.{universal};
 ghost use Rattle.asn1_values.specs.Times.{IsNanoseconds, instant, instant_text};
 
 use crate::values::DateTime;
@@ -77,7 +80,11 @@ impl Asn1Type for GeneralizedTime {
 
     ghost der = { simple_der instant_of instant_content instant_laws };
 
-    fn known(&self) {}
+    fn known(&self)
+        ensures valid { instant_content.valid (instant_of self.now) }
+        ensures fits { Fits (element_encoding (element (universal 24)
+            (instant_text (instant_of self.now)))) }
+    {}
 }
 
 impl<'a> SimpleAsn1Readable<'a> for GeneralizedTime {

@@ -118,6 +118,7 @@ impl<'a> SimpleAsn1Readable<'a> for PrintableString<'a> {
         ensures value { result ≡ universal 19 }
         ensures simple { Unit {0} }
         ensures plain { Unit {0} }
+        ensures read { Unit {0} }
     {
         Tag::primitive(0x13)
     }
@@ -219,6 +220,7 @@ impl<'a> SimpleAsn1Readable<'a> for IA5String<'a> {
         ensures value { result ≡ universal 22 }
         ensures simple { Unit {0} }
         ensures plain { Unit {0} }
+        ensures read { Unit {0} }
     {
         Tag::primitive(0x16)
     }
@@ -319,6 +321,7 @@ impl<'a> SimpleAsn1Readable<'a> for VisibleString<'a> {
         ensures value { result ≡ universal 26 }
         ensures simple { Unit {0} }
         ensures plain { Unit {0} }
+        ensures read { Unit {0} }
     {
         Tag::primitive(0x1a)
     }
@@ -415,6 +418,7 @@ impl<'a> SimpleAsn1Readable<'a> for Utf8String<'a> {
         ensures value { result ≡ universal 12 }
         ensures simple { Unit {0} }
         ensures plain { Unit {0} }
+        ensures read { Unit {0} }
     {
         Tag::primitive(0x0c)
     }

@@ -5,6 +5,10 @@ ghost use Rattle.std.specs.Prelude.{◌≡◌, ◌≤◌, MatchResult};
 ghost use Rattle.asn1_core.specs.declared.parser.ParseErrorKind.TheVariants.{InvalidValue};
 ghost use Rattle.asn1_core.specs.ReadError.{read_error};
 ghost use Rattle.asn1_core.specs.Der.{simple_der};
+ghost use Rattle.asn1_core.specs.Element.{element, element_encoding};
+ghost use Rattle.asn1_core.specs.Reading.{Fits};
+ghost use Rattle.asn1_core.specs.Tag.{universal};
+ghost use Rattle.asn1_values.specs.Times.{utc_text, x509_text};
 
 use crate::values::DateTime;
 use crate::values::time_digits::{general_octets, utc, utc_octets, x509};
@@ -66,7 +70,11 @@ impl Asn1Type for UtcTime {
 
     ghost der = { simple_der utc_moment utc_content utc_laws };
 
-    fn known(&self) {}
+    fn known(&self)
+        ensures valid { utc_content.valid (utc_moment self.now) }
+        ensures fits { Fits (element_encoding (element (universal 23)
+            (utc_text (utc_moment self.now)))) }
+    {}
 }
 
 impl<'a> SimpleAsn1Readable<'a> for UtcTime {
@@ -154,7 +162,11 @@ impl Asn1Type for X509GeneralizedTime {
 
     ghost der = { simple_der x509_moment x509_content x509_laws };
 
-    fn known(&self) {}
+    fn known(&self)
+        ensures valid { x509_content.valid (x509_moment self.now) }
+        ensures fits { Fits (element_encoding (element (universal 24)
+            (x509_text (x509_moment self.now)))) }
+    {}
 }
 
 impl<'a> SimpleAsn1Readable<'a> for X509GeneralizedTime {

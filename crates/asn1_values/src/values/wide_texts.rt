@@ -140,6 +140,7 @@ impl<'a> SimpleAsn1Readable<'a> for BMPString<'a> {
         ensures value { result ≡ universal 30 }
         ensures simple { Unit {0} }
         ensures plain { Unit {0} }
+        ensures read { Unit {0} }
     {
         Tag::primitive(0x1e)
     }
@@ -244,6 +245,7 @@ impl<'a> SimpleAsn1Readable<'a> for UniversalString<'a> {
         ensures value { result ≡ universal 28 }
         ensures simple { Unit {0} }
         ensures plain { Unit {0} }
+        ensures read { Unit {0} }
     {
         Tag::primitive(0x1c)
     }

@@ -57,7 +57,7 @@ impl<'a> Asn1DefinedByReadable<'a, ObjectIdentifier> for Content {
         Ok(Content::SomeVariant(parser.read_element::<i32>()?))
     }
 
-    fn one_text() {}
+    fn one_encoding() {}
 }
 
 impl Asn1DefinedByWritable<ObjectIdentifier> for Content {

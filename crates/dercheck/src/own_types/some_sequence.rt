@@ -41,6 +41,7 @@ impl<'a> SimpleAsn1Readable<'a> for SomeSequence<'a> {
         ensures value { result ≡ ⟦<SomeSequence<'a> as Asn1Type>⟧.der.content.tag }
         ensures simple { ⟦<SomeSequence<'a> as Asn1Type>⟧.der.is_simple }
         ensures plain { ⟦<SomeSequence<'a> as Asn1Type>⟧.der.plain }
+        ensures read { ⟦<SomeSequence<'a> as Asn1Type>⟧.der.is_read }
     {
         Tag::constructed(0x10)
     }

@@ -36,6 +36,7 @@ impl<'a> SimpleAsn1Readable<'a> for Inner<'a> {
         ensures value { result ≡ sequence_tag }
         ensures simple { Unit {0} }
         ensures plain { ⟦<Three<'a> as Asn1Type>⟧.der.plain }
+        ensures read { ⟦<Three<'a> as Asn1Type>⟧.der.is_read }
     {
         <Three<'a> as SimpleAsn1Readable<'a>>::tag()
     }

@@ -1,8 +1,7 @@
 //! A set of two fields, in the order of their tags.
 
 ghost use Rattle.std.specs.Prelude.{◌∷◌, []};
-ghost use Rattle.asn1.specs.Listing.{set_tag};
-ghost use Rattle.asn1.specs.Structures.{field_names, structure_with_tag, fields2};
+ghost use Rattle.asn1.specs.Structures.{field_names, set_structure, fields2};
 
 use crate::tests::own_types::{is_at, other_tag, refusal};
 use asn1::fields::{Fields2, Row};
@@ -24,7 +23,7 @@ pub struct Pair {
 type Fields = Fields2<bool, u64>;
 
 impl Asn1Type for Pair {
-    ghost der = { structure_with_tag set_tag (λ v. fields2 v.r v.s) ⟦<Fields as Row>⟧.list
+    ghost der = { set_structure (λ v. fields2 v.r v.s) ⟦<Fields as Row>⟧.list
         (field_names "Pair" ("r" ∷ "s" ∷ [])) };
 
     fn known(&self) {

@@ -37,6 +37,7 @@ impl<'a> SimpleAsn1Readable<'a> for Ticket<'a> {
         ensures value { result ≡ ⟦<Ticket<'a> as Asn1Type>⟧.der.content.tag }
         ensures simple { ⟦<Ticket<'a> as Asn1Type>⟧.der.is_simple }
         ensures plain { ⟦<Ticket<'a> as Asn1Type>⟧.der.plain }
+        ensures read { ⟦<Ticket<'a> as Asn1Type>⟧.der.is_read }
     {
         Tag::constructed(0x10)
     }

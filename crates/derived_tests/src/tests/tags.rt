@@ -2,8 +2,8 @@
 
 use super::are_written_back;
 use crate::tags::{
-    Around, Both, Either, Entry, Header, Inventory, Neither, Nine, Report, ResultCode, Sealed,
-    Settings, Switch, Version,
+    Around, Both, Either, Entry, Header, Inventory, Neither, Nine, Preferences, Report, ResultCode,
+    Sealed, Settings, Switch, Version,
 };
 use asn1::{Explicit, ParseErrorKind, Tag, TagClass};
 use std::test::Fail;
@@ -91,6 +91,24 @@ fn settings(rt: HostRuntime) -> Result<(), Fail> {
                 &[0x31, 10, 2, 1, 1, 0x80, 1, 7, 0xdf, 0x1f, 1, 0],
                 ParseErrorKind::EncodedDefault,
             ),
+        ],
+    )
+}
+
+/// A set under a tag of the application: its fields in the order of their tags, and no set without this tag.
+#[test]
+fn preferences(rt: HostRuntime) -> Result<(), Fail> {
+    let alloc = rt.alloc();
+    are_written_back::<Preferences<'_>>(
+        alloc,
+        &[&[0x65, 9, 2, 1, 7, 4, 1, 9, 0x80, 1, 2], &[0x65, 2, 4, 0]],
+    )?;
+    let actual = Tag::constructed(0x11);
+    are_refused::<Preferences<'_>>(
+        alloc,
+        &[
+            (&[0x31, 2, 4, 0], ParseErrorKind::UnexpectedTag { actual }),
+            (&[0x65, 5, 4, 0, 2, 1, 7], ParseErrorKind::ExtraData),
         ],
     )
 }

@@ -1,5 +1,5 @@
 //! Where other data of an issuer or a subject is (RFC 5280, 4.2.2).
-// Printed by tools/derive from declarations/certificate/access.rs, with the sum e023ce45.
+// Printed by tools/derive from declarations/certificate/access.rs, with the sum f3657d33.
 
 ghost use Rattle.std.specs.Prelude.{◌≡◌, ◌∷◌, [], IsTrue};
 ghost use Rattle.asn1.specs.Reads.{HasOneEncoding, ReadsContents};
@@ -40,6 +40,7 @@ impl<'a> SimpleAsn1Readable<'a> for AccessDescription<'a> {
         ensures value { result ≡ ⟦<AccessDescription<'a> as Asn1Type>⟧.der.content.tag }
         ensures simple { ⟦<AccessDescription<'a> as Asn1Type>⟧.der.is_simple }
         ensures plain { ⟦<AccessDescription<'a> as Asn1Type>⟧.der.plain }
+        ensures read { ⟦<AccessDescription<'a> as Asn1Type>⟧.der.is_read }
     {
         Tag::constructed(0x10)
     }

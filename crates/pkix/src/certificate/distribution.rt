@@ -1,5 +1,5 @@
 //! Where revocation lists are found, and what they have (RFC 5280, 4.2.1.13 and 5.2.5).
-// Printed by tools/derive from declarations/certificate/distribution.rs, with the sum f35c7ecd.
+// Printed by tools/derive from declarations/certificate/distribution.rs, with the sum ade6b4e6.
 
 ghost use Rattle.std.specs.Prelude.{◌≡◌, ◌∷◌, [], false, IsTrue, OnErr, IfOk};
 ghost use Rattle.asn1.specs.AlternativeLists.{after1, choice, first1};
@@ -80,6 +80,7 @@ impl<'a> Asn1Readable<'a> for DistributionPointName<'a> {
     fn can_parse(tag: Tag) -> bool
         ensures value { result ≡ ⟦<DistributionPointName<'a> as Asn1Type>⟧.der.accepts tag }
         ensures plain { ⟦<DistributionPointName<'a> as Asn1Type>⟧.der.plain }
+        ensures read { ⟦<DistributionPointName<'a> as Asn1Type>⟧.der.is_read }
     {
         <DistributionPointNameChoice<'a> as AlternativesReadable<'a>>::accepts(tag)
     }
@@ -168,6 +169,7 @@ impl<'a> SimpleAsn1Readable<'a> for DistributionPoint<'a> {
         ensures value { result ≡ ⟦<DistributionPoint<'a> as Asn1Type>⟧.der.content.tag }
         ensures simple { ⟦<DistributionPoint<'a> as Asn1Type>⟧.der.is_simple }
         ensures plain { ⟦<DistributionPoint<'a> as Asn1Type>⟧.der.plain }
+        ensures read { ⟦<DistributionPoint<'a> as Asn1Type>⟧.der.is_read }
     {
         Tag::constructed(0x10)
     }
@@ -353,6 +355,7 @@ impl<'a> SimpleAsn1Readable<'a> for IssuingDistributionPoint<'a> {
         ensures value { result ≡ ⟦<IssuingDistributionPoint<'a> as Asn1Type>⟧.der.content.tag }
         ensures simple { ⟦<IssuingDistributionPoint<'a> as Asn1Type>⟧.der.is_simple }
         ensures plain { ⟦<IssuingDistributionPoint<'a> as Asn1Type>⟧.der.plain }
+        ensures read { ⟦<IssuingDistributionPoint<'a> as Asn1Type>⟧.der.is_read }
     {
         Tag::constructed(0x10)
     }

@@ -1,5 +1,5 @@
 //! Values of extensions (RFC 5280, 4.2.1 and 4.2.2): each type is what the octets of an extension hold.
-// Printed by tools/derive from declarations/certificate/extensions.rs, with the sum 7cb8b66e.
+// Printed by tools/derive from declarations/certificate/extensions.rs, with the sum 8a150205.
 
 ghost use Rattle.std.specs.Prelude.{◌≡◌, ◌∷◌, [], false, IsTrue};
 ghost use Rattle.asn1.specs.Options.{option_meaning};
@@ -59,6 +59,7 @@ impl<'a> SimpleAsn1Readable<'a> for BasicConstraints<'a> {
         ensures value { result ≡ ⟦<BasicConstraints<'a> as Asn1Type>⟧.der.content.tag }
         ensures simple { ⟦<BasicConstraints<'a> as Asn1Type>⟧.der.is_simple }
         ensures plain { ⟦<BasicConstraints<'a> as Asn1Type>⟧.der.plain }
+        ensures read { ⟦<BasicConstraints<'a> as Asn1Type>⟧.der.is_read }
     {
         Tag::constructed(0x10)
     }
@@ -145,6 +146,7 @@ impl<'a> SimpleAsn1Readable<'a> for AuthorityKeyIdentifier<'a> {
         ensures value { result ≡ ⟦<AuthorityKeyIdentifier<'a> as Asn1Type>⟧.der.content.tag }
         ensures simple { ⟦<AuthorityKeyIdentifier<'a> as Asn1Type>⟧.der.is_simple }
         ensures plain { ⟦<AuthorityKeyIdentifier<'a> as Asn1Type>⟧.der.plain }
+        ensures read { ⟦<AuthorityKeyIdentifier<'a> as Asn1Type>⟧.der.is_read }
     {
         Tag::constructed(0x10)
     }

@@ -1,6 +1,6 @@
 //! The policies of a certificate, and what it demands of those that follow it in a path (RFC 5280, 4.2.1.4, 4.2.1.5,
 //! 4.2.1.10, 4.2.1.11 and 4.2.1.14).
-// Printed by tools/derive from declarations/certificate/policies.rs, with the sum e6b0a87a.
+// Printed by tools/derive from declarations/certificate/policies.rs, with the sum 8ecd33d4.
 
 ghost use Rattle.std.specs.Prelude.{◌≡◌, ◌∷◌, [], IsTrue, OnErr, IfOk};
 ghost use Rattle.asn1.specs.AlternativeLists.{after3, choice, first1, first3, second3, third3};
@@ -47,6 +47,7 @@ impl<'a> SimpleAsn1Readable<'a> for PolicyQualifierInfo<'a> {
         ensures value { result ≡ ⟦<PolicyQualifierInfo<'a> as Asn1Type>⟧.der.content.tag }
         ensures simple { ⟦<PolicyQualifierInfo<'a> as Asn1Type>⟧.der.is_simple }
         ensures plain { ⟦<PolicyQualifierInfo<'a> as Asn1Type>⟧.der.plain }
+        ensures read { ⟦<PolicyQualifierInfo<'a> as Asn1Type>⟧.der.is_read }
     {
         Tag::constructed(0x10)
     }
@@ -156,6 +157,7 @@ impl<'a> Asn1Readable<'a> for DisplayText<'a> {
     fn can_parse(tag: Tag) -> bool
         ensures value { result ≡ ⟦<DisplayText<'a> as Asn1Type>⟧.der.accepts tag }
         ensures plain { ⟦<DisplayText<'a> as Asn1Type>⟧.der.plain }
+        ensures read { ⟦<DisplayText<'a> as Asn1Type>⟧.der.is_read }
     {
         <DisplayTextChoice<'a> as AlternativesReadable<'a>>::accepts(tag)
     }
@@ -210,6 +212,7 @@ impl<'a> SimpleAsn1Readable<'a> for NoticeReference<'a> {
         ensures value { result ≡ ⟦<NoticeReference<'a> as Asn1Type>⟧.der.content.tag }
         ensures simple { ⟦<NoticeReference<'a> as Asn1Type>⟧.der.is_simple }
         ensures plain { ⟦<NoticeReference<'a> as Asn1Type>⟧.der.plain }
+        ensures read { ⟦<NoticeReference<'a> as Asn1Type>⟧.der.is_read }
     {
         Tag::constructed(0x10)
     }
@@ -276,6 +279,7 @@ impl<'a> SimpleAsn1Readable<'a> for UserNotice<'a> {
         ensures value { result ≡ ⟦<UserNotice<'a> as Asn1Type>⟧.der.content.tag }
         ensures simple { ⟦<UserNotice<'a> as Asn1Type>⟧.der.is_simple }
         ensures plain { ⟦<UserNotice<'a> as Asn1Type>⟧.der.plain }
+        ensures read { ⟦<UserNotice<'a> as Asn1Type>⟧.der.is_read }
     {
         Tag::constructed(0x10)
     }
@@ -343,6 +347,7 @@ impl<'a> SimpleAsn1Readable<'a> for PolicyInformation<'a> {
         ensures value { result ≡ ⟦<PolicyInformation<'a> as Asn1Type>⟧.der.content.tag }
         ensures simple { ⟦<PolicyInformation<'a> as Asn1Type>⟧.der.is_simple }
         ensures plain { ⟦<PolicyInformation<'a> as Asn1Type>⟧.der.plain }
+        ensures read { ⟦<PolicyInformation<'a> as Asn1Type>⟧.der.is_read }
     {
         Tag::constructed(0x10)
     }
@@ -492,6 +497,7 @@ impl<'a> SimpleAsn1Readable<'a> for GeneralSubtree<'a> {
         ensures value { result ≡ ⟦<GeneralSubtree<'a> as Asn1Type>⟧.der.content.tag }
         ensures simple { ⟦<GeneralSubtree<'a> as Asn1Type>⟧.der.is_simple }
         ensures plain { ⟦<GeneralSubtree<'a> as Asn1Type>⟧.der.plain }
+        ensures read { ⟦<GeneralSubtree<'a> as Asn1Type>⟧.der.is_read }
     {
         Tag::constructed(0x10)
     }
@@ -576,6 +582,7 @@ impl<'a> SimpleAsn1Readable<'a> for NameConstraints<'a> {
         ensures value { result ≡ ⟦<NameConstraints<'a> as Asn1Type>⟧.der.content.tag }
         ensures simple { ⟦<NameConstraints<'a> as Asn1Type>⟧.der.is_simple }
         ensures plain { ⟦<NameConstraints<'a> as Asn1Type>⟧.der.plain }
+        ensures read { ⟦<NameConstraints<'a> as Asn1Type>⟧.der.is_read }
     {
         Tag::constructed(0x10)
     }
@@ -656,6 +663,7 @@ impl<'a> SimpleAsn1Readable<'a> for PolicyConstraints<'a> {
         ensures value { result ≡ ⟦<PolicyConstraints<'a> as Asn1Type>⟧.der.content.tag }
         ensures simple { ⟦<PolicyConstraints<'a> as Asn1Type>⟧.der.is_simple }
         ensures plain { ⟦<PolicyConstraints<'a> as Asn1Type>⟧.der.plain }
+        ensures read { ⟦<PolicyConstraints<'a> as Asn1Type>⟧.der.is_read }
     {
         Tag::constructed(0x10)
     }

@@ -1,5 +1,5 @@
 //! General names (RFC 5280, 4.2.1.6).
-// Printed by tools/derive from declarations/common/general_name.rs, with the sum 51356cbb.
+// Printed by tools/derive from declarations/common/general_name.rs, with the sum eae30bd4.
 
 ghost use Rattle.std.specs.Prelude.{◌≡◌, ◌∷◌, [], IsTrue, OnErr, IfOk};
 ghost use Rattle.asn1.specs.AlternativeLists.{after8, choice, first1, first8, second8, third8, fourth8, fifth8};
@@ -54,6 +54,7 @@ impl<'a> SimpleAsn1Readable<'a> for OtherName<'a> {
         ensures value { result ≡ ⟦<OtherName<'a> as Asn1Type>⟧.der.content.tag }
         ensures simple { ⟦<OtherName<'a> as Asn1Type>⟧.der.is_simple }
         ensures plain { ⟦<OtherName<'a> as Asn1Type>⟧.der.plain }
+        ensures read { ⟦<OtherName<'a> as Asn1Type>⟧.der.is_read }
     {
         Tag::constructed(0x10)
     }
@@ -132,6 +133,7 @@ impl<'a> SimpleAsn1Readable<'a> for EdiPartyName<'a> {
         ensures value { result ≡ ⟦<EdiPartyName<'a> as Asn1Type>⟧.der.content.tag }
         ensures simple { ⟦<EdiPartyName<'a> as Asn1Type>⟧.der.is_simple }
         ensures plain { ⟦<EdiPartyName<'a> as Asn1Type>⟧.der.plain }
+        ensures read { ⟦<EdiPartyName<'a> as Asn1Type>⟧.der.is_read }
     {
         Tag::constructed(0x10)
     }
@@ -269,6 +271,7 @@ impl<'a> Asn1Readable<'a> for GeneralName<'a> {
     fn can_parse(tag: Tag) -> bool
         ensures value { result ≡ ⟦<GeneralName<'a> as Asn1Type>⟧.der.accepts tag }
         ensures plain { ⟦<GeneralName<'a> as Asn1Type>⟧.der.plain }
+        ensures read { ⟦<GeneralName<'a> as Asn1Type>⟧.der.is_read }
     {
         <GeneralNameChoice<'a> as AlternativesReadable<'a>>::accepts(tag)
     }

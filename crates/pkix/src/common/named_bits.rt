@@ -74,6 +74,7 @@ impl<'a> SimpleAsn1Readable<'a> for NamedBits<'a> {
         ensures value { result ≡ ⟦<NamedBits<'a> as Asn1Type>⟧.der.content.tag }
         ensures simple { ⟦<NamedBits<'a> as Asn1Type>⟧.der.is_simple }
         ensures plain { ⟦<NamedBits<'a> as Asn1Type>⟧.der.plain }
+        ensures read { ⟦<NamedBits<'a> as Asn1Type>⟧.der.is_read }
     {
         Tag::primitive(0x03)
     }

@@ -1,5 +1,5 @@
 //! Revocation lists (RFC 5280, 5.1 to 5.3).
-// Printed by tools/derive from declarations/revocation/lists.rs, with the sum f61ce340.
+// Printed by tools/derive from declarations/revocation/lists.rs, with the sum ffd79982.
 
 ghost use Rattle.std.specs.Prelude.{◌≡◌, ◌∷◌, [], IsTrue};
 ghost use Rattle.asn1.specs.Options.{option_meaning};
@@ -44,6 +44,7 @@ impl<'a> SimpleAsn1Readable<'a> for RevokedCertificate<'a> {
         ensures value { result ≡ ⟦<RevokedCertificate<'a> as Asn1Type>⟧.der.content.tag }
         ensures simple { ⟦<RevokedCertificate<'a> as Asn1Type>⟧.der.is_simple }
         ensures plain { ⟦<RevokedCertificate<'a> as Asn1Type>⟧.der.plain }
+        ensures read { ⟦<RevokedCertificate<'a> as Asn1Type>⟧.der.is_read }
     {
         Tag::constructed(0x10)
     }
@@ -141,6 +142,7 @@ impl<'a> SimpleAsn1Readable<'a> for TbsCertList<'a> {
         ensures value { result ≡ ⟦<TbsCertList<'a> as Asn1Type>⟧.der.content.tag }
         ensures simple { ⟦<TbsCertList<'a> as Asn1Type>⟧.der.is_simple }
         ensures plain { ⟦<TbsCertList<'a> as Asn1Type>⟧.der.plain }
+        ensures read { ⟦<TbsCertList<'a> as Asn1Type>⟧.der.is_read }
     {
         Tag::constructed(0x10)
     }
@@ -211,6 +213,7 @@ impl<'a> SimpleAsn1Readable<'a> for CertificateList<'a> {
         ensures value { result ≡ ⟦<CertificateList<'a> as Asn1Type>⟧.der.content.tag }
         ensures simple { ⟦<CertificateList<'a> as Asn1Type>⟧.der.is_simple }
         ensures plain { ⟦<CertificateList<'a> as Asn1Type>⟧.der.plain }
+        ensures read { ⟦<CertificateList<'a> as Asn1Type>⟧.der.is_read }
     {
         Tag::constructed(0x10)
     }

@@ -1,5 +1,5 @@
 //! Signed data (RFC 5652), as far as time stamps need it.
-// Printed by tools/derive from declarations/signatures/signed_data.rs, with the sum 0e005345.
+// Printed by tools/derive from declarations/signatures/signed_data.rs, with the sum 48213ce3.
 
 ghost use Rattle.std.specs.Prelude.{◌≡◌, ◌∷◌, [], IsTrue};
 ghost use Rattle.asn1.specs.Options.{option_meaning};
@@ -46,6 +46,7 @@ impl<'a> SimpleAsn1Readable<'a> for ContentInfo<'a> {
         ensures value { result ≡ ⟦<ContentInfo<'a> as Asn1Type>⟧.der.content.tag }
         ensures simple { ⟦<ContentInfo<'a> as Asn1Type>⟧.der.is_simple }
         ensures plain { ⟦<ContentInfo<'a> as Asn1Type>⟧.der.plain }
+        ensures read { ⟦<ContentInfo<'a> as Asn1Type>⟧.der.is_read }
     {
         Tag::constructed(0x10)
     }
@@ -116,6 +117,7 @@ impl<'a> SimpleAsn1Readable<'a> for EncapsulatedContentInfo<'a> {
         ensures value { result ≡ ⟦<EncapsulatedContentInfo<'a> as Asn1Type>⟧.der.content.tag }
         ensures simple { ⟦<EncapsulatedContentInfo<'a> as Asn1Type>⟧.der.is_simple }
         ensures plain { ⟦<EncapsulatedContentInfo<'a> as Asn1Type>⟧.der.plain }
+        ensures read { ⟦<EncapsulatedContentInfo<'a> as Asn1Type>⟧.der.is_read }
     {
         Tag::constructed(0x10)
     }
@@ -211,6 +213,7 @@ impl<'a> SimpleAsn1Readable<'a> for SignedData<'a> {
         ensures value { result ≡ ⟦<SignedData<'a> as Asn1Type>⟧.der.content.tag }
         ensures simple { ⟦<SignedData<'a> as Asn1Type>⟧.der.is_simple }
         ensures plain { ⟦<SignedData<'a> as Asn1Type>⟧.der.plain }
+        ensures read { ⟦<SignedData<'a> as Asn1Type>⟧.der.is_read }
     {
         Tag::constructed(0x10)
     }

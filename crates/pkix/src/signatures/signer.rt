@@ -1,5 +1,5 @@
 //! Who signed (RFC 5652, 5.3), and the values of signed attributes (11.1 to 11.3).
-// Printed by tools/derive from declarations/signatures/signer.rs, with the sum ce85a674.
+// Printed by tools/derive from declarations/signatures/signer.rs, with the sum 3a8a4c6d.
 
 ghost use Rattle.std.specs.Prelude.{◌≡◌, ◌∷◌, [], IsTrue, OnErr, IfOk};
 ghost use Rattle.asn1.specs.AlternativeLists.{after1, choice, first1};
@@ -47,6 +47,7 @@ impl<'a> SimpleAsn1Readable<'a> for IssuerAndSerialNumber<'a> {
         ensures value { result ≡ ⟦<IssuerAndSerialNumber<'a> as Asn1Type>⟧.der.content.tag }
         ensures simple { ⟦<IssuerAndSerialNumber<'a> as Asn1Type>⟧.der.is_simple }
         ensures plain { ⟦<IssuerAndSerialNumber<'a> as Asn1Type>⟧.der.plain }
+        ensures read { ⟦<IssuerAndSerialNumber<'a> as Asn1Type>⟧.der.is_read }
     {
         Tag::constructed(0x10)
     }
@@ -144,6 +145,7 @@ impl<'a> Asn1Readable<'a> for SignerIdentifier<'a> {
     fn can_parse(tag: Tag) -> bool
         ensures value { result ≡ ⟦<SignerIdentifier<'a> as Asn1Type>⟧.der.accepts tag }
         ensures plain { ⟦<SignerIdentifier<'a> as Asn1Type>⟧.der.plain }
+        ensures read { ⟦<SignerIdentifier<'a> as Asn1Type>⟧.der.is_read }
     {
         <SignerIdentifierChoice<'a> as AlternativesReadable<'a>>::accepts(tag)
     }
@@ -235,6 +237,7 @@ impl<'a> SimpleAsn1Readable<'a> for SignerInfo<'a> {
         ensures value { result ≡ ⟦<SignerInfo<'a> as Asn1Type>⟧.der.content.tag }
         ensures simple { ⟦<SignerInfo<'a> as Asn1Type>⟧.der.is_simple }
         ensures plain { ⟦<SignerInfo<'a> as Asn1Type>⟧.der.plain }
+        ensures read { ⟦<SignerInfo<'a> as Asn1Type>⟧.der.is_read }
     {
         Tag::constructed(0x10)
     }

@@ -1,5 +1,5 @@
 //! Values of signatures (RFC 3279, 2.2.2 and 2.2.3; RFC 8017, 9.2).
-// Printed by tools/derive from declarations/signatures/values.rs, with the sum 70b55558.
+// Printed by tools/derive from declarations/signatures/values.rs, with the sum 99cd7ea6.
 
 ghost use Rattle.std.specs.Prelude.{◌≡◌, ◌∷◌, [], IsTrue};
 ghost use Rattle.asn1.specs.Reads.{HasOneEncoding, ReadsContents};
@@ -39,6 +39,7 @@ impl<'a> SimpleAsn1Readable<'a> for EcdsaSigValue<'a> {
         ensures value { result ≡ ⟦<EcdsaSigValue<'a> as Asn1Type>⟧.der.content.tag }
         ensures simple { ⟦<EcdsaSigValue<'a> as Asn1Type>⟧.der.is_simple }
         ensures plain { ⟦<EcdsaSigValue<'a> as Asn1Type>⟧.der.plain }
+        ensures read { ⟦<EcdsaSigValue<'a> as Asn1Type>⟧.der.is_read }
     {
         Tag::constructed(0x10)
     }
@@ -103,6 +104,7 @@ impl<'a> SimpleAsn1Readable<'a> for DigestInfo<'a> {
         ensures value { result ≡ ⟦<DigestInfo<'a> as Asn1Type>⟧.der.content.tag }
         ensures simple { ⟦<DigestInfo<'a> as Asn1Type>⟧.der.is_simple }
         ensures plain { ⟦<DigestInfo<'a> as Asn1Type>⟧.der.plain }
+        ensures read { ⟦<DigestInfo<'a> as Asn1Type>⟧.der.is_read }
     {
         Tag::constructed(0x10)
     }

@@ -1,5 +1,5 @@
 //! Requests for time stamps, and responses (RFC 3161, 2.4).
-// Printed by tools/derive from declarations/timestamps/exchange.rs, with the sum de772d99.
+// Printed by tools/derive from declarations/timestamps/exchange.rs, with the sum c3643834.
 
 ghost use Rattle.std.specs.Prelude.{◌≡◌, ◌∷◌, [], false, IsTrue};
 ghost use Rattle.asn1.specs.Options.{option_meaning};
@@ -42,6 +42,7 @@ impl<'a> SimpleAsn1Readable<'a> for MessageImprint<'a> {
         ensures value { result ≡ ⟦<MessageImprint<'a> as Asn1Type>⟧.der.content.tag }
         ensures simple { ⟦<MessageImprint<'a> as Asn1Type>⟧.der.is_simple }
         ensures plain { ⟦<MessageImprint<'a> as Asn1Type>⟧.der.plain }
+        ensures read { ⟦<MessageImprint<'a> as Asn1Type>⟧.der.is_read }
     {
         Tag::constructed(0x10)
     }
@@ -145,6 +146,7 @@ impl<'a> SimpleAsn1Readable<'a> for TimeStampReq<'a> {
         ensures value { result ≡ ⟦<TimeStampReq<'a> as Asn1Type>⟧.der.content.tag }
         ensures simple { ⟦<TimeStampReq<'a> as Asn1Type>⟧.der.is_simple }
         ensures plain { ⟦<TimeStampReq<'a> as Asn1Type>⟧.der.plain }
+        ensures read { ⟦<TimeStampReq<'a> as Asn1Type>⟧.der.is_read }
     {
         Tag::constructed(0x10)
     }
@@ -213,6 +215,7 @@ impl<'a> SimpleAsn1Readable<'a> for PkiStatusInfo<'a> {
         ensures value { result ≡ ⟦<PkiStatusInfo<'a> as Asn1Type>⟧.der.content.tag }
         ensures simple { ⟦<PkiStatusInfo<'a> as Asn1Type>⟧.der.is_simple }
         ensures plain { ⟦<PkiStatusInfo<'a> as Asn1Type>⟧.der.plain }
+        ensures read { ⟦<PkiStatusInfo<'a> as Asn1Type>⟧.der.is_read }
     {
         Tag::constructed(0x10)
     }
@@ -282,6 +285,7 @@ impl<'a> SimpleAsn1Readable<'a> for TimeStampResp<'a> {
         ensures value { result ≡ ⟦<TimeStampResp<'a> as Asn1Type>⟧.der.content.tag }
         ensures simple { ⟦<TimeStampResp<'a> as Asn1Type>⟧.der.is_simple }
         ensures plain { ⟦<TimeStampResp<'a> as Asn1Type>⟧.der.plain }
+        ensures read { ⟦<TimeStampResp<'a> as Asn1Type>⟧.der.is_read }
     {
         Tag::constructed(0x10)
     }

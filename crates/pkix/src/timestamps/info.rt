@@ -1,5 +1,5 @@
 //! What a time stamp says (RFC 3161, 2.4.2).
-// Printed by tools/derive from declarations/timestamps/info.rs, with the sum 15124d5d.
+// Printed by tools/derive from declarations/timestamps/info.rs, with the sum 2d14f1b7.
 
 ghost use Rattle.std.specs.Prelude.{◌≡◌, ◌∷◌, [], false, IsTrue};
 ghost use Rattle.asn1.specs.Options.{option_meaning};
@@ -48,6 +48,7 @@ impl<'a> SimpleAsn1Readable<'a> for Accuracy<'a> {
         ensures value { result ≡ ⟦<Accuracy<'a> as Asn1Type>⟧.der.content.tag }
         ensures simple { ⟦<Accuracy<'a> as Asn1Type>⟧.der.is_simple }
         ensures plain { ⟦<Accuracy<'a> as Asn1Type>⟧.der.plain }
+        ensures read { ⟦<Accuracy<'a> as Asn1Type>⟧.der.is_read }
     {
         Tag::constructed(0x10)
     }
@@ -166,6 +167,7 @@ impl<'a> SimpleAsn1Readable<'a> for TstInfo<'a> {
         ensures value { result ≡ ⟦<TstInfo<'a> as Asn1Type>⟧.der.content.tag }
         ensures simple { ⟦<TstInfo<'a> as Asn1Type>⟧.der.is_simple }
         ensures plain { ⟦<TstInfo<'a> as Asn1Type>⟧.der.plain }
+        ensures read { ⟦<TstInfo<'a> as Asn1Type>⟧.der.is_read }
     {
         Tag::constructed(0x10)
     }

@@ -1,7 +1,8 @@
 use Rattle.std.proofs.Common.{◌∙◌, length, map, arith, ◌^◌, ◌≤◌}
 use Rattle.std.specs.List.{flat_map, AllByRecursion}
 use Rattle.asn1_core.specs.Listing.{sequence_tag}
-use Rattle.asn1.proofs.MadeLists.{Fits_length_content, list_made, list_means}
+use Rattle.asn1.specs.Lemmas.ListItems.{items_memory}
+use Rattle.asn1.proofs.MadeLists.{Fits_length_content, IsOk_Returns, list_made, list_means}
 use Rattle.asn1.proofs.lists.sequence_of.SequenceOf.of.Goals as goal
 
 pub returns-in-Ok-clause-items : goal.returns-in-Ok-clause-items
@@ -32,6 +33,19 @@ returns-in-Err-clause-read g c fits =
 
 pub returns-in-Err-clause-made : goal.returns-in-Err-clause-made
 returns-in-Err-clause-made g c lawful is_element allowed fits =
+    let d = g.T.Asn1Type.der in
+    let ms = map d.meaning c.args.items.now in
+    let octets = rw c.new-list.ensures at (c.in_ok-store.ensures.encoding c.can_parse-accepted.ensures.plain) in
+    let long : 2 ^ 32 ≤ length (flat_map d.encoding ms) = c.in-Err.ensures sequence_tag (flat_map d.encoding ms) (omega arith) (c.as_slice.ensures.value ∙ octets) in
+    absurd (omega (arith, long, Fits_length_content sequence_tag (flat_map d.encoding ms) (omega arith) fits))
+
+pub returns-in-Ok-clause-there : goal.returns-in-Ok-clause-there
+returns-in-Ok-clause-there g c lawful is_element none allowed fits =
+    let d = g.T.Asn1Type.der in
+    IsOk_Returns _ _ _ _ (λ places out. none (items_memory d.read d.runs_out d.takes_memory d.laws.memory _ _ _ places out)) (returns-in-Ok-clause-made g c lawful is_element allowed fits)
+
+pub returns-in-Err-clause-there : goal.returns-in-Err-clause-there
+returns-in-Err-clause-there g c lawful is_element none allowed fits =
     let d = g.T.Asn1Type.der in
     let ms = map d.meaning c.args.items.now in
     let octets = rw c.new-list.ensures at (c.in_ok-store.ensures.encoding c.can_parse-accepted.ensures.plain) in

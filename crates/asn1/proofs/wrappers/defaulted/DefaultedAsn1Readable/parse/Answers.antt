@@ -1,4 +1,5 @@
-use Rattle.asn1_core.proofs.Inside.{Returns_consumed}
+use Rattle.asn1_core.specs.Reads.{IsReadValue}
+use Rattle.asn1_core.proofs.Inside.{Returns_consumed, consumes_read_value}
 use Rattle.asn1.specs.Types.{default_der}
 use Rattle.asn1.specs.InHand.{defaulted_inner}
 use Rattle.asn1.proofs.DefaultSteps.{answers_default, stops_default}
@@ -12,7 +13,7 @@ returns-clause-answers g c =
 pub returns-clause-found : goal.returns-clause-found
 returns-clause-found g c =
     let d = default_der defaulted_inner g.T.Asn1Type.der (g.T.Asn1Type.der.meaning g.D.DefaultValue.default) in
-    Returns_consumed d.meaning _ d.encoding (λ m. d.valid m × d.allowed m) d.read d.laws.consumes c.args.parser.now _ _ c.rest-octets.ensures.octets (returns-clause-answers g c)
+    Returns_consumed d.meaning _ d.encoding (IsReadValue d) d.read (consumes_read_value d) c.args.parser.now _ _ c.rest-octets.ensures.octets (returns-clause-answers g c)
 
 pub returns-clause-stops : goal.returns-clause-stops
 returns-clause-stops g c =

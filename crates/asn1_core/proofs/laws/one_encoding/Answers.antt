@@ -1,6 +1,6 @@
 use Rattle.asn1_core.specs.Lemmas.NumberTexts.{AreNumberOctets_number_octets, AreNumberOctets_only}
 use Rattle.asn1_core.specs.Lemmas.Lengths.{AreLengthOctets_length_octets, AreLengthOctets_only}
-use Rattle.asn1_core.proofs.laws.one_text.Goals as goal
+use Rattle.asn1_core.proofs.laws.one_encoding.Goals as goal
 
 pub returns : goal.returns
 returns c = record {
