@@ -3,7 +3,7 @@
 import re
 import textwrap
 
-from declarations import ANY, ITEM, Type, reject
+from declarations import ANY, ITEM, LIBRARY, Type, reject
 
 BY_TAGS = "#[tactic(auto, using(asn1::specs::Lemmas::Fields::tags_differ))]\n"
 BY_NUMBERS = "#[tactic(auto, using(asn1::specs::Lemmas::DefaultIdentifiers::identifier_of_default))] "
@@ -335,7 +335,7 @@ class Choice(Form):
         if self.item.writes:
             text += self.impl("Asn1Writable", ERROR, self.lengths(), f"""
             fn write(&self, dest: &mut Writer<'_>) -> WriteResult<()> {{ {self.body("write_choice", "self, dest")} }}
-            fn encoded_length(&self) -> Option<usize> {{ {self.body("choice_length", "self")} }}""",
+            fn encoded_length(&self) -> Option<usize>{self.exact_length()} {{ {self.body("choice_length", "self")} }}""",
             self.writes_as_read())
         return text
 
@@ -345,10 +345,25 @@ class Choice(Form):
 
     def lengths(self, member="length_known"):
         """Says of which values the length is known."""
-        if self.module.known(Type(self.name, [self.item.life] if self.item.life else [])).has_length:
+        if self.has_length():
             return f"ghost {member} = {{ λ _. {ALWAYS} }};"
         lengths = self.elim(self.length(part.base, "x") for part in self.parts)
         return f"{self.variants()} ghost {member} = {{ {lengths[1:-1]} }};"
+
+    def exact_length(self):
+        """Says that the length of an encoding that can be read is known, if each variant has a type without parts."""
+        types = ((part.base.name, str(part.base).split()[-1]) for part in self.parts)
+        if not self.has_length() or not all(name in LIBRARY or last in LIBRARY for name, last in types):
+            return ""
+        meaning = f"({self.means}.meaning self.now)"
+        return f"""
+                ensures length {{ GivesLength ({ALWAYS}) ({self.means}.encodings {meaning}) result }}
+                ensures exact {{ IsLengthOf {self.means} self.now result }}
+            """
+
+    def has_length(self):
+        """Whether the length of each value is known."""
+        return self.module.known(Type(self.name, [self.item.life] if self.item.life else [])).has_length
 
     def elim(self, values):
         """What each variant means: its value in its place of the sum."""

@@ -82,11 +82,16 @@ module _ {V : Type 0} (d : Der V) where
             (listed ∙ (one_listing _ _ _ _ a b same ∙ sym others)),
       )
 
+  -- items are the same in order exactly if they have the same encodings
+  pub in_order_tell : d.is_read → d.lawful → (vs ws : List V) → AllByRecursion d.valid (map d.meaning vs) → AllByRecursion d.valid (map d.meaning ws)
+      → (in_order d.encoding (map d.meaning vs) ≡ in_order d.encoding (map d.meaning ws)) ↔ SameEncodings (map (λ v. d.encoding (d.meaning v)) vs) (map (λ v. d.encoding (d.meaning v)) ws)
+  in_order_tell is lawful vs ws v w = rw (map-map d.encoding d.meaning vs, map-map d.encoding d.meaning ws) at (orders_tell_multisets is lawful (map d.meaning vs) (map d.meaning ws) v w)
+
   -- a set that is made is the set of other items exactly if they have the same encodings
   pub made_tells : {W E : Type 0} (view : W → List d.Meaning) → d.is_read → d.lawful → (vs ws : List V) → AllByRecursion d.valid (map d.meaning vs) → AllByRecursion d.valid (map d.meaning ws)
       → (result : Result W E) → IfOk result (λ set. view set ≡ in_order d.encoding (map d.meaning vs))
       → IfOk result (λ set. (view set ≡ in_order d.encoding (map d.meaning ws)) ↔ SameEncodings (map (λ v. d.encoding (d.meaning v)) vs) (map (λ v. d.encoding (d.meaning v)) ws))
   made_tells view is lawful vs ws v w (Err f) means = tt
   made_tells view is lawful vs ws v w (Ok set) means =
-      let tell = rw (map-map d.encoding d.meaning vs, map-map d.encoding d.meaning ws) at (orders_tell_multisets is lawful (map d.meaning vs) (map d.meaning ws) v w) in
+      let tell = in_order_tell is lawful vs ws v w in
       (λ e. tell.0 (sym means ∙ e), λ same. means ∙ tell.1 same)

@@ -1,9 +1,9 @@
 -- Choices of any number of alternatives (X.680 29): what a list of alternatives means.
-use Rattle.std.specs.Prelude.{◌≡◌, ◌⊎◌, Result}
+use Rattle.std.specs.Prelude.{◌≡◌, ◌⊎◌, ℕ, Option, Some, Result, length}
 use Rattle.std.proofs.Common.{inl, inr}
 use Rattle.asn1_core.specs.Element.{Element, element_encoding}
 use Rattle.asn1_core.specs.ReadError.{ReadError}
-use Rattle.asn1_core.specs.Reading.{Returns}
+use Rattle.asn1_core.specs.Reading.{Fits, Returns}
 use Rattle.asn1_core.specs.Der.{Der, encoding_of}
 use Rattle.asn1.specs.declared.alternatives.NoOther.{NoOther}
 use Rattle.asn1.specs.declared.alternatives.OneOf.{OneOf}
@@ -148,3 +148,7 @@ eighth8 x = eight.Eighth x
 
 abbrev pub after8 : {A B C D E F G H R : Type 0} → R → OneOfEight A B C D E F G H R
 after8 x = eight.Others x
+
+-- This is the length of a value's encoding, if the value is valid and the encoding can be read.
+abbrev pub IsLengthOf : {V : Type 0} → Der V → V → Option ℕ → Type 0
+IsLengthOf d v known = d.valid (d.meaning v) → Fits (d.encoding (d.meaning v)) → known ≡ Some (length (d.encoding (d.meaning v)))

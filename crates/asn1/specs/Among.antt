@@ -5,6 +5,7 @@ use Rattle.std.proofs.Common.{inl, inr}
 
 -- ---- three alternatives, and those after them
 
+-- A value of one of three alternatives (`first_of_3` to `third_of_3`), or of those after them (`after_3`).
 pub data Among3 (A B C R : Type 0) : Type 0 where
   first_of_3 : A → Among3 A B C R
   second_of_3 : B → Among3 A B C R
@@ -41,6 +42,7 @@ sum_of_three (after_3 x) = inr (inr (inr x))
 
 -- ---- eight alternatives, and those after them
 
+-- A value of one of eight alternatives (`first_of_8` to `eighth_of_8`), or of those after them (`after_8`).
 pub data Among8 (A B C D E F G H R : Type 0) : Type 0 where
   first_of_8 : A → Among8 A B C D E F G H R
   second_of_8 : B → Among8 A B C D E F G H R

@@ -1,5 +1,5 @@
 -- At which octet an input is rejected, as what rejects it shows: inputs that begin alike are rejected alike, or not.
-use Rattle.std.specs.Prelude.{◌≡◌, ◌⊎◌, ◌<◌, ◌+◌, ◌≤◌, ℕ, zero, suc, nat_lt, if◌then◌else◌, List, ◌++◌, ◌-◌, take, drop, set, replicate, length, Bool, true, false, not, ◌&&◌, Option, Some, None, Result, Ok, Err}
+use Rattle.std.specs.Prelude.{◌≡◌, ◌⊎◌, ◌<◌, ◌+◌, ◌≤◌, ℕ, zero, suc, nat_lt, if◌then◌else◌, List, ◌++◌, ◌-◌, take, drop, set, replicate, length, Bool, true, false, not, ◌&&◌, ◌||◌, nat_eq, Option, Some, None, Result, Ok, Err}
 use Rattle.asn1_core.specs.declared.parser.ParseErrorKind.{ParseErrorKind}
 use Rattle.asn1_core.specs.declared.parser.ParseErrorKind.TheVariants.{InvalidTag, InvalidLength, ShortData, ExtraData, UnexpectedTag, InvalidSetOrdering}
 use Rattle.asn1_core.specs.declared.tag.Tag.{Tag}
@@ -33,6 +33,45 @@ if_element (Err kind) next = None
 abbrev pub element_with : ℕ → ℕ → ℕ → ℕ → List ℕ → Option ℕ
 element_with zero size octet start rest = None
 element_with (suc most) size octet start rest = if_element (leading_element rest) (λ behind. if nat_lt octet (size - length behind) then Some start else element_with most size octet (size - length behind) behind)
+
+-- The octets behind elements one after another: the first of them begin no element. At most `most` elements are passed.
+abbrev pub behind_elements : ℕ → List ℕ → List ℕ
+behind_elements zero rest = rest
+behind_elements (suc most) rest = elim (leading_element rest) as (λ _. List ℕ) [
+  | Ok found ↦ behind_elements most found.1
+  | Err kind ↦ rest
+]
+
+-- The contents octets of the first element of the octets that begin at `start`, and where they begin, if the element is
+-- constructed and has this octet in them, or is empty.
+abbrev pub contents_at : List ℕ → ℕ → ℕ → Option (ℕ × List ℕ)
+contents_at octets octet start = elim (leading_element (drop start octets)) as (λ _. Option (ℕ × List ℕ)) [
+  | Ok found ↦ let begin = length octets - length found.1 - length found.0.content in
+      if tag_constructed found.0.tag && (not (nat_lt octet begin) || nat_eq (length found.0.content) 0) then Some (begin, found.0.content) else None
+  | Err kind ↦ None
+]
+
+-- Of elements one after another, the contents octets of the constructed one that has this octet in them, or is empty and
+-- has it; and where these begin.
+abbrev pub contents_with : List ℕ → ℕ → Option (ℕ × List ℕ)
+contents_with octets octet = elim (element_with (length octets) (length octets) octet 0 octets) as (λ _. Option (ℕ × List ℕ)) [
+  | None ↦ None
+  | Some start ↦ contents_at octets octet start
+]
+
+-- The contents octets of the innermost constructed element that has this octet in them, or all octets if none has: where
+-- they begin, they, and where in them the octet is. At most so many elements are gone into.
+abbrev pub innermost : ℕ → ℕ → List ℕ → ℕ → ℕ × (List ℕ × ℕ)
+innermost zero begin octets octet = (begin, (octets, octet))
+innermost (suc depth) begin octets octet = elim (contents_with octets octet) as (λ _. ℕ × (List ℕ × ℕ)) [
+  | None ↦ (begin, (octets, octet))
+  | Some inner ↦ innermost depth (begin + inner.0) inner.1 (octet - inner.0)
+]
+
+-- The elements before this octet end there, within the constructed elements around it: an element is to begin.
+abbrev pub IsBeginning : List ℕ → ℕ → Type 0
+IsBeginning octets octet = let around = innermost (length octets) 0 octets octet in
+    around.1.1 ≡ length around.1.0 - length (behind_elements (length around.1.0) around.1.0)
 
 -- Whether an input in which an element has a wrong length is rejected for that, at the location of the error.
 abbrev pub has_wrong_length : ReadError → Option ReadError → Bool
@@ -84,13 +123,27 @@ module _ (rejects : List ℕ → Option ReadError → Type 0) (octets : List ℕ
     pub there : IsReadThere true octet
     pub innermost : IsInnermost element (length octets - length rest - length element.content) count
 
-  -- Framing fails at this octet with the error's kind, and the octets before it leave the error open.
+  -- An element is to begin at this octet, its framing fails with the error's kind, and the octets before it leave the
+  -- error open.
   abbrev pub IsWrongHeader : ℕ → Type 0
-  IsWrongHeader octet = (leading_element (drop octet octets) ≡ Err error.kind) × LeaveOpen octet
+  IsWrongHeader octet = IsBeginning octets octet × (leading_element (drop octet octets) ≡ Err error.kind) × LeaveOpen octet
 
-  -- The octets before this one decide the error, so it is no error of those from here on.
-  abbrev pub IsEnd : ℕ → Type 0
-  IsEnd octet = (octet ≤ length octets) × Decide octet
+  -- The innermost constructed element around `place` ends at this octet, or the input does; but if the element in it that
+  -- has `place` is read at the location of the error, as an octet string is that holds an encoding, this one does.
+  abbrev pub EndsAround : ℕ → ℕ → Type 0
+  EndsAround place octet = let around = innermost (length octets) 0 octets place in
+      elim (element_with (length around.1.0) (length around.1.0) around.1.1 0 around.1.0) as (λ _. Type 0) [
+        | None ↦ octet ≡ around.0 + length around.1.0
+        | Some start ↦ ((octet ≡ around.0 + length around.1.0) × IsReadThere false (around.0 + start))
+            ⊎ ((end : ℕ) × IsElement around.1.0 start end × (octet ≡ around.0 + end) × IsReadThere true (around.0 + start))
+      ]
+
+  -- Octets are missing here. The octets before this one decide the error, whatever is in place of the others; and what is
+  -- around the octet that turns the error ends here. If no octet is needed, the input does.
+  pub record IsEnd (octet : ℕ) : Type 0 where
+    pub decided : Decide octet
+    pub always : rejects (kept octet 255 octets) (Some error)
+    pub ends : (Decide 0 × (octet ≡ length octets)) ⊎ ((count : ℕ) × IsTurn count × EndsAround (count - 1) octet)
 
   -- The octets from this one on are left over. Those before it decide the error; and an element ends here, or its contents
   -- octets begin here, of which not even the header may be left out: a wrong length of it leaves the error open.

@@ -7,10 +7,15 @@ use Rattle.asn1.specs.declared.wrappers.classes.TaggedExplicit.{TaggedExplicit}
 use Rattle.asn1.specs.declared.wrappers.classes.TaggedImplicit.{TaggedImplicit}
 use Rattle.asn1.specs.declared.wrappers.defaulted.Defaulted.{Defaulted}
 use Rattle.asn1.specs.declared.wrappers.errors.ErrorInto.{ErrorInto}
+use Rattle.asn1.specs.declared.lists.sequence_of.SequenceOf.{SequenceOf}
 use Rattle.asn1.specs.declared.lists.sets.Set.{Set}
+use Rattle.asn1.specs.declared.lists.sets.SetOf.{SetOf}
 use Rattle.asn1.specs.declared.lists.writers.SequenceOfWriter.{SequenceOfWriter}
 use Rattle.asn1.specs.declared.lists.writers.SequenceWriter.{SequenceWriter}
-use Rattle.asn1_core.specs.Listing.{sequence_tag}
+use Rattle.asn1_core.specs.declared.types.Asn1Type.{Ghosts}
+use Rattle.asn1_core.specs.Listing.{encoding_less, sequence_tag}
+use Rattle.asn1.specs.Lists.{left}
+use Rattle.asn1.specs.Sets.{set_left}
 use Rattle.asn1_core.specs.Octets.{octets_content}
 use Rattle.asn1_core.specs.Encoding.{Content}
 use Rattle.asn1.specs.declared.lists.sequence.Sequence.{Sequence}
@@ -54,6 +59,14 @@ defaulted_inner x = x.inner
 -- The value in an `ErrorInto`.
 abbrev pub error_into_inner : {A E : Type 0} → ErrorInto A E → A
 error_into_inner x = x.inner
+
+-- The items that are left of a list, as an invariant of a loop over it says them.
+abbrev pub items_left : {V : Type 0} {t : Ghosts V} {low high : ℕ} → SequenceOf V low high t → List t.der.Meaning
+items_left {t = t} list = left t.der.read list.content.now
+
+-- The items that are left of a set.
+abbrev pub set_items_left : {V : Type 0} {t : Ghosts V} → SetOf V t → List t.der.Meaning
+set_items_left {t = t} set = set_left encoding_less t.der.read set.content.now
 
 -- The items of the slice that is written as a sequence.
 abbrev pub sequence_items : {T : Type 0} → SequenceOfWriter T → List T

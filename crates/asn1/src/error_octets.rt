@@ -7,7 +7,9 @@ ghost use Rattle.std.specs.Prelude.{◌≡◌, ◌⊎◌, ◌<◌, ◌≤◌, �
 ghost use Rattle.std.specs.Fn.{FnReturnsAt};
 ghost use Rattle.asn1_core.specs.ReadError.{ReadError};
 ghost use Rattle.asn1_core.specs.Tag.{tag_number};
-ghost use Rattle.asn1.specs.ErrorOctets.{Decide, IsElement, IsErrorOctet, IsWrongElement, IsWrongHeader};
+ghost use Rattle.asn1.specs.ErrorOctets.{Decide, EndsAround, IsBeginning, IsElement, IsEnd, IsErrorOctet};
+ghost use Rattle.asn1.specs.ErrorOctets.{IsWrongElement, IsWrongHeader, behind_elements};
+ghost use Rattle.asn1.specs.ErrorOctets.{contents_at, contents_with, innermost};
 ghost use Rattle.asn1_core.specs.Tlv.{element_of};
 ghost use Rattle.asn1.specs.ErrorOctets.{IsFirstLeft, IsInnermost, IsReadThere, IsTurn, element_with, has_wrong_length};
 ghost use Rattle.asn1.specs.ErrorOctets.{LeaveOpen, kept, replacement, takes_tag, with_tag};
@@ -62,7 +64,9 @@ fn element_behind(octets: &[u8], start: usize, limit: usize, octet: usize) -> Re
 
 /// Of elements one after another, where the one begins that has this octet.
 fn element_with(octets: &[u8], octet: usize) -> Option<usize>
-    ensures { result ≡ element_with (length octets.now) (length octets.now) octet 0 octets.now }
+    ensures exact { result ≡ element_with (length octets.now) (length octets.now) octet 0
+        octets.now }
+    ensures within { IfSome result (λ start. start ≤ length octets.now) }
 {
     let (mut start, mut rest) = (0, octets);
     'elements: for _turn in 0..octets.len() {
@@ -76,6 +80,81 @@ fn element_with(octets: &[u8], octet: usize) -> Option<usize>
         (start, rest) = (end, left);
     }
     None
+}
+
+/// The octets behind elements one after another: the first of them begin no element.
+fn behind_elements(octets: &[u8]) -> &[u8]
+    ensures { result.now ≡ behind_elements (length octets.now) octets.now }
+{
+    let mut rest = octets;
+    'elements: for _turn in 0..octets.len() {
+        match strip_tlv(rest) {
+            Ok((_element, left)) => rest = left,
+            Err(_) => return rest,
+        }
+    }
+    rest
+}
+
+/// The contents octets of the first element of the octets that begin at `start`, and where they begin, if the element
+/// is constructed and has this octet in them, or is empty.
+fn contents_at(octets: &[u8], octet: usize, start: usize) -> Option<(usize, &[u8])>
+    requires { start ≤ length octets.now }
+    ensures some { IfSome result (λ x. contents_at octets.now octet start ≡ Some (x.0, x.1.now)) }
+    ensures none { IfNone result (contents_at octets.now octet start ≡ None) }
+{
+    let (_before, there) = octets.split_at(start);
+    let Ok((element, rest)) = strip_tlv(there) else {
+        return None;
+    };
+    let end = octets.len().saturating_sub(rest.len());
+    let begin = end.saturating_sub(element.data().len());
+    if element.tag().is_constructed() && (octet >= begin || element.data().is_empty()) {
+        Some((begin, element.data()))
+    } else {
+        None
+    }
+}
+
+/// Of elements one after another, the contents octets of the constructed one that has this octet in them, or is empty
+/// and has it; and where these begin.
+fn contents_with(octets: &[u8], octet: usize) -> Option<(usize, &[u8])>
+    ensures some { IfSome result (λ x. contents_with octets.now octet ≡ Some (x.0, x.1.now)) }
+    ensures none { IfNone result (contents_with octets.now octet ≡ None) }
+{
+    match element_with(octets, octet) {
+        Some(start) => contents_at(octets, octet, start),
+        None => None,
+    }
+}
+
+/// The contents octets of the innermost constructed element that has this octet in them, or all octets if none has:
+/// where they begin, they, and where in them the octet is.
+fn innermost(octets: &[u8], octet: usize) -> Option<(usize, &[u8], usize)>
+    ensures { IfSome result (λ x. innermost (length octets.now) 0 octets.now octet
+        ≡ (x.0, (x.1.now, x.2))) }
+{
+    let (mut begin, mut around, mut octet) = (0usize, octets, octet);
+    'elements: for _depth in 0..octets.len() {
+        let Some((start, inner)) = contents_with(around, octet) else {
+            return Some((begin, around, octet));
+        };
+        begin = begin.checked_add(start)?;
+        (around, octet) = (inner, octet.saturating_sub(start));
+    }
+    Some((begin, around, octet))
+}
+
+/// Whether an element is to begin at this octet, since the elements before it end there.
+fn is_beginning(octets: &[u8], octet: usize) -> bool
+    ensures { IsTrue result → IsBeginning octets.now octet }
+{
+    match innermost(octets, octet) {
+        Some((_begin, around, octet)) => {
+            octet == around.len().saturating_sub(behind_elements(around).len())
+        }
+        None => false,
+    }
 }
 
 /// Whether an input in which an element has a wrong length is rejected for that, at the location of the error.
@@ -307,7 +386,8 @@ impl<F: Fn(&[u8]) -> Option<ParseError>> Rejected<'_, F> {
             Ok(_) => false,
             Err(error) => {
                 error == ParseError::new(self.error.kind())
-                    && self.is_same(octet, scratch) == Some(false)
+                    && is_beginning(self.octets, octet)
+                    && self.is_open(octet, scratch)
             }
         }
     }
@@ -339,6 +419,54 @@ impl<F: Fn(&[u8]) -> Option<ParseError>> Rejected<'_, F> {
         self.is_decided(octet, scratch)
     }
 
+    /// Where the innermost constructed element around an octet ends, or the input; or the element in it that has the
+    /// octet, if it is read at the location of the error.
+    fn end_around(&self, octet: usize, scratch: &mut [u8]) -> Option<usize>
+        requires { F.IsAlwaysCallable self.now.rejects.now }
+        ensures { IfSome result (EndsAround (FnReturnsAt F.Fn self.now.rejects.now)
+            self.now.octets.now self.now.error octet) }
+    {
+        let (begin, around, octet) = innermost(self.octets, octet)?;
+        let Some(start) = element_with(around, octet) else {
+            return begin.checked_add(around.len());
+        };
+        let place = begin.checked_add(start)?;
+        if self.is_read_at(place, true, scratch) {
+            return begin.checked_add(element_end(around, start)?);
+        }
+        if self.is_read_at(place, false, scratch) {
+            return begin.checked_add(around.len());
+        }
+        None
+    }
+
+    /// Whether the octets before this one decide the error, whatever is in place of the others.
+    fn is_always_decided(&self, octet: usize, scratch: &mut [u8]) -> bool
+        requires { F.IsAlwaysCallable self.now.rejects.now }
+        ensures { IsTrue result → FnReturnsAt F.Fn self.now.rejects.now
+            (kept octet 255 self.now.octets.now) (Some self.now.error) }
+    {
+        match self.error_of(octet, 0xff, scratch) {
+            Some(Some(error)) => error == self.error,
+            _ => false,
+        }
+    }
+
+    /// Whether octets are missing at this one, if so many octets decide the error.
+    fn is_at_end(&self, octet: usize, count: usize, scratch: &mut [u8]) -> bool
+        requires { F.IsAlwaysCallable self.now.rejects.now }
+        ensures { IsTrue result → IsEnd (FnReturnsAt F.Fn self.now.rejects.now)
+            self.now.octets.now self.now.error octet }
+    {
+        if !self.is_decided(octet, scratch) || !self.is_always_decided(octet, scratch) {
+            return false;
+        }
+        if count == 0 {
+            return octet == self.octets.len() && self.is_decided(0, scratch);
+        }
+        self.is_turn(count, scratch) && self.end_around(count - 1, scratch) == Some(octet)
+    }
+
     /// Whether the error is at this octet, if so many octets decide it. For `ExtraData` the element at `before`, or its
     /// header, is before the octets that are left over.
     fn is_at(&self, octet: usize, before: usize, count: usize, scratch: &mut [u8]) -> bool
@@ -352,7 +480,7 @@ impl<F: Fn(&[u8]) -> Option<ParseError>> Rejected<'_, F> {
         }
         match self.error.kind() {
             ParseErrorKind::ExtraData => self.is_behind(octet, before, scratch),
-            ParseErrorKind::ShortData { .. } => self.is_same(octet, scratch) == Some(true),
+            ParseErrorKind::ShortData { .. } => self.is_at_end(octet, count, scratch),
             ParseErrorKind::InvalidTag | ParseErrorKind::InvalidLength => {
                 self.is_at_header(octet, scratch)
             }
@@ -450,6 +578,16 @@ impl<F: Fn(&[u8]) -> Option<ParseError>> Rejected<'_, F> {
         (frame.end, frame.start)
     }
 
+    /// Where octets are missing, if so many octets decide the error.
+    fn end(&self, deciding: usize, scratch: &mut [u8]) -> Option<usize>
+        requires { F.IsAlwaysCallable self.now.rejects.now }
+    {
+        match deciding {
+            0 => Some(self.octets.len()),
+            _ => self.end_around(deciding - 1, scratch),
+        }
+    }
+
     /// Where the error is, if so many octets decide it, and what is read is read in the order of the input; and for
     /// `ExtraData` where the element begins that is before that.
     fn octet(&self, deciding: usize, scratch: &mut [u8]) -> Option<(usize, usize)>
@@ -459,7 +597,7 @@ impl<F: Fn(&[u8]) -> Option<ParseError>> Rejected<'_, F> {
         let wrong = around.read_there.or(around.innermost);
         match self.error.kind() {
             ParseErrorKind::AllocationError => None,
-            ParseErrorKind::ShortData { .. } => Some((around.limit, 0)),
+            ParseErrorKind::ShortData { .. } => Some((self.end(deciding, scratch)?, 0)),
             ParseErrorKind::ExtraData => Some(self.unread_in(wrong?, deciding, scratch)),
             ParseErrorKind::InvalidTag | ParseErrorKind::InvalidLength => match around.broken {
                 Some(broken) => Some((broken, 0)),

@@ -23,7 +23,7 @@ pub use defined::{
 };
 pub use plain::{
     FieldWritable, Plain, Wraps, explicit_length, implicit_length, into_plain, known_plain,
-    plain_length, write_explicit, write_implicit, write_plain,
+    plain_length, value_length, write_explicit, write_implicit, write_plain,
 };
 pub use writes::{Four, RowWritable};
 

@@ -99,12 +99,16 @@ pub fn lists_are_lawful<'a, T: Asn1Type + 'a, const MIN: usize, const MAX: usize
     ensures set_slice_plain { T.der.plain → ⟦<SetOfWriter<'a, T> as Asn1Type>⟧.der.plain }
 {}
 
-/// No two valid values of a lawful type that is read share an encoding, be they within its bounds or not. The encoding
-/// of a value may be written, if the type has one for each value; it can be read if it is shorter than 2^32 octets; and
-/// whatever is written of a value is nothing or one element.
+/// No two valid values of a lawful type that is read share an encoding, be they within its bounds or not; nor do two
+/// within the bounds of a type that is only written, if the encoding fits. The encoding of a value may be written, if
+/// the type has one for each value; it can be read if it is shorter than 2^32 octets; and whatever is written of a
+/// value is nothing or one element.
 pub fn encodings_tell_values<T: Asn1Type>()
     ensures one_value { T.der.is_read → T.der.lawful → (m n : T.der.Meaning) → T.der.valid m
         → T.der.valid n → T.der.encoding m ≡ T.der.encoding n → m ≡ n }
+    ensures one_allowed { T.der.lawful → (m n : T.der.Meaning) → T.der.valid m → T.der.valid n
+        → T.der.allowed m → T.der.allowed n → Fits (T.der.encoding m)
+        → T.der.encoding m ≡ T.der.encoding n → m ≡ n }
     ensures has_encoding { T.der.plain → (m : T.der.Meaning) → T.der.valid m
         → T.der.encodings m (T.der.encoding m) }
     ensures short { T.der.lawful → (m : T.der.Meaning) → T.der.valid m

@@ -1,7 +1,7 @@
 //! SEQUENCE, SEQUENCE OF, SET and SET OF (X.690 8.9 to 8.12, X.680 25 to 28): as they are encoded, as lists of items,
 //! and written by a closure.
 
-ghost use Rattle.std.specs.Prelude.{◌≡◌, ◌<◌, ◌^◌, ℕ, List};
+ghost use Rattle.std.specs.Prelude.{◌≡◌, ◌<◌, ◌^◌, ◌++◌, ◌∷◌, [], ℕ, List, OnOk};
 ghost use Rattle.asn1_core.specs.declared.parser.Place.TheVariants.{Index};
 ghost use Rattle.asn1_core.specs.ReadError.{within};
 ghost use Rattle.asn1_core.specs.declared.tag.Tag.{Tag};
@@ -14,7 +14,7 @@ mod sequence_of;
 mod sets;
 mod writers;
 
-use asn1_core::{Asn1Type, ParseError, ParseLocation, ParseResult, strip_tlv};
+use asn1_core::{Asn1Type, ParseError, ParseErrorKind, ParseLocation, ParseResult, strip_tlv};
 pub use sequence::Sequence;
 pub use sequence_of::SequenceOf;
 pub use sets::{Set, SetOf};
@@ -26,6 +26,16 @@ pub(crate) fn at_item(error: ParseError, index: usize) -> ParseError
     ensures { result ≡ within (Index index) error }
 {
     error.add_location(ParseLocation::Index(index))
+}
+
+/// Appends an item. The error is `AllocationError`, without a location.
+pub(crate) fn push_item<T: Drop>(all: &mut Vec<T>, item: T) -> ParseResult<()>
+    ensures { OnOk result (all.new.items ≡ all.old.items ++ item ∷ []) }
+{
+    match all.push(item) {
+        Ok(()) => Ok(()),
+        Err(_) => Err(ParseError::new(ParseErrorKind::AllocationError)),
+    }
 }
 
 /// States that a slice holds octets. The body looks at the slice, whose type says so.

@@ -201,7 +201,7 @@ macro_rules! choice_length {
 /// How many octets the encoding of the value in a variant has, if that is known.
 #[macro_export]
 macro_rules! variant_length {
-    ($value:expr) => { $crate::Asn1Writable::encoded_length($value) };
+    ($value:expr) => { $crate::fields::value_length($value) };
     ($value:expr, explicit $tag:literal) => { $crate::fields::explicit_length($value, $tag) };
     ($value:expr, implicit $tag:literal) => { $crate::fields::implicit_length($value, $tag) };
 }

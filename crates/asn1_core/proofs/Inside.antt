@@ -1,15 +1,19 @@
 -- The laws of contents octets that hold one value, what calls that read a prefix took, and what calls return for the
 -- encoding of a value.
-use Rattle.std.proofs.Common.{◌≡◌, ℕ, ◌<◌, ◌^◌, Bool, false, List, [], ◌∷◌, ◌++◌, length, Result, Ok, Err, refl, sym, ap, subst, ◌∙◌, ◌⊎◌, inl, inr, arith}
+use Rattle.std.proofs.Common.{◌≡◌, ℕ, ◌<◌, ◌^◌, Bool, true, false, if◌then◌else◌, List, [], ◌∷◌, ◌++◌, length, Result, Ok, Err, refl, sym, ap, subst, ◌∙◌, ◌⊎◌, inl, inr, arith}
 use Rattle.std.specs.Prelude.{IfOk, IsOk}
 use Rattle.std.proofs.lemmas.List.{append-nil, length-append}
 use Rattle.asn1_core.specs.declared.parser.Place.{Place}
 use Rattle.asn1_core.specs.declared.tag.Tag.{Tag}
 use Rattle.asn1_core.specs.Base256.{IsOctets}
 use Rattle.asn1_core.specs.ReadError.{ReadError}
-use Rattle.asn1_core.specs.Reading.{Returns, Consumes, Fits, IsOneElement, begins_accepted, whole}
+use Rattle.asn1_core.specs.Reading.{Returns, Consumes, Fits, IsOneElement, begins_accepted, content_of, expected_contents, simple, simple_out, whole}
+use Rattle.asn1_core.specs.Tag.{tag_eq}
+use Rattle.asn1_core.specs.Element.{Element, leading_element, ◌>>=◌}
+use Rattle.asn1_core.specs.Lemmas.Tags.{tag_eq_is}
+use Rattle.asn1_core.specs.declared.parser.ParseErrorKind.{ParseErrorKind}
 use Rattle.asn1_core.specs.Der.{Der}
-use Rattle.asn1_core.specs.Reads.{Encodes, ReturnsValue, IsReadValue}
+use Rattle.asn1_core.specs.Reads.{Encodes, IsEncodingOf, ReadsContents, ReadsPrefix, ReturnsValue, IsReadValue}
 use Rattle.asn1_core.specs.Lemmas.Results.{done_injective}
 use Rattle.asn1_core.specs.Lemmas.Wholes.{whole_consumes, whole_read_back, Fits_short, begins_accepted_nil}
 
@@ -42,6 +46,54 @@ pub Returns_ReturnsValue : {V : Type 0} (d : Der V) (out : List Place → Type 0
     Returns (λ v. (d.meaning v, remaining)) out result read → read ≡ Ok (m, rest) → ReturnsValue d out result remaining m rest
 Returns_ReturnsValue d out result remaining m rest read answers e = subst (λ (r : Result (d.Meaning × List ℕ) ReadError). Returns (λ v. (d.meaning v, remaining)) out result r) e answers
 
+-- an element with the expected tag
+contents_are : (b : Bool) (found answer : List ℕ × List ℕ) (kind : ParseErrorKind) → (if b then Ok found else Err kind) ≡ Ok answer → (b ≡ true) × (found ≡ answer)
+contents_are true found answer kind e = (refl, cc)
+contents_are false found answer kind e = absurd cc
+
+abbrev parts : Element × List ℕ → List ℕ × List ℕ
+parts f = (f.0.content, f.1)
+
+element_expected : (tag : Tag) (answer : List ℕ × List ℕ) (r : Result (Element × List ℕ) ParseErrorKind) → (r >>= content_of tag) ≡ Ok answer
+    → (f : Element × List ℕ) × (r ≡ Ok f) × (tag_eq f.0.tag tag ≡ true) × (parts f ≡ answer)
+element_expected tag answer (Ok f) e = let is = contents_are (tag_eq f.0.tag tag) (f.0.content, f.1) answer _ e in (f, refl, is.0, is.1)
+element_expected tag answer (Err kind) e = absurd cc
+
+-- what reading the contents octets of an element gave is what reading the element gives
+pub Returns_simple : {V M : Type 0} (view : V → M) (out : List ℕ → List Place → Type 0) (tag : Tag) (read : List ℕ → Result M ReadError) (t content rest : List ℕ) (result : Result V ReadError) →
+    expected_contents tag t ≡ Ok (content, rest) → Returns view (out content) result (read content) → Returns (λ v. (view v, rest)) (simple_out tag out t) result (simple tag read t)
+Returns_simple {M = M} view out tag read t content rest result e answers = returned result answers
+  where
+    found : (f : Element × List ℕ) × (leading_element t ≡ Ok f) × (tag_eq f.0.tag tag ≡ true) × (parts f ≡ (content, rest))
+    found = element_expected tag (content, rest) (leading_element t) e
+
+    same_content : found.0.0.content ≡ content
+    same_content = ap (λ (p : List ℕ × List ℕ). p.0) found.3
+
+    same_rest : found.0.1 ≡ rest
+    same_rest = ap (λ (p : List ℕ × List ℕ). p.1) found.3
+
+    is : simple tag read t ≡ (read content >>= λ m. Ok (m, rest))
+    is = rw (found.1, found.2, same_content, same_rest) refl
+
+    returned : (r : Result _ ReadError) → Returns view (out content) r (read content) → Returns (λ v. (view v, rest)) (simple_out tag out t) r (simple tag read t)
+    returned (Ok v) answer = rw (is, answer) refl
+    returned (Err d) (inl answer) = inl (rw (is, answer) refl)
+    returned (Err d) (inr answer) = inr (answer.0, (found.0, found.1, tag_eq_is found.0.0.tag tag found.2, rw same_content answer.1))
+
+-- memory may run out at more locations
+Returns_weaker : {V M : Type 0} (view : V → M) {P Q : List Place → Type 0} → ((places : List Place) → P places → Q places) → (result : Result V ReadError) (read : Result M ReadError) → Returns view P result read → Returns view Q result read
+Returns_weaker view more (Ok v) read answers = answers
+Returns_weaker view more (Err e) read (inl answers) = inl answers
+Returns_weaker view more (Err e) read (inr answers) = inr (answers.0, more e.places answers.1)
+
+-- the same of a type with a tag of its own
+pub Returns_simple_type : {V : Type 0} (d : Der V) → d.is_simple → (t content rest : List ℕ) (result : Result V ReadError) →
+    expected_contents d.content.tag t ≡ Ok (content, rest) → ReadsContents d content result → ReadsPrefix d t rest result
+Returns_simple_type d simple_type t content rest result e answers =
+    rw (d.laws.as_read simple_type t) (Returns_weaker (λ v. (d.meaning v, rest)) (λ places out. (d.laws.as_out simple_type t places).0 out) result _
+    (Returns_simple d.meaning d.content.runs_out d.content.tag d.content.read t content rest result e answers))
+
 length_suffix_lt : (octets rest t : List ℕ) → t ≡ octets ++ rest → (octets ≡ [] → ⊥) → length rest < length t
 length_suffix_lt [] rest t is some = absurd (some refl)
 length_suffix_lt (octet ∷ octets) rest t is some = omega (arith, ap length is, length-append octets rest)
@@ -70,8 +122,7 @@ module _ {V : Type 0} (d : Der V) (octets : List ℕ) where
   IsOk_Encodes (Err e) m lawful h none (inr answers) = absurd (none (d.laws.memory octets e.places answers.1))
 
   -- a value that a call returns is the one whose encoding it is
-  pub Returns_Encodes : (result : Result V ReadError) → d.lawful
-      → Returns d.meaning (d.runs_out octets) result (whole (d.read octets))
-      → IfOk result (λ v. (m : d.Meaning) → Encodes d m octets → d.meaning v ≡ m)
-  Returns_Encodes (Ok v) lawful answers = λ m h. done_injective (d.meaning v) m (sym answers ∙ whole_Encodes m lawful h)
-  Returns_Encodes (Err e) lawful answers = tt
+  pub IfOk_one_value : (result : Result V ReadError) → d.is_read → d.lawful → IfOk result (λ v. IsEncodingOf d v octets)
+      → (m : d.Meaning) → d.valid m → octets ≡ d.encoding m → IfOk result (λ v. d.meaning v ≡ m)
+  IfOk_one_value (Ok v) is lawful found m valid e = d.laws.one_value is (d.meaning v) m lawful found.1.0 valid (sym found.0 ∙ e)
+  IfOk_one_value (Err f) is lawful found m valid e = tt

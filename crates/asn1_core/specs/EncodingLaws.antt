@@ -16,6 +16,8 @@ pub record ContentLaws {M : Type 0} (c : Content M) : Type 0 where
   pub one_encoding : c.plain → (m : M) (t : List ℕ) → c.encodings m t → t ≡ c.encoding m
   pub has_encoding : c.plain → (m : M) → c.valid m → c.encodings m (c.encoding m)
   pub no_closures : c.plain → (m : M) → c.closures m
+  -- if there is a valid value, something may be written, so nobody states a content of which nothing is written
+  pub is_written : c.plain → ((m : M) × c.valid m) → (m : M) × c.encodings m (c.encoding m)
   pub consumes : (t : List ℕ) (m : M) → IsOctets t → c.read t ≡ Ok m → (t ≡ c.encoding m) × (c.valid m × c.allowed m)
   pub read_back : (m : M) → c.lawful → c.valid m → c.allowed m → length (c.encoding m) < 2 ^ 32 → c.read (c.encoding m) ≡ Ok m
   -- no two valid values have the same contents octets, be they allowed or not, if the type is read
@@ -54,6 +56,8 @@ pub record EncodingLaws {M : Type 0} (e : Encoding M) : Type 1 where
   pub read_back : (m : M) (rest : List ℕ) → e.lawful → e.valid m → e.allowed m → Fits (e.encoding m) → (e.encoding m ≡ [] → begins_accepted e.accepts rest ≡ false) → e.read (e.encoding m ++ rest) ≡ Ok (m, rest)
   -- no two valid values share an encoding, be they allowed or not, if the type is read
   pub one_value : e.is_read → (m n : M) → e.lawful → e.valid m → e.valid n → e.encoding m ≡ e.encoding n → m ≡ n
+  -- nor do two that are allowed, be the type read or not, if the encoding fits
+  pub one_allowed : (m n : M) → e.lawful → e.valid m → e.valid n → e.allowed m → e.allowed n → Fits (e.encoding m) → e.encoding m ≡ e.encoding n → m ≡ n
   -- a short encoding can be read
   pub short_fits : (m : M) → e.lawful → e.valid m → length (e.encoding m) < 2 ^ 32 → Fits (e.encoding m)
   -- a type without bounds reads each valid value back

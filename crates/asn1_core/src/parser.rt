@@ -12,9 +12,9 @@ ghost use Rattle.asn1_core.specs.Element.{element_encoding};
 ghost use Rattle.asn1_core.specs.Tlv.{element_of, full_octets, stripped};
 ghost use Rattle.asn1_core.specs.ReadError.{read_error, within, framed, ReturnsPlain, ReturnsKind, IsOfInput, place_of};
 ghost use Rattle.asn1_core.specs.ReadError.{error_text, kind_eq, place_eq, read_error_eq, with_rest};
-ghost use Rattle.asn1_core.specs.Reading.{EndsWith, ReadsBy, rest_rejected, expected_contents, simple_stops};
+ghost use Rattle.asn1_core.specs.Reading.{EndsWith, Fits, ReadsBy, rest_rejected, expected_contents, simple_stops};
 ghost use Rattle.asn1_core.specs.Reads.{BeginsWithEncodingOf, BeginsWithExplicit, BeginsWithImplicit, IsEncodingOf};
-ghost use Rattle.asn1_core.specs.Reads.{Encodes, ReadsBack, ReadsBackExplicit, ReadsBackImplicit, ReadsBackPrefix};
+ghost use Rattle.asn1_core.specs.Reads.{ReadsBack, ReadsBackExplicit, ReadsBackImplicit, ReadsBackPrefix};
 ghost use Rattle.asn1_core.specs.Reads.{ReadsExplicit, ReadsImplicit, ReadsPrefix, ReadsWhole};
 ghost use Rattle.asn1_core.specs.Laws.{IsShort, with_more};
 ghost use Rattle.std.specs.Cmp.{decided, partial_equiv_from_equiv};
@@ -707,16 +707,19 @@ pub fn parse_single<'a, T: Asn1Readable<'a>>(alloc: Global, data: &'a [u8]) -> P
     ensures only { ReadsBack T.der «data».entry.now result }
 
     // Octets that encode a value are read, if the type doesn't allocate.
-    ensures some { T.der.lawful → ¬ T.der.takes_memory
-        → ((m : T.der.Meaning) × Encodes T.der m «data».entry.now) → IsOk result }
+    ensures some { T.der.lawful → ¬ T.der.takes_memory → (m : T.der.Meaning) → T.der.valid m
+        → T.der.allowed m → Fits (T.der.encoding m) → «data».entry.now ≡ T.der.encoding m
+        → IsOk result }
 
-    // They encode no other value than the one that is returned.
-    ensures one { T.der.lawful → IfOk result (λ v. (m : T.der.Meaning)
-        → Encodes T.der m «data».entry.now → T.der.meaning v ≡ m) }
+    // They are the encoding of no other valid value, be it within the bounds of the type or not.
+    ensures one { T.der.lawful → (m : T.der.Meaning) → T.der.valid m
+        → «data».entry.now ≡ T.der.encoding m → IfOk result (λ v. T.der.meaning v ≡ m) }
 
     // A type that doesn't allocate is never out of memory.
     ensures no_memory_error { ¬ T.der.takes_memory → IfErr result IsOfInput }
 {
+    // Its contract says that values of the type are read.
+    let _accepted = T::can_parse(Tag::primitive(0));
     read_single(alloc, data)
 }
 

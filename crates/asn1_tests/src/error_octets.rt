@@ -1,8 +1,12 @@
 //! The octet at which an input is rejected: where `openssl asn1parse` lists the element, if it reads the input.
 
 use crate::headline::Holder;
+use crate::lists::List;
 use crate::structures::Defaults;
-use asn1::{ParseError, ParseErrorKind, SequenceOf, Tag, error_octet, expects_tag, parse_single};
+use asn1::{
+    OctetStringEncoded, ParseError, ParseErrorKind, SequenceOf, Tag, error_octet, expects_tag,
+    parse_single,
+};
 use std::test::Fail;
 use testing::{same, same_at};
 
@@ -95,7 +99,7 @@ const HOLDERS: &[(&[u8], Option<usize>)] = &[
     (b"\x30\x03\x01\x01\xff", Some(5)),
     (b"\x30\x15\x01\x01\xff\x31\x10\x30\x06", Some(9)),
     (b"", Some(0)),
-    // Malformed identifier and length octets: of a pair, of a number, of the whole.
+    // Malformed identifier and length octets: of a pair, of its first number, of its second one, of the whole.
     (
         b"\x30\x0d\x01\x01\xff\x31\x08\x1f\x80\x02\x01\x01\x02\x01\x02",
         Some(7),
@@ -103,6 +107,10 @@ const HOLDERS: &[(&[u8], Option<usize>)] = &[
     (
         b"\x30\x0d\x01\x01\xff\x31\x08\x30\x06\x02\x80\x01\x02\x01\x02",
         Some(9),
+    ),
+    (
+        b"\x30\x0d\x01\x01\xff\x31\x08\x30\x06\x02\x01\x01\x02\x80\x02",
+        Some(12),
     ),
     (
         b"\x30\x0e\x01\x01\xff\x31\x09\x30\x81\x06\x02\x01\x01\x02\x01\x02",
@@ -133,6 +141,26 @@ fn errors_are_at_octets(rt: HostRuntime) -> Result<(), Fail> {
             (&[0x30, 6, 2, 1, 1, 2, 1, 2], Some(0)),
         ],
         |octets: &[u8]| parse_single::<SequenceOf<'_, u64, 1, 1>>(alloc, octets).err(),
+    )
+}
+
+/// Octets are missing where the innermost element ends that lacks them: in a list, and in an octet string that holds an
+/// encoding. What looks like a header within an octet string is none.
+#[test]
+fn octets_are_missing_at_the_end_of_an_element(rt: HostRuntime) -> Result<(), Fail> {
+    let alloc = rt.alloc();
+    are_rejected_at(
+        &[
+            (&[0x30, 8, 0x30, 2, 1, 1, 0x30, 2, 0, 0], Some(6)),
+            (&[0x30, 9, 0x30, 7, 1, 1, 0xff, 1, 1, 0, 1], Some(11)),
+            (&[0x30, 4, 0x30, 3, 1, 1], Some(6)),
+            (&[0x30], Some(1)),
+        ],
+        |octets: &[u8]| { parse_single::<List<'_, List<'_, bool>>>(alloc, octets).err() },
+    )?;
+    are_rejected_at(
+        &[(&[4, 2, 1, 1, 5, 0], Some(4)), (&[4, 2, 0x30, 0x80], None)],
+        |octets: &[u8]| parse_single::<OctetStringEncoded<bool>>(alloc, octets).err(),
     )
 }
 

@@ -1,6 +1,7 @@
 //! Lengths that are known before anything is written.
 
 use crate::lists::List;
+use asn1::fields::{explicit_length, implicit_length, value_length};
 use asn1::{
     Asn1Readable, Asn1Writable, Choice1, Choice2, Choice3, Explicit, Implicit, OctetStringEncoded,
     Sequence, SequenceOf, SequenceOfWriter, SequenceWriter, Set, SetElementWriter, SetOf,
@@ -122,6 +123,15 @@ fn lengths_of_alternatives(rt: HostRuntime) -> Result<(), Fail> {
     lengths_are_known::<Choice2<bool, i64>>(alloc, &[&[1, 1, 0xff], &[2, 2, 1, 0]])?;
     lengths_are_known::<Choice3<bool, i64, ()>>(alloc, &[&[1, 1, 0xff], &[2, 2, 1, 0], &[5, 0]])?;
     lengths_are_known::<Tlv<'_>>(alloc, &[&[0x1f, 0x81, 0x80, 0x01, 1, 7]])
+}
+
+#[test]
+fn lengths_of_values_in_variants() -> Result<(), Fail> {
+    same(value_length(&true), Some(3))?;
+    same(explicit_length(&true, 1), Some(5))?;
+    same(implicit_length(&true, 1), Some(3))?;
+    let writes = |writer: &mut Writer<'_>| -> WriteResult<()> { writer.write_element(&true) };
+    same(value_length(&SequenceWriter::new(&writes)), None)
 }
 
 /// The value has this many contents octets, after two octets, or no known length.

@@ -118,6 +118,17 @@ fn items_of_lists_are_taken(rt: HostRuntime) -> Result<(), Fail> {
     same(list.take_next()?, None)
 }
 
+/// The items that are left of a list are counted, and taken all at once.
+#[test]
+fn items_left_are_taken_at_once(rt: HostRuntime) -> Result<(), Fail> {
+    let mut list = parse_single::<List<'_, u64>>(rt.alloc(), FIVE_AND_SEVEN)?;
+    same(list.to_vec()?.as_slice(), [5, 7].as_slice())?;
+    same(list.clone()?.count(), 2)?;
+    same(list.take_next()?, Some(5))?;
+    same(list.to_vec()?.as_slice(), [7].as_slice())?;
+    same(list.count(), 1)
+}
+
 #[test]
 fn lists_are_made_of_items(rt: HostRuntime) -> Result<(), Fail> {
     let alloc = rt.alloc();

@@ -49,6 +49,15 @@ fn items_of_sets_are_taken(rt: HostRuntime) -> Result<(), Fail> {
     same(set.take_next()?, None)
 }
 
+/// The items that are left of a set are taken all at once.
+#[test]
+fn items_left_of_sets_are_taken_at_once(rt: HostRuntime) -> Result<(), Fail> {
+    let mut set = parse_single::<SetOf<'_, u64>>(rt.alloc(), FIVE_TWICE)?;
+    same(set.to_vec()?.as_slice(), [5, 5].as_slice())?;
+    same(set.take_next()?, Some(5))?;
+    same(set.to_vec()?.as_slice(), [5].as_slice())
+}
+
 #[test]
 fn copies_of_sets(rt: HostRuntime) -> Result<(), Fail> {
     let alloc = rt.alloc();

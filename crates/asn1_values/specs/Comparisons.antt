@@ -1,7 +1,8 @@
 -- What laws state about comparisons: these compare abstract values.
-use Rattle.std.specs.Prelude.{ℕ, Bool, List, Option, Some, ◌≡◌, ◌↔◌, IsTrue}
+use Rattle.std.specs.Prelude.{ℕ, Bool, List, Option, Some, ◌≡◌, ◌⊎◌, ◌↔◌, IsTrue}
+use Rattle.std.specs.Ordering.{is_lt, is_some_and}
 use Rattle.std.specs.declared.cmp.Ordering.{Ordering}
-use Rattle.std.specs.declared.cmp.Ordering.TheVariants.{Equal}
+use Rattle.std.specs.declared.cmp.Ordering.TheVariants.{Less, Equal}
 
 -- Two values are equal exactly if their abstract values are.
 abbrev pub IsEqualityOf : {T M : Type 0} → (T → M) → (T → T → Bool) → Type 0
@@ -26,3 +27,11 @@ IsOrderOf {T} meaning order partial_cmp = (a b : T) → partial_cmp a b ≡ Some
 -- The order calls two values equal exactly if their abstract values are the same.
 abbrev pub IsTieOf : {T M : Type 0} → (T → M) → (M → M → Ordering) → Type 0
 IsTieOf {T} meaning order = (a b : T) → (order (meaning a) (meaning b) ≡ Equal) ↔ (meaning a ≡ meaning b)
+
+-- What is before an earlier value is earlier.
+abbrev pub IsTransitive : {T : Type 0} → (T → T → Option Ordering) → Type 0
+IsTransitive {T} partial_cmp = (a b c : T) → IsTrue (is_some_and is_lt (partial_cmp a b)) → IsTrue (is_some_and is_lt (partial_cmp b c)) → IsTrue (is_some_and is_lt (partial_cmp a c))
+
+-- Of two values one is before the other, or they mean the same.
+abbrev pub AreInLine : {T M : Type 0} → (T → M) → (M → M → Ordering) → Type 0
+AreInLine {T} meaning order = (a b : T) → (order (meaning a) (meaning b) ≡ Less) ⊎ ((order (meaning b) (meaning a) ≡ Less) ⊎ (meaning a ≡ meaning b))

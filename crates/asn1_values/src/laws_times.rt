@@ -2,8 +2,8 @@
 //! function that does nothing.
 
 ghost use Rattle.std.specs.Cmp.{IsTotalOrder};
-ghost use Rattle.asn1_values.specs.Comparisons.{ClonesAreEqual, HashesAlike, IsEqualityOf, IsOrderOf, IsTieOf};
-ghost use Rattle.asn1_values.specs.Comparisons.{NeverFails};
+ghost use Rattle.asn1_values.specs.Comparisons.{AreInLine, ClonesAreEqual, HashesAlike, IsEqualityOf, IsOrderOf};
+ghost use Rattle.asn1_values.specs.Comparisons.{IsTieOf, IsTransitive, NeverFails};
 ghost use Rattle.asn1_values.specs.TimeValues.{TimesAreRead, TimesAreWritten};
 ghost use Rattle.asn1_values.specs.TimeValues.{instant_content, utc_content, x509_content};
 ghost use Rattle.asn1_values.specs.TimeValues.{moment, instant_of, utc_moment, x509_moment};
@@ -28,31 +28,50 @@ pub fn times_are_written()
 {}
 
 /// A `DateTime` is ordered by year, month, day, hour, minute and second, in turn. Two are equal exactly if these are
-/// the same, and then their hashes are equal too. Of two others exactly one is before the other, and what is before an
-/// earlier one is earlier (`line`). A clone never fails, and equals its source.
+/// the same, and then their hashes are equal too. Of two others exactly one is before the other (`line`, `apart`), and
+/// what is before an earlier one is earlier (`transitive`). A clone never fails, and equals its source.
 pub fn date_times_compare()
     ensures order { IsOrderOf moment moment_order ⟦<DateTime as PartialOrd>⟧.partial_cmp }
     ensures line { IsTotalOrder moment_order }
+    ensures transitive { IsTransitive ⟦<DateTime as PartialOrd>⟧.partial_cmp }
+    ensures apart { AreInLine moment moment_order }
     ensures tie { IsTieOf moment moment_order }
     ensures equality { IsEqualityOf moment ⟦<DateTime as PartialEq>⟧.eq }
     ensures hash { HashesAlike moment ⟦<DateTime as Hash>⟧.hash_input }
     ensures clone { ClonesAreEqual ⟦<DateTime as Clone>⟧.is_clone ⟦<DateTime as PartialEq>⟧.eq }
     ensures infallible { NeverFails ⟦<DateTime as Clone>⟧.is_infallible }
+{
+    date_times_are_ordered();
+}
+
+/// Two `DateTime`s compare in the order of their dates and times of day.
+fn date_times_are_ordered()
+    ensures { IsOrderOf moment moment_order ⟦<DateTime as PartialOrd>⟧.partial_cmp }
 {}
 
 /// A `GeneralizedTime` is ordered by date and time of day, then no fraction before any fraction, then by nanoseconds.
 /// Two are equal exactly if these are the same, and then their hashes are equal too. Of two others exactly one is
-/// before the other, and what is before an earlier one is earlier (`line`). A clone never fails, and equals its source.
+/// before the other (`line`, `apart`), and what is before an earlier one is earlier (`transitive`). A clone never
+/// fails, and equals its source.
 pub fn generalized_times_compare()
     ensures order { IsOrderOf instant_of instant_order
         ⟦<GeneralizedTime as PartialOrd>⟧.partial_cmp }
     ensures line { IsTotalOrder instant_order }
+    ensures transitive { IsTransitive ⟦<GeneralizedTime as PartialOrd>⟧.partial_cmp }
+    ensures apart { AreInLine instant_of instant_order }
     ensures tie { IsTieOf instant_of instant_order }
     ensures equality { IsEqualityOf instant_of ⟦<GeneralizedTime as PartialEq>⟧.eq }
     ensures hash { HashesAlike instant_of ⟦<GeneralizedTime as Hash>⟧.hash_input }
     ensures clone { ClonesAreEqual ⟦<GeneralizedTime as Clone>⟧.is_clone
         ⟦<GeneralizedTime as PartialEq>⟧.eq }
     ensures infallible { NeverFails ⟦<GeneralizedTime as Clone>⟧.is_infallible }
+{
+    generalized_times_are_ordered();
+}
+
+/// Two `GeneralizedTime`s compare in the order of their instants.
+fn generalized_times_are_ordered()
+    ensures { IsOrderOf instant_of instant_order ⟦<GeneralizedTime as PartialOrd>⟧.partial_cmp }
 {}
 
 /// Two `UtcTime`s are equal exactly if their dates and times of day are, and then their hashes are equal too. A clone

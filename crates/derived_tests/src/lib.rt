@@ -19,3 +19,5 @@ mod spellings;
 mod tags;
 #[cfg(test)]
 mod tests;
+#[cfg(test)]
+mod words;

@@ -1,9 +1,9 @@
 //! Tags of every class, sets, and enums whose values have numbers: each form of the script for them, once.
-// Printed by tools/derive from declarations/tags.rs, with the sum 3e3a6eb1.
+// Printed by tools/derive from declarations/tags.rs, with the sum 0b62c9d9.
 
 ghost use Rattle.std.specs.Prelude.{◌≡◌, ◌∷◌, [], pos, true, false, IsTrue, OnErr, IfOk};
-ghost use Rattle.asn1.specs.AlternativeLists.{after1, after8, choice, first1, first3, second3, third3, first8};
-ghost use Rattle.asn1.specs.AlternativeLists.{second8, third8, fourth8, fifth8, sixth8, seventh8, eighth8};
+ghost use Rattle.asn1.specs.AlternativeLists.{IsLengthOf, after1, after8, choice, first1, first3, second3, third3};
+ghost use Rattle.asn1.specs.AlternativeLists.{first8, second8, third8, fourth8, fifth8, sixth8, seventh8, eighth8};
 ghost use Rattle.asn1.specs.Element.{element, element_encoding};
 ghost use Rattle.asn1.specs.Integer.{integer_content};
 ghost use Rattle.asn1.specs.Numbered.{numbered};
@@ -15,6 +15,7 @@ ghost use Rattle.asn1.specs.Structures.{set_structure_with_tag, structure, struc
 ghost use Rattle.asn1.specs.Structures.{fields8, fields16};
 ghost use Rattle.asn1.specs.Tag.{universal};
 ghost use Rattle.asn1.specs.Tagged.{application_tag, private_tag};
+ghost use Rattle.asn1.specs.Writing.{GivesLength};
 
 use super::page::ResponderId;
 use asn1::alternatives::{
@@ -630,7 +631,12 @@ impl<'a> Asn1Writable for Either<'a> {
         write_choice!(self, dest; Either(x); Octets, None)
     }
 
-    fn encoded_length(&self) -> Option<usize> {
+    fn encoded_length(&self) -> Option<usize>
+        ensures length { GivesLength (Unit {0})
+            (⟦<Either<'a> as Asn1Type>⟧.der.encodings
+            (⟦<Either<'a> as Asn1Type>⟧.der.meaning self.now)) result }
+        ensures exact { IsLengthOf ⟦<Either<'a> as Asn1Type>⟧.der self.now result }
+    {
         choice_length!(self; Either(x); Octets, None)
     }
 

@@ -13,7 +13,7 @@ use Rattle.asn1_core.specs.LawsOf.Encodings.{no_content_laws, no_content_errors}
 use Rattle.asn1_core.specs.Lemmas.Elements.{element_encoding_not_nil}
 use Rattle.asn1_core.specs.Lemmas.Facts.{not_both}
 use Rattle.asn1_core.specs.Lemmas.Options.{IsOneElement_not_empty}
-use Rattle.asn1_core.specs.Lemmas.Wholes.{Fits_short}
+use Rattle.asn1_core.specs.Lemmas.Wholes.{Fits_short, read_back_injective}
 use Rattle.asn1.specs.Alternatives.{Disjoint, either, either_encoding, choice_read}
 use Rattle.asn1.specs.Choices.{Alternatives, AlternativesLaws, only, or, none, choice_encoding}
 use Rattle.asn1.specs.Lemmas.Apart.{one_tag_disjoint, others_disjoint}
@@ -120,6 +120,7 @@ choice_laws {c = c} lc = record {
   not_empty = λ m l i v e. let one = lc.nothing_or_element m l v in element_encoding_not_nil one.element (sym one.is ∙ e);
   read_back = choice_type_read_back c lc;
   one_value = lc.one_value;
+  one_allowed = read_back_injective (choice_encoding c) (choice_type_read_back c lc);
   short_fits = λ m l v. Fits_short (c.encoding m) (inr (lc.nothing_or_element m l v));
   unbounded = lc.unbounded;
   memory = λ t places out. lc.memory out.0.0 places out.2;

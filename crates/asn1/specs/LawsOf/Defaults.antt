@@ -4,7 +4,7 @@ use Rattle.asn1_core.specs.Reading.{Fits, IsOneElement, begins_accepted}
 use Rattle.asn1_core.specs.Encoding.{Encoding}
 use Rattle.asn1_core.specs.EncodingLaws.{EncodingLaws}
 use Rattle.asn1_core.specs.LawsOf.Encodings.{no_content_laws, no_content_errors}
-use Rattle.asn1_core.specs.Lemmas.Wholes.{Fits_short}
+use Rattle.asn1_core.specs.Lemmas.Wholes.{Fits_short, read_back_injective}
 use Rattle.asn1.specs.Defaults.{same_encoding, default_text, default_read}
 use Rattle.asn1.specs.Defaulted.{IsDefaultOr, default_encoding}
 use Rattle.asn1.specs.Lemmas.Defaults.{default_consumes, default_nothing_or_element, default_accepted, default_read_back, default_errors, default_one_encoding, default_has_encoding, default_at_most_one, default_both, default_weaker, default_one_value}
@@ -35,6 +35,7 @@ default_laws {d = d} default ld = record {
   not_empty = λ m l i v e. i;
   read_back = default_type_read_back d default ld;
   one_value = default_type_one_value d default ld;
+  one_allowed = read_back_injective (default_encoding d default) (default_type_read_back d default ld);
   short_fits = λ m l v. Fits_short (default_text d.encoding default m) (default_type_nothing_or_element d default ld m l v);
   unbounded = λ free m v. default_weaker default d.valid d.allowed (λ x. same_encoding d.encoding x default ≡ false) (ld.unbounded free) m v;
   memory = λ t places out. ld.memory t places out.1;

@@ -8,6 +8,8 @@ use Rattle.asn1_core.specs.Base256.{IsOctets}
 use Rattle.asn1_core.specs.ReadError.{IsOfInput}
 use Rattle.asn1_core.specs.Reading.{begins_accepted, rest_rejected}
 use Rattle.asn1_core.specs.Apart.{IsFirst, one_accepts, Tags, tags_of}
+use Rattle.asn1_core.specs.Listing.{set_tag}
+use Rattle.asn1_core.specs.Tag.{tag_eq}
 use Rattle.asn1_core.specs.Encoding.{Encoding, simple_encoding}
 use Rattle.asn1_core.specs.EncodingLaws.{ContentLaws, EncodingLaws}
 use Rattle.asn1_core.specs.LawsOf.Encodings.{simple_laws}
@@ -15,7 +17,7 @@ use Rattle.asn1_core.specs.DefinedBy.{DefinedEncoding, DefinedLaws}
 use Rattle.asn1_core.specs.Lemmas.Options.{IsOneElement_not_empty}
 use Rattle.asn1_core.specs.Lemmas.Wholes.{begins_accepted_nil}
 use Rattle.asn1.specs.FieldReads.{Both, field_out, others_out, last_read, field_read, item_read, behind_out}
-use Rattle.asn1.specs.Fields.{first_name, other_names, Fields, IsTold, LawfulFields, FieldsLaws, FieldsBy, FieldsByLaws, last, field, no_fields, value_last, value_field, between, with_item, sequence, set_fields, tagged_fields}
+use Rattle.asn1.specs.Fields.{first_name, other_names, Fields, IsTold, LawfulFields, FieldsLaws, FieldsBy, FieldsByLaws, last, field, no_fields, value_last, value_field, between, with_item, sequence, AreInTagOrder, fields_if, set_fields, tagged_fields}
 use Rattle.asn1.specs.Lemmas.Fields.{last_consumes, last_read_back, last_errors, field_consumes, field_read_back, field_faults_all, begins_accepted_last, begins_accepted_append, begins_accepted_nil_append, both_one_encoding, both_has_encoding, field_memory, item_consumes, item_read_back, item_errors, item_memory, begins_accepted_first_element, variants_then_variant, variants_then_others, row_one_value, item_one_value}
 use Rattle.asn1.specs.Lemmas.Apart.{IsApartFromEach_disjoint, one_accepts_first, others_disjoint}
 
@@ -337,6 +339,7 @@ sequence_laws names lf = record {
   one_encoding = lf.one_encoding;
   has_encoding = lf.has_encoding;
   no_closures = lf.no_closures;
+  is_written = λ p v. (v.0, lf.has_encoding p v.0 v.1);
   consumes = lf.consumes names;
   read_back = lf.read_back names;
   one_value = lf.one_value;
@@ -348,24 +351,12 @@ sequence_laws names lf = record {
 pub structure_laws : {M : Type 0} {fields : Fields M} (names : List (List ℕ)) → FieldsLaws fields → EncodingLaws (simple_encoding (sequence fields names))
 structure_laws names lf = simple_laws (sequence_laws names lf)
 
-pub set_fields_laws : {M : Type 0} (tag : Tag) {fields : Fields M} (names : List (List ℕ)) → FieldsLaws fields → ContentLaws (set_fields tag fields names)
-set_fields_laws tag names lf = record {
+fields_if_laws : {M : Type 0} (condition : Type 0) (tag : Tag) {fields : Fields M} (names : List (List ℕ)) → FieldsLaws fields → ContentLaws (fields_if condition tag fields names)
+fields_if_laws condition tag names lf = record {
   one_encoding = lf.one_encoding;
   has_encoding = lf.has_encoding;
   no_closures = lf.no_closures;
-  consumes = lf.consumes names;
-  read_back = λ m l. lf.read_back names m l.0;
-  one_value = λ is m n l. lf.one_value is m n l.0;
-  unbounded = lf.unbounded;
-  memory = lf.memory names;
-  errors = lf.errors names;
-}
-
-pub tagged_fields_laws : {M : Type 0} (tag : Tag) {fields : Fields M} (names : List (List ℕ)) → FieldsLaws fields → ContentLaws (tagged_fields tag fields names)
-tagged_fields_laws tag names lf = record {
-  one_encoding = lf.one_encoding;
-  has_encoding = lf.has_encoding;
-  no_closures = lf.no_closures;
+  is_written = λ p v. (v.0, lf.has_encoding p v.0 v.1);
   consumes = lf.consumes names;
   read_back = λ m l. lf.read_back names m l.0;
   one_value = λ is m n l. lf.one_value is m n l.0;
@@ -375,7 +366,7 @@ tagged_fields_laws tag names lf = record {
 }
 
 pub set_structure_laws : {M : Type 0} (tag : Tag) {fields : Fields M} (names : List (List ℕ)) → FieldsLaws fields → EncodingLaws (simple_encoding (set_fields tag fields names))
-set_structure_laws tag names lf = simple_laws (set_fields_laws tag names lf)
+set_structure_laws tag {fields = fields} names lf = simple_laws (fields_if_laws (AreInTagOrder fields.all_tags) tag names lf)
 
 pub structure_with_tag_laws : {M : Type 0} (tag : Tag) {fields : Fields M} (names : List (List ℕ)) → FieldsLaws fields → EncodingLaws (simple_encoding (tagged_fields tag fields names))
-structure_with_tag_laws tag names lf = simple_laws (tagged_fields_laws tag names lf)
+structure_with_tag_laws tag names lf = simple_laws (fields_if_laws (tag_eq tag set_tag ≡ false) tag names lf)

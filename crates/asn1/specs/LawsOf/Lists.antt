@@ -61,6 +61,7 @@ items_inside_laws low high {d = d} ld = record {
   one_encoding = sequence_of_one_encoding low high d ld;
   has_encoding = sequence_of_has_encoding low high d ld;
   no_closures = sequence_of_no_closures low high d ld;
+  is_written = λ p v. (v.0, sequence_of_has_encoding low high d ld p v.0 v.1);
   consumes = sequence_of_consumes low high d ld;
   read_back = sequence_of_read_back low high d ld;
   one_value = λ is ms ns l. items_of_one_value d ld is ms ns l;
@@ -105,6 +106,7 @@ set_inside_laws {d = d} ld = record {
   one_encoding = set_of_one_encoding d ld;
   has_encoding = set_of_has_encoding d ld;
   no_closures = set_of_no_closures d ld;
+  is_written = λ p v. (v.0, set_of_has_encoding d ld p v.0 v.1);
   consumes = set_of_consumes d ld;
   read_back = set_of_read_back d ld;
   one_value = λ is ms ns l v w. items_of_one_value d ld is ms ns l v.0 w.0;
@@ -122,6 +124,7 @@ set_content_laws = record {
   one_encoding = λ p m t e. e;
   has_encoding = λ p m v. refl;
   no_closures = λ p m. tt;
+  is_written = λ p v. (v.0, refl);
   consumes = set_octets_consumes;
   read_back = λ m l v a s. set_octets_read_back m v s;
   one_value = λ is m n l v w same. same;

@@ -13,6 +13,7 @@ one_inside_laws tag {d = d} ld = record {
   one_encoding = ld.one_encoding;
   has_encoding = ld.has_encoding;
   no_closures = ld.no_closures;
+  is_written = λ p v. (v.0, ld.has_encoding p v.0 v.1);
   consumes = inside_consumes d.encoding (λ m. d.valid m × d.allowed m) d.read ld.consumes;
   read_back = λ m l v a s. inside_read_back d.accepts d.encoding d.read m (ld.nothing_or_element m l v) (ld.read_back m [] l v a) s;
   one_value = ld.one_value;
@@ -26,6 +27,7 @@ retagged_laws change lc = record {
   one_encoding = lc.one_encoding;
   has_encoding = lc.has_encoding;
   no_closures = lc.no_closures;
+  is_written = lc.is_written;
   consumes = lc.consumes;
   read_back = lc.read_back;
   one_value = lc.one_value;

@@ -1,8 +1,9 @@
 //! Fields under a tag or with a default, of which a struct has the value alone ([`Wraps`]); and how each field is
 //! written ([`FieldWritable`]).
 
-ghost use Rattle.std.specs.Prelude.{◌≡◌, List, ℕ, OnOk, OnErr, IfErr};
+ghost use Rattle.std.specs.Prelude.{◌≡◌, List, ℕ, OnOk, OnErr, IfErr, length};
 ghost use Rattle.asn1_core.specs.Buffer.{Appends, KeepsPrefix};
+ghost use Rattle.asn1_core.specs.Reading.{Fits};
 ghost use Rattle.asn1_core.specs.Writing.{buffer_name, octets_of, GivesLength, NamesError};
 ghost use Rattle.asn1.specs.Structures.{defaulted, encoded, owed};
 
@@ -14,6 +15,19 @@ mod implicit;
 
 pub use explicit::{explicit_length, write_explicit};
 pub use implicit::{implicit_length, write_implicit};
+
+/// How many octets the encoding of a value has, if that is known.
+pub fn value_length<T: Asn1Writable>(value: &T) -> Option<usize>
+    ensures length { GivesLength (T.length_known value.now) (T.der.encodings
+        (T.der.meaning value.now)) result }
+
+    // The length of an encoding that can be read is known.
+    ensures exact { T.length_known value.now → T.der.plain → T.der.valid (T.der.meaning value.now)
+        → Fits (T.der.encoding (T.der.meaning value.now))
+        → result ≡ Some (length (T.der.encoding (T.der.meaning value.now))) }
+{
+    value.encoded_length()
+}
 
 /// A field's type in the encoding. A struct has its values as a `P`: without the tag, or with no mention of the
 /// default.

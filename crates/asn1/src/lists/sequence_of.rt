@@ -19,7 +19,7 @@ ghost use Rattle.asn1_core.specs.Writing.{buffer_name, octets_of, GivesLength, N
 ghost use Rattle.asn1.specs.Lists.{AreItems, AreOctets, left, item, counted, item_out, items_out, NextItem};
 ghost use Rattle.asn1.specs.Types.{list_der};
 
-use crate::lists::{SequenceOfWriter, are_octets, at_item, contents_of};
+use crate::lists::{SequenceOfWriter, are_octets, at_item, contents_of, push_item};
 use asn1_core::{
     Asn1Readable, Asn1Type, Asn1Writable, ParseError, ParseErrorKind, ParseResult, Parser,
     SimpleAsn1Readable, SimpleAsn1Writable, Tag, Tlv, WriteBuf, WriteError, Writer, write_single,
@@ -94,6 +94,27 @@ impl<'a, T: Asn1Readable<'a>, const MINIMUM_LEN: usize, const MAXIMUM_LEN: usize
         self.count == 0
     }
 
+    /// How many items remain. The count is kept: no item is read, as a count of what the iterator returns would.
+    pub fn count(self) -> usize
+        ensures { result ≡ length (
+            ⟦<SequenceOf<'a, T, MINIMUM_LEN, MAXIMUM_LEN> as Asn1Type>⟧.der.meaning self.entry) }
+    {
+        self.count
+    }
+
+    /// The items that remain, in order. The only error is `AllocationError`, without a location of this list, if there
+    /// is no memory for the vector or if reading an item allocates.
+    pub fn to_vec(&self) -> ParseResult<Vec<T>>
+        ensures items { IfOk result (λ all. map T.der.meaning all.items ≡
+            ⟦<SequenceOf<'a, T, MINIMUM_LEN, MAXIMUM_LEN> as Asn1Type>⟧.der.meaning self.now) }
+    {
+        let mut all = Vec::new(self.alloc);
+        for item in self.clone().unwrap() {
+            push_item(&mut all, item?)?;
+        }
+        Ok(all)
+    }
+
     /// Takes the next item; `None` if none remains. The only error is `AllocationError`, without a location of this
     /// list, if reading an item allocates; the next call goes on after this item.
     pub fn take_next(&mut self) -> ParseResult<Option<T>>
@@ -158,6 +179,10 @@ impl<
             let lists = ⟦<SequenceOf<'a, T, MINIMUM_LEN, MAXIMUM_LEN> as Asn1Type>⟧.der in
             T.der.lawful → T.der.is_element → AllByRecursion T.der.allowed meanings
             → IfOk result (λ read. IfOk read (λ list. lists.meaning list ≡ meanings)) }
+        ensures unbounded { let lists =
+            ⟦<SequenceOf<'a, T, MINIMUM_LEN, MAXIMUM_LEN> as Asn1Type>⟧.der in
+            T.der.lawful → T.der.is_element → ¬ T.der.bounded → IfOk result
+            (λ read. IfOk read (λ list. lists.meaning list ≡ map T.der.meaning items.now)) }
 
         // There is such a list if the items are as many as it may have, and their encoding is short enough to be read.
         ensures made { let meanings = map T.der.meaning items.now in

@@ -2,7 +2,7 @@
 //! as an iterator, its items in the order of their encodings (11.6).
 
 ghost use Rattle.std.specs.Prelude.{◌≡◌, ◌↔◌, ◌<◌};
-ghost use Rattle.std.specs.Prelude.{IsTrue, List, [], ◌∷◌, length, map, Result, OnOk, OnErr, IfOk, IfErr};
+ghost use Rattle.std.specs.Prelude.{ℕ, IsTrue, List, [], ◌∷◌, length, map, Result, OnOk, OnErr, IfOk, IfErr};
 ghost use Rattle.std.specs.Prelude.{IfNone, IfSome, IsOk, IsSome, nat_eq};
 ghost use Rattle.std.specs.Iterator.{at_most};
 ghost use Rattle.std.specs.Hash as fed;
@@ -25,9 +25,9 @@ ghost use Rattle.asn1.specs.Sets.{element_behind};
 ghost use Rattle.asn1.specs.SetTypes.{set_content};
 ghost use Rattle.asn1.specs.LawsOf.Lists.{set_content_laws};
 ghost use Rattle.asn1.specs.Types.{set_der};
-ghost use Rattle.asn1.specs.MadeLists.{in_order};
+ghost use Rattle.asn1.specs.MadeLists.{IsMadeOf, in_order};
 
-use crate::lists::{are_octets, at_item, contents_of};
+use crate::lists::{are_octets, at_item, contents_of, push_item};
 use asn1_core::{
     Asn1Readable, Asn1Type, Asn1Writable, ParseError, ParseErrorKind, ParseResult, Parser,
     SetOfWriter, SimpleAsn1Readable, SimpleAsn1Writable, Tag, Tlv, WriteBuf, WriteError,
@@ -261,6 +261,19 @@ pub struct SetOf<'a, T: Asn1Type> {
 }
 
 impl<'a, T: Asn1Readable<'a>> SetOf<'a, T> {
+    /// The items that remain, in the order of the set. The only error is `AllocationError`, without a location of this
+    /// set, if there is no memory for the vector or if reading an item allocates.
+    pub fn to_vec(&self) -> ParseResult<Vec<T>>
+        ensures items { IfOk result (λ all. map T.der.meaning all.items
+            ≡ ⟦<SetOf<'a, T> as Asn1Type>⟧.der.meaning self.now) }
+    {
+        let mut all = Vec::new(self.alloc);
+        for item in self.clone().unwrap() {
+            push_item(&mut all, item?)?;
+        }
+        Ok(all)
+    }
+
     /// Takes the next item in the order of the set; `None` if none remains. The only error is `AllocationError`, if
     /// reading an item allocates; the next call goes on after this item.
     pub fn take_next(&mut self) -> ParseResult<Option<T>>
@@ -315,6 +328,10 @@ impl<'a, T: Asn1Readable<'a> + Asn1Writable> SetOf<'a, T> {
             T.der.lawful → T.der.is_element → AllByRecursion T.der.allowed meanings
             → IfOk result
             (λ read. IfOk read (λ set. sets.meaning set ≡ in_order T.der.encoding meanings)) }
+        ensures unbounded { let sets = ⟦<SetOf<'a, T> as Asn1Type>⟧.der in
+            T.der.lawful → T.der.is_element → ¬ T.der.bounded
+            → IfOk result (λ read. IfOk read (λ set. sets.meaning set
+            ≡ in_order T.der.encoding (map T.der.meaning items.now))) }
 
         // So it is the set of other items exactly if these have the same encodings, each as often.
         ensures valid { AllByRecursion T.der.valid (map T.der.meaning items.now) }
@@ -395,6 +412,16 @@ impl<'a, T: Asn1Type> PartialEq for SetOf<'a, T> {
         ensures value { result ≡ pointwise nat_eq self.now.content.now other.now.content.now }
         ensures items { IsTrue result ↔ (set_left encoding_less T.der.read self.now.content.now
             ≡ set_left encoding_less T.der.read other.now.content.now) }
+
+        // Two sets that are made of items are equal exactly if these have the same encodings, each as often.
+        ensures tell { T.der.is_read → T.der.lawful → (vs ws : List T) (ts us : List (List ℕ))
+            → IsMadeOf T.der self.now.content.now vs ts
+            → IsMadeOf T.der other.now.content.now ws us
+            → IsTrue result → SameEncodings ts us }
+        ensures told { T.der.is_read → T.der.lawful → (vs ws : List T) (ts us : List (List ℕ))
+            → IsMadeOf T.der self.now.content.now vs ts
+            → IsMadeOf T.der other.now.content.now ws us
+            → SameEncodings ts us → IsTrue result }
     {
         self.content == other.content
     }

@@ -43,6 +43,7 @@ non_zero_laws tag low high =
       one_encoding = laws.one_encoding;
       has_encoding = laws.has_encoding;
       no_closures = laws.no_closures;
+      is_written = laws.is_written;
       consumes = laws.consumes;
       read_back = laws.read_back;
       one_value = λ is. absurd is;
@@ -58,6 +59,7 @@ written_laws {M = M} laws = record {
   one_encoding = laws.one_encoding;
   has_encoding = laws.has_encoding;
   no_closures = laws.no_closures;
+  is_written = λ p v. (v.0, laws.has_encoding p v.0 v.1);
   consumes = λ c m b e. absurd (rejects_all_consumes c m e);
   read_back = λ m l v a. absurd a;
   one_value = λ is. absurd is;

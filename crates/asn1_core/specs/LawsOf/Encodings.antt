@@ -18,7 +18,7 @@ use Rattle.asn1_core.specs.Boxed.{boxed, boxed_encoding}
 use Rattle.asn1_core.specs.Lemmas.Options.{option_consumes, option_nothing_or_element, option_accepted, option_read_back, option_both, option_pair, option_weaker, option_one_encoding, option_has_encoding, option_at_most_one, option_all, option_errors}
 use Rattle.asn1_core.specs.Lemmas.Elements.{element_encoding_not_nil}
 use Rattle.asn1_core.specs.Lemmas.Results.{done_injective}
-use Rattle.asn1_core.specs.Lemmas.Wholes.{Fits_short, IfErr_Returns}
+use Rattle.asn1_core.specs.Lemmas.Wholes.{Fits_short, IfErr_Returns, read_back_injective}
 use Rattle.asn1_core.specs.Lemmas.Cuts.{element_encoding_cut, element_encoding_content_injective}
 use Rattle.asn1_core.specs.Lemmas.Faults.{simple_errors, tlv_errors, rejects_all_errors}
 use Rattle.asn1_core.specs.Lemmas.Contents.{simple_consumes, simple_nothing_or_element, simple_accepted, simple_read_back, element_one_encoding, tlv_consumes, tlv_read_back, rejects_all_consumes}
@@ -81,6 +81,7 @@ simple_laws {c = c} laws = record {
   not_empty = simple_type_not_empty c laws;
   read_back = simple_type_read_back c laws;
   one_value = simple_type_one_value c laws;
+  one_allowed = read_back_injective (simple_encoding c) (simple_type_read_back c laws);
   short_fits = simple_type_short_fits c laws;
   unbounded = laws.unbounded;
   memory = simple_type_memory c laws;
@@ -109,6 +110,7 @@ basic_laws b laws = record {
   one_encoding = λ p m t e. e;
   has_encoding = λ p m v. refl;
   no_closures = λ p m. tt;
+  is_written = λ p v. (v.0, refl);
   consumes = λ c m bytes e. let h = laws.consumes c m bytes e in (h.0, (h.1, tt));
   read_back = λ m l v a s. laws.read_back m v;
   one_value = λ is m n l v w same. done_injective m n (sym (laws.read_back m v) ∙ (ap b.read same ∙ laws.read_back n w));
@@ -122,6 +124,7 @@ no_content_laws {M = M} = record {
   one_encoding = λ p. absurd p;
   has_encoding = λ p. absurd p;
   no_closures = λ p. absurd p;
+  is_written = λ p. absurd p;
   consumes = λ c m b e. absurd (rejects_all_consumes c m e);
   read_back = λ m l. absurd l;
   one_value = λ is. absurd is;
@@ -148,6 +151,7 @@ tlv_laws = record {
   not_empty = λ m l i v e. element_encoding_not_nil m e;
   read_back = λ m rest l v a fits none. tlv_read_back m rest v fits;
   one_value = λ is m n l v w same. (element_encoding_cut m n [] [] v w (ap (λ (t : List ℕ). t ++ []) same)).0;
+  one_allowed = read_back_injective tlv_encoding (λ m rest l v a fits none. tlv_read_back m rest v fits);
   short_fits = λ m l v. Fits_short (element_encoding m) (inr (record { element = m; is = refl; readable = v }));
   unbounded = λ free m v. tt;
   memory = λ t places out. out;
@@ -194,6 +198,7 @@ option_laws {e = e} laws = record {
   not_empty = λ m l i v none. i;
   read_back = option_type_read_back e laws;
   one_value = option_type_one_value e laws;
+  one_allowed = read_back_injective (option_encoding e) (option_type_read_back e laws);
   short_fits = λ m l v. Fits_short (option_octets e.encoding m) (option_nothing_or_element e.encoding e.valid (λ x w. laws.nothing_or_element x l.0 w) m v);
   unbounded = λ free. option_weaker e.valid e.allowed (laws.unbounded free);
   memory = λ t places out. laws.memory t places out.1;
@@ -222,6 +227,7 @@ boxed_content_laws laws = record {
   one_encoding = laws.one_encoding;
   has_encoding = laws.has_encoding;
   no_closures = laws.no_closures;
+  is_written = laws.is_written;
   consumes = laws.consumes;
   read_back = laws.read_back;
   one_value = laws.one_value;
@@ -242,6 +248,7 @@ boxed_laws laws = record {
   not_empty = laws.not_empty;
   read_back = laws.read_back;
   one_value = laws.one_value;
+  one_allowed = laws.one_allowed;
   short_fits = laws.short_fits;
   unbounded = laws.unbounded;
   memory = λ t places out. tt;

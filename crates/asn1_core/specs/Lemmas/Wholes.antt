@@ -1,5 +1,5 @@
 -- Inputs that are read to their end.
-use Rattle.std.proofs.Common.{◌≡◌, ℕ, ◌<◌, ◌^◌, Bool, true, false, List, [], ◌∷◌, ◌++◌, length, Result, Ok, Err, IfErr, refl, ap, subst, ◌∙◌, ◌⊎◌, inl, inr, arith}
+use Rattle.std.proofs.Common.{◌≡◌, ℕ, ◌<◌, ◌^◌, Bool, true, false, List, [], ◌∷◌, ◌++◌, length, Result, Ok, Err, IfErr, refl, sym, ap, subst, ◌∙◌, ◌⊎◌, inl, inr, arith}
 use Rattle.std.specs.Prelude.{IfOk}
 use Rattle.std.proofs.lemmas.List.{append-nil}
 use Rattle.asn1_core.specs.declared.parser.Place.{Place}
@@ -10,6 +10,7 @@ use Rattle.asn1_core.specs.Length.{length_octets}
 use Rattle.asn1_core.specs.Element.{element_encoding}
 use Rattle.asn1_core.specs.ReadError.{ReadError, IsOfInput}
 use Rattle.asn1_core.specs.Reading.{begins_accepted, Returns, IsErrorOf, PassesOn, Consumes, Fits, IsOneElement, all_taken, whole}
+use Rattle.asn1_core.specs.Encoding.{Encoding}
 use Rattle.asn1_core.specs.Lemmas.Tags.{leading_tag_empty, leading_tag_identifier_octets}
 use Rattle.asn1_core.specs.Lemmas.Elements.{length_content_lt, element_encoding_append}
 use Rattle.asn1_core.specs.Lemmas.Results.{done_injective, bind_ok}
@@ -40,6 +41,15 @@ whole_consumes {M} encoding valid read law t m is e =
     let p = bind_ok (read t) (λ x. all_taken x.0 x.1) m e in
     let q = all_taken_ok_is p.0.0 m p.0.1 p.2 in
     law t [] m is (p.1 ∙ (ap (λ (x : M). gave x p.0.1) q.1 ∙ ap (λ (r : List ℕ). gave m r) q.0))
+
+-- values with the same encoding are the same, if each is read from its encoding
+pub read_back_injective : {M : Type 0} (e : Encoding M) →
+    ((m : M) (rest : List ℕ) → e.lawful → e.valid m → e.allowed m → Fits (e.encoding m) → (e.encoding m ≡ [] → begins_accepted e.accepts rest ≡ false) → e.read (e.encoding m ++ rest) ≡ Ok (m, rest)) →
+    (m n : M) → e.lawful → e.valid m → e.valid n → e.allowed m → e.allowed n → Fits (e.encoding m) → e.encoding m ≡ e.encoding n → m ≡ n
+read_back_injective {M} e law m n lawful v w a b fits same =
+    let first = law m [] lawful v a fits (λ none. begins_accepted_nil e.accepts) in
+    let second = law n [] lawful w b (subst Fits same fits) (λ none. begins_accepted_nil e.accepts) in
+    ap (λ (x : M × List ℕ). x.0) (done_injective (m, []) (n, []) (sym first ∙ (ap (λ (t : List ℕ). e.read (t ++ [])) same ∙ second)))
 
 -- an encoding is read to its end
 pub whole_read_back : {M : Type 0} (encoding : M → List ℕ) (read : List ℕ → Result (M × List ℕ) ReadError) (m : M) (t : List ℕ) →

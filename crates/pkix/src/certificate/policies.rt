@@ -1,13 +1,14 @@
 //! The policies of a certificate, and what it demands of those that follow it in a path (RFC 5280, 4.2.1.4, 4.2.1.5,
 //! 4.2.1.10, 4.2.1.11 and 4.2.1.14).
-// Printed by tools/derive from declarations/certificate/policies.rs, with the sum 8ecd33d4.
+// Printed by tools/derive from declarations/certificate/policies.rs, with the sum 5006f7a8.
 
 ghost use Rattle.std.specs.Prelude.{◌≡◌, ◌∷◌, [], IsTrue, OnErr, IfOk};
-ghost use Rattle.asn1.specs.AlternativeLists.{after3, choice, first1, first3, second3, third3};
+ghost use Rattle.asn1.specs.AlternativeLists.{IsLengthOf, after3, choice, first1, first3, second3, third3};
 ghost use Rattle.asn1.specs.Options.{option_meaning};
 ghost use Rattle.asn1.specs.Reading.{EndsWith};
 ghost use Rattle.asn1.specs.Reads.{BeginsWithEncodingOf, HasOneEncoding, ReadsContents, ReadsPrefix};
 ghost use Rattle.asn1.specs.Structures.{defaulted, field_names, implicit, structure, fields2, fields3};
+ghost use Rattle.asn1.specs.Writing.{GivesLength};
 
 use crate::common::GeneralName;
 use asn1::alternatives::{Alternatives, AlternativesReadable, AsOneOf, OneOf4, read_choice};
@@ -172,7 +173,12 @@ impl<'a> Asn1Writable for DisplayText<'a> {
         write_choice!(self, dest; DisplayText(x); Ia5, Visible, Bmp, Utf8)
     }
 
-    fn encoded_length(&self) -> Option<usize> {
+    fn encoded_length(&self) -> Option<usize>
+        ensures length { GivesLength (Unit {0})
+            (⟦<DisplayText<'a> as Asn1Type>⟧.der.encodings
+            (⟦<DisplayText<'a> as Asn1Type>⟧.der.meaning self.now)) result }
+        ensures exact { IsLengthOf ⟦<DisplayText<'a> as Asn1Type>⟧.der self.now result }
+    {
         choice_length!(self; DisplayText(x); Ia5, Visible, Bmp, Utf8)
     }
 

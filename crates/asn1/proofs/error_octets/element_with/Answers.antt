@@ -16,5 +16,7 @@ elements-preserved c =
     let more : suc (size - (c.elements._turn + 1)) ≡ size - c.elements._turn = omega (arith, c.elements-test.true) in
     let found : Element × List ℕ = (element_of c.in-Ok._element, c.in-Ok.left.now) in
     let behind : nat_lt c.args.octet (size - length found.1) ≡ false = le-ltb _ _ (rw (← c.saturating_sub-end.ensures) c.if-octet-end.false) in
-    let step = passed (size - (c.elements._turn + 1)) size c.args.octet c.elements.start c.elements.rest.now found c.in-Ok.ensures.exact behind in
-    rw c.saturating_sub-end.ensures (step ∙ (ap (λ (most : ℕ). element_with most size c.args.octet c.elements.start c.elements.rest.now) more ∙ c.elements.invariant))
+    let step = passed (size - (c.elements._turn + 1)) size c.args.octet c.elements.start c.elements.rest.now found c.in-Ok.ensures.exact behind in (
+      rw c.saturating_sub-end.ensures (step ∙ (ap (λ (most : ℕ). element_with most size c.args.octet c.elements.start c.elements.rest.now) more ∙ c.elements.invariant.0)),
+      rw c.saturating_sub-end.ensures (omega arith),
+    )

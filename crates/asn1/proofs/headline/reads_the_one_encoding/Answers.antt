@@ -33,7 +33,7 @@ returns-clause-found g c =
 pub returns-clause-exactly : goal.returns-clause-exactly
 returns-clause-exactly g c none = (
   some g.T.Asn1Type.der c.args.data.now c.parse_single.result (returns-clause-found g c),
-  c.parse_single.ensures.some c.requires none,
+  λ x. c.parse_single.ensures.some c.requires none x.0 x.1.valid x.1.allowed x.1.fits x.1.is,
 )
 
 pub returns-clause-one : goal.returns-clause-one

@@ -1,9 +1,11 @@
 //! Fields under an explicit tag, as a struct has them: a value that is always there, that may be missing, or that has a
 //! default.
 
-ghost use Rattle.std.specs.Prelude.{◌≡◌, OnOk, OnErr, IfErr};
+ghost use Rattle.std.specs.Prelude.{◌≡◌, OnOk, OnErr, IfErr, length};
 ghost use Rattle.asn1_core.specs.Buffer.{Appends, KeepsPrefix};
+ghost use Rattle.asn1_core.specs.Element.{element, element_encoding};
 ghost use Rattle.asn1_core.specs.Options.{OfValue, OptionErrors, option_meaning};
+ghost use Rattle.asn1_core.specs.Reading.{Fits};
 ghost use Rattle.asn1_core.specs.Tag.{explicit_tag_of};
 ghost use Rattle.asn1_core.specs.Writing.{buffer_name, octets_of, IsElementOf, GivesLength, NamesError};
 ghost use Rattle.asn1.specs.Defaults.{same_encoding};
@@ -33,8 +35,14 @@ pub fn write_explicit<T: Asn1Writable>(
 
 /// How many octets the encoding of a value under an explicit tag has, if that is known.
 pub fn explicit_length<T: Asn1Writable>(value: &T, tag: u32) -> Option<usize>
-    ensures { GivesLength (T.length_known value.now) (IsElementOf (explicit_tag_of tag)
+    ensures length { GivesLength (T.length_known value.now) (IsElementOf (explicit_tag_of tag)
         (T.der.encodings (T.der.meaning value.now))) result }
+
+    // The length of an encoding that can be read is known.
+    ensures exact { let octets = element_encoding (element (explicit_tag_of tag)
+        (T.der.encoding (T.der.meaning value.now))) in
+        T.length_known value.now → T.der.plain → T.der.valid (T.der.meaning value.now)
+        → Fits octets → result ≡ Some (length octets) }
 {
     full_length(explicit_tag(tag), value.encoded_length()?)
 }

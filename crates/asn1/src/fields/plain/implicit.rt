@@ -1,9 +1,11 @@
 //! Fields under an implicit tag, as a struct has them: a value that is always there, that may be missing, or that has a
 //! default.
 
-ghost use Rattle.std.specs.Prelude.{◌≡◌, OnOk, OnErr, IfErr};
+ghost use Rattle.std.specs.Prelude.{◌≡◌, OnOk, OnErr, IfErr, length};
 ghost use Rattle.asn1_core.specs.Buffer.{Appends, KeepsPrefix};
+ghost use Rattle.asn1_core.specs.Element.{element, element_encoding};
 ghost use Rattle.asn1_core.specs.Options.{OfValue, OptionErrors, option_meaning};
+ghost use Rattle.asn1_core.specs.Reading.{Fits};
 ghost use Rattle.asn1_core.specs.Tag.{implicit_tag_of};
 ghost use Rattle.asn1_core.specs.Writing.{buffer_name, octets_of, IsElementOf, GivesLength, NamesError};
 ghost use Rattle.asn1.specs.Defaults.{same_encoding};
@@ -34,9 +36,16 @@ pub fn write_implicit<T: SimpleAsn1Writable>(
 
 /// How many octets the encoding of a value under an implicit tag has, if that is known.
 pub fn implicit_length<T: SimpleAsn1Writable>(value: &T, tag: u32) -> Option<usize>
-    ensures { GivesLength (T.length_known value.now) (IsElementOf
+    ensures length { GivesLength (T.length_known value.now) (IsElementOf
         (implicit_tag_of tag T.der.content.tag) (T.der.content.encodings (T.der.meaning value.now)))
         result }
+
+    // The length of an encoding that can be read is known.
+    ensures exact { let octets = element_encoding (element (implicit_tag_of tag T.der.content.tag)
+        (T.der.content.encoding (T.der.meaning value.now))) in
+        T.length_known value.now → T.der.content.plain
+        → T.der.content.valid (T.der.meaning value.now)
+        → Fits octets → result ≡ Some (length octets) }
 {
     full_length(implicit_tag(tag, T::tag()), value.data_length()?)
 }

@@ -1,6 +1,7 @@
 use Rattle.std.proofs.Common.{◌∙◌, length, map, arith, ◌^◌, ◌≤◌}
 use Rattle.std.specs.List.{flat_map, AllByRecursion}
 use Rattle.asn1_core.specs.Listing.{sequence_tag}
+use Rattle.asn1_core.specs.Lemmas.Items.{AllByRecursion_weaker}
 use Rattle.asn1.specs.Lemmas.ListItems.{items_memory}
 use Rattle.asn1.proofs.MadeLists.{Fits_length_content, IsOk_Returns, list_made, list_means}
 use Rattle.asn1.proofs.lists.sequence_of.SequenceOf.of.Goals as goal
@@ -13,6 +14,12 @@ returns-in-Ok-clause-items g c lawful is_element allowed =
     let octets = rw c.new-list.ensures at (c.in_ok-store.ensures.encoding c.can_parse-accepted.ensures.plain) in
     let are = c.in-Ok.ensures sequence_tag (flat_map d.encoding ms) (omega arith) (c.as_slice.ensures.value ∙ octets) in
     list_means d ms valid lawful is_element allowed _ _ _ c.parse_data.result _ are.0 are.1 are.2 c.parse_data.ensures
+
+pub returns-in-Ok-clause-unbounded : goal.returns-in-Ok-clause-unbounded
+returns-in-Ok-clause-unbounded g c lawful is_element free =
+    let d = g.T.Asn1Type.der in
+    let valid : AllByRecursion d.valid (map d.meaning c.args.items.now) = rw (← c.new-list.ensures) c.known.ensures in
+    returns-in-Ok-clause-items g c lawful is_element (AllByRecursion_weaker d.valid d.allowed (d.laws.unbounded free) _ valid)
 
 pub returns-in-Ok-clause-made : goal.returns-in-Ok-clause-made
 returns-in-Ok-clause-made g c lawful is_element allowed fits =

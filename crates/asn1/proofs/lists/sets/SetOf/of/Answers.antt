@@ -3,6 +3,7 @@ use Rattle.asn1_core.specs.Element.{element, element_encoding}
 use Rattle.std.specs.List.{flat_map, AllByRecursion}
 use Rattle.asn1_core.specs.Listing.{encoding_less, set_tag}
 use Rattle.asn1.specs.MadeLists.{in_order}
+use Rattle.asn1_core.specs.Lemmas.Items.{AllByRecursion_weaker}
 use Rattle.asn1.specs.Lemmas.SetItems.{set_memory}
 use Rattle.asn1.proofs.EqualSets.{made_tells}
 use Rattle.asn1.proofs.MadeLists.{Fits_length_content, IsOk_Returns, concat_listing, set_made, set_means, set_read_there}
@@ -26,6 +27,12 @@ returns-in-Ok-clause-items g c lawful is_element allowed =
     let octets = rw c.new-set.ensures at (c.in_ok-store.ensures.encoding c.can_parse-accepted.ensures.plain) in
     let are = c.in-Ok.ensures set_tag content (omega arith) (c.as_slice.ensures.value ∙ (octets ∙ ap (λ (t : List ℕ). element_encoding (element set_tag t)) (concat_listing d.encoding ms))) in
     set_means d ms valid lawful is_element allowed _ c.parse_data.result _ are.0 are.2 c.parse_data.ensures
+
+pub returns-in-Ok-clause-unbounded : goal.returns-in-Ok-clause-unbounded
+returns-in-Ok-clause-unbounded g c lawful is_element free =
+    let d = g.T.Asn1Type.der in
+    let valid : AllByRecursion d.valid (map d.meaning c.args.items.now) = rw (← c.new-set.ensures) c.known.ensures in
+    returns-in-Ok-clause-items g c lawful is_element (AllByRecursion_weaker d.valid d.allowed (d.laws.unbounded free) _ valid)
 
 pub returns-in-Ok-clause-made : goal.returns-in-Ok-clause-made
 returns-in-Ok-clause-made g c lawful is_element allowed fits =
