@@ -26,6 +26,10 @@ mod large;
 #[cfg(test)]
 mod laws;
 #[cfg(test)]
+mod laws_of_octets;
+#[cfg(test)]
+mod laws_of_values;
+#[cfg(test)]
 mod lengths;
 #[cfg(test)]
 mod lifetimes;
